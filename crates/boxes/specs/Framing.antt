@@ -1,0 +1,62 @@
+-- Document 01, "Framing" and refusals 2 to 6: a box header, and the boxes of one container or its first fault.
+use Prim.Native.Nat.{ℕ, zero, suc, _+_}
+use mathlib.Core.Bool.{Bool, true, false, not}
+use mathlib.Core.List.{List, [], _∷_, _++_}
+use lib.ListN.{length}
+use lib.Dec.{leb, eqb}
+use Rattle.boxes.specs.Answer.{Answer, refused, given, _>>=_, hold}
+use Rattle.boxes.specs.Numbers.{number, bytesOf}
+use Rattle.boxes.specs.declared.framing.Framed.{Framed}
+use Rattle.boxes.specs.declared.framing.Header.{Header}
+use Rattle.boxes.specs.declared.framing.Header.the-variants.{Found, Refused}
+
+-- a box: its type as a number, and the places of its first byte, of its body and of the first byte after it
+pub record Box : Type 0 where
+  pub kind : ℕ
+  pub at : ℕ
+  pub body : ℕ
+  pub end : ℕ
+
+-- the box at a place whose header has that many bytes and states that size
+unfoldable pub sized : List ℕ → ℕ → ℕ → ℕ → ℕ → Answer Box
+sized s at end header size = do
+  _ ← hold 4 (leb header size)
+  _ ← hold 5 (leb (at + size) end)
+  given (record { kind = number s (at + 4) 4; at = at; body = at + header; end = at + size })
+
+-- a 32-bit size, then the type; size 1 means that a 64-bit size follows
+unfoldable pub header : List ℕ → ℕ → ℕ → Answer Box
+header s at end = do
+  _ ← hold 2 (leb (at + 8) end)
+  _ ← hold 3 (not (eqb (number s at 4) 0))
+  elim (eqb (number s at 4) 1) [ true ↦ hold 2 (leb (at + 16) end) >>= λ _. sized s at end 16 (number s (at + 8) 8) | false ↦ sized s at end 8 (number s at 4) ]
+
+-- the boxes from a place to the end of their container, of which so many more are allowed
+unfoldable pub boxesFrom : List ℕ → ℕ → ℕ → ℕ → Answer (List Box)
+boxesFrom s end zero at = elim (leb end at) [ true ↦ given [] | false ↦ refused 6 ]
+boxesFrom s end (suc more) at =
+    elim (leb end at) [
+      | true ↦ given []
+      | false ↦ header s at end >>= λ b. boxesFrom s end more (b .end) >>= λ bs. given (b ∷ bs)
+    ]
+
+-- boxes in one container: at most 512
+unfoldable pub boxLimit : ℕ
+boxLimit = 512
+
+-- the boxes of the container that starts and ends at these places, or its first fault
+unfoldable pub boxesIn : List ℕ → ℕ → ℕ → Answer (List Box)
+boxesIn s start end = boxesFrom s end boxLimit start
+
+-- what a box that was read says
+unfoldable pub boxOf : Framed → Box
+boxOf b = record { kind = b .kind; at = b .at .0; body = b .body .0; end = b .end .0 }
+
+-- what an answer about a header says
+unfoldable pub headerAnswer : Header → Answer Box
+headerAnswer (Found b) = given (boxOf b)
+headerAnswer (Refused n) = refused n
+
+-- a box as we write it: the 32-bit form, its size, its type and its body
+unfoldable pub boxed : ℕ → List ℕ → List ℕ
+boxed kind body = bytesOf 4 (8 + length body) ++ (bytesOf 4 kind ++ body)

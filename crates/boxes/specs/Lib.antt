@@ -1,0 +1,4 @@
+pub mod Answer
+pub mod Numbers
+pub mod Framing
+pub mod Kinds

@@ -1,0 +1,5 @@
+// The box layer: numbers of any width, box headers, the walk over one container, and the table of the eight kinds.
+pub mod framing;
+pub mod kinds;
+pub mod numbers;
+pub mod place;
