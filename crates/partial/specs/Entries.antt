@@ -1,0 +1,95 @@
+-- Document 01, the `ploc` paragraph and refusals 17 to 24: the entries of a `ploc`, and the chunks that they tell of.
+use Prim.Native.Nat.{ℕ, zero, suc, _+_, _-_, _/_, _%_}
+use mathlib.Core.Bool.{Bool, true, false, _&&_}
+use mathlib.Core.List.{List, [], _∷_}
+use mathlib.Core.Option.{Option, none, some}
+use lib.ListN.{getD}
+use lib.Dec.{leb, ltb, eqb}
+use Rattle.boxes.specs.Answer.{Answer, refused, given, _>>=_, hold}
+use Rattle.boxes.specs.Numbers.{number, signed}
+use Rattle.boxes.specs.Framing.{Box}
+use Rattle.boxes.specs.Kinds.{pdat, is}
+use Rattle.boxes.specs.declared.numbers.Offset.{Offset}
+use Rattle.boxes.specs.declared.numbers.Offset.the-variants.{Ahead, Back}
+use Rattle.partial.specs.Segments.{Chunk, good, damaged, lost, present}
+use Rattle.partial.specs.Sequences.{some-of}
+
+-- the head of a `ploc`: its two widths, its `chunk_count`, and the places of its first entry and of its end
+pub record Ploc : Type 0 where
+  pub lengthSize : ℕ
+  pub offsetSize : ℕ
+  pub count : ℕ
+  pub first : ℕ
+  pub end : ℕ
+
+-- version 0, flags 0; 4 bits `length_size`, 4 bits `offset_size`, 16 bits data reference index, 16 bits `chunk_count`
+unfoldable pub ploc-head : List ℕ → Box → Answer Ploc
+ploc-head f b = do
+  _ ← hold 17 (leb (b .body + 9) (b .end) && eqb (number f (b .body) 4) 0)
+  let widths = number f (b .body + 4) 1
+  _ ← hold 18 (leb (widths / 16) 8 && leb (widths % 16) 8)
+  _ ← hold 19 (eqb (number f (b .body + 5) 2) 0)
+  given (record { lengthSize = widths / 16; offsetSize = widths % 16; count = number f (b .body + 7) 2; first = b .body + 9; end = b .end })
+
+-- the state of a chunk by its bits corrupted and present
+unfoldable pub state : Bool → Bool → Answer ℕ
+state false true = given good
+state true true = given damaged
+state true false = given lost
+state false false = refused 21
+
+-- bit corrupted, bit present, six zero bits
+unfoldable pub stateOf : ℕ → Answer ℕ
+stateOf flags = do
+  _ ← hold 20 (eqb (flags % 64) 0)
+  state (eqb (flags / 128) 1) (eqb (flags / 64 % 2) 1)
+
+-- what an entry says, and the place after it
+pub record Entry : Type 0 where
+  pub state : ℕ
+  pub size : ℕ
+  pub offset : Offset
+  pub next : ℕ
+
+-- flags, `length_size` bytes of size and, where present, `offset_size` bytes of signed offset
+unfoldable pub entry : List ℕ → Ploc → ℕ → Answer Entry
+entry f l at = do
+  _ ← hold 17 (ltb at (l .end))
+  flags ← stateOf (getD f at 0)
+  let width : ℕ = elim (present flags) [ true ↦ l .offsetSize | false ↦ 0 ]
+  let place = at + 1 + l .lengthSize
+  _ ← hold 17 (leb (place + width) (l .end))
+  given (record { state = flags; size = number f (at + 1) (l .lengthSize); offset = signed width (number f place width); next = place + width })
+
+-- where a chunk may lie: wholly in one `pdat` body
+unfoldable pub mayLie : List Box → ℕ → ℕ → Bool
+mayLie boxes place size = some-of (λ b. is pdat b && leb (b .body) place && leb (place + size) (b .end)) boxes
+
+-- the place that an offset gives, counted from the first byte of the `pseg` box; none before the file's first byte
+unfoldable pub moved : ℕ → Offset → Option ℕ
+moved pseg (Ahead n) = some (pseg + n)
+moved pseg (Back n) = elim (leb n pseg) [ true ↦ some (pseg - n) | false ↦ none ]
+
+-- 24: a chunk of that size at that place lies where it may
+unfoldable pub lying : List Box → ℕ → Option ℕ → Answer ℕ
+lying boxes size none = refused 24
+lying boxes size (some place) = do
+  _ ← hold 24 (mayLie boxes place size)
+  given place
+
+-- the place of an entry's chunk: 0 if not present or empty, and then it is not checked
+unfoldable pub placeOf : List Box → ℕ → Entry → Answer ℕ
+placeOf boxes pseg e =
+    elim (present (e .state) && ltb 0 (e .size)) [ true ↦ lying boxes (e .size) (moved pseg (e .offset)) | false ↦ given 0 ]
+
+-- the chunks of so many entries from a place on, the first of them at a source position; no byte may be left over
+unfoldable pub chunksFrom : ℕ → List ℕ → List Box → ℕ → Ploc → ℕ → ℕ → ℕ → Answer (List Chunk)
+chunksFrom limit f boxes pseg l zero at start = do
+  _ ← hold 17 (eqb at (l .end))
+  given []
+chunksFrom limit f boxes pseg l (suc more) at start = do
+  e ← entry f l at
+  _ ← hold 23 (leb (start + e .size) limit)
+  place ← placeOf boxes pseg e
+  rest ← chunksFrom limit f boxes pseg l more (e .next) (start + e .size)
+  given (record { start = start; size = e .size; state = e .state; place = place } ∷ rest)

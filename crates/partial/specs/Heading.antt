@@ -1,0 +1,98 @@
+-- Document 01, refusals 1 to 11: the file's boxes, `ftyp` and `pfil`.
+use Prim.Native.Nat.{ℕ, zero, suc, _+_, _-_, _/_, _%_}
+use mathlib.Core.Bool.{Bool, true, false, not, _&&_}
+use mathlib.Core.List.{List, [], _∷_}
+use lib.ListN.{length, getD}
+use lib.Dec.{leb, eqb}
+use Rattle.boxes.specs.Answer.{Answer, given, _>>=_, hold}
+use Rattle.boxes.specs.Numbers.{number}
+use Rattle.boxes.specs.Framing.{Box, boxesIn}
+use Rattle.boxes.specs.declared.kinds.Kind.{Kind}
+use Rattle.boxes.specs.Kinds.{ftyp, pfil, pfhd, surl, is, right, those}
+use Rattle.partial.specs.Limits.{fileLimit}
+use Rattle.partial.specs.Sequences.{some-of, all-of, stretch}
+
+-- a part of the file
+pub record Part : Type 0 where
+  pub place : ℕ
+  pub size : ℕ
+
+-- the box of that number in its container, counted from 0; past the last one a box of nothing
+unfoldable pub boxAt : ℕ → List Box → Box
+boxAt n bs = getD bs n (record { kind = 0; at = 0; body = 0; end = 0 })
+
+-- the first of a kind
+unfoldable pub firstOf : Kind → List Box → Box
+firstOf k bs = boxAt 0 (those k bs)
+
+-- 7: `ftyp` is first, its body at least 8 bytes and a multiple of 4, and there is no second
+unfoldable pub ftypRight : List Box → Bool
+ftypRight bs =
+    let b = boxAt 0 bs in
+    is ftyp b && leb (b .body + 8) (b .end) && eqb ((b .end - b .body) % 4) 0 && right ftyp bs
+
+-- so many brands from a place on, four bytes each
+unfoldable pub fours : List ℕ → ℕ → ℕ → List ℕ
+fours f zero at = []
+fours f (suc more) at = number f at 4 ∷ fours f more (at + 4)
+
+-- the compatible brands: after the major brand and the minor version, to the end
+unfoldable pub brands : List ℕ → Box → List ℕ
+brands f b = fours f ((b .end - b .body - 8) / 4) (b .body + 8)
+
+abbrev pub paff : ℕ
+paff = 0x70616666
+
+-- 8: some compatible brand is `paff`
+unfoldable pub brandRight : List ℕ → List Box → Bool
+brandRight f bs = some-of (eqb paff) (brands f (boxAt 0 bs))
+
+-- 9: `pfil` is second, and there is no other
+unfoldable pub pfilRight : List Box → Bool
+pfilRight bs = is pfil (boxAt 1 bs) && right pfil bs
+
+-- `pfhd`: version 0, flags, nothing more
+unfoldable pub pfhdFormed : List ℕ → Box → Bool
+pfhdFormed f b = eqb (b .body + 4) (b .end) && eqb (number f (b .body) 1) 0
+
+-- 10: exactly one `pfhd`, and it is well-formed
+unfoldable pub pfhdRight : List ℕ → List Box → Bool
+pfhdRight f bs = right pfhd bs && pfhdFormed f (firstOf pfhd bs)
+
+-- the text from a place up to the first zero byte before an end, or up to that end
+unfoldable pub text : List ℕ → ℕ → ℕ → Part
+text f at end = record { place = at; size = stretch (λ i. not (eqb (getD f i 0) 0)) (end - at) at }
+
+-- the URL of a `surl`, after its version and flags
+unfoldable pub url : List ℕ → Box → Part
+url f b = text f (b .body + 4) (b .end)
+
+-- its MIME text, after the zero byte that closes the URL
+unfoldable pub mime : List ℕ → Box → Part
+mime f b = text f (url f b .place + url f b .size + 1) (b .end)
+
+-- `surl`: version 0, flags 0, two strings each closed by a zero byte, nothing after
+unfoldable pub surlFormed : List ℕ → Box → Bool
+surlFormed f b = leb (b .body + 4) (b .end) && eqb (number f (b .body) 4) 0 && eqb (mime f b .place + mime f b .size + 1) (b .end)
+
+-- 11: one `surl` or more, each well-formed
+unfoldable pub surlRight : List ℕ → List Box → Bool
+surlRight f bs = right surl bs && all-of (surlFormed f) (those surl bs)
+
+-- the boxes of the file and those of its `pfil`
+pub record Heading : Type 0 where
+  pub boxes : List Box
+  pub inner : List Box
+
+-- stages 1 to 11
+unfoldable pub heading : List ℕ → Answer Heading
+heading f = do
+  _ ← hold 1 (leb (length f) fileLimit)
+  boxes ← boxesIn f 0 (length f)
+  _ ← hold 7 (ftypRight boxes)
+  _ ← hold 8 (brandRight f boxes)
+  _ ← hold 9 (pfilRight boxes)
+  inner ← boxesIn f (boxAt 1 boxes .body) (boxAt 1 boxes .end)
+  _ ← hold 10 (pfhdRight f inner)
+  _ ← hold 11 (surlRight f inner)
+  given (record { boxes = boxes; inner = inner })

@@ -1,0 +1,13 @@
+pub mod Limits
+pub mod Sequences
+pub mod Segments
+pub mod Heading
+pub mod Entries
+pub mod Reading
+pub mod Meaning
+pub mod Ranges
+pub mod Tables
+pub mod Map
+pub mod Writing
+pub mod Answers
+pub mod Examples

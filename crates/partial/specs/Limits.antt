@@ -1,0 +1,22 @@
+-- Document 01, "Sizes we hold to". (Boxes in one container are limited in the box layer.)
+use Prim.Native.Nat.{ℕ}
+
+-- bytes of a file
+abbrev pub fileLimit : ℕ
+fileLimit = 1_073_741_824
+
+-- segments of a file
+abbrev pub segmentLimit : ℕ
+segmentLimit = 64
+
+-- chunks of a file
+abbrev pub chunkLimit : ℕ
+chunkLimit = 1_024
+
+-- the highest source position or end; the definitions take it as a parameter, and the product is at this one
+abbrev pub sourceLimit : ℕ
+sourceLimit = 4_294_967_295
+
+-- bytes that the map program takes
+abbrev pub programLimit : ℕ
+programLimit = 65_536

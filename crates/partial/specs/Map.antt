@@ -1,0 +1,58 @@
+-- Document 01, "The map program": the bytes that it prints.
+use Prim.Native.Nat.{ℕ, zero, suc, _^_}
+use Prim.Native.String as Str
+use Prim.Native.String.{String}
+use Prim.Native.Char.{code}
+use mathlib.Core.Bool.{Bool, true, false}
+use mathlib.Core.List.{List, [], _∷_, _++_}
+use lib.ListN.{length}
+use lib.Dec.{leb, ltb, eqb}
+use Rattle.io.specs.Digits.{digits}
+use Rattle.boxes.specs.Answer.{Answer, refused, given}
+use Rattle.boxes.specs.Numbers.{least}
+use Rattle.partial.specs.Limits.{programLimit}
+use Rattle.partial.specs.Segments.{Segment}
+use Rattle.partial.specs.Reading.{reading}
+use Rattle.partial.specs.Meaning.{describedLength, isClosed}
+use Rattle.partial.specs.Ranges.{Range, rangesOf, totalOf, had, missing}
+
+-- the bytes of a word
+unfoldable pub ascii : String → List ℕ
+ascii Str.[] = []
+ascii (Str._∷_ c s) = code c ∷ ascii s
+
+-- a number in decimal, with the fewest digits, one at least
+unfoldable pub decimal : ℕ → List ℕ
+decimal n = digits 10 (least (λ k. ltb n (10 ^ k)) 19 1) n
+
+-- fields parted by a tab; a line ends with a line feed
+unfoldable pub line : List ℕ → List (List ℕ) → List ℕ
+line field [] = field ++ (10 ∷ [])
+line field (next ∷ rest) = field ++ (9 ∷ line next rest)
+
+unfoldable pub refusedLine : ℕ → List ℕ
+refusedLine n = line (ascii "refused") (decimal n ∷ [])
+
+unfoldable pub rangeLine : Range → List ℕ
+rangeLine r =
+    line (elim (eqb (r .class) had) [ true ↦ ascii "have" | false ↦ ascii "miss" ]) (decimal (r .first) ∷ decimal (r .size) ∷ [])
+
+unfoldable pub rangeLines : List Range → List ℕ
+rangeLines [] = []
+rangeLines (r ∷ rs) = rangeLine r ++ rangeLines rs
+
+-- the map of an accepted file
+unfoldable pub mapOf : List Segment → List ℕ
+mapOf ss =
+    let rs = rangesOf ss in
+    line (ascii "source")
+    (decimal (describedLength ss) ∷ elim (isClosed ss) [ true ↦ ascii "closed" | false ↦ ascii "open" ] ∷ [])
+    ++ (rangeLines rs ++ line (ascii "total") (decimal (totalOf had rs) ∷ decimal (totalOf missing rs) ∷ []))
+
+-- what the program prints for its input; 27 precedes all others
+unfoldable pub mapText : ℕ → List ℕ → List ℕ
+mapText limit input =
+    elim (leb (length input) programLimit) [
+      | true ↦ elim (reading limit input) [ refused n ↦ refusedLine n | given ss ↦ mapOf ss ]
+      | false ↦ refusedLine 27
+    ]

@@ -1,0 +1,80 @@
+-- Document 01, "Meaning" and "Serving", over a list of segments: who supplies a position, the known size, the described length.
+use Prim.Native.Nat.{ℕ, zero, suc, _+_, _-_}
+use mathlib.Core.Bool.{Bool, true, false, not, _&&_, _||_}
+use mathlib.Core.List.{List, [], _∷_, map}
+use mathlib.Core.Option.{Option, none, some}
+use lib.ListN.{length, getD}
+use lib.Dec.{leb, ltb, eqb}
+use Rattle.partial.specs.Sequences.{all-of, largest, stretch}
+use Rattle.partial.specs.Segments.{Chunk, Segment, good, isOpen, isLast, reach, chunksOf}
+
+-- a last_segment segment that isn't open makes the size known
+unfoldable pub closes : Segment → Bool
+closes s = isLast s && not (isOpen s)
+
+-- the size of the source, where it is known
+unfoldable pub knownSize : List Segment → Option ℕ
+knownSize [] = none
+knownSize (s ∷ ss) = elim (closes s) [ true ↦ some (reach s) | false ↦ knownSize ss ]
+
+-- the described length: that size, else the largest of all segment ends and all offsets of open segments
+unfoldable pub describedLength : List Segment → ℕ
+describedLength ss = elim (knownSize ss) [ some n ↦ n | none ↦ largest (map reach ss) ]
+
+unfoldable pub isClosed : List Segment → Bool
+isClosed ss = elim (knownSize ss) [ some n ↦ true | none ↦ false ]
+
+-- 25: no two known sizes differ, and no segment end or open offset lies above the known size
+unfoldable pub agree : List Segment → Bool
+agree ss =
+    elim (knownSize ss) [
+      | some n ↦ all-of (λ s. leb (reach s) n && (not (closes s) || eqb (reach s) n)) ss
+      | none ↦ true
+    ]
+
+-- a chunk covers the positions from its start, as many as its size
+unfoldable pub covers : ℕ → Chunk → Bool
+covers p c = leb (c .start) p && ltb p (c .start + c .size)
+
+-- the number of the first good chunk that covers a position; the number of all chunks where there is none
+unfoldable pub supplier : List Chunk → ℕ → ℕ
+supplier [] p = 0
+supplier (c ∷ cs) p = elim (eqb (c .state) good && covers p c) [ true ↦ 0 | false ↦ suc (supplier cs p) ]
+
+unfoldable pub supplied : List Segment → ℕ → Bool
+supplied ss p = ltb (supplier (chunksOf ss) p) (length (chunksOf ss))
+
+-- the place in the file of a supplied position
+unfoldable pub placeOfByte : List Segment → ℕ → ℕ
+placeOfByte ss p =
+    let c = getD (chunksOf ss) (supplier (chunksOf ss) p) (record { start = 0; size = 0; state = 0; place = 0 }) in
+    c .place + (p - c .start)
+
+-- the byte that is served for a position: the file's byte at the supplier's place
+unfoldable pub served : List ℕ → List Segment → ℕ → Option ℕ
+served f ss p = elim (supplied ss p) [ true ↦ some (getD f (placeOfByte ss p) 0) | false ↦ none ]
+
+-- how many positions from p on, below the described length, pass a test
+unfoldable pub onward : List Segment → (ℕ → Bool) → ℕ → ℕ
+onward ss test p = stretch test (describedLength ss - p) p
+
+-- how many positions from p on are supplied by the same chunk
+unfoldable pub servedRun : List Segment → ℕ → ℕ
+servedRun ss p = onward ss (λ q. eqb (supplier (chunksOf ss) q) (supplier (chunksOf ss) p)) p
+
+-- how many positions from p on are missing, up to the next supplied one or the described length
+unfoldable pub missingRun : List Segment → ℕ → ℕ
+missingRun ss p = onward ss (λ q. not (supplied ss q)) p
+
+-- what asking of a position answers in an accepted file
+pub data Reply : Type 0 where
+  served-for : ℕ → Reply
+  missing-for : ℕ → Reply
+  beyond : Reply
+
+unfoldable pub reply : List Segment → ℕ → Reply
+reply ss p =
+    elim (ltb p (describedLength ss)) [
+      | true ↦ elim (supplied ss p) [ true ↦ served-for (servedRun ss p) | false ↦ missing-for (missingRun ss p) ]
+      | false ↦ beyond
+    ]

@@ -1,0 +1,51 @@
+-- Document 01, "Lists": the maximal ranges of positions of one class, had or missing, below the described length.
+use Prim.Native.Nat.{ℕ, zero, suc}
+use mathlib.Core.Bool.{Bool, true, false, not}
+use mathlib.Core.List.{List, [], _∷_, map}
+use lib.Dec.{eqb}
+use Rattle.partial.specs.Sequences.{sum}
+use Rattle.partial.specs.Segments.{Segment}
+use Rattle.partial.specs.Meaning.{supplied, describedLength}
+
+-- a range of positions of one class
+pub record Range : Type 0 where
+  pub class : ℕ
+  pub first : ℕ
+  pub size : ℕ
+
+-- one position more, before the ranges that follow it: it joins the first of them exactly where the classes are equal
+unfoldable pub joined : ℕ → ℕ → List Range → List Range
+joined class p [] = record { class = class; first = p; size = 1 } ∷ []
+joined class p (r ∷ rs) =
+    elim (eqb class (r .class)) [
+      | true ↦ record { class = class; first = p; size = suc (r .size) } ∷ rs
+      | false ↦ record { class = class; first = p; size = 1 } ∷ (r ∷ rs)
+    ]
+
+-- so many positions from p on, cut into maximal ranges of one class
+unfoldable pub ranges : (ℕ → ℕ) → ℕ → ℕ → List Range
+ranges class zero p = []
+ranges class (suc more) p = joined (class p) p (ranges class more (suc p))
+
+-- the classes of a position below the described length
+abbrev pub missing : ℕ
+missing = 0
+
+abbrev pub had : ℕ
+had = 1
+
+unfoldable pub classOf : List Segment → ℕ → ℕ
+classOf ss p = elim (supplied ss p) [ true ↦ had | false ↦ missing ]
+
+-- both lists merged, ascending
+unfoldable pub rangesOf : List Segment → List Range
+rangesOf ss = ranges (classOf ss) (describedLength ss) 0
+
+-- the list of one class
+unfoldable pub listOf : ℕ → List Range → List Range
+listOf class [] = []
+listOf class (r ∷ rs) = elim (eqb (r .class) class) [ true ↦ r ∷ listOf class rs | false ↦ listOf class rs ]
+
+-- the total of a class: the sum of the lengths in its list
+unfoldable pub totalOf : ℕ → List Range → ℕ
+totalOf class rs = sum (map (λ r. r .size) (listOf class rs))

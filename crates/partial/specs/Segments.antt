@@ -1,0 +1,55 @@
+-- Document 01, "Meaning": what a segment and a chunk are once they are read.
+use Prim.Native.Nat.{ℕ}
+use mathlib.Core.Bool.{Bool, true, false, not}
+use mathlib.Core.List.{List, [], _∷_, _++_, map}
+use Prim.Native.Nat.{_+_, _%_}
+use lib.Dec.{eqb}
+use Rattle.partial.specs.Sequences.{sum}
+
+-- the states: 2 good, 1 damaged but kept, 0 lost
+abbrev pub good : ℕ
+good = 2
+
+abbrev pub damaged : ℕ
+damaged = 1
+
+abbrev pub lost : ℕ
+lost = 0
+
+-- whether a chunk in a state has its bytes in the file
+unfoldable pub present : ℕ → Bool
+present state = not (eqb state lost)
+
+-- a chunk: where it starts in the source, its size, its state, and its place in the file (0 if not present or empty)
+pub record Chunk : Type 0 where
+  pub start : ℕ
+  pub size : ℕ
+  pub state : ℕ
+  pub place : ℕ
+
+-- a segment: the place of its box, its source offset, flags and repair time, the place and length of its `pshd` body, its chunks
+pub record Segment : Type 0 where
+  pub at : ℕ
+  pub offset : ℕ
+  pub flags : ℕ
+  pub repair : ℕ
+  pub header : ℕ
+  pub headerLength : ℕ
+  pub chunks : List Chunk
+
+-- `chunk_count` 0 is one chunk of unknown size: an open segment. It has no chunk
+unfoldable pub isOpen : Segment → Bool
+isOpen s = elim (s .chunks) [ [] ↦ true | _ ∷ _ ↦ false ]
+
+-- flag 0x000001, last_segment
+unfoldable pub isLast : Segment → Bool
+isLast s = eqb (s .flags % 2) 1
+
+-- the end of a segment in the source; of an open one its offset
+unfoldable pub reach : Segment → ℕ
+reach s = s .offset + sum (map (λ c. c .size) (s .chunks))
+
+-- segments in file order, chunks in their order
+unfoldable pub chunksOf : List Segment → List Chunk
+chunksOf [] = []
+chunksOf (s ∷ ss) = s .chunks ++ chunksOf ss

@@ -1,0 +1,28 @@
+-- What is said of a list, or of numbers in a row: some or all pass a test, a sum, the largest, how many in a row.
+use Prim.Native.Nat.{ℕ, zero, suc, _+_, max}
+use mathlib.Core.Bool.{Bool, true, false, _&&_, _||_}
+use mathlib.Core.List.{List, [], _∷_}
+
+module _ {A : Type 0} where
+  -- some of the list pass the test
+  unfoldable pub some-of : (A → Bool) → List A → Bool
+  some-of test [] = false
+  some-of test (x ∷ xs) = test x || some-of test xs
+
+  -- all of the list pass the test
+  unfoldable pub all-of : (A → Bool) → List A → Bool
+  all-of test [] = true
+  all-of test (x ∷ xs) = test x && all-of test xs
+
+unfoldable pub sum : List ℕ → ℕ
+sum [] = 0
+sum (n ∷ ns) = n + sum ns
+
+unfoldable pub largest : List ℕ → ℕ
+largest [] = 0
+largest (n ∷ ns) = max n (largest ns)
+
+-- how many numbers in a row pass the test, from `at` on, of at most so many
+unfoldable pub stretch : (ℕ → Bool) → ℕ → ℕ → ℕ
+stretch test zero at = 0
+stretch test (suc more) at = elim (test at) [ true ↦ suc (stretch test more (suc at)) | false ↦ 0 ]

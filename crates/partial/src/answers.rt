@@ -1,0 +1,38 @@
+// What the calls answer: a numbered refusal, or the values that document 01 names.
+use crate::position::Position;
+
+// Reading: how many rows of each table were filled, the described length, and whether the size of the source is known.
+pub enum Read {
+    Refused(u64),
+    Tables {
+        segments: u64,
+        chunks: u64,
+        length: Position,
+        closed: bool,
+    },
+}
+
+// Asking of a position: served or missing, each with how many positions in a row, or not below the described length.
+pub enum Asked {
+    Refused(u64),
+    Served(u64),
+    Missing(u64),
+    Beyond,
+}
+
+// Listing: how many ranges each list has, and the received and missing totals.
+pub enum Listed {
+    Refused(u64),
+    Lists {
+        had: u64,
+        missing: u64,
+        received: u64,
+        lacking: u64,
+    },
+}
+
+// Begin and append: the length of the file that was written.
+pub enum Written {
+    Refused(u64),
+    Length(u64),
+}

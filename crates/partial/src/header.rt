@@ -1,0 +1,34 @@
+// The header of a segment, as the writer takes it.
+use crate::position::Position;
+ghost use mathlib.Core.Path.{_≡_};
+ghost use Rattle.partial.specs.Writing.{flagsFor};
+
+// The fields of `pshd` that a segment is written with.
+pub struct SegmentHeader {
+    pub offset: Position,
+    pub repair: u64,
+    pub flags: u32,
+}
+
+impl SegmentHeader {
+    // Flag 0x000001: this segment is the last of its source.
+    pub const LAST_SEGMENT: u32 = 1;
+
+    pub const NO_FLAG: u32 = 0;
+
+    // A header that may be written: it sets last_segment or no flag at all.
+    pub fn writable(offset: Position, repair: u64, last: bool) -> Self
+        ensures { λ r. ⌜ (r .offset ≡ offset) × (r .repair ≡ repair) × (r .flags ≡ flagsFor last) ⌝ }
+    {
+        let flags = if last {
+            SegmentHeader::LAST_SEGMENT
+        } else {
+            SegmentHeader::NO_FLAG
+        };
+        SegmentHeader {
+            offset,
+            repair,
+            flags,
+        }
+    }
+}
