@@ -2,7 +2,7 @@
 use Prim.Native.Nat.{ℕ}
 use mathlib.Core.Bool.{Bool}
 use Rattle.boxes.specs.Answer.{Answer, refused, given}
-use Rattle.partial.specs.Meaning.{Reply, served-for, missing-for, beyond}
+use Rattle.partial.specs.Meaning.{Reply, servedFor, missingFor, beyond}
 use Rattle.partial.specs.Tables.{Summary, Totals}
 use Rattle.partial.specs.declared.answers.Read.{Read}
 use Rattle.partial.specs.declared.answers.Read.the-variants as read
@@ -20,8 +20,8 @@ readAnswer (read.Tables segments chunks length closed) =
 
 unfoldable pub askedAnswer : Asked → Answer Reply
 askedAnswer (asked.Refused n) = refused n
-askedAnswer (asked.Served n) = given (served-for n)
-askedAnswer (asked.Missing n) = given (missing-for n)
+askedAnswer (asked.Served n) = given (servedFor n)
+askedAnswer (asked.Missing n) = given (missingFor n)
 askedAnswer asked.Beyond = given beyond
 
 unfoldable pub listedAnswer : Listed → Answer Totals

@@ -12,7 +12,7 @@ use Rattle.boxes.specs.Kinds.{pdat, is}
 use Rattle.boxes.specs.declared.numbers.Offset.{Offset}
 use Rattle.boxes.specs.declared.numbers.Offset.the-variants.{Ahead, Back}
 use Rattle.partial.specs.Segments.{Chunk, good, damaged, lost, present}
-use Rattle.partial.specs.Sequences.{some-of}
+use Rattle.partial.specs.Sequences.{someOf}
 
 -- the head of a `ploc`: its two widths, its `chunk_count`, and the places of its first entry and of its end
 pub record Ploc : Type 0 where
@@ -23,8 +23,8 @@ pub record Ploc : Type 0 where
   pub end : ℕ
 
 -- version 0, flags 0; 4 bits `length_size`, 4 bits `offset_size`, 16 bits data reference index, 16 bits `chunk_count`
-unfoldable pub ploc-head : List ℕ → Box → Answer Ploc
-ploc-head f b = do
+unfoldable pub plocHead : List ℕ → Box → Answer Ploc
+plocHead f b = do
   _ ← hold 17 (leb (b .body + 9) (b .end) && eqb (number f (b .body) 4) 0)
   let widths = number f (b .body + 4) 1
   _ ← hold 18 (leb (widths / 16) 8 && leb (widths % 16) 8)
@@ -63,7 +63,7 @@ entry f l at = do
 
 -- where a chunk may lie: wholly in one `pdat` body
 unfoldable pub mayLie : List Box → ℕ → ℕ → Bool
-mayLie boxes place size = some-of (λ b. is pdat b && leb (b .body) place && leb (place + size) (b .end)) boxes
+mayLie boxes place size = someOf (λ b. is pdat b && leb (b .body) place && leb (place + size) (b .end)) boxes
 
 -- the place that an offset gives, counted from the first byte of the `pseg` box; none before the file's first byte
 unfoldable pub moved : ℕ → Offset → Option ℕ

@@ -11,10 +11,10 @@ use Rattle.boxes.specs.Framing.{sized, header, boxesFrom, boxLimit, boxesIn, bo
 use Rattle.boxes.specs.Kinds.{is, those, keeps, right, ploc}
 use Rattle.boxes.specs.declared.numbers.Offset.the-variants.{Back}
 use Rattle.partial.specs.Limits.{sourceLimit}
-use Rattle.partial.specs.Sequences.{some-of, all-of, sum, largest, stretch}
-use Rattle.partial.specs.Segments.{Segment, present, isOpen, isLast, reach, chunksOf}
+use Rattle.partial.specs.Sequences.{someOf, allOf, sum, largest, stretch}
+use Rattle.partial.specs.Segments.{Segment, present, corrupted, isOpen, isLast, reach, chunksOf}
 use Rattle.partial.specs.Heading.{boxAt, firstOf, ftypRight, fours, brands, brandRight, pfilRight, pfhdFormed, pfhdRight, text, url, mime, surlFormed, surlRight, heading}
-use Rattle.partial.specs.Entries.{ploc-head, state, stateOf, entry, mayLie, moved, lying, placeOf, chunksFrom}
+use Rattle.partial.specs.Entries.{plocHead, state, stateOf, entry, mayLie, moved, lying, placeOf, chunksFrom}
 use Rattle.partial.specs.Reading.{offsetWidth, pshdFormed, pshdRight, segment, segmentsFrom, segments, reading}
 use Rattle.partial.specs.Meaning.{closes, knownSize, describedLength, isClosed, agree, covers, supplier, supplied}
 use Rattle.partial.specs.Ranges.{joined, ranges, classOf, rangesOf, listOf, missing}
@@ -36,7 +36,7 @@ abbrev oneChunk : List ℕ → Answer (List ℤ)
 oneChunk f = do
   b ← header f 0 (length f)
   _ ← hold 15 (is ploc b)
-  l ← ploc-head f b
+  l ← plocHead f b
   e ← entry f l (l .first)
   given (pos (l .count) ∷ pos (e .state) ∷ pos (e .size) ∷ valueOf (e .offset) ∷ pos (l .end - e .next) ∷ [])
 
@@ -134,5 +134,5 @@ table =
 
 -- at every row the definitions say what the paper says
 pub as-the-paper-says : map (λ e. e .defined) table ≡ map (λ e. e .paper) table
-unfolding table number bytesOf valueOf signed unsigned holds holdsOffset least leastWidth sized header boxesFrom boxLimit boxesIn boxed is those keeps right some-of all-of sum largest stretch present isOpen isLast reach chunksOf boxAt firstOf ftypRight fours brands brandRight pfilRight pfhdFormed pfhdRight text url mime surlFormed surlRight heading ploc-head state stateOf entry mayLie moved lying placeOf chunksFrom offsetWidth pshdFormed pshdRight segment segmentsFrom segments reading closes knownSize describedLength isClosed agree covers supplier supplied joined ranges classOf rangesOf listOf rangeRows beginning items stored anyPresent dataBox offsets lengthSize offsetSize flagByte entryBytes plocBody pshdBody added
+unfolding table number bytesOf valueOf signed unsigned holds holdsOffset least leastWidth sized header boxesFrom boxLimit boxesIn boxed is those keeps right someOf allOf sum largest stretch present corrupted isOpen isLast reach chunksOf boxAt firstOf ftypRight fours brands brandRight pfilRight pfhdFormed pfhdRight text url mime surlFormed surlRight heading plocHead state stateOf entry mayLie moved lying placeOf chunksFrom offsetWidth pshdFormed pshdRight segment segmentsFrom segments reading closes knownSize describedLength isClosed agree covers supplier supplied joined ranges classOf rangesOf listOf rangeRows beginning items stored anyPresent dataBox offsets lengthSize offsetSize flagByte entryBytes plocBody pshdBody added
 as-the-paper-says = refl

@@ -10,7 +10,7 @@ use Rattle.boxes.specs.Framing.{Box, boxesIn}
 use Rattle.boxes.specs.declared.kinds.Kind.{Kind}
 use Rattle.boxes.specs.Kinds.{ftyp, pfil, pfhd, surl, is, right, those}
 use Rattle.partial.specs.Limits.{fileLimit}
-use Rattle.partial.specs.Sequences.{some-of, all-of, stretch}
+use Rattle.partial.specs.Sequences.{someOf, allOf, stretch}
 
 -- a part of the file
 pub record Part : Type 0 where
@@ -45,7 +45,7 @@ paff = 0x70616666
 
 -- 8: some compatible brand is `paff`
 unfoldable pub brandRight : List ℕ → List Box → Bool
-brandRight f bs = some-of (eqb paff) (brands f (boxAt 0 bs))
+brandRight f bs = someOf (eqb paff) (brands f (boxAt 0 bs))
 
 -- 9: `pfil` is second, and there is no other
 unfoldable pub pfilRight : List Box → Bool
@@ -77,7 +77,7 @@ surlFormed f b = leb (b .body + 4) (b .end) && eqb (number f (b .body) 4) 0 && e
 
 -- 11: one `surl` or more, each well-formed
 unfoldable pub surlRight : List ℕ → List Box → Bool
-surlRight f bs = right surl bs && all-of (surlFormed f) (those surl bs)
+surlRight f bs = right surl bs && allOf (surlFormed f) (those surl bs)
 
 -- the boxes of the file and those of its `pfil`
 pub record Heading : Type 0 where

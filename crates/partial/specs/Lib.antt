@@ -11,3 +11,4 @@ pub mod Map
 pub mod Writing
 pub mod Answers
 pub mod Examples
+pub mod Demands

@@ -5,7 +5,7 @@ use mathlib.Core.List.{List, [], _∷_, map}
 use mathlib.Core.Option.{Option, none, some}
 use lib.ListN.{length, getD}
 use lib.Dec.{leb, ltb, eqb}
-use Rattle.partial.specs.Sequences.{all-of, largest, stretch}
+use Rattle.partial.specs.Sequences.{allOf, largest, stretch}
 use Rattle.partial.specs.Segments.{Chunk, Segment, good, isOpen, isLast, reach, chunksOf}
 
 -- a last_segment segment that isn't open makes the size known
@@ -28,7 +28,7 @@ isClosed ss = elim (knownSize ss) [ some n ↦ true | none ↦ false ]
 unfoldable pub agree : List Segment → Bool
 agree ss =
     elim (knownSize ss) [
-      | some n ↦ all-of (λ s. leb (reach s) n && (not (closes s) || eqb (reach s) n)) ss
+      | some n ↦ allOf (λ s. leb (reach s) n && (not (closes s) || eqb (reach s) n)) ss
       | none ↦ true
     ]
 
@@ -68,13 +68,13 @@ missingRun ss p = onward ss (λ q. not (supplied ss q)) p
 
 -- what asking of a position answers in an accepted file
 pub data Reply : Type 0 where
-  served-for : ℕ → Reply
-  missing-for : ℕ → Reply
+  servedFor : ℕ → Reply
+  missingFor : ℕ → Reply
   beyond : Reply
 
 unfoldable pub reply : List Segment → ℕ → Reply
 reply ss p =
     elim (ltb p (describedLength ss)) [
-      | true ↦ elim (supplied ss p) [ true ↦ served-for (servedRun ss p) | false ↦ missing-for (missingRun ss p) ]
+      | true ↦ elim (supplied ss p) [ true ↦ servedFor (servedRun ss p) | false ↦ missingFor (missingRun ss p) ]
       | false ↦ beyond
     ]

@@ -9,10 +9,10 @@ use Rattle.boxes.specs.Numbers.{number}
 use Rattle.boxes.specs.Framing.{Box, boxesIn}
 use Rattle.boxes.specs.Kinds.{pseg, pshd, ploc, surl, is, right, those}
 use Rattle.partial.specs.Limits.{segmentLimit, chunkLimit}
-use Rattle.partial.specs.Sequences.{all-of}
+use Rattle.partial.specs.Sequences.{allOf}
 use Rattle.partial.specs.Segments.{Segment, chunksOf}
 use Rattle.partial.specs.Heading.{Heading, heading, boxAt, firstOf}
-use Rattle.partial.specs.Entries.{ploc-head, chunksFrom}
+use Rattle.partial.specs.Entries.{plocHead, chunksFrom}
 use Rattle.partial.specs.Meaning.{agree}
 
 -- 5.1.4.2: `source_byte_offset` has 32 bits in version 0 and 64 in every other
@@ -34,7 +34,7 @@ segment limit f boxes before b = do
   _ ← hold 14 (pshdRight f inner)
   _ ← hold 15 (right ploc inner)
   _ ← hold 16 (eqb (length (those surl inner)) 0)
-  l ← ploc-head f (firstOf ploc inner)
+  l ← plocHead f (firstOf ploc inner)
   _ ← hold 22 (leb (length (chunksOf before) + l .count) chunkLimit)
   let h = boxAt 0 inner
   let width = offsetWidth f h

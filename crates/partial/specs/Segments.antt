@@ -1,6 +1,6 @@
 -- Document 01, "Meaning": what a segment and a chunk are once they are read.
 use Prim.Native.Nat.{ℕ}
-use mathlib.Core.Bool.{Bool, true, false, not}
+use mathlib.Core.Bool.{Bool, true, false, _||_}
 use mathlib.Core.List.{List, [], _∷_, _++_, map}
 use Prim.Native.Nat.{_+_, _%_}
 use lib.Dec.{eqb}
@@ -16,9 +16,13 @@ damaged = 1
 abbrev pub lost : ℕ
 lost = 0
 
--- whether a chunk in a state has its bytes in the file
+-- the states of the bit present: good, and damaged but kept
 unfoldable pub present : ℕ → Bool
-present state = not (eqb state lost)
+present state = eqb state good || eqb state damaged
+
+-- the states of the bit corrupted: damaged but kept, and lost
+unfoldable pub corrupted : ℕ → Bool
+corrupted state = eqb state damaged || eqb state lost
 
 -- a chunk: where it starts in the source, its size, its state, and its place in the file (0 if not present or empty)
 pub record Chunk : Type 0 where

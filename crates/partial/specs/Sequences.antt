@@ -5,14 +5,14 @@ use mathlib.Core.List.{List, [], _∷_}
 
 module _ {A : Type 0} where
   -- some of the list pass the test
-  unfoldable pub some-of : (A → Bool) → List A → Bool
-  some-of test [] = false
-  some-of test (x ∷ xs) = test x || some-of test xs
+  unfoldable pub someOf : (A → Bool) → List A → Bool
+  someOf test [] = false
+  someOf test (x ∷ xs) = test x || someOf test xs
 
   -- all of the list pass the test
-  unfoldable pub all-of : (A → Bool) → List A → Bool
-  all-of test [] = true
-  all-of test (x ∷ xs) = test x && all-of test xs
+  unfoldable pub allOf : (A → Bool) → List A → Bool
+  allOf test [] = true
+  allOf test (x ∷ xs) = test x && allOf test xs
 
 unfoldable pub sum : List ℕ → ℕ
 sum [] = 0

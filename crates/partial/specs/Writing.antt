@@ -11,8 +11,8 @@ use Rattle.boxes.specs.Kinds.{ftyp, pfil, pfhd, surl, pseg, pshd, ploc, pdat}
 use Rattle.boxes.specs.declared.numbers.Offset.{Offset}
 use Rattle.boxes.specs.declared.numbers.Offset.the-variants.{Ahead, Back}
 use Rattle.partial.specs.Limits.{fileLimit, segmentLimit, chunkLimit}
-use Rattle.partial.specs.Sequences.{some-of, all-of, sum}
-use Rattle.partial.specs.Segments.{Chunk, Segment, good, present, reach, chunksOf}
+use Rattle.partial.specs.Sequences.{someOf, allOf, sum}
+use Rattle.partial.specs.Segments.{Chunk, Segment, present, corrupted, reach, chunksOf}
 use Rattle.partial.specs.Heading.{Heading, heading, paff}
 use Rattle.partial.specs.Reading.{segments}
 use Rattle.partial.specs.Meaning.{agree}
@@ -31,7 +31,7 @@ beginning urlText mimeText =
 
 -- no zero byte
 unfoldable pub isText : List ℕ → Bool
-isText bytes = all-of (λ b. not (eqb b 0)) bytes
+isText bytes = allOf (λ b. not (eqb b 0)) bytes
 
 -- what begin answers: its refusals in order, or the length of the file
 unfoldable pub begun : List ℕ → List ℕ → List ℕ → Answer ℕ
@@ -68,14 +68,14 @@ pub record Addition : Type 0 where
 
 -- 31: pairs of size and state, no size 0, each state 0, 1 or 2
 unfoldable pub listRight : List ℕ → Bool
-listRight list = eqb (length list % 2) 0 && all-of (λ i. not (eqb (i .size) 0) && leb (i .state) 2) (items list)
+listRight list = eqb (length list % 2) 0 && allOf (λ i. not (eqb (i .size) 0) && leb (i .state) 2) (items list)
 
 -- how many bytes of data items have: the sizes of states 1 and 2
 unfoldable pub stored : List Item → ℕ
 stored is = sum (map (λ i. elim (present (i .state)) [ true ↦ i .size | false ↦ 0 ]) is)
 
 unfoldable pub anyPresent : List Item → Bool
-anyPresent is = some-of (λ i. present (i .state)) is
+anyPresent is = someOf (λ i. present (i .state)) is
 
 -- the `pdat` with the data in chunk order, if any chunk is present
 unfoldable pub dataBox : Addition → List ℕ
@@ -88,15 +88,15 @@ offsets (i ∷ is) = elim (present (i .state)) [ true ↦ Back (stored (i ∷ is
 
 -- `length_size`: the least that holds every size
 unfoldable pub lengthSize : List Item → ℕ
-lengthSize is = leastWidth (λ w. all-of (λ i. holds w (i .size)) is)
+lengthSize is = leastWidth (λ w. allOf (λ i. holds w (i .size)) is)
 
 -- `offset_size`: the least that holds every offset, 0 when there is none
 unfoldable pub offsetSize : List Item → ℕ
-offsetSize is = leastWidth (λ w. all-of (holdsOffset w) (offsets is))
+offsetSize is = leastWidth (λ w. allOf (holdsOffset w) (offsets is))
 
--- bit corrupted unless good, bit present unless lost
+-- bit corrupted, bit present, six zero bits
 unfoldable pub flagByte : ℕ → ℕ
-flagByte state = (elim (eqb state good) [ true ↦ 0 | false ↦ 128 ]) + (elim (present state) [ true ↦ 64 | false ↦ 0 ])
+flagByte state = (elim (corrupted state) [ true ↦ 128 | false ↦ 0 ]) + (elim (present state) [ true ↦ 64 | false ↦ 0 ])
 
 -- the entries of a `ploc` with these widths: flags, size and, where present, offset
 unfoldable pub entryBytes : ℕ → ℕ → List Item → List ℕ

@@ -1,0 +1,259 @@
+"""Makes arguments of begin and append, acceptable ones and faulty ones."""
+
+import model
+from boxes import box, entry, open_segment, ploc, pshd
+from faults import faulty_file
+from spoiling import spoil
+
+LIMIT = 4_294_967_295
+FREE = box(b"free")
+BOXES = 512
+SEGMENTS = 64
+CHUNKS = 1_024
+LOST = 0
+FAULTS_OF_APPEND = [30, "own", 31, 32, 6, 13, 22, 23, 25, 33]
+FAULTS_OF_BEGIN = [33, 34]
+
+
+def sizes(chunk_list):
+    return sum(chunk_list[0::2])
+
+
+def kept(chunk_list):
+    """How many data bytes a chunk list asks for."""
+    return sum(size for size, state in zip(chunk_list[0::2], chunk_list[1::2]) if state != LOST)
+
+
+def added_length(source_offset, chunk_list, data):
+    """How many bytes the paper lets append write for these arguments."""
+    chunk_sizes, states = chunk_list[0::2], chunk_list[1::2]
+    present = len([state for state in states if state != LOST])
+    length_size = (max(chunk_sizes, default=0).bit_length() + 7) // 8
+    offset_size = 0
+    while present and len(data) > 2 ** (8 * offset_size - 1):
+        offset_size += 1
+    pdat = 8 + len(data) if present else 0
+    pshd_length = 24 if source_offset < 2 ** 32 else 28
+    ploc_length = 17 + len(chunk_sizes) * (1 + length_size) + present * offset_size
+    return pdat + 8 + pshd_length + ploc_length
+
+
+def end_of(given):
+    return given["stated_length"] + added_length(
+        given["source_offset"], given["chunk_list"], given["data"])
+
+
+def described(file):
+    """The described length and whether it is the known size; 0 where refused."""
+    answer = model.length(file)
+    return answer[1:] if answer[0] == "length" else (0, False)
+
+
+def random_chunk_list(rng, room):
+    """A chunk list of at most `room` positions; open once in a while."""
+    chunk_list = []
+    for _ in range(rng.choice([0, 1, 1, 2, 2, 3, 4])):
+        size = rng.choice([1, 2, rng.randint(1, 9), rng.randint(1, 15)])
+        state = rng.choice([0, 1, 2, 2, 2])
+        if rng.random() < 0.02:
+            size = rng.choice([128, 129, 255, 256, 300])
+        if rng.random() < 0.02:
+            size, state = rng.choice([256, 65_535, 65_536, 2 ** 24, room]), LOST
+        if 0 < size <= room:
+            room -= size
+            chunk_list += [size, state]
+    return chunk_list
+
+
+def last_flag(rng, file, source_offset, chunk_list):
+    """A last_segment flag that no known size or earlier end contradicts."""
+    end, closed = described(file)
+    new_end = source_offset + sizes(chunk_list)
+    fits = not chunk_list or (new_end == end if closed else new_end >= end)
+    return fits and rng.random() < 0.3
+
+
+def acceptable(rng, file):
+    """Arguments that append takes, where it takes the file; the buffer is set later."""
+    end, closed = described(file)
+    limit = end if closed else LIMIT
+    reach = limit if rng.random() < 0.1 else min(limit, 60)
+    chunk_list = random_chunk_list(rng, limit)
+    room = max(0, reach - sizes(chunk_list))
+    source_offset = rng.choice([0, room, rng.randint(0, room), min(end, room)])
+    return {
+        "buffer": file,
+        "stated_length": len(file),
+        "source_offset": source_offset,
+        "repair_time": rng.choice([0, rng.getrandbits(64)]),
+        "last": last_flag(rng, file, source_offset, chunk_list),
+        "chunk_list": chunk_list,
+        "data": rng.randbytes(kept(chunk_list)),
+    }
+
+
+def lend_buffer(rng, given):
+    """Gives the buffer room enough: exactly, or with bytes to spare."""
+    room = end_of(given) - given["stated_length"] + rng.choice([0, 0, 1, rng.randint(0, 30)])
+    given["buffer"] = given["buffer"][:given["stated_length"]] + rng.randbytes(room)
+    return given
+
+
+def set_chunks(rng, given, chunk_list):
+    given["chunk_list"] = chunk_list
+    given["data"] = rng.randbytes(kept(chunk_list))
+
+
+def set_file(given, file):
+    given["buffer"], given["stated_length"] = file, len(file)
+
+
+def top_level_count(file):
+    """How many boxes an acceptable file holds."""
+    count = place = 0
+    while place < len(file):
+        size = int.from_bytes(file[place:place + 4], "big")
+        if size == 1:
+            size = int.from_bytes(file[place + 8:place + 16], "big")
+        place += size
+        count += 1
+    return count
+
+
+def rows(file):
+    """The segment rows and chunk rows, none where reading refuses."""
+    answer = model.read(file)
+    return answer[1:] if answer[0] == "read" else ([], [])
+
+
+# Faults of append, each on arguments that are acceptable otherwise.
+
+def spoil_chunk_list(rng, given):
+    chunk_list = given["chunk_list"]
+    given["chunk_list"] = rng.choice([
+        chunk_list + [1], chunk_list + [0, rng.randint(0, 2)], [0, 0] + chunk_list,
+        chunk_list + [1, rng.choice([3, 4, 255, 2 ** 64 - 1])]])
+
+
+def spoil_data(rng, given):
+    if given["data"] and rng.random() < 0.5:
+        given["data"] = given["data"][1:]
+    else:
+        given["data"] += rng.randbytes(rng.randint(1, 3))
+
+
+def fill_with_boxes(rng, given):
+    """Leaves no room for a pseg, or for a pdat and a pseg."""
+    left = 0
+    if kept(given["chunk_list"]) > 0:
+        left = rng.choice([0, 1])
+    file = given["buffer"]
+    set_file(given, file + (BOXES - left - top_level_count(file)) * FREE)
+
+
+def fill_with_segments(rng, given):
+    file = given["buffer"]
+    set_file(given, file + (SEGMENTS - len(rows(file)[0])) * open_segment(0))
+
+
+def fill_with_chunks(rng, given):
+    """Chunks of one byte each in the file: lost, of width 0 and size 0."""
+    if not given["chunk_list"]:
+        set_chunks(rng, given, [1, LOST])
+    file = given["buffer"]
+    left = rng.randrange(len(given["chunk_list"]) // 2)
+    count = CHUNKS - left - len(rows(file)[1])
+    lost = ploc(0, 0, count * [entry(0x80, 0, 0)])
+    set_file(given, file + box(b"pseg", pshd(0), lost))
+
+
+def overstep_limit(rng, given):
+    cause = rng.choice(["offset", "end", "size"])
+    if cause == "offset":
+        given["source_offset"] = rng.choice([LIMIT + 1, LIMIT + 1, 2 ** 63, 2 ** 64 - 1])
+    elif cause == "end":
+        set_chunks(rng, given, given["chunk_list"] + [rng.randint(1, 9), LOST])
+        given["source_offset"] = LIMIT + 1 - sizes(given["chunk_list"])
+    else:
+        size = rng.choice([LIMIT + 1, 2 ** 40, 2 ** 64 - 1])
+        set_chunks(rng, given, given["chunk_list"] + [size, LOST])
+
+
+def overstep_size(rng, given):
+    """A known size, in the file or in the new segment, that is contradicted."""
+    end, closed = described(given["buffer"])
+    if not closed:
+        if end < 10:
+            set_file(given, given["buffer"] + open_segment(10))
+        set_chunks(rng, given, [rng.randint(1, 5), LOST])
+        given["source_offset"], given["last"] = rng.randint(0, 4), True
+    elif rng.random() < 0.5 and end < LIMIT - 9:
+        set_chunks(rng, given, rng.choice([[], [rng.randint(1, 9), LOST], [2, 2]]))
+        given["source_offset"] = end + 1 if not given["chunk_list"] else end
+    elif end > 1:
+        set_chunks(rng, given, [1, LOST])
+        given["source_offset"], given["last"] = rng.randint(0, min(end - 2, 50)), True
+    else:
+        set_chunks(rng, given, [end + 1, LOST])
+        given["source_offset"] = 0
+
+
+def faulty_addition(rng, file, number):
+    """Arguments on an acceptable file that append must refuse with a number.
+
+    "own" stands for the refusal of the file itself.
+    """
+    given = acceptable(rng, file)
+    if number == "own":
+        faulty = faulty_file(rng, rng.choice([2, 5, 8, 14, 24]))
+        set_file(given, rng.choice([spoil(rng, file), faulty]))
+    steps = {31: spoil_chunk_list, 32: spoil_data, 6: fill_with_boxes, 13: fill_with_segments,
+             22: fill_with_chunks, 23: overstep_limit, 25: overstep_size}
+    if number in steps:
+        steps[number](rng, given)
+    lend_buffer(rng, given)
+    if number == 30:
+        over = len(given["buffer"]) + 1
+        given["stated_length"] = rng.choice([over, over, 2 ** 32, 2 ** 64 - 1])
+    if number == 33:
+        short = rng.choice([1, 1, rng.randint(1, end_of(given) - len(file))])
+        given["buffer"] = given["buffer"][:end_of(given) - short]
+    return given
+
+
+def addition(rng, file):
+    """Arguments of append: two in three acceptable, where the file is."""
+    if rng.random() < 0.67:
+        return lend_buffer(rng, acceptable(rng, file))
+    weights = [1 if number in (6, 13, 22) else 4 for number in FAULTS_OF_APPEND]
+    number = rng.choices(FAULTS_OF_APPEND, weights)[0]
+    if model.append(file, len(file), 0, 0, False, [], b"")[0] != ("refused", 33):
+        number = "own"
+    return faulty_addition(rng, file, number)
+
+
+# Begin.
+
+def texts(rng):
+    return [bytes(rng.randint(1, 255) for _ in range(rng.choice([0, 1, 5, rng.randint(0, 20)])))
+            for _ in range(2)]
+
+
+def faulty_beginning(rng, number):
+    """Arguments of begin that it must refuse with a number, or take for None."""
+    url, mime = texts(rng)
+    if number == 34:
+        at = rng.randint(0, len(url))
+        url, mime = url[:at] + b"\0" + url[at:], mime
+        url, mime = rng.choice([(url, mime), (mime, url)])
+    end = 54 + len(url) + len(mime)
+    room = end + rng.choice([0, 0, 1, rng.randint(0, 30)])
+    if number == 33 or number == 34 and rng.random() < 0.3:
+        room = rng.choice([end - 1, end - 1, rng.randint(0, end - 1)])
+    return {"buffer": rng.randbytes(room), "url": url, "mime": mime}
+
+
+def beginning(rng):
+    """Arguments of begin: four in five acceptable."""
+    number = rng.choice(FAULTS_OF_BEGIN) if rng.random() < 0.2 else None
+    return faulty_beginning(rng, number)

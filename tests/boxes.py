@@ -1,0 +1,62 @@
+"""Builds boxes from their fields, in any form that a writer may choose."""
+
+
+def box(kind, *parts, large=False):
+    """A box with the 32-bit form of its size, or the 64-bit form."""
+    body = b"".join(parts)
+    if large:
+        return bytes([0, 0, 0, 1]) + kind + (16 + len(body)).to_bytes(8, "big") + body
+    return (8 + len(body)).to_bytes(4, "big") + kind + body
+
+
+def full(version=0, flags=0):
+    """The version and flags at the front of a full box."""
+    return bytes([version]) + flags.to_bytes(3, "big")
+
+
+def ftyp(brands=(b"paff",), major=b"paff", minor=0, large=False):
+    return box(b"ftyp", major, minor.to_bytes(4, "big"), *brands, large=large)
+
+
+def pfhd(flags=0, large=False):
+    return box(b"pfhd", full(flags=flags), large=large)
+
+
+def surl(url=b"u", mime=b"", large=False):
+    return box(b"surl", full(), url, b"\0", mime, b"\0", large=large)
+
+
+def head(url=b"u", mime=b""):
+    """The ftyp and pfil that every file begins with, in their plainest form."""
+    return ftyp() + box(b"pfil", pfhd(), surl(url, mime))
+
+
+def pshd(offset, flags=0, repair_time=0, version=0, large=False):
+    width = 4 if version == 0 else 8
+    return box(b"pshd", full(version, flags), offset.to_bytes(width, "big"),
+               repair_time.to_bytes(8, "big"), large=large)
+
+
+def ploc(length_size, offset_size, entries, count=None, reference=0, large=False):
+    """A ploc from entries that are bytes already."""
+    if count is None:
+        count = len(entries)
+    return box(b"ploc", full(), bytes([16 * length_size + offset_size]),
+               reference.to_bytes(2, "big"), count.to_bytes(2, "big"), *entries, large=large)
+
+
+def entry(flag_byte, length_size, size, offset_size=0, offset=None):
+    """One entry; a lost chunk has no offset field, so its offset is None."""
+    field = b"" if offset is None else offset.to_bytes(offset_size, "big", signed=True)
+    return bytes([flag_byte]) + size.to_bytes(length_size, "big") + field
+
+
+def lost_segment(offset, sizes, flags=0, version=0, width=4):
+    """A pseg of lost chunks only."""
+    entries = [entry(0x80, width, size) for size in sizes]
+    return box(b"pseg", pshd(offset, flags, version=version), ploc(width, 0, entries))
+
+
+def open_segment(offset, flags=0, version=0):
+    """The shortest pseg there is: one chunk of unknown size."""
+    return box(b"pseg", pshd(offset, flags, version=version), ploc(0, 0, []))

@@ -1,0 +1,312 @@
+"""Makes files that reading must refuse with one given number, 2 to 25."""
+
+from boxes import box, full, lost_segment, open_segment, pfhd, surl
+from foreign import DAMAGED, GOOD, LIMIT, LOST, foreign_plan, skipped_box, text
+from plan import Entry, Other, Segment
+
+FREE = box(b"free")
+BOXES = 512
+SEGMENTS = 64
+CHUNKS = 1_024
+
+
+def nonzero(rng, bits):
+    return rng.randint(1, 2 ** bits - 1)
+
+
+def put_last(rng, plan, content):
+    """Puts bytes at the end of the file, of pfil or of one pseg."""
+    container = rng.choice(["file", "pfil", "pseg"])
+    if container == "file":
+        plan.tail = content
+    elif container == "pfil":
+        plan.pfil_parts.append(content)
+    else:
+        rng.choice(plan.segments()).after.append(content)
+
+
+# Framing.
+
+def header_cut_short(rng, plan):
+    small = rng.randbytes(rng.randint(1, 7))
+    large = bytes([0, 0, 0, 1]) + b"free" + rng.randbytes(rng.randint(0, 7))
+    put_last(rng, plan, rng.choice([small, large]))
+
+
+def size_field_0(rng, plan):
+    kind = rng.choice([b"free", b"pdat", b"pseg"])
+    put_last(rng, plan, bytes(4) + kind + rng.randbytes(rng.choice([0, 9])))
+
+
+def size_below_header(rng, plan):
+    small = bytes([0, 0, 0, rng.randint(2, 7)]) + b"free" + rng.randbytes(rng.choice([0, 4]))
+    large = bytes([0, 0, 0, 1]) + b"free" + rng.randint(0, 15).to_bytes(8, "big")
+    put_last(rng, plan, rng.choice([small, large]))
+
+
+def box_ends_after_container(rng, plan):
+    size = rng.choice([9, 9, 10, 2 ** 31, 2 ** 32 - 1])
+    small = size.to_bytes(4, "big") + b"pdat"
+    size = rng.choice([17, 2 ** 32 - 1, 2 ** 32 + 16, 2 ** 63, 2 ** 64 - 1])
+    large = bytes([0, 0, 0, 1]) + b"pdat" + size.to_bytes(8, "big")
+    put_last(rng, plan, rng.choice([small, large]))
+
+
+def too_many_boxes(rng, plan):
+    """Fills a container with boxes of 8 bytes; the 513th may be cut short."""
+    last = rng.choice([FREE, FREE, b"\0", bytes(8)])
+    container = rng.choice(["file", "pfil", "pseg"])
+    if container == "file":
+        plan.tail = (BOXES - 2 - len(plan.items)) * FREE + last
+    elif container == "pfil":
+        plan.pfil_parts.append((BOXES - len(plan.pfil_parts)) * FREE + last)
+    else:
+        segment = rng.choice(plan.segments())
+        held = 2 + len(segment.between) + len(segment.after)
+        segment.after.append((BOXES - held) * FREE + last)
+
+
+# The boxes of the file and of pfil.
+
+def ftyp_fault(rng, plan):
+    cause = rng.choice(["not first", "absent", "under 8", "not a multiple of 4", "second"])
+    if cause == "not first":
+        plan.ftyp = rng.choice([FREE, skipped_box(rng, "file")]) + plan.ftyp
+    elif cause == "absent":
+        plan.ftyp = b""
+    elif cause == "under 8":
+        plan.ftyp = box(b"ftyp", b"paffpaff"[:rng.choice([0, 4, rng.randint(0, 7)])])
+    elif cause == "not a multiple of 4":
+        left_over = rng.randbytes(rng.choice([1, 2, 3, 5]))
+        plan.ftyp = box(b"ftyp", b"paff", bytes(4), b"paff", left_over)
+    else:
+        plan.items.insert(rng.randint(0, len(plan.items)), Other(plan.ftyp))
+
+
+def no_paff(rng, plan):
+    brands = rng.choice([[], [b"pmff"], [b"isom", b"Paff"], [b"\0paf", b"f\0\0\0"]])
+    plan.ftyp = box(b"ftyp", b"paff", bytes(4), *brands)
+
+
+def pfil_fault(rng, plan):
+    cause = rng.choice(["not second", "absent", "another", "another"])
+    if cause == "not second":
+        plan.ftyp += rng.choice([FREE, skipped_box(rng, "file")])
+    elif cause == "absent":
+        plan.pfil = lambda: b""
+    else:
+        plan.items.insert(rng.randint(0, len(plan.items)), Other(plan.pfil()))
+
+
+def parts_without(plan, kind):
+    return [part for part in plan.pfil_parts if part[4:8] != kind]
+
+
+def insert_part(rng, plan, part):
+    plan.pfil_parts.insert(rng.randint(0, len(plan.pfil_parts)), part)
+
+
+def pfhd_fault(rng, plan):
+    cause = rng.choice(["none", "second", "version", "length"])
+    if cause != "second":
+        plan.pfil_parts = parts_without(plan, b"pfhd")
+    if cause == "second":
+        insert_part(rng, plan, pfhd(rng.getrandbits(24)))
+    elif cause == "version":
+        insert_part(rng, plan, box(b"pfhd", full(nonzero(rng, 8))))
+    elif cause == "length":
+        insert_part(rng, plan, box(b"pfhd", bytes(rng.choice([0, 1, 3, 5, 8]))))
+
+
+def surl_fault(rng, plan):
+    cause = rng.choice(["none", "version or flags", "cut in the front", "one string",
+                        "not closed", "bytes after"])
+    if cause == "none":
+        plan.pfil_parts = parts_without(plan, b"surl")
+        return
+    front = rng.choice([full(nonzero(rng, 8)), full(0, nonzero(rng, 24))])
+    after = rng.randbytes(rng.randint(1, 3))
+    insert_part(rng, plan, box(b"surl", {
+        "version or flags": front + b"u\0\0",
+        "cut in the front": bytes(rng.randint(0, 3)),
+        "one string": full() + text(rng) + b"\0",
+        "not closed": full() + text(rng) + b"\0" + text(rng) + b"m",
+        "bytes after": full() + text(rng) + b"\0" + text(rng) + b"\0" + after,
+    }[cause]))
+
+
+def no_pseg(rng, plan):
+    plan.items = [item for item in plan.items if not isinstance(item, Segment)]
+    if rng.random() < 0.3:
+        plan.pfil_parts.append(open_segment(0))
+
+
+def too_many_segments(rng, plan):
+    shortest = rng.choice([box(b"pseg"), box(b"pseg"), open_segment(0)])
+    missing = SEGMENTS + 1 - len(plan.segments())
+    plan.items.insert(rng.randint(0, len(plan.items)), Other(missing * shortest))
+
+
+# Segments.
+
+def pshd_fault(rng, plan):
+    segment = rng.choice(plan.segments())
+    cause = rng.choice(["not first", "absent", "second", "length", "other form"])
+    if cause == "not first":
+        segment.first.append(rng.choice([FREE, skipped_box(rng, "pseg")]))
+    elif cause == "absent":
+        segment.pshd = lambda: b""
+    elif cause == "second":
+        rng.choice([segment.between, segment.after]).append(segment.pshd())
+    elif cause == "length":
+        version = rng.choice([0, 1])
+        length = rng.choice([0, 3, 4, 15, 17, 19, 21, 24])
+        segment.pshd_body = (bytes([version]) + bytes(23))[:length]
+    else:
+        segment.pshd_body = rng.choice([bytes(20), bytes([nonzero(rng, 8)]) + bytes(15)])
+
+
+def not_one_ploc(rng, plan):
+    rng.choice(plan.segments()).ploc_count = rng.choice([0, 2, 2, 3])
+
+
+def surl_inside_pseg(rng, plan):
+    segment = rng.choice(plan.segments())
+    content = rng.choice([surl(text(rng), text(rng)), box(b"surl"), box(b"surl", rng.randbytes(5))])
+    rng.choice([segment.between, segment.after]).append(content)
+
+
+def ploc_fault(rng, plan):
+    segment = rng.choice(plan.segments())
+    cause = rng.choice(["under 9", "version", "flags", "flag byte", "rest", "left over"])
+    if cause == "under 9":
+        segment.ploc_body = rng.choice([bytes(8), rng.randbytes(rng.randint(0, 8))])
+    elif cause == "version":
+        segment.ploc_front = full(nonzero(rng, 8))
+    elif cause == "flags":
+        segment.ploc_front = full(0, nonzero(rng, 24))
+    elif cause == "flag byte":
+        segment.more_count = rng.choice([1, 1, 2, 99])
+    elif cause == "rest":
+        cut_the_rest(rng, segment)
+    else:
+        segment.tail = rng.choice([b"\0", b"\x80", rng.randbytes(rng.randint(1, 4))])
+
+
+def cut_the_rest(rng, segment):
+    """One more entry, without the last byte of its size or offset field."""
+    segment.length_size = max(segment.length_size, 1)
+    segment.offset_size = max(segment.offset_size, 2)
+    segment.more_count = 1
+    short = segment.length_size - 1
+    segment.tail = rng.choice([
+        bytes([LOST]) + bytes(short), bytes([GOOD]) + bytes(short + 2), bytes([DAMAGED])])
+
+
+def width_over_8(rng, plan):
+    segment = rng.choice(plan.segments())
+    over, held = rng.choice([9, 9, rng.randint(9, 15)]), rng.randint(0, 15)
+    segment.widths = rng.choice([(over, held), (held, over)])
+
+
+def data_reference(rng, plan):
+    rng.choice(plan.segments()).reference = rng.choice([1, 256, nonzero(rng, 16)])
+
+
+def add_raw_entry(segment, raw):
+    segment.more_count = 1
+    segment.tail = raw
+
+
+def reserved_bit(rng, plan):
+    flag_byte = rng.choice([0, LOST, GOOD, DAMAGED]) | rng.choice([1, 0x20, nonzero(rng, 6)])
+    raw = bytes([flag_byte]) + rng.randbytes(rng.randint(0, 3))
+    add_raw_entry(rng.choice(plan.segments()), raw)
+
+
+def neither(rng, plan):
+    add_raw_entry(rng.choice(plan.segments()), b"\0" + rng.randbytes(rng.randint(0, 3)))
+
+
+def too_many_chunks(rng, plan):
+    """States more chunks than the limit leaves, the earlier segments counted."""
+    segments = plan.segments()
+    number = rng.randrange(len(segments))
+    so_far = sum(len(segment.entries) for segment in segments[:number + 1])
+    segments[number].more_count = CHUNKS + 1 - so_far + rng.choice([0, 0, 1, 30_000])
+
+
+def source_over_limit(rng, plan):
+    segment = rng.choice(plan.segments())
+    if rng.random() < 0.5:
+        segment.version = rng.choice([1, 255])
+        segment.offset = rng.choice([LIMIT + 1, LIMIT + 1, 2 ** 63, 2 ** 64 - 1])
+    else:
+        size = rng.choice([LIMIT + 1 - segment.end(), LIMIT + 1, 2 ** 64 - 1])
+        flag_byte = rng.choice([LOST, GOOD])
+        segment.entries.append(Entry(flag_byte, size, wild=rng.getrandbits(64)))
+
+
+def not_in_one_pdat(rng, plan):
+    """One more present chunk, just outside of a pdat or somewhere else."""
+    segment = rng.choice(plan.segments())
+    size, flag_byte = rng.randint(1, 4), rng.choice([GOOD, DAMAGED])
+    front = len(plan.ftyp) + len(plan.pfil())
+    place = rng.choice([-1, 0, rng.randrange(front), 10 ** 6, -2 ** 62])
+    added = Entry(flag_byte, size, place=place)
+    if plan.datas() and rng.random() < 0.7:
+        data = rng.choice(plan.datas())
+        at = rng.choice([-1, -8, len(data.body) - size + 1, len(data.body)])
+        added = Entry(flag_byte, size, data, at)
+        if rng.random() < 0.3:
+            added = Entry(flag_byte, len(data.body) + 1, data, 0)
+    segment.entries.append(added)
+
+
+def sizes_disagree(rng, plan):
+    """A known size, and a known size, an end or an open offset that disagrees."""
+    size = rng.randint(0, 30)
+    above = size + rng.randint(1, 9)
+    closing = lost_segment(0, [size], flags=1)
+    other = rng.choice([
+        lost_segment(0, [above], flags=1), lost_segment(above, [0], flags=1),
+        lost_segment(size, [1]), open_segment(above), open_segment(above, flags=1)])
+    for content in rng.sample([closing, other], 2):
+        plan.items.insert(rng.randint(0, len(plan.items)), Other(content))
+
+
+FAULTS = {
+    2: header_cut_short,
+    3: size_field_0,
+    4: size_below_header,
+    5: box_ends_after_container,
+    6: too_many_boxes,
+    7: ftyp_fault,
+    8: no_paff,
+    9: pfil_fault,
+    10: pfhd_fault,
+    11: surl_fault,
+    12: no_pseg,
+    13: too_many_segments,
+    14: pshd_fault,
+    15: not_one_ploc,
+    16: surl_inside_pseg,
+    17: ploc_fault,
+    18: width_over_8,
+    19: data_reference,
+    20: reserved_bit,
+    21: neither,
+    22: too_many_chunks,
+    23: source_over_limit,
+    24: not_in_one_pdat,
+    25: sizes_disagree,
+}
+
+
+def faulty_file(rng, number):
+    """A file that is acceptable but for one fault."""
+    if number == 7 and rng.random() < 0.1:
+        return b""
+    plan = foreign_plan(rng)
+    FAULTS[number](rng, plan)
+    return plan.assemble()

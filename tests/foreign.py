@@ -1,0 +1,163 @@
+"""Makes files as another writer would, with everything the paper allows."""
+
+from boxes import box, ftyp, pfhd, surl
+from plan import Data, Entry, Other, Plan, Segment
+
+LIMIT = 4_294_967_295
+LOST, DAMAGED, GOOD = 0x80, 0xC0, 0x40
+NOT_KNOWN = [b"free", b"skip", b"uuid", b"ptle", b"fidx", b"mdat", b"dref"]
+OUT_OF_PLACE = {
+    "file": [b"pfhd", b"surl", b"pshd", b"ploc"],
+    "pfil": [b"ftyp", b"pfil", b"pseg", b"pshd", b"ploc", b"pdat"],
+    "pseg": [b"ftyp", b"pfil", b"pfhd", b"pseg", b"pdat"],
+}
+
+
+def seldom(rng):
+    return rng.random() < 0.1
+
+
+def text(rng):
+    return bytes(rng.randint(1, 255) for _ in range(rng.choice([0, 1, 1, 3, 6])))
+
+
+def width(rng):
+    """A width that is widened later where it is too narrow."""
+    return rng.choice([0, 0, 0, rng.randint(0, 8)])
+
+
+def skipped_box(rng, container):
+    """A box that a reader skips in this container."""
+    kind = rng.choice(NOT_KNOWN + OUT_OF_PLACE[container])
+    body = rng.randbytes(rng.choice([0, 4, rng.randint(0, 12)]))
+    if kind == b"uuid" and rng.random() < 0.7:
+        body = rng.randbytes(16) + body
+    return box(kind, body, large=seldom(rng))
+
+
+def foreign_ftyp(rng):
+    brands = [rng.choice([b"isom", b"pmff", rng.randbytes(4)])
+              for _ in range(rng.choice([0, 0, 1, 2]))]
+    brands.insert(rng.randint(0, len(brands)), b"paff")
+    major = rng.choice([b"paff", b"isom", rng.randbytes(4)])
+    return ftyp(brands, major, rng.choice([0, rng.getrandbits(32)]), large=seldom(rng))
+
+
+def foreign_pfil_parts(rng):
+    """One pfhd and some surl, in any order, with skipped boxes."""
+    flags = rng.choice([0, 0, 1, rng.getrandbits(24)])
+    parts = [pfhd(flags, large=seldom(rng))]
+    for _ in range(rng.choice([1, 1, 1, 1, 2, 3])):
+        parts.append(surl(text(rng), text(rng), large=seldom(rng)))
+    if rng.random() < 0.15:
+        parts.append(skipped_box(rng, "pfil"))
+    rng.shuffle(parts)
+    return parts
+
+
+def foreign_data(rng):
+    length = rng.choice([0, rng.randint(1, 9), 9, rng.randint(9, 24)])
+    return Data(rng.randbytes(length), large=seldom(rng))
+
+
+def foreign_entry(rng, datas, room):
+    """A chunk of at most `room` positions."""
+    few = rng.randint(1, 9)
+    size = min(room, rng.choice([0, 1, 2, few, few, rng.randint(0, 15)]))
+    flag_byte = rng.choice([GOOD, GOOD, GOOD, GOOD, DAMAGED, LOST])
+    holding = [data for data in datas if len(data.body) >= size]
+    if flag_byte == LOST or size > 0 and not holding:
+        return Entry(LOST, size)
+    if size == 0:
+        return Entry(flag_byte, 0, wild=rng.getrandbits(64))
+    data = rng.choice(holding)
+    return Entry(flag_byte, size, data, rng.randint(0, len(data.body) - size))
+
+
+def foreign_entries(rng, datas, span):
+    """The chunks of one segment, at most `span` positions."""
+    if rng.random() < 0.05:
+        return [Entry(rng.choice([GOOD, DAMAGED, LOST]), 0, wild=rng.getrandbits(64))
+                for _ in range(rng.randint(1, 3))]
+    entries = []
+    for _ in range(rng.choice([0, 1, 1, 2, 3, 3, 4, 5])):
+        room = span - sum(entry.size for entry in entries)
+        entries.append(foreign_entry(rng, datas, room))
+    return entries
+
+
+def source_offset(rng, room):
+    """An offset up to `room`: near the front, near the end, or at it."""
+    return rng.choice([0, rng.randint(0, min(room, 60)), max(0, room - rng.randint(0, 5)), room])
+
+
+def foreign_segment(rng, datas, span):
+    entries = foreign_entries(rng, datas, span)
+    length = sum(entry.size for entry in entries)
+    segment = Segment(source_offset(rng, span - length), entries)
+    dress(rng, segment)
+    return segment
+
+
+def dress(rng, segment):
+    """Chooses all that has no effect on which positions are supplied."""
+    segment.version = rng.choice([0, 0, 0, 1, 1, rng.randint(1, 255)])
+    segment.flags = rng.choice([0, 0, 2, 4, 6, rng.getrandbits(24) & 0xFFFFFE])
+    segment.repair_time = rng.choice([0, rng.getrandbits(64)])
+    segment.length_size, segment.offset_size = width(rng), width(rng)
+    segment.large, segment.pshd_large, segment.ploc_large = seldom(rng), seldom(rng), seldom(rng)
+    for parts in (segment.between, segment.after):
+        if rng.random() < 0.08:
+            parts.append(skipped_box(rng, "pseg"))
+
+
+def stretch(rng, segments, span):
+    """Lets a lost chunk reach the end of a source of any size."""
+    segment = rng.choice(segments)
+    segment.entries.append(Entry(LOST, span - segment.end()))
+    rng.shuffle(segment.entries)
+
+
+def close(rng, segments, span):
+    """Flags a segment that ends where the source does, and others that agree."""
+    closing = rng.choice(segments)
+    if closing.is_open():
+        closing.entries.append(Entry(LOST, rng.randint(0, min(span, 9))))
+    closing.offset = span - (closing.end() - closing.offset)
+    for segment in segments:
+        agrees = segment.is_open() or segment.end() == span
+        if segment is closing or agrees and rng.random() < 0.4:
+            segment.flags |= 1
+
+
+def foreign_plan(rng, huge=False):
+    """The plan of an acceptable file."""
+    span = rng.choice([LIMIT, LIMIT - 1, rng.randint(1000, LIMIT)]) if huge else rng.randint(0, 60)
+    datas = [foreign_data(rng) for _ in range(rng.choice([0, 1, 1, 1, 2, 2, 3]))]
+    segments = [foreign_segment(rng, datas, span) for _ in range(rng.choice([1, 2, 2, 2, 3, 4]))]
+    if huge and rng.random() < 0.5:
+        stretch(rng, segments, span)
+    if rng.random() < 0.5:
+        close(rng, segments, span)
+    items = datas + segments
+    while rng.random() < 0.2:
+        items.append(Other(skipped_box(rng, "file")))
+    rng.shuffle(items)
+    return Plan(foreign_ftyp(rng), foreign_pfil_parts(rng), items, seldom(rng))
+
+
+def overstep(rng, plan):
+    """Puts the end of a segment just past the limit, or flags one too many."""
+    segment = rng.choice(plan.segments())
+    if rng.random() < 0.5:
+        segment.entries.append(Entry(LOST, LIMIT + rng.choice([1, 1, 2, 300]) - segment.end()))
+    else:
+        segment.flags |= 1
+
+
+def foreign_file(rng):
+    """The bytes of a file by another writer; a few in a hundred go too far."""
+    plan = foreign_plan(rng, huge=seldom(rng))
+    if rng.random() < 0.04:
+        overstep(rng, plan)
+    return plan.assemble()

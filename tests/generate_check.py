@@ -1,0 +1,233 @@
+"""Checks that the makers reach everything they promise, and the model on what they make."""
+
+import random
+import statistics
+import sys
+
+import generate
+import model
+from boxes import head
+from spoiling import boxes_in
+
+KNOWN = [b"ftyp", b"pfil", b"pfhd", b"surl", b"pseg", b"pshd", b"ploc", b"pdat"]
+
+passed = failed = 0
+
+
+def expect(name, found, wanted=True):
+    global passed, failed
+    if found == wanted:
+        passed += 1
+    else:
+        failed += 1
+        print(f"FAILED {name}: found {found!r}, wanted {wanted!r}")
+
+
+def accepted(file):
+    return model.read(file)[0] == "read"
+
+
+# Foreign files.
+
+def plocs_and_pshds(file):
+    """The width byte and the version of each segment of an accepted file."""
+    for row in model.read(file)[1]:
+        large = file[row[0]:row[0] + 4] == bytes([0, 0, 0, 1])
+        size_place, size_width = (row[0] + 8, 8) if large else (row[0], 4)
+        end = row[0] + int.from_bytes(file[size_place:size_place + size_width], "big")
+        parts = boxes_in(file, row[0] + (16 if large else 8), end)
+        places = {file[place + 4:place + 8]: place + header for place, _, header in parts}
+        yield file[places[b"ploc"] + 4], file[row[5]]
+
+
+def check_foreign(files):
+    share = sum(map(accepted, files)) / len(files)
+    print(f"foreign files accepted: {100 * share:.1f} %, "
+          f"median length {statistics.median(map(len, files)):.0f}, longest {max(map(len, files))}")
+    expect("nine in ten accepted", share >= 0.9)
+    expect("median under 300", statistics.median(map(len, files)) < 300)
+    expect("nearly all under 700", sum(len(file) < 700 for file in files) > 0.98 * len(files))
+    files = [file for file in files if accepted(file)]
+    short = sum(model.length(file)[1] < 80 for file in files) / len(files)
+    expect("mostly a described length under 80", 0.8 < short < 0.97)
+    widths = [pair for file in files for pair in plocs_and_pshds(file)]
+    for width in range(9):
+        expect(f"length_size {width}", any(byte >> 4 == width for byte, _ in widths))
+        expect(f"offset_size {width}", any(byte & 15 == width for byte, _ in widths))
+    versions = {version for _, version in widths}
+    expect("pshd of version 0, 1 and above", {0, 1} < versions)
+    check_size_forms(files)
+    check_states(files)
+
+
+def check_size_forms(files):
+    forms = {(file[place + 4:place + 8], header)
+             for file in files for place, _, header in boxes_in(file, 0, len(file))}
+    for kind in KNOWN + [b"uuid", b"free"]:
+        for header in (8, 16):
+            expect(f"{kind} with a header of {header}", (kind, header) in forms)
+
+
+def check_states(files):
+    """What a file by another writer may hold is met in some accepted file."""
+    met = {"data after": 0, "data before": 0, "open": 0, "open last": 0, "closed": 0,
+           "overlap": 0, "out of order": 0, "empty present": 0, "limit": 0, "shared pdat": 0}
+    for file in files:
+        segments, chunks = model.read(file)[1:]
+        held = [chunk for chunk in chunks if chunk[5] > 0]
+        met["data after"] += any(chunk[5] > segments[chunk[0]][0] for chunk in held)
+        met["data before"] += any(chunk[5] < segments[chunk[0]][0] for chunk in held)
+        met["open"] += any(row[4] == 0 for row in segments)
+        met["open last"] += any(row[4] == 0 and row[2] & 1 for row in segments)
+        met["closed"] += model.length(file)[2]
+        good = [range(chunk[2], chunk[2] + chunk[3]) for chunk in chunks if chunk[4] == 2]
+        met["overlap"] += any(max(one[0], two[0]) <= min(one[-1], two[-1])
+                              for one in good for two in good if one and two and one is not two)
+        met["out of order"] += [row[1] for row in segments] != sorted(row[1] for row in segments)
+        met["empty present"] += any(chunk[3] == 0 and chunk[4] > 0 for chunk in chunks)
+        met["limit"] += model.length(file)[1] == 4_294_967_295
+        pdats = [(place, end) for place, end, _ in boxes_in(file, 0, len(file))
+                 if file[place + 4:place + 8] == b"pdat"]
+        met["shared pdat"] += any(
+            len({chunk[0] for chunk in held if place < chunk[5] < end}) > 1 for place, end in pdats)
+    for name, count in met.items():
+        expect(f"{name} met", count > 0)
+
+
+# The meaning, position by position.
+
+def position_by_position(chunks, described):
+    """The number of the supplying chunk for each position, None where missing."""
+    suppliers = described * [None]
+    for number in reversed(range(len(chunks))):
+        segment, index, start, size, state, place = chunks[number]
+        for p in range(start, start + size):
+            if state == 2:
+                suppliers[p] = number
+    return suppliers
+
+
+def run_from(suppliers, p):
+    end = p
+    while end < len(suppliers) and suppliers[end] == suppliers[p]:
+        end += 1
+    return end - p
+
+
+def check_meaning(file):
+    """Lists, serving, asking and map against a table of all positions."""
+    chunks, described = model.read(file)[2], model.length(file)[1]
+    suppliers = position_by_position(chunks, described)
+    answers, parts, had, missing = [], [], [], []
+    for p, number in enumerate(suppliers):
+        run = run_from(suppliers, p)
+        word = "missing" if number is None else "served"
+        answers.append((word, run))
+        parts.append((0, 0) if number is None else (chunks[number][5] + p - chunks[number][2], run))
+        (missing if number is None else had).append(p)
+    asked = [model.ask(file, p) for p in range(described + 2)]
+    expect("asked", asked, answers + [("beyond",), ("beyond",)])
+    expect("served", [model.serve(file, p) for p in range(described + 2)], parts + [(0, 0), (0, 0)])
+    answer = model.lists(file)
+    for found, wanted in [(answer[1], had), (answer[2], missing)]:
+        expect("list", [p for first, run in found for p in range(first, first + run)], wanted)
+        apart = [one[0] + one[1] < two[0] for one, two in zip(found, found[1:])]
+        expect("list not touching", all(apart))
+        expect("list never empty", all(run > 0 for first, run in found))
+    expect("totals", answer[3:], (len(had), len(missing)))
+    closed = "closed" if model.length(file)[2] else "open"
+    text = model.map_text(file).decode("ascii").split("\n")
+    expect("map", (text[0], text[-2], len(text)),
+           (f"source\t{described}\t{closed}", f"total\t{len(had)}\t{len(missing)}",
+            3 + len(answer[1]) + len(answer[2])))
+
+
+# Faulty and spoiled files.
+
+def check_faulty(rng, runs):
+    for number in range(2, 26):
+        for _ in range(runs):
+            file = generate.faulty_file(rng, number)
+            expect(f"faulty file for {number}", model.read(file), ("refused", number))
+            expect(f"map of a file for {number}", model.map_text(file),
+                   b"refused\t%d\n" % number)
+            expect(f"parts of a file for {number}",
+                   [model.url(file), model.mime(file), model.serve(file, 0)], 3 * [(0, 0)])
+
+
+def check_spoiled(rng, files):
+    """Every spoiled file gets some answer, and no part outside of itself."""
+    numbers = set()
+    for file in files:
+        spoiled = generate.spoil(rng, file)
+        answer = model.read(spoiled)
+        numbers.add(answer[1] if answer[0] == "refused" else 0)
+        if answer[0] == "read":
+            ends = [row[5] + row[3] for row in answer[2] if row[5] > 0]
+            expect("places in the spoiled file", all(end <= len(spoiled) for end in ends))
+    expect("spoiled files meet many numbers", len(numbers) >= 15)
+
+
+# Arguments of append and begin.
+
+def check_additions(rng, files):
+    for number in generate.FAULTS_OF_APPEND:
+        for file in files:
+            given = generate.faulty_addition(rng, file, number)
+            answer, buffer = model.append(**given)
+            own = model.read(given["buffer"][:given["stated_length"]])
+            if number != "own":
+                expect(f"append refuses with {number}", answer, ("refused", number))
+            elif own[0] == "read" or own == ("refused", 12):
+                expect("append takes a file that the spoiling left acceptable",
+                       answer[0] == "length" or answer[1] in (6, 13, 22, 23, 25))
+            else:
+                expect("append refuses the file", answer, own)
+            if answer[0] == "refused":
+                expect("buffer kept", buffer, given["buffer"])
+
+
+def check_mixed_additions(rng, files):
+    answers = [model.append(**generate.addition(rng, file))[0] for file in files]
+    taken = sum(answer[0] == "length" for answer in answers) / len(answers)
+    expect("more than half of the additions taken", 0.5 < taken < 0.9)
+    for number in [30, 31, 32, 6, 13, 22, 23, 25, 33]:
+        expect(f"append meets {number}", ("refused", number) in answers)
+    print(f"additions taken: {100 * taken:.1f} %")
+
+
+def check_beginnings(rng, runs):
+    for number in generate.FAULTS_OF_BEGIN:
+        for _ in range(runs):
+            given = generate.faulty_beginning(rng, number)
+            expect(f"begin refuses with {number}", model.begin(**given),
+                   (("refused", number), given["buffer"]))
+    for _ in range(runs):
+        given = generate.faulty_beginning(rng, None)
+        answer, buffer = model.begin(**given)
+        file = head(given["url"], given["mime"])
+        expect("begun", (answer, buffer),
+               (("length", len(file)), file + given["buffer"][len(file):]))
+
+
+def main(seed):
+    rng = random.Random(seed)
+    files = [generate.foreign_file(rng) for _ in range(2000)]
+    again = random.Random(seed)
+    expect("same seed, same file", generate.foreign_file(again), files[0])
+    check_foreign(files)
+    good = [file for file in files if accepted(file)]
+    for file in good[:400]:
+        if model.length(file)[1] < 80:
+            check_meaning(file)
+    check_faulty(rng, 30)
+    check_spoiled(rng, files)
+    check_additions(rng, good[:40] + 10 * [head()])
+    check_mixed_additions(rng, good[:1200])
+    check_beginnings(rng, 100)
+    print(f"{passed} passed, {failed} failed")
+    return 1 if failed else 0
+
+
+if __name__ == "__main__":
+    raise SystemExit(main(int(sys.argv[1]) if len(sys.argv) > 1 else 1))

@@ -1,0 +1,701 @@
+"""Models the reader, the server, the lists, the map and the writer of partial files.
+
+Written from the paper "What is to be made, with rules" in its order, and from
+5.1.1 to 5.1.8 of ISO/IEC 23001-14 for the layout of fields.  Every function is
+pure, on bytes.
+
+Readings, where the paper can be read in two ways:
+
+ 1. Is a large size of 0 number 3 or 4?  4: "Per box: 6, 2, 3, 2 for the large
+    size, 4, 5" asks 3 before the large size is read.
+ 2. A header cut by the end of its container, not of the file: 2 or 5?  2:
+    "within the framing of one container", and 2 is asked before 5.
+ 3. A 513th box whose header is cut short: 6 or 2?  6, asked first per box.
+ 4. Does a major brand `paff` satisfy number 8?  No: "no compatible brand
+    `paff`".
+ 5. No first box, or no second: 7 and 9, by "first box not `ftyp`" with P12
+    (empty input: 7), and "second box not `pfil`" in the same way.
+ 6. Two `pfhd`, one of them ill-formed?  10: the table of kinds says "`pfhd`
+    one (`pfil`)", so there is one in all and it is well-formed.
+ 7. Must the texts of `surl` be UTF-8?  No: "two strings each closed by a zero
+    byte, nothing after" is all the paper asks.
+ 8. `pshd` of version 2 or more?  The 64-bit form: 5.1.4.2 says
+    "if (version==0) ... else".  Its body has exactly that length.
+ 9. Which flags stand in the segment row?  All 24 bits of the `pshd` flags, as
+    they stand: "flags".  Only last_segment has an effect on anything else.
+10. Does the body of a full box hold version and flags?  Yes: "`ploc` body
+    under 9 bytes" counts them, so the `pshd` body is 16 or 20 bytes long.
+11. A segment with chunks, all of size 0: open?  No, open is "`chunk_count` 0";
+    its end is its source offset.
+12. May an open last_segment segment lie above the known size?  No, 25: "a
+    segment end or open offset lies above the known size" makes no exception.
+13. Bytes after the head of an open segment's `ploc`: 17, "bytes left over".
+14. Does 22 wait for the entries?  No: "19, 22, 23 (offset), entries", so
+    `chunk_count` counts as it is stated.
+15. Are a size or offset field cut short told apart?  No, both are "17 for the
+    rest", asked before 23 and 24.
+16. An empty URL or MIME text of an accepted file: a part with its own place
+    and length 0; "(0, 0)" only "after a refusal".
+17. A table or list that is too short is found after 25: "file acceptable,
+    but".  Room is counted in numbers, and a part of a row is no row.
+18. The writer's form of `pshd`: version 0 if the source offset is below 2^32,
+    else version 1.  The paper leaves it to docs/.
+19. "1, 6, 13, 22, 23 or 25 if the result would have it": asked in that order,
+    also where a list is so long that `chunk_count` could not hold it (22).
+20. What does append write after 12?  The same as after any acceptable file:
+    "serving nothing with described length 0", so 25 sees the new segment only.
+"""
+
+from collections import namedtuple
+
+# Sizes we hold to.
+
+LIMITS = {
+    "file": 1_073_741_824,
+    "boxes in one container": 512,
+    "segments": 64,
+    "chunks": 1_024,
+    "source": 4_294_967_295,
+    "program input": 65_536,
+}
+
+# The kinds of box the base knows: container, and how many of each.
+
+KINDS = {
+    b"ftyp": ("file", "one"),
+    b"pfil": ("file", "one"),
+    b"pfhd": ("pfil", "one"),
+    b"surl": ("pfil", "one or more"),
+    b"pseg": ("file", "one or more"),
+    b"pshd": ("pseg", "one"),
+    b"ploc": ("pseg", "one"),
+    b"pdat": ("file", "any number"),
+}
+
+# Refusal numbers.
+
+FILE_OVER_LIMIT = 1
+HEADER_CUT_SHORT = 2
+SIZE_FIELD_0 = 3
+SIZE_BELOW_HEADER = 4
+BOX_ENDS_AFTER_CONTAINER = 5
+TOO_MANY_BOXES = 6
+FTYP_FAULT = 7
+NO_PAFF = 8
+PFIL_FAULT = 9
+PFHD_FAULT = 10
+SURL_FAULT = 11
+NO_PSEG = 12
+TOO_MANY_SEGMENTS = 13
+PSHD_FAULT = 14
+NOT_ONE_PLOC = 15
+SURL_INSIDE_PSEG = 16
+PLOC_FAULT = 17
+WIDTH_OVER_8 = 18
+DATA_REFERENCE = 19
+RESERVED_BIT = 20
+NEITHER_CORRUPTED_NOR_PRESENT = 21
+TOO_MANY_CHUNKS = 22
+SOURCE_OVER_LIMIT = 23
+NOT_IN_ONE_PDAT = 24
+SIZES_DISAGREE = 25
+LENT_TABLE_TOO_SHORT = 26
+INPUT_OVER_LIMIT = 27
+STATED_LENGTH_OVER_BUFFER = 30
+CHUNK_LIST_FAULT = 31
+DATA_NOT_EQUAL_TO_SIZES = 32
+BUFFER_TOO_SHORT = 33
+ZERO_BYTE_IN_TEXT = 34
+
+# Field layout.
+
+LAST_SEGMENT = 0x000001
+CORRUPTED = 0x80
+PRESENT = 0x40
+RESERVED = 0x3F
+LOST, DAMAGED, GOOD = 0, 1, 2
+SEGMENT_ROW_LENGTH = 7
+CHUNK_ROW_LENGTH = 6
+RANGE_LENGTH = 2
+
+Box = namedtuple("Box", "kind place body end")
+Segment = namedtuple(
+    "Segment", "place offset flags repair_time chunk_count pshd_body pshd_length end")
+Chunk = namedtuple("Chunk", "segment index start size state place")
+Text = namedtuple("Text", "place length")
+Reading = namedtuple("Reading", "segments chunks described closed url mime")
+
+
+class Refused(Exception):
+    """A refusal, with its number."""
+
+    def __init__(self, number):
+        super().__init__(number)
+        self.number = number
+
+
+def refuse_if(fault, number):
+    if fault:
+        raise Refused(number)
+
+
+def attempt(step, *given):
+    """The refusal number (0 if none) and the value of a step."""
+    try:
+        return 0, step(*given)
+    except Refused as refusal:
+        return refusal.number, None
+
+
+# Fields.
+
+def unsigned(file, place, width):
+    """`width` bytes, most significant first; width 0 has value 0."""
+    value = 0
+    for byte in file[place:place + width]:
+        value = 256 * value + byte
+    return value
+
+
+def signed(file, place, width):
+    """The same bytes in two's complement."""
+    value = unsigned(file, place, width)
+    if width > 0 and file[place] >= 0x80:
+        value -= 256 ** width
+    return value
+
+
+# Framing.
+
+def frame_box(file, place, end):
+    """The box at a place of a container that ends at `end`."""
+    header = 8
+    refuse_if(end - place < header, HEADER_CUT_SHORT)
+    size = unsigned(file, place, 4)
+    refuse_if(size == 0, SIZE_FIELD_0)
+    if size == 1:
+        header = 16
+        refuse_if(end - place < header, HEADER_CUT_SHORT)
+        size = unsigned(file, place + 8, 8)
+    refuse_if(size < header, SIZE_BELOW_HEADER)
+    refuse_if(place + size > end, BOX_ENDS_AFTER_CONTAINER)
+    return Box(file[place + 4:place + 8], place, place + header, place + size)
+
+
+def frame(file, place, end):
+    """The boxes of one container, from a place to its end."""
+    boxes = []
+    while place < end:
+        refuse_if(len(boxes) == LIMITS["boxes in one container"], TOO_MANY_BOXES)
+        boxes.append(frame_box(file, place, end))
+        place = boxes[-1].end
+    return boxes
+
+
+def of_kind(boxes, kind):
+    return [box for box in boxes if box.kind == kind]
+
+
+def count_kept(boxes, kind):
+    """Whether a container holds as many boxes of a kind as the table says."""
+    count = len(of_kind(boxes, kind))
+    rule = KINDS[kind][1]
+    if rule == "one":
+        return count == 1
+    if rule == "one or more":
+        return count >= 1
+    return True
+
+
+def body_of(file, box):
+    return file[box.body:box.end]
+
+
+# The boxes of the file and of pfil.
+
+def check_ftyp(file, boxes):
+    refuse_if(not boxes or boxes[0].kind != b"ftyp", FTYP_FAULT)
+    body = body_of(file, boxes[0])
+    refuse_if(len(body) < 8 or len(body) % 4 != 0, FTYP_FAULT)
+    refuse_if(not count_kept(boxes, b"ftyp"), FTYP_FAULT)
+    brands = [body[at:at + 4] for at in range(8, len(body), 4)]
+    refuse_if(b"paff" not in brands, NO_PAFF)
+
+
+def check_pfil(boxes):
+    refuse_if(len(boxes) < 2 or boxes[1].kind != b"pfil", PFIL_FAULT)
+    refuse_if(not count_kept(boxes, b"pfil"), PFIL_FAULT)
+
+
+def check_pfhd(file, parts):
+    refuse_if(not count_kept(parts, b"pfhd"), PFHD_FAULT)
+    body = body_of(file, of_kind(parts, b"pfhd")[0])
+    refuse_if(len(body) != 4 or body[0] != 0, PFHD_FAULT)
+
+
+def read_surl(file, surl):
+    """The URL and the MIME text of one surl, as parts of the file."""
+    body = body_of(file, surl)
+    refuse_if(len(body) < 4 or body[:4] != bytes(4), SURL_FAULT)
+    texts = body[4:].split(b"\0")
+    refuse_if(len(texts) != 3 or texts[2] != b"", SURL_FAULT)
+    url = Text(surl.body + 4, len(texts[0]))
+    mime = Text(url.place + url.length + 1, len(texts[1]))
+    return url, mime
+
+
+def read_surls(file, parts):
+    """The texts of the first surl, all of them being well-formed."""
+    refuse_if(not count_kept(parts, b"surl"), SURL_FAULT)
+    return [read_surl(file, surl) for surl in of_kind(parts, b"surl")][0]
+
+
+def read_head(file):
+    """Stages 1 to 11: the boxes of the file, the URL and the MIME text."""
+    refuse_if(len(file) > LIMITS["file"], FILE_OVER_LIMIT)
+    boxes = frame(file, 0, len(file))
+    check_ftyp(file, boxes)
+    check_pfil(boxes)
+    parts = frame(file, boxes[1].body, boxes[1].end)
+    check_pfhd(file, parts)
+    url, mime = read_surls(file, parts)
+    return boxes, url, mime
+
+
+# Segments and their chunks.
+
+def read_pshd(file, parts):
+    """The pshd box, source offset, flags and repair time of a segment."""
+    refuse_if(not parts or parts[0].kind != b"pshd", PSHD_FAULT)
+    refuse_if(not count_kept(parts, b"pshd"), PSHD_FAULT)
+    pshd = parts[0]
+    length = pshd.end - pshd.body
+    refuse_if(length < 4, PSHD_FAULT)
+    width = 4 if file[pshd.body] == 0 else 8
+    refuse_if(length != 4 + width + 8, PSHD_FAULT)
+    flags = unsigned(file, pshd.body + 1, 3)
+    offset = unsigned(file, pshd.body + 4, width)
+    repair_time = unsigned(file, pshd.body + 4 + width, 8)
+    return pshd, offset, flags, repair_time
+
+
+def read_ploc_head(file, ploc):
+    """length_size, offset_size and chunk_count."""
+    refuse_if(ploc.end - ploc.body < 9, PLOC_FAULT)
+    refuse_if(unsigned(file, ploc.body, 4) != 0, PLOC_FAULT)
+    length_size, offset_size = divmod(file[ploc.body + 4], 16)
+    refuse_if(length_size > 8 or offset_size > 8, WIDTH_OVER_8)
+    refuse_if(unsigned(file, ploc.body + 5, 2) != 0, DATA_REFERENCE)
+    return length_size, offset_size, unsigned(file, ploc.body + 7, 2)
+
+
+def state_of(flag_byte):
+    refuse_if(flag_byte & RESERVED, RESERVED_BIT)
+    refuse_if(flag_byte == 0, NEITHER_CORRUPTED_NOR_PRESENT)
+    return {CORRUPTED: LOST, CORRUPTED | PRESENT: DAMAGED, PRESENT: GOOD}[flag_byte]
+
+
+def in_one_pdat(pdats, place, size):
+    return any(pdat.body <= place and place + size <= pdat.end for pdat in pdats)
+
+
+def read_entry(file, cursor, end, widths):
+    """The state, size and offset of one entry, and the cursor after it."""
+    length_size, offset_size = widths
+    refuse_if(cursor == end, PLOC_FAULT)
+    state = state_of(file[cursor])
+    if state == LOST:
+        offset_size = 0
+    cursor += 1
+    refuse_if(end - cursor < length_size + offset_size, PLOC_FAULT)
+    size = unsigned(file, cursor, length_size)
+    offset = signed(file, cursor + length_size, offset_size)
+    return state, size, offset, cursor + length_size + offset_size
+
+
+def read_segment(file, pseg, segment_number, chunks_so_far, pdats):
+    """One segment and its chunks."""
+    parts = frame(file, pseg.body, pseg.end)
+    pshd, source_offset, flags, repair_time = read_pshd(file, parts)
+    refuse_if(not count_kept(parts, b"ploc"), NOT_ONE_PLOC)
+    refuse_if(of_kind(parts, b"surl"), SURL_INSIDE_PSEG)
+    ploc = of_kind(parts, b"ploc")[0]
+    length_size, offset_size, chunk_count = read_ploc_head(file, ploc)
+    refuse_if(chunks_so_far + chunk_count > LIMITS["chunks"], TOO_MANY_CHUNKS)
+    refuse_if(source_offset > LIMITS["source"], SOURCE_OVER_LIMIT)
+    chunks, cursor, start = [], ploc.body + 9, source_offset
+    for index in range(chunk_count):
+        state, size, offset, cursor = read_entry(
+            file, cursor, ploc.end, (length_size, offset_size))
+        refuse_if(start + size > LIMITS["source"], SOURCE_OVER_LIMIT)
+        place = 0
+        if state != LOST and size > 0:
+            place = pseg.place + offset
+            refuse_if(not in_one_pdat(pdats, place, size), NOT_IN_ONE_PDAT)
+        chunks.append(Chunk(segment_number, index, start, size, state, place))
+        start += size
+    refuse_if(cursor != ploc.end, PLOC_FAULT)
+    segment = Segment(pseg.place, source_offset, flags, repair_time, chunk_count,
+                      pshd.body, pshd.end - pshd.body, start)
+    return segment, chunks
+
+
+def read_segments(file, boxes):
+    """Stages 12 to 24: all segments and all chunks, in file order."""
+    psegs, pdats = of_kind(boxes, b"pseg"), of_kind(boxes, b"pdat")
+    refuse_if(not count_kept(boxes, b"pseg"), NO_PSEG)
+    refuse_if(len(psegs) > LIMITS["segments"], TOO_MANY_SEGMENTS)
+    segments, chunks = [], []
+    for pseg in psegs:
+        segment, added = read_segment(file, pseg, len(segments), len(chunks), pdats)
+        segments.append(segment)
+        chunks.extend(added)
+    return segments, chunks
+
+
+def known_size(segments):
+    """The size of the source, None if it is not known; stage 25.
+
+    The end of an open segment is its source offset.
+    """
+    sizes = [segment.end for segment in segments
+             if segment.flags & LAST_SEGMENT and segment.chunk_count > 0]
+    if not sizes:
+        return None
+    size = sizes[0]
+    refuse_if(any(other != size for other in sizes), SIZES_DISAGREE)
+    refuse_if(any(segment.end > size for segment in segments), SIZES_DISAGREE)
+    return size
+
+
+def accept(file):
+    """Stages 1 to 25: what an acceptable file says."""
+    boxes, url, mime = read_head(file)
+    segments, chunks = read_segments(file, boxes)
+    size = known_size(segments)
+    closed = size is not None
+    described = size if closed else max(segment.end for segment in segments)
+    return Reading(segments, chunks, described, closed, url, mime)
+
+
+def accept_into(file, segment_room, chunk_room):
+    """The same, where the lent tables hold the rows."""
+    reading = accept(file)
+    check_room(len(reading.segments) * SEGMENT_ROW_LENGTH, segment_room)
+    check_room(len(reading.chunks) * CHUNK_ROW_LENGTH, chunk_room)
+    return reading
+
+
+def check_room(needed, room):
+    refuse_if(room is not None and needed > room, LENT_TABLE_TOO_SHORT)
+
+
+# Meaning.
+
+def supplier(reading, p):
+    """The first good chunk that covers a position, or None."""
+    for chunk in reading.chunks:
+        if chunk.state == GOOD and chunk.start <= p < chunk.start + chunk.size:
+            return chunk
+    return None
+
+
+def edges(reading):
+    """The positions where the supplier may change, ascending, and both ends."""
+    found = {0, reading.described}
+    for chunk in reading.chunks:
+        if chunk.state == GOOD:
+            found.add(chunk.start)
+            found.add(chunk.start + chunk.size)
+    return sorted(found)
+
+
+def run_length(reading, p):
+    """For how many positions from p on the supplier stays the same."""
+    for edge in edges(reading):
+        if edge > p and supplier(reading, edge) != supplier(reading, p):
+            return edge - p
+    return reading.described - p
+
+
+# Serving.
+
+def serve(file, p, segment_room=None, chunk_room=None):
+    """Place and length of the part of the file that holds p and what follows."""
+    number, reading = attempt(accept_into, file, segment_room, chunk_room)
+    if number:
+        return (0, 0)
+    chunk = supplier(reading, p)
+    if chunk is None:
+        return (0, 0)
+    return (chunk.place + (p - chunk.start), run_length(reading, p))
+
+
+def ask(file, p, segment_room=None, chunk_room=None):
+    """Why serving hands back what it does."""
+    number, reading = attempt(accept_into, file, segment_room, chunk_room)
+    if number:
+        return ("refused", number)
+    if p >= reading.described:
+        return ("beyond",)
+    if supplier(reading, p) is None:
+        return ("missing", run_length(reading, p))
+    return ("served", run_length(reading, p))
+
+
+# Lists.
+
+def ranges(reading, supplied):
+    """The maximal ranges of the positions that are supplied, or are not."""
+    found = []
+    marks = edges(reading)
+    for first, end in zip(marks, marks[1:]):
+        if (supplier(reading, first) is not None) != supplied:
+            continue
+        if found and found[-1][0] + found[-1][1] == first:
+            first = found.pop()[0]
+        found.append((first, end - first))
+    return found
+
+
+def total(found):
+    return sum(length for first, length in found)
+
+
+def accept_lists(file, segment_room, chunk_room, had_room, missing_room):
+    reading = accept_into(file, segment_room, chunk_room)
+    had, missing = ranges(reading, True), ranges(reading, False)
+    check_room(len(had) * RANGE_LENGTH, had_room)
+    check_room(len(missing) * RANGE_LENGTH, missing_room)
+    return had, missing
+
+
+def lists(file, segment_room=None, chunk_room=None, had_room=None, missing_room=None):
+    """Both lists and both totals."""
+    number, found = attempt(
+        accept_lists, file, segment_room, chunk_room, had_room, missing_room)
+    if number:
+        return ("refused", number)
+    had, missing = found
+    return ("lists", had, missing, total(had), total(missing))
+
+
+# Rows.
+
+def read(file, segment_room=None, chunk_room=None):
+    """The segment rows and the chunk rows."""
+    number, reading = attempt(accept_into, file, segment_room, chunk_room)
+    if number:
+        return ("refused", number)
+    segment_rows = [tuple(segment[:SEGMENT_ROW_LENGTH]) for segment in reading.segments]
+    return ("read", segment_rows, [tuple(chunk) for chunk in reading.chunks])
+
+
+def length(file):
+    """The described length, and whether the size of the source is known."""
+    number, reading = attempt(accept, file)
+    if number:
+        return ("refused", number)
+    return ("length", reading.described, reading.closed)
+
+
+def url(file):
+    """The URL of the first surl."""
+    number, reading = attempt(accept, file)
+    return (0, 0) if number else tuple(reading.url)
+
+
+def mime(file):
+    """The MIME text of the first surl."""
+    number, reading = attempt(accept, file)
+    return (0, 0) if number else tuple(reading.mime)
+
+
+# Begin.
+
+def write_box(kind, *parts):
+    """A box with the 32-bit form of its size."""
+    body = b"".join(parts)
+    return (8 + len(body)).to_bytes(4, "big") + kind + body
+
+
+def begin(buffer, url, mime):
+    """Writes ftyp, then pfil holding pfhd and one surl."""
+    number, end = attempt(check_begin, buffer, url, mime)
+    if number:
+        return ("refused", number), buffer
+    ftyp = write_box(b"ftyp", b"paff", bytes(4), b"paff")
+    pfhd = write_box(b"pfhd", bytes(4))
+    surl = write_box(b"surl", bytes(4), url, b"\0", mime, b"\0")
+    file = ftyp + write_box(b"pfil", pfhd, surl)
+    assert len(file) == end
+    return ("length", end), file + buffer[end:]
+
+
+def check_begin(buffer, url, mime):
+    """The length of the file to be begun."""
+    refuse_if(0 in url or 0 in mime, ZERO_BYTE_IN_TEXT)
+    ftyp, pfil, pfhd, surl = 20, 8, 12, 14 + len(url) + len(mime)
+    end = ftyp + pfil + pfhd + surl
+    refuse_if(end > LIMITS["file"], FILE_OVER_LIMIT)
+    refuse_if(end > len(buffer), BUFFER_TOO_SHORT)
+    return end
+
+
+# Append.
+
+def least_unsigned_width(value):
+    width = 0
+    while value >= 256 ** width:
+        width += 1
+    return width
+
+
+def least_signed_width(value):
+    width = 0
+    while not -(256 ** width) <= 2 * value < 256 ** width:
+        width += 1
+    return width
+
+
+def pairs_of(chunk_list):
+    """The chunk list as pairs of size and state."""
+    refuse_if(len(chunk_list) % 2 != 0, CHUNK_LIST_FAULT)
+    pairs = list(zip(chunk_list[0::2], chunk_list[1::2]))
+    for size, state in pairs:
+        refuse_if(size == 0 or state not in (LOST, DAMAGED, GOOD), CHUNK_LIST_FAULT)
+    return pairs
+
+
+def offsets_of(pairs, data_length):
+    """For each chunk its offset from the pseg after the data, None if lost."""
+    offsets, offset = [], -data_length
+    for size, state in pairs:
+        if state == LOST:
+            offsets.append(None)
+        else:
+            offsets.append(offset)
+            offset += size
+    return offsets
+
+
+def widths_of(pairs, offsets):
+    """The least length_size and offset_size."""
+    length_size = max([least_unsigned_width(size) for size, state in pairs], default=0)
+    offset_size = max(
+        [least_signed_width(offset) for offset in offsets if offset is not None], default=0)
+    return length_size, offset_size
+
+
+def any_present(pairs):
+    return any(state != LOST for size, state in pairs)
+
+
+def form_of(source_offset):
+    """The version of pshd and the width of its source offset."""
+    return (0, 4) if source_offset < 2 ** 32 else (1, 8)
+
+
+def added_length(source_offset, pairs, data_length):
+    """How many bytes an addition writes."""
+    offsets = offsets_of(pairs, data_length)
+    length_size, offset_size = widths_of(pairs, offsets)
+    pdat = 8 + data_length if any_present(pairs) else 0
+    pshd = 8 + 4 + form_of(source_offset)[1] + 8
+    ploc = 8 + 9
+    for offset in offsets:
+        ploc += 1 + length_size + (0 if offset is None else offset_size)
+    return pdat + 8 + pshd + ploc
+
+
+def read_earlier(file):
+    """Boxes, segments and chunks of the file; 12 counts as serving nothing."""
+    boxes = read_head(file)[0]
+    if not of_kind(boxes, b"pseg"):
+        return boxes, [], []
+    segments, chunks = read_segments(file, boxes)
+    known_size(segments)
+    return boxes, segments, chunks
+
+
+def check_append(buffer, stated_length, source_offset, last, chunk_list, data):
+    """The pairs of the new segment and the new length of the file."""
+    refuse_if(stated_length > len(buffer), STATED_LENGTH_OVER_BUFFER)
+    boxes, segments, chunks = read_earlier(buffer[:stated_length])
+    pairs = pairs_of(chunk_list)
+    kept = sum(size for size, state in pairs if state != LOST)
+    refuse_if(len(data) != kept, DATA_NOT_EQUAL_TO_SIZES)
+    end = stated_length + added_length(source_offset, pairs, len(data))
+    refuse_if(end > LIMITS["file"], FILE_OVER_LIMIT)
+    box_count = len(boxes) + (2 if any_present(pairs) else 1)
+    refuse_if(box_count > LIMITS["boxes in one container"], TOO_MANY_BOXES)
+    refuse_if(len(segments) + 1 > LIMITS["segments"], TOO_MANY_SEGMENTS)
+    refuse_if(len(chunks) + len(pairs) > LIMITS["chunks"], TOO_MANY_CHUNKS)
+    source_end = source_offset + sum(size for size, state in pairs)
+    refuse_if(source_end > LIMITS["source"], SOURCE_OVER_LIMIT)
+    new = Segment(place=None, offset=source_offset, flags=flags_of(last), repair_time=None,
+                  chunk_count=len(pairs), pshd_body=None, pshd_length=None, end=source_end)
+    known_size(segments + [new])
+    refuse_if(end > len(buffer), BUFFER_TOO_SHORT)
+    return pairs, end
+
+
+def flags_of(last):
+    return LAST_SEGMENT if last else 0
+
+
+def write_pshd(source_offset, repair_time, last):
+    version, width = form_of(source_offset)
+    return write_box(b"pshd", bytes([version]), flags_of(last).to_bytes(3, "big"),
+                     source_offset.to_bytes(width, "big"), repair_time.to_bytes(8, "big"))
+
+
+def write_ploc(pairs, offsets):
+    length_size, offset_size = widths_of(pairs, offsets)
+    head = bytes(4) + bytes([16 * length_size + offset_size]) + bytes(2)
+    head += len(pairs).to_bytes(2, "big")
+    entries = b""
+    for (size, state), offset in zip(pairs, offsets):
+        flag_byte = {LOST: CORRUPTED, DAMAGED: CORRUPTED | PRESENT, GOOD: PRESENT}[state]
+        entries += bytes([flag_byte]) + size.to_bytes(length_size, "big")
+        if offset is not None:
+            entries += offset.to_bytes(offset_size, "big", signed=True)
+    return write_box(b"ploc", head, entries)
+
+
+def append(buffer, stated_length, source_offset, repair_time, last, chunk_list, data):
+    """Writes one pdat with the data, if any chunk is present, then the pseg."""
+    number, checked = attempt(
+        check_append, buffer, stated_length, source_offset, last, chunk_list, data)
+    if number:
+        return ("refused", number), buffer
+    pairs, end = checked
+    pdat = write_box(b"pdat", data) if any_present(pairs) else b""
+    pshd = write_pshd(source_offset, repair_time, last)
+    ploc = write_ploc(pairs, offsets_of(pairs, len(data)))
+    file = buffer[:stated_length] + pdat + write_box(b"pseg", pshd, ploc)
+    assert len(file) == end
+    return ("length", end), file + buffer[end:]
+
+
+# The map program.
+
+def line(*fields):
+    return "\t".join(str(field) for field in fields).encode("ascii") + b"\n"
+
+
+def map_text(data):
+    """What the program writes for its standard input."""
+    if len(data) > LIMITS["program input"]:
+        return line("refused", INPUT_OVER_LIMIT)
+    answer = lists(data)
+    if answer[0] == "refused":
+        return line("refused", answer[1])
+    had, missing, received_total, missing_total = answer[1:]
+    described, closed = length(data)[1:]
+    merged = [(first, "have", run) for first, run in had]
+    merged += [(first, "miss", run) for first, run in missing]
+    text = line("source", described, "closed" if closed else "open")
+    for first, word, run in sorted(merged):
+        text += line(word, first, run)
+    return text + line("total", received_total, missing_total)

@@ -1,0 +1,341 @@
+"""Checks the model on the paper's own numbers, and its writer against its reader."""
+
+import random
+
+import model
+from boxes import box, entry, ftyp, full, head, lost_segment, open_segment, pfhd, ploc, pshd, surl
+
+LIMIT = 4_294_967_295
+P1 = bytes.fromhex("00 00 00 14 70 6c 6f 63 00 00 00 00 11 00 00 00 01 40 05 fb")
+P2 = bytes.fromhex("00 00 00 14 70 6c 6f 63 00 00 00 00 20 00 00 00 01 80 01 2c")
+
+passed = failed = 0
+
+
+def expect(name, found, wanted):
+    global passed, failed
+    if found == wanted:
+        passed += 1
+    else:
+        failed += 1
+        print(f"FAILED {name}: found {found!r}, wanted {wanted!r}")
+
+
+def refused(number):
+    return ("refused", number)
+
+
+def begun(url=b"a", mime=b""):
+    answer, file = model.begin(bytes(54 + len(url) + len(mime)), url, mime)
+    return file
+
+
+def appended(file, source_offset, chunk_list, data, last=False, repair_time=0):
+    """The file after an append with room to spare, cut to its new length."""
+    buffer = file + bytes(200 + 20 * len(chunk_list) + len(data))
+    answer, buffer = model.append(
+        buffer, len(file), source_offset, repair_time, last, chunk_list, data)
+    assert answer[0] == "length", answer
+    return buffer[:answer[1]]
+
+
+def segment_of(ploc_bytes, data, offset=0, flags=0):
+    """A file with its data in one pdat that ends where its pseg begins."""
+    pdat = box(b"pdat", data) if data else b""
+    return head() + pdat + box(b"pseg", pshd(offset, flags), ploc_bytes)
+
+
+def place_of_pseg(data):
+    return len(head()) + (8 + len(data) if data else 0)
+
+
+# The paper's numbers.
+
+def check_p1_to_p7():
+    expect("P1", model.read(segment_of(P1, b"abcde"))[2],
+           [(0, 0, 0, 5, 2, place_of_pseg(b"abcde") - 5)])
+    expect("P1 served", model.serve(segment_of(P1, b"abcde"), 0), (len(head()) + 8, 5))
+    expect("P2", model.read(segment_of(P2, b""))[2], [(0, 0, 0, 300, 0, 0)])
+    expect("P3", model.signed(bytes.fromhex("80"), 0, 1), -128)
+    expect("P4", model.signed(bytes.fromhex("7f"), 0, 1), 127)
+    expect("P5", model.signed(bytes.fromhex("ff7f"), 0, 2), -129)
+    expect("P6", model.least_signed_width(-128), 1)
+    expect("P7", model.least_signed_width(-129), 2)
+    for length, entry_length, widths in [(128, 3, 0x11), (129, 4, 0x12)]:
+        file = appended(begun(), 0, [length, 2], bytes(length))
+        expect(f"widths for an offset of -{length}", file[-5 - entry_length], widths)
+
+
+def check_p8():
+    answer, file = model.begin(bytes(60), b"a", b"")
+    expect("P8 length", answer, ("length", 55))
+    expect("P8 end", file[40:55].hex(" "), "00 00 00 0f 73 75 72 6c 00 00 00 00 61 00 00")
+    expect("P8 past the end", file[55:], bytes(5))
+    expect("P8 front", file[:40], ftyp() + bytes.fromhex("00000023") + b"pfil" + pfhd())
+
+
+def check_p9_and_p10():
+    p9 = appended(begun(), 0, [4, 2, 6, 0], b"abcd", last=True)
+    expect("P9", model.lists(p9), ("lists", [(0, 4)], [(4, 6)], 4, 6))
+    p10 = appended(p9, 2, [5, 2], b"CDEFG")
+    expect("P10 lists", model.lists(p10), ("lists", [(0, 7)], [(7, 3)], 7, 3))
+    place, length = model.serve(p10, 2)
+    expect("P10 2 and 3 from the first", p10[place:place + length], b"cd")
+    place, length = model.serve(p10, 4)
+    expect("P10 4 to 6 from the second", p10[place:place + length], b"EFG")
+    expect("P10 asked", [model.ask(p10, p) for p in (0, 4, 7, 9, 10)],
+           [("served", 4), ("served", 3), ("missing", 3), ("missing", 1), ("beyond",)])
+    expect("P10 map", model.map_text(p10),
+           b"source\t10\tclosed\nhave\t0\t7\nmiss\t7\t3\ntotal\t7\t3\n")
+
+
+def check_p11_and_p12():
+    file = head() + open_segment(100)
+    expect("P11 length", model.length(file), ("length", 100, False))
+    expect("P11 missing", model.lists(file), ("lists", [], [(0, 100)], 0, 100))
+    expect("P11 appended", appended(head(), 100, [], b""), file)
+    expect("P12", model.read(b""), refused(7))
+    expect("P12 map", model.map_text(b""), b"refused\t7\n")
+
+
+def check_limits():
+    expect("end at the limit", model.length(head() + lost_segment(0, [LIMIT])),
+           ("length", LIMIT, False))
+    for offset, sizes in [(0, [LIMIT, 1]), (1, [LIMIT]), (LIMIT, [1])]:
+        expect(f"end past the limit from {offset}",
+               model.read(head() + lost_segment(offset, sizes)), refused(23))
+    expect("offset at the limit", model.length(head() + open_segment(LIMIT)),
+           ("length", LIMIT, False))
+    expect("offset past the limit",
+           model.read(head() + open_segment(LIMIT + 1, version=1)), refused(23))
+    expect("64 segments", len(model.read(head() + 64 * open_segment(0))[1]), 64)
+    expect("65 segments", model.read(head() + 65 * open_segment(0)), refused(13))
+    expect("1,024 chunks", len(model.read(head() + lost_segment(0, 1024 * [1]))[2]), 1024)
+    expect("1,025 chunks", model.read(head() + lost_segment(0, 1025 * [1])), refused(22))
+    expect("file over its limit", model.read(bytes(1_073_741_825)), refused(1))
+    expect("file at its limit", model.read(bytes(1_073_741_824)), refused(3))
+    expect("input over its limit", model.map_text(bytes(65_537)), b"refused\t27\n")
+    expect("input at its limit", model.map_text(bytes(65_536)), b"refused\t3\n")
+
+
+def check_box_counts():
+    free = box(b"free")
+    in_file = head() + open_segment(7)
+    expect("512 boxes in the file", model.length(in_file + 509 * free), ("length", 7, False))
+    expect("513 boxes in the file", model.length(in_file + 510 * free), refused(6))
+    for count, wanted in [(510, ("length", 7, False)), (511, refused(6))]:
+        pfil = box(b"pfil", pfhd(), surl(), count * free)
+        expect(f"{count + 2} boxes in pfil",
+               model.length(ftyp() + pfil + open_segment(7)), wanted)
+        pseg = box(b"pseg", pshd(7), ploc(0, 0, []), count * free)
+        expect(f"{count + 2} boxes in pseg", model.length(head() + pseg), wanted)
+
+
+# Order of refusals, and the errors this trade makes.
+
+def check_framing_order():
+    for name, tail, number in [
+            ("one byte", b"\0", 2), ("seven bytes", bytes(7), 2), ("size 0", bytes(8), 3),
+            ("large size cut", bytes.fromhex("00000001") + b"free" + bytes(7), 2),
+            ("large size 0", bytes.fromhex("00000001") + b"free" + bytes(8), 4),
+            ("large size 15", bytes.fromhex("00000001") + b"free" + bytes(7) + b"\x0f", 4),
+            ("size 7", bytes.fromhex("00000007") + b"free", 4),
+            ("size 9 of 8", bytes.fromhex("00000009") + b"free", 5)]:
+        expect(f"{name} in the file", model.read(tail), refused(number))
+        pfil = box(b"pfil", tail)
+        expect(f"{name} in pfil", model.read(ftyp() + pfil), refused(number))
+        pseg = box(b"pseg", tail)
+        expect(f"{name} in pseg", model.read(head() + pseg), refused(number))
+    expect("513th box cut short", model.read(512 * box(b"free") + b"\0"), refused(6))
+
+
+def check_entry_order():
+    for name, ploc_bytes, number in [
+            ("18 before 19", ploc(9, 0, [], reference=1), 18),
+            ("19 before 22", ploc(0, 0, [], count=1025, reference=1), 19),
+            ("22 before 17", ploc(0, 0, [], count=1025), 22),
+            ("17 for the flag byte", ploc(1, 0, [], count=1), 17),
+            ("20 before 21", ploc(1, 0, [b"\x01"]), 20),
+            ("20 before 17", ploc(1, 0, [b"\x81"]), 20),
+            ("21 before 17", ploc(1, 0, [b"\x00"]), 21),
+            ("17 for the rest", ploc(8, 0, [b"\x80" + b"\xff" * 7]), 17),
+            ("23 before 24", ploc(8, 1, [b"\x40" + b"\xff" * 9]), 23),
+            ("24 before left over", ploc(1, 1, [entry(0x40, 1, 1, 1, 0), b"\0"], count=1), 24),
+            ("left over", ploc(1, 1, [entry(0x80, 1, 1), b"\0"], count=1), 17),
+            ("left over, open", ploc(0, 0, [b"\0"], count=0), 17)]:
+        expect(name, model.read(segment_of(ploc_bytes, b"abc")), refused(number))
+
+
+def check_errors_of_the_trade():
+    data = b"abcdef"
+    for offset, wanted in [(-6, "read"), (-7, "refused"), (-5, "refused"), (6, "refused")]:
+        located = ploc(1, 1, [entry(0x40, 1, 6, 1, offset)])
+        expect(f"6 bytes at {offset}", model.read(segment_of(located, data))[0], wanted)
+    damaged = segment_of(ploc(1, 1, [entry(0xC0, 1, 6, 1, -6)]), data)
+    expect("damaged is missing", model.lists(damaged), ("lists", [], [(0, 6)], 0, 6))
+    expect("open last segment is no end",
+           model.length(head() + open_segment(5, flags=1) + lost_segment(0, [9])),
+           ("length", 9, False))
+    expect("open offset above the known size",
+           model.length(head() + open_segment(10) + lost_segment(0, [9], flags=1)), refused(25))
+    wild = segment_of(ploc(1, 8, [entry(0x40, 1, 0, 8, -2 ** 63)]), b"")
+    expect("size 0 has no place", model.read(wild)[2], [(0, 0, 0, 0, 2, 0)])
+    two = box(b"pfil", pfhd(), box(b"pfhd", full(1)), surl())
+    expect("two pfhd, one ill-formed", model.read(ftyp() + two), refused(10))
+
+
+def check_rooms():
+    p9 = appended(begun(), 0, [4, 2, 6, 0], b"abcd", last=True)
+    expect("tables that just hold", model.read(p9, 7, 12)[0], "read")
+    expect("segment table too short", model.read(p9, 6, 12), refused(26))
+    expect("chunk table too short", model.read(p9, 7, 11), refused(26))
+    expect("had list too short", model.lists(p9, 7, 12, 1, 2), refused(26))
+    expect("missing list too short", model.lists(p9, 7, 12, 2, 1), refused(26))
+    expect("lists that just hold", model.lists(p9, 7, 12, 2, 2)[0], "lists")
+    expect("not served", model.serve(p9, 0, 6, 12), (0, 0))
+    expect("asked", model.ask(p9, 0, 6, 12), refused(26))
+
+
+def check_append_order():
+    file = begun()
+    closed = appended(file, 0, [4, 2], b"abcd", last=True)
+    for name, given, number in [
+            ("30", (file, 56, 0, 0, False, [1], b""), 30),
+            ("own refusal", (file, 54, 0, 0, False, [1], b""), 5),
+            ("31 odd", (file, 55, 0, 0, False, [1], b"x"), 31),
+            ("31 size 0", (file, 55, 0, 0, False, [0, 0], b"x"), 31),
+            ("31 state 3", (file, 55, 0, 0, False, [1, 3], b"x"), 31),
+            ("32", (file, 55, LIMIT + 1, 0, False, [1, 0], b"x"), 32),
+            ("32, open", (file, 55, 0, 0, False, [], b"x"), 32),
+            ("22 before 23", (file, 55, LIMIT + 1, 0, False, 1025 * [1, 0], b""), 22),
+            ("22 past 16 bits", (file, 55, 0, 0, False, 65_536 * [1, 0], b""), 22),
+            ("23 offset", (file, 55, 2 ** 64 - 1, 0, False, [], b""), 23),
+            ("23 size", (file, 55, 0, 0, False, [2 ** 64 - 1, 0], b""), 23),
+            ("25 end", (closed, len(closed), 1, 0, False, [4, 0], b""), 25),
+            ("25 open", (closed, len(closed), 5, 0, True, [], b""), 25),
+            ("25 differ", (closed, len(closed), 1, 0, True, [2, 0], b""), 25),
+            ("33", (file, 55, 0, 0, False, [], b""), 33)]:
+        expect(name, model.append(*given), (refused(number), given[0]))
+    full_of_boxes = file + 456 * box(b"free") + 52 * box(b"pdat")
+    expect("511 boxes and two more", model.append(
+        full_of_boxes + box(b"free"), len(full_of_boxes) + 8, 0, 0, False, [1, 2], b"x")[0],
+        refused(6))
+    expect("511 boxes and one more", model.append(
+        full_of_boxes + box(b"free") + bytes(49), len(full_of_boxes) + 8, 0, 0, False, [], b"")[0],
+        ("length", len(full_of_boxes) + 8 + 49))
+    many = file + 64 * open_segment(0)
+    expect("a 65th segment", model.append(many, len(many), 0, 0, False, [], b"")[0], refused(13))
+    expect("34 before 33", model.begin(b"", b"a\0", b""), (refused(34), b""))
+    expect("begin 33", model.begin(bytes(54), b"a", b""), (refused(33), bytes(54)))
+
+
+def check_lowered_file_limit():
+    """The order of 1 in begin and append, with a limit that a short file passes."""
+    held = model.LIMITS["file"]
+    model.LIMITS["file"] = 104
+    expect("begin 34 before 1", model.begin(b"", 99 * b"\0", b"")[0], refused(34))
+    expect("begin 1 before 33", model.begin(b"", 51 * b"a", b"")[0], refused(1))
+    expect("begin at the limit", model.begin(bytes(104), 50 * b"a", b"")[0], ("length", 104))
+    file = begun()
+    expect("append at the limit", model.append(
+        file + bytes(49), 55, 0, 0, False, [], b"")[0], ("length", 104))
+    expect("32 before 1", model.append(file, 55, 0, 0, False, [9, 0], b"x")[0], refused(32))
+    expect("1 before 22, 23 and 33", model.append(
+        file, 55, LIMIT + 1, 0, False, 1025 * [1, 0], b"")[0], refused(1))
+    expect("the file's own 1", model.append(
+        bytes(105), 105, 0, 0, False, [1], b"")[0], refused(1))
+    model.LIMITS["file"] = held
+
+
+# The writer against the reader, over random runs.
+
+def random_chunks(rng, room):
+    """A chunk list of at most `room` positions, and its data."""
+    chunk_list, data = [], b""
+    for _ in range(rng.choice([0, 1, 1, 2, 3, 5])):
+        size = rng.choice([1, 2, 7, rng.randint(1, 40), rng.randint(1, 400)])
+        if size <= room:
+            room -= size
+            state = rng.randint(0, 2)
+            chunk_list += [size, state]
+            data += rng.randbytes(size if state else 0)
+    return chunk_list, data
+
+
+def chunk_bytes(file, rows):
+    """The bytes of the present chunks, in order."""
+    return b"".join(file[row[5]:row[5] + row[3]] for row in rows if row[4] != 0)
+
+
+def check_one_append(rng, file):
+    """Appends a random segment; gives the file after it."""
+    described, closed = model.length(file)[1:] if model.read(file)[0] == "read" else (0, False)
+    limit = described if closed else rng.choice([500, LIMIT])
+    offset = rng.choice([0, rng.randint(0, min(limit, 99)), rng.randint(0, limit)])
+    chunk_list, data = random_chunks(rng, limit - offset)
+    last = not closed and offset + sum(chunk_list[0::2]) >= described and rng.random() < 0.3
+    repair_time = rng.getrandbits(64)
+    spare = rng.randbytes(rng.choice([0, 1, 30]) + 2000 + len(data))
+    answer, buffer = model.append(
+        file + spare, len(file), offset, repair_time, last, chunk_list, data)
+    expect("appended", answer[0], "length")
+    new = buffer[:answer[1]]
+    expect("earlier bytes", new[:len(file)], file)
+    expect("bytes past the end", buffer[len(new):], (file + spare)[len(new):])
+    segment_rows, chunk_rows = model.read(new)[1:]
+    added = [row for row in chunk_rows if row[0] == len(segment_rows) - 1]
+    expect("fields", segment_rows[-1][1:5],
+           (offset, int(last), repair_time, len(chunk_list) // 2))
+    expect("sizes and states", [number for row in added for number in row[3:5]], chunk_list)
+    expect("bytes", chunk_bytes(new, added), data)
+    exact = model.append(new[:len(file)] + bytes(len(new) - len(file)), len(file), offset,
+                         repair_time, last, chunk_list, data)
+    expect("exact room", exact, (answer, new))
+    short = file + bytes(len(new) - len(file) - 1)
+    expect("one byte too few", model.append(short, len(file), offset, repair_time, last,
+                                            chunk_list, data), (refused(33), short))
+    return new
+
+
+def part(file, place_and_length):
+    place, length = place_and_length
+    return file[place:place + length]
+
+
+def written_again(file):
+    """Begin and append with what was read from a file."""
+    again = begun(part(file, model.url(file)), part(file, model.mime(file)))
+    segment_rows, chunk_rows = model.read(file)[1:]
+    for number, row in enumerate(segment_rows):
+        rows = [chunk for chunk in chunk_rows if chunk[0] == number]
+        chunk_list = [field for chunk in rows for field in chunk[3:5]]
+        again = appended(again, row[1], chunk_list, chunk_bytes(file, rows), bool(row[2]), row[3])
+    return again
+
+
+def check_random_runs(rng, runs):
+    for _ in range(runs):
+        texts = [bytes(rng.randint(1, 255) for _ in range(rng.randint(0, 9))) for _ in range(2)]
+        file = begun(*texts)
+        for _ in range(rng.randint(1, 6)):
+            file = check_one_append(rng, file)
+        expect("url and mime", [part(file, model.url(file)), part(file, model.mime(file))], texts)
+        expect("written again", written_again(file), file)
+
+
+if __name__ == "__main__":
+    check_p1_to_p7()
+    check_p8()
+    check_p9_and_p10()
+    check_p11_and_p12()
+    check_limits()
+    check_box_counts()
+    check_framing_order()
+    check_entry_order()
+    check_errors_of_the_trade()
+    check_rooms()
+    check_append_order()
+    check_lowered_file_limit()
+    check_random_runs(random.Random(1), 300)
+    print(f"{passed} passed, {failed} failed")
+    raise SystemExit(1 if failed else 0)

@@ -1,0 +1,112 @@
+"""Spoils a file: cuts, flips, splices, wrong sizes, boxes dropped, doubled or swapped."""
+
+
+def boxes_in(file, place, end):
+    """Place, end and header length of the boxes in reach, also in pfil and pseg."""
+    found = []
+    while end - place >= 8:
+        size, header = int.from_bytes(file[place:place + 4], "big"), 8
+        if size == 1 and end - place >= 16:
+            size, header = int.from_bytes(file[place + 8:place + 16], "big"), 16
+        if size < header or place + size > end:
+            break
+        found.append((place, place + size, header))
+        if file[place + 4:place + 8] in (b"pfil", b"pseg"):
+            found += boxes_in(file, place + header, place + size)
+        place += size
+    return found
+
+
+def with_size(file, place, header, size):
+    """The file with another value in one size field."""
+    if header == 16:
+        return file[:place + 8] + (size % 2 ** 64).to_bytes(8, "big") + file[place + 16:]
+    return file[:place] + (size % 2 ** 32).to_bytes(4, "big") + file[place + 4:]
+
+
+def edit(rng, file, first, end, new):
+    """Puts new bytes for a range; mostly the sizes of the boxes around it follow."""
+    follow = rng.random() < 0.7
+    for place, box_end, header in boxes_in(file, 0, len(file)) if follow else []:
+        if place + header <= first < box_end and end <= box_end:
+            file = with_size(file, place, header, box_end - place + len(new) - (end - first))
+    return file[:first] + new + file[end:]
+
+
+def cut(rng, file):
+    return file[:rng.randint(0, len(file))]
+
+
+def cut_out(rng, file):
+    first = rng.randint(0, len(file))
+    return edit(rng, file, first, min(len(file), first + rng.randint(1, 9)), b"")
+
+
+def flip(rng, file):
+    if not file:
+        return file
+    at = rng.randrange(len(file))
+    byte = rng.choice([0, 0xFF, rng.randrange(256), file[at] ^ 1 << rng.randrange(8)])
+    return file[:at] + bytes([byte]) + file[at + 1:]
+
+
+def insert(rng, file):
+    at = rng.randint(0, len(file))
+    return edit(rng, file, at, at, rng.randbytes(1))
+
+
+def splice(rng, file):
+    """Puts a part of the file over, or into, another."""
+    first, at = rng.randint(0, len(file)), rng.randint(0, len(file))
+    part = file[first:first + rng.randint(1, 40)]
+    end = min(len(file), at + rng.choice([0, len(part)]))
+    return edit(rng, file, at, end, part)
+
+
+def resize(rng, file):
+    """Sets a size field to a value that is seldom right."""
+    boxes = boxes_in(file, 0, len(file))
+    if not boxes:
+        return insert(rng, file)
+    place, end, header = rng.choice(boxes)
+    if header == 16 and rng.random() < 0.6:
+        return with_size(file, place, 16, rng.choice([0, 15, 16, 2 ** 64 - 1]))
+    return with_size(file, place, 8, rng.choice(
+        [0, 1, 7, 8, 2 ** 32 - 1, end - place - 1, end - place + 1]))
+
+
+def drop(rng, file):
+    boxes = boxes_in(file, 0, len(file))
+    if not boxes:
+        return file
+    place, end, header = rng.choice(boxes)
+    return edit(rng, file, place, end, b"")
+
+
+def double(rng, file):
+    boxes = boxes_in(file, 0, len(file))
+    if not boxes:
+        return file
+    place, end, header = rng.choice(boxes)
+    return edit(rng, file, place, place, file[place:end])
+
+
+def swap(rng, file):
+    """Lets two boxes that do not hold one another change places."""
+    boxes = sorted(boxes_in(file, 0, len(file)))
+    pairs = [(one, two) for one in boxes for two in boxes if one[1] <= two[0]]
+    if not pairs:
+        return file
+    one, two = rng.choice(pairs)
+    return (file[:one[0]] + file[two[0]:two[1]] + file[one[1]:two[0]]
+            + file[one[0]:one[1]] + file[two[1]:])
+
+
+SPOILINGS = [cut, cut_out, flip, flip, flip, flip, insert, splice, resize, drop, double, swap]
+
+
+def spoil(rng, file):
+    """One to three spoilings."""
+    for _ in range(rng.choice([1, 1, 1, 2, 2, 3])):
+        file = rng.choice(SPOILINGS)(rng, file)
+    return file
