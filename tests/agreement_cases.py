@@ -1,0 +1,239 @@
+"""Chooses the cases on which the definitions are held against the model, with the model's answers as numbers.
+
+A case is a name, an antt term over the definitions, and the numbers that the model gives for it.
+"""
+
+from collections import Counter, namedtuple
+
+import generate
+import model
+
+# `refusal` is the number that the model refuses with, 0 where it does not.
+Case = namedtuple("Case", "name term numbers refusal source")
+
+# Positions and lists are computed one position after the other, so only sources up to this length are listed whole.
+LISTED = 120
+# A file above this length is costly to compute on, so only its map is.
+SMALL = 1_000
+MARK = 7
+
+
+def listing(numbers):
+    """An antt list of numbers."""
+    return "".join("%d ∷ " % number for number in numbers) + "[]"
+
+
+def octets(data):
+    """An antt list of bytes, as numerals of 32 bytes each."""
+    parts = [data[at:at + 32] for at in range(0, len(data), 32)]
+    terms = ["bytesOf %d 0x%s" % (len(part), part.hex()) for part in parts]
+    return "(" + " ++ (".join(terms + ["[]"]) + ")" * (len(terms) + 1)
+
+
+def flag(value):
+    return 1 if value else 0
+
+
+def answer_numbers(answer, values):
+    """0 and the number of a refusal, or 1 and the values."""
+    if answer[0] == "refused":
+        return [0, answer[1]]
+    return [1] + values(answer)
+
+
+def counted(data):
+    return [len(data)] + list(data)
+
+
+def read_numbers(file):
+    def values(answer):
+        segments, chunks = answer[1:]
+        described, closed = model.length(file)[1:]
+        rows = [number for row in segments + chunks for number in row]
+        return [len(segments), len(chunks), described, flag(closed)] + rows
+    return answer_numbers(model.read(file), values)
+
+
+def text_numbers(file):
+    numbers = []
+    for place, length in [model.url(file), model.mime(file)]:
+        numbers += counted(file[place:place + length])
+    return numbers
+
+
+def asked_numbers(file, p):
+    replies = {"served": 1, "missing": 0, "beyond": 2}
+    reply = answer_numbers(model.ask(file, p), lambda answer: [replies[answer[0]]] + list(answer[1:]))
+    return list(model.serve(file, p)) + reply
+
+
+def table_after(rows, table):
+    return rows + table[len(rows):]
+
+
+def tables_numbers(file, segment_table, chunk_table):
+    """The answer and both tables at exit."""
+    answer = model.read(file, len(segment_table), len(chunk_table))
+    if answer[0] == "refused":
+        return [0, answer[1]] + segment_table + chunk_table
+    flat = [[number for row in rows for number in row] for rows in answer[1:]]
+    return [1] + table_after(flat[0], segment_table) + table_after(flat[1], chunk_table)
+
+
+def lists_numbers(file, had_list, missing_list):
+    """The answer, both totals and both lists at exit."""
+    answer = model.lists(file, had_room=len(had_list), missing_room=len(missing_list))
+    if answer[0] == "refused":
+        return [0, answer[1]] + had_list + missing_list
+    had, missing, received, lacking = answer[1:]
+    flat = [[number for pair in pairs for number in pair] for pairs in (had, missing)]
+    head = [1, len(had), len(missing), received, lacking]
+    return head + table_after(flat[0], had_list) + table_after(flat[1], missing_list)
+
+
+def written_numbers(answer, buffer):
+    return answer_numbers(answer, lambda value: [value[1]]) + list(buffer)
+
+
+def positions(rng, file):
+    """Positions at the edges of chunks, each with a short run before the next change."""
+    answer = model.read(file)
+    if answer[0] == "refused":
+        return [0]
+    described = model.length(file)[1]
+    edges = {0, described, described + 1}
+    for segment, index, start, size, state, place in answer[2]:
+        edges |= {start - 1, start, start + size - 1, start + size}
+    found = []
+    for p in sorted(edge for edge in edges if edge >= 0):
+        reply = model.ask(file, p)
+        if len(reply) < 2 or reply[1] <= LISTED:
+            found.append(p)
+    return sorted(rng.sample(found, min(4, len(found))))
+
+
+def room(rng, needed):
+    """A lent table with room to spare, with exactly enough, or too short."""
+    return [MARK] * max(0, needed + rng.choice([-1, 0, 0, 3]))
+
+
+def number_of(answer):
+    return answer[1] if answer[0] == "refused" else 0
+
+
+def read_case(rng, name, file, source):
+    """Every row, the texts, and serving and asking at some positions."""
+    points = positions(rng, file)
+    numbers = read_numbers(file) + text_numbers(file)
+    for p in points:
+        numbers += asked_numbers(file, p)
+    term = "readOf %s (%s)" % (octets(file), listing(points))
+    return Case(name, term, numbers, number_of(model.read(file)), source)
+
+
+def tables_case(rng, name, file, source):
+    answer = model.read(file)
+    segments, chunks = ([], []) if answer[0] == "refused" else answer[1:]
+    a, b = room(rng, 7 * len(segments)), room(rng, 6 * len(chunks))
+    term = "tablesOf %s (%s) (%s)" % (octets(file), listing(a), listing(b))
+    return Case(name, term, tables_numbers(file, a, b), number_of(model.read(file, len(a), len(b))), source)
+
+
+def lists_case(rng, name, file, source):
+    answer = model.lists(file)
+    had, missing = ([], []) if answer[0] == "refused" else answer[1:3]
+    a, b = room(rng, 2 * len(had)), room(rng, 2 * len(missing))
+    term = "listsOf %s (%s) (%s)" % (octets(file), listing(a), listing(b))
+    refusal = number_of(model.lists(file, had_room=len(a), missing_room=len(b)))
+    return Case(name, term, lists_numbers(file, a, b), refusal, source)
+
+
+def map_case(name, file, source):
+    return Case(name, "mapOfInput %s" % octets(file), list(model.map_text(file)), number_of(model.read(file)), source)
+
+
+def file_cases(rng, name, file):
+    """What the definitions are asked of one file."""
+    source = "file " + file.hex()
+    answer = model.length(file)
+    if len(file) > SMALL:
+        return [map_case(name + "-map", file, source)]
+    cases = [read_case(rng, name, file, source)]
+    if rng.random() < 0.3:
+        cases.append(tables_case(rng, name + "-tables", file, source))
+    if answer[0] == "refused" or answer[1] <= LISTED:
+        cases.append(map_case(name + "-map", file, source))
+        cases.append(lists_case(rng, name + "-lists", file, source))
+    return cases
+
+
+def addition_case(name, given):
+    answer, buffer = model.append(**given)
+    term = "appendedOf %s %d %d %d %s (%s) %s" % (
+        octets(given["buffer"]), given["stated_length"], given["source_offset"], given["repair_time"],
+        "true" if given["last"] else "false", listing(given["chunk_list"]), octets(given["data"]))
+    return Case(name, term, written_numbers(answer, buffer), number_of(answer), "addition %r" % given)
+
+
+def beginning_case(name, given):
+    answer, buffer = model.begin(**given)
+    term = "begunOf %s %s %s" % (octets(given["buffer"]), octets(given["url"]), octets(given["mime"]))
+    return Case(name, term, written_numbers(answer, buffer), number_of(answer), "beginning %r" % given)
+
+
+def some_file(rng, index):
+    """Of ten files four as another writer makes them, three spoiled, and three with one chosen fault.
+
+    A file with a 513th box is large, so that fault is chosen once.
+    """
+    turn = index % 10
+    if index == 7:
+        return generate.faulty_file(rng, 6)
+    if turn < 4:
+        return generate.foreign_file(rng)
+    if turn < 7:
+        return generate.spoil(rng, generate.foreign_file(rng))
+    numbers = [number for number in sorted(generate.FAULTS) if number != 6]
+    return generate.faulty_file(rng, numbers[(index // 10 * 3 + turn - 7) % len(numbers)])
+
+
+def some_addition(rng, index):
+    """Mostly as a clerk would add, and each fault of append in turn; those that need a large file once."""
+    file = generate.foreign_file(rng)
+    if index < len(generate.FAULTS_OF_APPEND):
+        return generate.faulty_addition(rng, file, generate.FAULTS_OF_APPEND[index])
+    if index % 4 == 0:
+        small = [number for number in generate.FAULTS_OF_APPEND if number not in (6, 13, 22)]
+        return generate.faulty_addition(rng, file, small[index // 4 % len(small)])
+    return addition_to(rng, file)
+
+
+def addition_to(rng, file):
+    """An addition that does not need a large file."""
+    while True:
+        given = generate.addition(rng, file)
+        if len(given["buffer"]) < 1_000:
+            return given
+
+
+def some_beginning(rng, index):
+    if index < len(generate.FAULTS_OF_BEGIN):
+        return generate.faulty_beginning(rng, generate.FAULTS_OF_BEGIN[index])
+    return generate.beginning(rng)
+
+
+def choose(rng, files, additions, beginnings):
+    """The cases, and how often each refusal number was met."""
+    cases = []
+    for index in range(files):
+        cases += file_cases(rng, "file%d" % index, some_file(rng, index))
+    for index in range(additions):
+        cases.append(addition_case("addition%d" % index, some_addition(rng, index)))
+    for index in range(beginnings):
+        cases.append(beginning_case("beginning%d" % index, some_beginning(rng, index)))
+    return cases
+
+
+def refusals(cases):
+    """How many cases the model refuses, by number."""
+    return Counter(case.refusal for case in cases if case.refusal)

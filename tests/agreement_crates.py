@@ -1,0 +1,201 @@
+"""Writes crates over ours, outside the repository, and has the checker compute the definitions on the cases."""
+
+import os
+import re
+import shutil
+import subprocess
+
+TOP = os.path.dirname(os.path.dirname(os.path.abspath(__file__)))
+OURS = ["boxes", "partial"]
+LISTS = """use Prim.Native.Nat.{ℕ, zero, suc}
+use mathlib.Core.Bool.{Bool, true, false}
+use mathlib.Core.List.{List, [], _∷_, _++_}
+use mathlib.Core.Path.{_≡_, refl}
+"""
+
+# What is computed of a case, as numbers in a row. The names of our definitions are filled in.
+COMPUTED = """-- What is computed over the definitions, as numbers in a row.
+%(lists)suse lib.ListN.{length}
+use Rattle.boxes.specs.Answer.{Answer, refused, given}
+use Rattle.boxes.specs.Numbers.{bytesOf}
+use Rattle.partial.specs.Limits.{sourceLimit}
+use Rattle.partial.specs.Segments.{Segment}
+use Rattle.partial.specs.Heading.{url, mime}
+use Rattle.partial.specs.Reading.{reading}
+use Rattle.partial.specs.Meaning.{Reply, servedFor, missingFor, beyond}
+use Rattle.partial.specs.Ranges.{rangesOf, listOf, had, missing}
+use Rattle.partial.specs.Tables.{segmentRows, chunkRows, rangeRows, tabled, listed, after, summary, totals, bytesIn, servedPart, asked, textOf}
+use Rattle.partial.specs.Map.{mapText}
+use Rattle.partial.specs.Writing.{beginning, begun, written, Addition, appended, grown}
+
+answered : {A : Type 0} → (A → List ℕ) → Answer A → List ℕ
+answered values (refused n) = 0 ∷ n ∷ []
+answered values (given a) = 1 ∷ values a
+
+flag : Bool → ℕ
+flag true = 1
+flag false = 0
+
+counted : List ℕ → List ℕ
+counted xs = length xs ∷ xs
+
+rowsOf : List Segment → List ℕ
+rowsOf ss =
+    let s = summary ss in
+    s .segments ∷ s .chunks ∷ s .length ∷ flag (s .closed) ∷ (segmentRows ss ++ chunkRows 0 ss)
+
+replyOf : Reply → List ℕ
+replyOf (servedFor n) = 1 ∷ n ∷ []
+replyOf (missingFor n) = 0 ∷ n ∷ []
+replyOf beyond = 2 ∷ []
+
+askedOf : Answer (List Segment) → List ℕ → List ℕ
+askedOf r [] = []
+askedOf r (p ∷ ps) = servedPart r p .place ∷ servedPart r p .size ∷ (answered replyOf (asked r p) ++ askedOf r ps)
+
+unfoldable pub readOf : List ℕ → List ℕ → List ℕ
+unfolding answered flag counted rowsOf replyOf askedOf %(names)s
+readOf f ps =
+    let r = reading sourceLimit f in
+    answered rowsOf r
+    ++ (counted (bytesIn f (textOf url sourceLimit f)) ++ (counted (bytesIn f (textOf mime sourceLimit f)) ++ askedOf r ps))
+
+unfoldable pub tablesOf : List ℕ → List ℕ → List ℕ → List ℕ
+unfolding answered %(names)s
+tablesOf f a b =
+    let r = tabled sourceLimit f a b in
+    answered (λ ss. []) r ++ (after segmentRows r a ++ after (chunkRows 0) r b)
+
+totalsOf : List Segment → List ℕ
+totalsOf ss =
+    let t = totals ss in
+    t .had ∷ t .missing ∷ t .received ∷ t .lacking ∷ []
+
+ample : List ℕ
+ample = bytesOf 512 0
+
+unfoldable pub listsOf : List ℕ → List ℕ → List ℕ → List ℕ
+unfolding answered totalsOf ample %(names)s
+listsOf f h m =
+    let r = listed sourceLimit f ample ample h m in
+    answered totalsOf r ++ (after (λ ss. rangeRows (listOf had (rangesOf ss))) r h ++ after (λ ss. rangeRows (listOf missing (rangesOf ss))) r m)
+
+unfoldable pub begunOf : List ℕ → List ℕ → List ℕ → List ℕ
+unfolding answered %(names)s
+begunOf buffer u m = answered (λ n. n ∷ []) (begun buffer u m) ++ written (beginning u m) (begun buffer u m) buffer
+
+unfoldable pub appendedOf : List ℕ → ℕ → ℕ → ℕ → Bool → List ℕ → List ℕ → List ℕ
+unfolding answered %(names)s
+appendedOf buffer n offset repair last list bytes =
+    let a : Addition = record { offset = offset; repair = repair; last = last; list = list; bytes = bytes } in
+    let r = appended sourceLimit buffer n a in
+    answered (λ m. m ∷ []) r ++ written (grown buffer n a) r buffer
+
+unfoldable pub mapOfInput : List ℕ → List ℕ
+unfolding %(names)s
+mapOfInput input = mapText sourceLimit input
+"""
+
+BATCH_USES = """use Rattle.boxes.specs.Numbers.{bytesOf}
+use Rattle.computed.specs.Computed.{readOf, tablesOf, listsOf, begunOf, appendedOf, mapOfInput}
+"""
+
+# A file of more than 1,073,741,824 bytes and an input of more than 65,536 are not written out: only their length is looked at.
+TOO_LONG = """-- Refusals 1 and 27: no byte of such a file is read.
+%(lists)suse lib.ListN.{length, replicate, length-replicate}
+use lib.Dec.{leb}
+use Rattle.boxes.specs.Answer.{Answer, refused}
+use Rattle.partial.specs.Limits.{fileLimit, programLimit, sourceLimit}
+use Rattle.partial.specs.Heading.{heading}
+use Rattle.partial.specs.Reading.{reading}
+use Rattle.partial.specs.Map.{mapText, refusedLine}
+
+long-file : (f : List ℕ) → leb (length f) fileLimit ≡ false → reading sourceLimit f ≡ refused 1
+unfolding reading heading
+long-file f h = rw h
+
+zeros-file : (n : ℕ) → leb n fileLimit ≡ false → reading sourceLimit (replicate n 0) ≡ refused 1
+zeros-file n h = long-file (replicate n 0) (rw length-replicate h)
+
+file-too-long : reading sourceLimit (replicate 1_073_741_825 0) ≡ refused 1
+file-too-long = zeros-file 1_073_741_825 refl
+
+long-input : (f : List ℕ) → leb (length f) programLimit ≡ false → mapText sourceLimit f ≡ refusedLine 27
+unfolding mapText
+long-input f h = rw (h, mapText)
+
+zeros-input : (n : ℕ) → leb n programLimit ≡ false → mapText sourceLimit (replicate n 0) ≡ refusedLine 27
+zeros-input n h = long-input (replicate n 0) (rw length-replicate h)
+
+input-too-long : mapText sourceLimit (replicate 65_537 0) ≡ refusedLine 27
+input-too-long = zeros-input 65_537 refl
+"""
+
+
+def shut_names(crate):
+    """The whole names of a crate's definitions that stay shut until a line names them."""
+    folder, names = os.path.join(TOP, "crates", crate, "specs"), []
+    for file in sorted(os.listdir(folder)):
+        text = open(os.path.join(folder, file), encoding="utf-8").read()
+        for name in re.findall(r"^ *unfoldable pub (\S+) :", text, re.M):
+            names.append("Rattle.%s.specs.%s.%s" % (crate, file[:-len(".antt")], name))
+    return names
+
+
+def computed():
+    """The module with what is computed of a case."""
+    names = [name for crate in OURS for name in shut_names(crate)]
+    return COMPUTED % {"lists": LISTS, "names": " ".join(names)}
+
+
+def batch(cases):
+    """The module with a statement for each case: what is computed is what the model says."""
+    lines = ["-- The definitions against the model, a statement for each case.", LISTS + BATCH_USES]
+    for case in cases:
+        wanted = "".join("%d ∷ " % number for number in case.numbers) + "[]"
+        opened = case.term.split()[0]
+        lines.append("%s : %s ≡ %s\nunfolding %s\n%s = refl\n" % (case.name, case.term, wanted, opened, case.name))
+    return "\n".join(lines)
+
+
+def write(path, text):
+    os.makedirs(os.path.dirname(path), exist_ok=True)
+    with open(path, "w", encoding="utf-8") as file:
+        file.write(text)
+
+
+def write_crate(folder, name, modules):
+    """A crate of definitions alone."""
+    crate = os.path.join(folder, "crates", name)
+    write(os.path.join(crate, "src", "lib.rt"), "// The definitions, held against the model.\n")
+    write(os.path.join(crate, "specs", "Lib.antt"), "".join("pub mod %s\n" % module for module in modules))
+    for module, text in modules.items():
+        write(os.path.join(crate, "specs", module + ".antt"), text)
+
+
+def write_all(folder, batches):
+    """A repository with copies of our crates, one crate with what is computed, and one for each batch."""
+    lines = ["computed: boxes partial"]
+    for line in open(os.path.join(TOP, "crates.txt"), encoding="utf-8"):
+        if line.split(":")[0].strip() in OURS:
+            lines.append(line.strip())
+    for crate in OURS:
+        shutil.copytree(os.path.join(TOP, "crates", crate), os.path.join(folder, "crates", crate))
+    write_crate(folder, "computed", {"Computed": computed(), "TooLong": TOO_LONG % {"lists": LISTS}})
+    for number, cases in enumerate(batches):
+        lines.append("batch%d: computed boxes partial" % number)
+        write_crate(folder, "batch%d" % number, {"Batch": batch(cases)})
+    write(os.path.join(folder, "crates.txt"), "\n".join(lines) + "\n")
+
+
+def refused_cases(folder, batches):
+    """Runs the checker: the cases whose statement it does not admit, and whether all the rest is proved."""
+    run = subprocess.run(["rt", "check"], cwd=folder, capture_output=True, text=True)
+    output = run.stdout + run.stderr
+    refused = []
+    for number, cases in enumerate(batches):
+        log = os.path.join(folder, "target", "log", "batch%d.out" % number)
+        text = open(log, encoding="utf-8", errors="replace").read() if os.path.exists(log) else ""
+        named = set(re.findall(r"Batch\.antt:\d+:\d+: error: `([^`]+)`", text))
+        refused += [case for case in cases if case.name in named]
+    return refused, run.returncode == 0, output
