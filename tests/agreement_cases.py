@@ -182,19 +182,18 @@ def beginning_case(name, given):
 
 
 def some_file(rng, index):
-    """Of ten files four as another writer makes them, three spoiled, and three with one chosen fault.
+    """First each fault once; then of ten files four as another writer makes them, four spoiled, two with a fault.
 
     A file with a 513th box is large, so that fault is chosen once.
     """
-    turn = index % 10
-    if index == 7:
-        return generate.faulty_file(rng, 6)
-    if turn < 4:
+    faults = sorted(generate.FAULTS)
+    if index < len(faults):
+        return generate.faulty_file(rng, faults[index])
+    if index % 10 < 4:
         return generate.foreign_file(rng)
-    if turn < 7:
+    if index % 10 < 8:
         return generate.spoil(rng, generate.foreign_file(rng))
-    numbers = [number for number in sorted(generate.FAULTS) if number != 6]
-    return generate.faulty_file(rng, numbers[(index // 10 * 3 + turn - 7) % len(numbers)])
+    return generate.faulty_file(rng, rng.choice([number for number in faults if number != 6]))
 
 
 def some_addition(rng, index):

@@ -1,6 +1,5 @@
 -- Document 01, "Refusal numbers": for each enum that a call answers, the paper's number or values of each of its cases.
 use Prim.Native.Nat.{ℕ}
-use mathlib.Core.Bool.{Bool}
 use Rattle.boxes.specs.Answer.{Answer, refused, given}
 use Rattle.partial.specs.Meaning.{Reply, servedFor, missingFor, beyond}
 use Rattle.partial.specs.Tables.{Summary, Totals}

@@ -1,5 +1,5 @@
 -- The three demands, as statements over the definitions. Each field has the sentence that it states.
-use Prim.Native.Nat.{ℕ, zero, suc, _+_, _-_, _^_, _≤_, _<_}
+use Prim.Native.Nat.{ℕ, suc, _+_, _-_, _^_, _≤_, _<_}
 use mathlib.Core.Bool.{Bool, true, false, not, _&&_}
 use mathlib.Core.List.{List, [], _∷_, _++_, map}
 use mathlib.Core.Option.{Option, none, some}
@@ -7,16 +7,15 @@ use mathlib.Core.Logic.{_↔_}
 use mathlib.Core.Path.{_≡_}
 use lib.ListN.{length, getD, take, drop}
 use lib.Dec.{T, leb, ltb, eqb}
-use Rattle.boxes.specs.Answer.{Answer, refused, given}
-use Rattle.partial.specs.Limits.{fileLimit}
+use Rattle.boxes.specs.Answer.{refused, given}
 use Rattle.partial.specs.Sequences.{someOf, allOf}
 use Rattle.partial.specs.Segments.{Chunk, Segment, good, present, isLast, chunksOf}
-use Rattle.partial.specs.Heading.{Heading, heading, Part, url, mime}
+use Rattle.partial.specs.Heading.{Heading, heading, url, mime}
 use Rattle.partial.specs.Entries.{mayLie}
 use Rattle.partial.specs.Reading.{reading, standing}
 use Rattle.partial.specs.Meaning.{describedLength, covers, supplier, supplied, served}
 use Rattle.partial.specs.Ranges.{Range, rangesOf, listOf, totalOf, had, missing}
-use Rattle.partial.specs.Tables.{tabled, listed, after, segmentRows, chunkRows, rangeRows, bytesIn, textOf}
+use Rattle.partial.specs.Tables.{tabled, listed, after, bytesIn, textOf}
 use Rattle.partial.specs.Writing.{beginning, begun, written, Item, items, Addition, listRight, stored, added, newSegment, appended, grown}
 
 -- a number of the paper's table that reading can answer

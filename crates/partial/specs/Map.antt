@@ -1,14 +1,14 @@
 -- Document 01, "The map program": the bytes that it prints.
-use Prim.Native.Nat.{ℕ, zero, suc, _^_}
+use Prim.Native.Nat.{ℕ, _^_}
 use Prim.Native.String as Str
 use Prim.Native.String.{String}
 use Prim.Native.Char.{code}
-use mathlib.Core.Bool.{Bool, true, false}
+use mathlib.Core.Bool.{true, false}
 use mathlib.Core.List.{List, [], _∷_, _++_}
 use lib.ListN.{length}
 use lib.Dec.{leb, ltb, eqb}
 use Rattle.io.specs.Digits.{digits}
-use Rattle.boxes.specs.Answer.{Answer, refused, given}
+use Rattle.boxes.specs.Answer.{refused, given}
 use Rattle.boxes.specs.Numbers.{least}
 use Rattle.partial.specs.Limits.{programLimit}
 use Rattle.partial.specs.Segments.{Segment}

@@ -1,6 +1,6 @@
 -- Document 01, "Lists": the maximal ranges of positions of one class, had or missing, below the described length.
 use Prim.Native.Nat.{ℕ, zero, suc}
-use mathlib.Core.Bool.{Bool, true, false, not}
+use mathlib.Core.Bool.{true, false}
 use mathlib.Core.List.{List, [], _∷_, map}
 use lib.Dec.{eqb}
 use Rattle.partial.specs.Sequences.{sum}

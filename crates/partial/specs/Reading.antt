@@ -1,17 +1,16 @@
 -- Document 01, refusals 12 to 25: the segments of a file, each read beside those before it.
-use Prim.Native.Nat.{ℕ, zero, suc, _+_, _-_}
-use mathlib.Core.Bool.{Bool, true, false, not, _&&_, _||_}
+use Prim.Native.Nat.{ℕ, _+_, _-_}
+use mathlib.Core.Bool.{Bool, true, false, _&&_}
 use mathlib.Core.List.{List, [], _∷_, _++_}
 use lib.ListN.{length}
 use lib.Dec.{leb, eqb}
-use Rattle.boxes.specs.Answer.{Answer, refused, given, _>>=_, hold}
+use Rattle.boxes.specs.Answer.{Answer, given, _>>=_, hold}
 use Rattle.boxes.specs.Numbers.{number}
 use Rattle.boxes.specs.Framing.{Box, boxesIn}
 use Rattle.boxes.specs.Kinds.{pseg, pshd, ploc, surl, is, right, those}
 use Rattle.partial.specs.Limits.{segmentLimit, chunkLimit}
-use Rattle.partial.specs.Sequences.{allOf}
 use Rattle.partial.specs.Segments.{Segment, chunksOf}
-use Rattle.partial.specs.Heading.{Heading, heading, boxAt, firstOf}
+use Rattle.partial.specs.Heading.{heading, boxAt, firstOf}
 use Rattle.partial.specs.Entries.{plocHead, chunksFrom}
 use Rattle.partial.specs.Meaning.{agree}
 

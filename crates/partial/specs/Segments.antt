@@ -1,8 +1,7 @@
 -- Document 01, "Meaning": what a segment and a chunk are once they are read.
-use Prim.Native.Nat.{ℕ}
+use Prim.Native.Nat.{ℕ, _+_, _%_}
 use mathlib.Core.Bool.{Bool, true, false, _||_}
 use mathlib.Core.List.{List, [], _∷_, _++_, map}
-use Prim.Native.Nat.{_+_, _%_}
 use lib.Dec.{eqb}
 use Rattle.partial.specs.Sequences.{sum}
 

@@ -1,5 +1,5 @@
 -- Document 01, "Rows", "Serving" and refusal 26: what reading, serving, asking and listing leave in the lent tables and hand back.
-use Prim.Native.Nat.{ℕ, zero, suc}
+use Prim.Native.Nat.{ℕ, suc}
 use mathlib.Core.Bool.{Bool, true, false, _&&_}
 use mathlib.Core.List.{List, [], _∷_, _++_}
 use lib.ListN.{length, take, drop}
@@ -8,7 +8,7 @@ use Rattle.boxes.specs.Answer.{Answer, refused, given, _>>=_, hold}
 use Rattle.boxes.specs.Kinds.{surl}
 use Rattle.boxes.specs.Framing.{Box}
 use Rattle.partial.specs.Segments.{Chunk, Segment, chunksOf}
-use Rattle.partial.specs.Heading.{Part, Heading, heading, firstOf, url, mime}
+use Rattle.partial.specs.Heading.{Part, heading, firstOf}
 use Rattle.partial.specs.Reading.{reading}
 use Rattle.partial.specs.Meaning.{describedLength, isClosed, supplied, placeOfByte, servedRun, Reply, reply}
 use Rattle.partial.specs.Ranges.{Range, rangesOf, listOf, totalOf, had, missing}

@@ -1,19 +1,20 @@
 -- Document 01, "Begin" and "Append": the bytes that they write, and their refusals in order.
-use Prim.Native.Nat.{ℕ, zero, suc, _+_, _-_, _*_, _%_, _^_}
+use Prim.Native.Nat.{ℕ, _+_, _-_, _*_, _%_, _^_}
 use mathlib.Core.Bool.{Bool, true, false, not, _&&_}
 use mathlib.Core.List.{List, [], _∷_, _++_, map}
 use lib.ListN.{length, take}
 use lib.Dec.{leb, ltb, eqb}
 use Rattle.boxes.specs.Answer.{Answer, refused, given, _>>=_, hold}
 use Rattle.boxes.specs.Numbers.{bytesOf, unsigned, holds, holdsOffset, leastWidth}
-use Rattle.boxes.specs.Framing.{Box, boxed, boxLimit}
+use Rattle.boxes.specs.Framing.{boxed, boxLimit}
 use Rattle.boxes.specs.Kinds.{ftyp, pfil, pfhd, surl, pseg, pshd, ploc, pdat}
 use Rattle.boxes.specs.declared.numbers.Offset.{Offset}
-use Rattle.boxes.specs.declared.numbers.Offset.the-variants.{Ahead, Back}
+use Rattle.boxes.specs.declared.numbers.Offset.the-variants.{Back}
+use Rattle.partial.specs.declared.header.SegmentHeader.{SegmentHeader}
 use Rattle.partial.specs.Limits.{fileLimit, segmentLimit, chunkLimit}
 use Rattle.partial.specs.Sequences.{someOf, allOf, sum}
 use Rattle.partial.specs.Segments.{Chunk, Segment, present, corrupted, reach, chunksOf}
-use Rattle.partial.specs.Heading.{Heading, heading, paff}
+use Rattle.partial.specs.Heading.{heading, paff}
 use Rattle.partial.specs.Reading.{segments}
 use Rattle.partial.specs.Meaning.{agree}
 use Rattle.partial.specs.Tables.{filled}
@@ -65,6 +66,11 @@ pub record Addition : Type 0 where
   pub last : Bool
   pub list : List ℕ
   pub bytes : List ℕ
+
+-- what a header, a chunk list and data ask of append; of the header's flags it takes last_segment and no other
+unfoldable pub asks : SegmentHeader → List ℕ → List ℕ → Addition
+asks h list bytes =
+    record { offset = h .offset .0; repair = h .repair; last = eqb (h .flags % 2) 1; list = list; bytes = bytes }
 
 -- 31: pairs of size and state, no size 0, each state 0, 1 or 2
 unfoldable pub listRight : List ℕ → Bool
