@@ -173,7 +173,7 @@ def overstep_limit(rng, given):
         given["source_offset"] = rng.choice([LIMIT + 1, LIMIT + 1, 2 ** 63, 2 ** 64 - 1])
     elif cause == "end":
         set_chunks(rng, given, given["chunk_list"] + [rng.randint(1, 9), LOST])
-        given["source_offset"] = LIMIT + 1 - sizes(given["chunk_list"])
+        given["source_offset"] = max(0, LIMIT + 1 - sizes(given["chunk_list"]))
     else:
         size = rng.choice([LIMIT + 1, 2 ** 40, 2 ** 64 - 1])
         set_chunks(rng, given, given["chunk_list"] + [size, LOST])

@@ -164,15 +164,52 @@ def file_cases(rng, name, file):
     if answer[0] == "refused" or answer[1] <= LISTED:
         cases.append(map_case(name + "-map", file, source))
         cases.append(lists_case(rng, name + "-lists", file, source))
+    if answer[0] == "length" and answer[1] <= LISTED:
+        cases.append(mapped_case(rng, name + "-mapped", file, source))
     return cases
 
 
-def addition_case(name, given):
-    answer, buffer = model.append(**given)
-    term = "appendedOf %s %d %d %d %s (%s) %s" % (
+def mapped_case(rng, name, file, source):
+    """Demand 2 in an accepted file: three facts, then three for each position."""
+    numbers, described = [1, 1, 1], model.length(file)[1]
+    points = [p for p in positions(rng, file) if p < described]
+    for p in points:
+        supplied = flag(model.ask(file, p)[0] == "served")
+        numbers += [supplied, supplied, 1 - supplied]
+    return Case(name, "mappedOf %s (%s)" % (octets(file), listing(points)), numbers, 0, source)
+
+
+def addition_term(given):
+    return "%s %d %d %d %s (%s) %s" % (
         octets(given["buffer"]), given["stated_length"], given["source_offset"], given["repair_time"],
         "true" if given["last"] else "false", listing(given["chunk_list"]), octets(given["data"]))
-    return Case(name, term, written_numbers(answer, buffer), number_of(answer), "addition %r" % given)
+
+
+def addition_cases(rng, name, given):
+    """What append answers and leaves and, where it accepts, what demands 2 and 3 say of that."""
+    answer, buffer = model.append(**given)
+    source, term = "addition %r" % given, addition_term(given)
+    cases = [Case(name, "appendedOf " + term, written_numbers(answer, buffer), number_of(answer), source)]
+    if answer[0] == "length":
+        points = positions(rng, buffer[:answer[1]])
+        term = "demandsOf %s (%s)" % (term, listing(points))
+        cases.append(Case(name + "-demands", term, [1, 1, 1] + [1] * len(points), 0, source))
+    return cases
+
+
+def rewriting_case(rng, name):
+    """Demand 2: a file that begin and append alone made, written again."""
+    buffer = bytes(2 * SMALL)
+    answer, buffer = model.begin(buffer, b"u", b"")
+    size = answer[1]
+    for _ in range(rng.randint(1, 3)):
+        given = generate.addition(rng, buffer[:size])
+        given.update(buffer=buffer, stated_length=size)
+        answer, buffer = model.append(**given)
+        size = answer[1] if answer[0] == "length" else size
+    file = buffer[:size]
+    refusal = number_of(model.read(file))
+    return Case(name, "againOf %s" % octets(file), [0, refusal] if refusal else [1], refusal, "file " + file.hex())
 
 
 def beginning_case(name, given):
@@ -222,14 +259,15 @@ def some_beginning(rng, index):
 
 
 def choose(rng, files, additions, beginnings):
-    """The cases, and how often each refusal number was met."""
+    """The cases of so many files, additions and beginnings."""
     cases = []
     for index in range(files):
         cases += file_cases(rng, "file%d" % index, some_file(rng, index))
     for index in range(additions):
-        cases.append(addition_case("addition%d" % index, some_addition(rng, index)))
+        cases += addition_cases(rng, "addition%d" % index, some_addition(rng, index))
     for index in range(beginnings):
         cases.append(beginning_case("beginning%d" % index, some_beginning(rng, index)))
+        cases.append(rewriting_case(rng, "again%d" % index))
     return cases
 
 

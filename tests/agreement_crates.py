@@ -15,18 +15,24 @@ use mathlib.Core.Path.{_≡_, refl}
 
 # What is computed of a case, as numbers in a row. The names of our definitions are filled in.
 COMPUTED = """-- What is computed over the definitions, as numbers in a row.
-%(lists)suse lib.ListN.{length}
+%(lists)suse Prim.Native.Nat.{_+_}
+use mathlib.Core.Bool.{_&&_}
+use mathlib.Core.Option.{Option, none, some}
+use lib.ListN.{length}
+use lib.Dec.{leb, eqb}
 use Rattle.boxes.specs.Answer.{Answer, refused, given}
 use Rattle.boxes.specs.Numbers.{bytesOf}
 use Rattle.partial.specs.Limits.{sourceLimit}
 use Rattle.partial.specs.Segments.{Segment}
 use Rattle.partial.specs.Heading.{url, mime}
-use Rattle.partial.specs.Reading.{reading}
-use Rattle.partial.specs.Meaning.{Reply, servedFor, missingFor, beyond}
-use Rattle.partial.specs.Ranges.{rangesOf, listOf, had, missing}
-use Rattle.partial.specs.Tables.{segmentRows, chunkRows, rangeRows, tabled, listed, after, summary, totals, bytesIn, servedPart, asked, textOf}
+use Rattle.partial.specs.Reading.{reading, earlierSegments}
+use Rattle.partial.specs.Meaning.{Reply, servedFor, missingFor, notBelow, describedLength, supplied, served}
+use Rattle.partial.specs.Ranges.{hadList, missingList, total}
+use Rattle.partial.specs.Tables.{segmentRows, chunkRows, hadRows, missingRows, tabled, listed, after, summary, totals, bytesIn, servedPart, asked, textOf}
 use Rattle.partial.specs.Map.{mapText}
-use Rattle.partial.specs.Writing.{beginning, begun, written, Addition, appended, grown}
+use Rattle.partial.specs.Writing.{beginning, begun, written, Addition, appended, newSegment, result}
+use Rattle.partial.specs.Runs.{lent, fileIn, append}
+use Rattle.partial.specs.Demands.{among, apart, again, writeAgain, carried, orElse}
 
 answered : {A : Type 0} → (A → List ℕ) → Answer A → List ℕ
 answered values (refused n) = 0 ∷ n ∷ []
@@ -42,12 +48,12 @@ counted xs = length xs ∷ xs
 rowsOf : List Segment → List ℕ
 rowsOf ss =
     let s = summary ss in
-    s .segments ∷ s .chunks ∷ s .length ∷ flag (s .closed) ∷ (segmentRows ss ++ chunkRows 0 ss)
+    s .segments ∷ s .chunks ∷ s .described ∷ flag (s .closed) ∷ (segmentRows ss ++ chunkRows ss)
 
 replyOf : Reply → List ℕ
 replyOf (servedFor n) = 1 ∷ n ∷ []
 replyOf (missingFor n) = 0 ∷ n ∷ []
-replyOf beyond = 2 ∷ []
+replyOf notBelow = 2 ∷ []
 
 askedOf : Answer (List Segment) → List ℕ → List ℕ
 askedOf r [] = []
@@ -64,12 +70,12 @@ unfoldable pub tablesOf : List ℕ → List ℕ → List ℕ → List ℕ
 unfolding answered %(names)s
 tablesOf f a b =
     let r = tabled sourceLimit f a b in
-    answered (λ ss. []) r ++ (after segmentRows r a ++ after (chunkRows 0) r b)
+    answered (λ ss. []) r ++ (after segmentRows r a ++ after chunkRows r b)
 
 totalsOf : List Segment → List ℕ
 totalsOf ss =
     let t = totals ss in
-    t .had ∷ t .missing ∷ t .received ∷ t .lacking ∷ []
+    t .had ∷ t .missing ∷ t .receivedTotal ∷ t .missingTotal ∷ []
 
 ample : List ℕ
 ample = bytesOf 512 0
@@ -78,7 +84,7 @@ unfoldable pub listsOf : List ℕ → List ℕ → List ℕ → List ℕ
 unfolding answered totalsOf ample %(names)s
 listsOf f h m =
     let r = listed sourceLimit f ample ample h m in
-    answered totalsOf r ++ (after (λ ss. rangeRows (listOf had (rangesOf ss))) r h ++ after (λ ss. rangeRows (listOf missing (rangesOf ss))) r m)
+    answered totalsOf r ++ (after hadRows r h ++ after missingRows r m)
 
 unfoldable pub begunOf : List ℕ → List ℕ → List ℕ → List ℕ
 unfolding answered %(names)s
@@ -87,9 +93,79 @@ begunOf buffer u m = answered (λ n. n ∷ []) (begun buffer u m) ++ written (be
 unfoldable pub appendedOf : List ℕ → ℕ → ℕ → ℕ → Bool → List ℕ → List ℕ → List ℕ
 unfolding answered %(names)s
 appendedOf buffer n offset repair last list bytes =
-    let a : Addition = record { offset = offset; repair = repair; last = last; list = list; bytes = bytes } in
+    let a : Addition = record { sourceOffset = offset; repairTime = repair; last = last; list = list; bytes = bytes } in
     let r = appended sourceLimit buffer n a in
-    answered (λ m. m ∷ []) r ++ written (grown buffer n a) r buffer
+    answered (λ m. m ∷ []) r ++ written (result buffer n a) r buffer
+
+-- whether two lists of numbers are the same
+same : List ℕ → List ℕ → Bool
+same [] [] = true
+same [] (y ∷ ys) = false
+same (x ∷ xs) [] = false
+same (x ∷ xs) (y ∷ ys) = eqb x y && same xs ys
+
+sameSegments : List Segment → List Segment → Bool
+sameSegments ss ts = same (segmentRows ss ++ chunkRows ss) (segmentRows ts ++ chunkRows ts)
+
+sameByte : Option ℕ → Option ℕ → Bool
+sameByte none none = true
+sameByte none (some b) = false
+sameByte (some a) none = false
+sameByte (some a) (some b) = eqb a b
+
+sameAddition : Addition → Addition → Bool
+sameAddition a b =
+    eqb (a .sourceOffset) (b .sourceOffset) && eqb (a .repairTime) (b .repairTime) && eqb (flag (a .last)) (flag (b .last)) && same (a .list) (b .list) && same (a .bytes) (b .bytes)
+
+keptAt : List ℕ → List ℕ → List Segment → List Segment → Addition → List ℕ → List ℕ
+keptAt f g ss ts a [] = []
+keptAt f g ss ts a (p ∷ ps) = flag (sameByte (served g ts p) (orElse (served f ss p) (carried a p))) ∷ keptAt f g ss ts a ps
+
+-- demands 2 and 3 at an accepted addition, each 1 where it holds: read back, the same again, no shorter, and each position kept
+unfoldable pub demandsOf : List ℕ → ℕ → ℕ → ℕ → Bool → List ℕ → List ℕ → List ℕ → List ℕ
+unfolding flag same sameSegments sameByte sameAddition keptAt %(names)s
+demandsOf buffer n offset repair last list bytes ps =
+    let a : Addition = record { sourceOffset = offset; repairTime = repair; last = last; list = list; bytes = bytes } in
+    let f = fileIn (lent buffer n) in
+    let g = fileIn (append sourceLimit (lent buffer n) a) in
+    elim (earlierSegments sourceLimit f)
+    [ refused k ↦ 0 ∷ k ∷ []
+    | given ss ↦
+        elim (reading sourceLimit g)
+        [ refused k ↦ 0 ∷ k ∷ []
+        | given ts ↦
+            flag (sameSegments ts (ss ++ (newSegment n a ∷ [])))
+            ∷ flag (sameAddition (again g (newSegment n a)) a)
+            ∷ flag (leb (describedLength ss) (describedLength ts))
+            ∷ keptAt f g ss ts a ps
+        ]
+    ]
+
+inLists : List Segment → List ℕ → List ℕ
+inLists ss [] = []
+inLists ss (p ∷ ps) =
+    flag (supplied ss p)
+    ∷ flag (among p (hadList ss))
+    ∷ flag (among p (missingList ss))
+    ∷ inLists ss ps
+
+-- demand 2 in an accepted file: the lists are apart, the totals make up the length, and positions are in their lists
+unfoldable pub mappedOf : List ℕ → List ℕ → List ℕ
+unfolding flag inLists %(names)s
+mappedOf f ps =
+    elim (reading sourceLimit f)
+    [ refused k ↦ 0 ∷ k ∷ []
+    | given ss ↦
+        flag (apart 0 (hadList ss))
+        ∷ flag (apart 0 (missingList ss))
+        ∷ flag (eqb (total (hadList ss) + total (missingList ss)) (describedLength ss))
+        ∷ inLists ss ps
+    ]
+
+-- demand 2: writing again what was read from our writer's file gives that file
+unfoldable pub againOf : List ℕ → List ℕ
+unfolding flag same %(names)s
+againOf f = elim (reading sourceLimit f) [ refused k ↦ 0 ∷ k ∷ [] | given ss ↦ flag (same (fileIn (writeAgain sourceLimit f f ss)) f) ∷ [] ]
 
 unfoldable pub mapOfInput : List ℕ → List ℕ
 unfolding %(names)s
@@ -97,7 +173,7 @@ mapOfInput input = mapText sourceLimit input
 """
 
 BATCH_USES = """use Rattle.boxes.specs.Numbers.{bytesOf}
-use Rattle.computed.specs.Computed.{readOf, tablesOf, listsOf, begunOf, appendedOf, mapOfInput}
+use Rattle.computed.specs.Computed.{readOf, tablesOf, listsOf, begunOf, appendedOf, demandsOf, mappedOf, againOf, mapOfInput}
 """
 
 # A file of more than 1,073,741,824 bytes and an input of more than 65,536 are not written out: only their length is looked at.

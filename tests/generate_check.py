@@ -174,6 +174,8 @@ def check_additions(rng, files):
     for number in generate.FAULTS_OF_APPEND:
         for file in files:
             given = generate.faulty_addition(rng, file, number)
+            fields = [given["source_offset"], given["repair_time"]] + given["chunk_list"]
+            expect("arguments of 64 bits", all(0 <= field < 2 ** 64 for field in fields))
             answer, buffer = model.append(**given)
             own = model.read(given["buffer"][:given["stated_length"]])
             if number != "own":

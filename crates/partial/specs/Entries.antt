@@ -13,6 +13,7 @@ use Rattle.boxes.specs.declared.numbers.Offset.{Offset}
 use Rattle.boxes.specs.declared.numbers.Offset.the-variants.{Ahead, Back}
 use Rattle.partial.specs.Segments.{Chunk, good, damaged, lost, present}
 use Rattle.partial.specs.Sequences.{someOf}
+use Rattle.partial.specs.Heading.{Heading}
 
 -- the head of a `ploc`: its two widths, its `chunk_count`, and the places of its first entry and of its end
 pub record Ploc : Type 0 where
@@ -40,9 +41,9 @@ state false false = refused 21
 
 -- bit corrupted, bit present, six zero bits
 unfoldable pub stateOf : ℕ → Answer ℕ
-stateOf flags = do
-  _ ← hold 20 (eqb (flags % 64) 0)
-  state (eqb (flags / 128) 1) (eqb (flags / 64 % 2) 1)
+stateOf flagByte = do
+  _ ← hold 20 (eqb (flagByte % 64) 0)
+  state (eqb (flagByte / 128) 1) (eqb (flagByte / 64 % 2) 1)
 
 -- what an entry says, and the place after it
 pub record Entry : Type 0 where
@@ -55,41 +56,41 @@ pub record Entry : Type 0 where
 unfoldable pub entry : List ℕ → Ploc → ℕ → Answer Entry
 entry f l at = do
   _ ← hold 17 (ltb at (l .end))
-  flags ← stateOf (getD f at 0)
-  let width : ℕ = elim (present flags) [ true ↦ l .offsetSize | false ↦ 0 ]
-  let place = at + 1 + l .lengthSize
-  _ ← hold 17 (leb (place + width) (l .end))
-  given (record { state = flags; size = number f (at + 1) (l .lengthSize); offset = signed width (number f place width); next = place + width })
+  s ← stateOf (getD f at 0)
+  let width : ℕ = elim (present s) [ true ↦ l .offsetSize | false ↦ 0 ]
+  let rest = at + 1 + l .lengthSize
+  _ ← hold 17 (leb (rest + width) (l .end))
+  given (record { state = s; size = number f (at + 1) (l .lengthSize); offset = signed width (number f rest width); next = rest + width })
 
 -- where a chunk may lie: wholly in one `pdat` body
-unfoldable pub mayLie : List Box → ℕ → ℕ → Bool
-mayLie boxes place size = someOf (λ b. is pdat b && leb (b .body) place && leb (place + size) (b .end)) boxes
+unfoldable pub mayLie : Heading → ℕ → ℕ → Bool
+mayLie h place size = someOf (λ b. is pdat b && leb (b .body) place && leb (place + size) (b .end)) (h .boxes)
 
 -- the place that an offset gives, counted from the first byte of the `pseg` box; none before the file's first byte
 unfoldable pub moved : ℕ → Offset → Option ℕ
 moved pseg (Ahead n) = some (pseg + n)
 moved pseg (Back n) = elim (leb n pseg) [ true ↦ some (pseg - n) | false ↦ none ]
 
--- 24: a chunk of that size at that place lies where it may
-unfoldable pub lying : List Box → ℕ → Option ℕ → Answer ℕ
-lying boxes size none = refused 24
-lying boxes size (some place) = do
-  _ ← hold 24 (mayLie boxes place size)
-  given place
-
--- the place of an entry's chunk: 0 if not present or empty, and then it is not checked
-unfoldable pub placeOf : List Box → ℕ → Entry → Answer ℕ
-placeOf boxes pseg e =
-    elim (present (e .state) && ltb 0 (e .size)) [ true ↦ lying boxes (e .size) (moved pseg (e .offset)) | false ↦ given 0 ]
+-- 24, and the place of an entry's chunk: 0 if not present or empty, and then it is not checked
+unfoldable pub placeOf : Heading → ℕ → Entry → Answer ℕ
+placeOf h pseg e =
+    elim (present (e .state) && ltb 0 (e .size)) [
+      | true ↦
+          elim (moved pseg (e .offset)) [
+            | none ↦ refused 24
+            | some place ↦ hold 24 (mayLie h place (e .size)) >>= λ _. given place
+          ]
+      | false ↦ given 0
+    ]
 
 -- the chunks of so many entries from a place on, the first of them at a source position; no byte may be left over
-unfoldable pub chunksFrom : ℕ → List ℕ → List Box → ℕ → Ploc → ℕ → ℕ → ℕ → Answer (List Chunk)
-chunksFrom limit f boxes pseg l zero at start = do
+unfoldable pub chunksFrom : ℕ → List ℕ → Heading → ℕ → Ploc → ℕ → ℕ → ℕ → Answer (List Chunk)
+chunksFrom limit f h pseg l zero at start = do
   _ ← hold 17 (eqb at (l .end))
   given []
-chunksFrom limit f boxes pseg l (suc more) at start = do
+chunksFrom limit f h pseg l (suc more) at start = do
   e ← entry f l at
   _ ← hold 23 (leb (start + e .size) limit)
-  place ← placeOf boxes pseg e
-  rest ← chunksFrom limit f boxes pseg l more (e .next) (start + e .size)
+  place ← placeOf h pseg e
+  rest ← chunksFrom limit f h pseg l more (e .next) (start + e .size)
   given (record { start = start; size = e .size; state = e .state; place = place } ∷ rest)

@@ -1,26 +1,26 @@
--- Document 01, "Numbers to hold against it": P1 to P12 as one table with one statement, computed over the definitions.
-use Prim.Native.Nat.{ℕ, _-_}
+-- Document 01, "Numbers to hold against it" and "Errors this trade makes": worked examples as one table with one statement, computed over
+-- the definitions. P1 to P12 are the paper's; the others are the map of P10, and a case of each error that no P shows.
+use Prim.Native.Nat.{ℕ, _+_, _-_}
 use mathlib.Core.Bool.{Bool, true, false}
 use mathlib.Core.List.{List, [], _∷_, _++_, map}
 use mathlib.Core.Option.{Option·getD}
 use mathlib.Core.Path.{_≡_, refl}
-use lib.ListN.{length, drop}
+use lib.ListN.{length, drop, replicate}
 use lib.IntN.{ℤ, pos, negsuc}
 use Rattle.boxes.specs.Answer.{Answer, refused, given, _>>=_, hold}
-use Rattle.boxes.specs.Numbers.{number, bytesOf, valueOf, signed, unsigned, holds, holdsOffset, least, leastWidth}
-use Rattle.boxes.specs.Framing.{sized, header, boxesFrom, boxLimit, boxesIn, boxed}
-use Rattle.boxes.specs.Kinds.{is, those, keeps, right, ploc}
+use Rattle.boxes.specs.Numbers.{number, bytesOf, valueOf, signed, holdsOffset, leastWidth}
+use Rattle.boxes.specs.Framing.{header, boxed}
+use Rattle.boxes.specs.Kinds.{pdat, pseg, pshd, ploc, is}
 use Rattle.boxes.specs.declared.numbers.Offset.the-variants.{Back}
 use Rattle.partial.specs.Limits.{sourceLimit}
-use Rattle.partial.specs.Sequences.{someOf, allOf, sum, largest, stretch}
-use Rattle.partial.specs.Segments.{present, corrupted, isOpen, isLast, reach, chunksOf}
-use Rattle.partial.specs.Heading.{boxAt, firstOf, ftypRight, fours, brands, brandRight, pfilRight, pfhdFormed, pfhdRight, text, url, mime, surlFormed, surlRight, heading}
-use Rattle.partial.specs.Entries.{plocHead, state, stateOf, entry, mayLie, moved, lying, placeOf, chunksFrom}
-use Rattle.partial.specs.Reading.{offsetWidth, pshdFormed, pshdRight, segment, segmentsFrom, segments, reading}
-use Rattle.partial.specs.Meaning.{closes, knownSize, describedLength, isClosed, agree, covers, supplier, supplied, placeOfByte, served}
-use Rattle.partial.specs.Ranges.{joined, ranges, classOf, rangesOf, listOf, missing}
-use Rattle.partial.specs.Tables.{rangeRows}
-use Rattle.partial.specs.Writing.{beginning, items, Addition, stored, anyPresent, dataBox, offsets, lengthSize, offsetSize, flagByte, entryBytes, plocBody, pshdBody, added}
+use Rattle.partial.specs.Entries.{plocHead, entry}
+use Rattle.partial.specs.Reading.{reading}
+use Rattle.partial.specs.Meaning.{describedLength, isClosed, served}
+use Rattle.partial.specs.Tables.{missingRows}
+use Rattle.partial.specs.Map.{ascii, mapText}
+use Rattle.partial.specs.Lesson.{begunBytes, firstBytes, secondBytes}
+use Rattle.partial.specs.Writing.{Addition, added}
+use Rattle.partial.specs.Runs.{lent, fileIn, begin, append}
 
 -- what the definitions say and what the paper says, each as numbers in a row
 pub record Example : Type 0 where
@@ -88,9 +88,13 @@ P6 = record { defined = widthBack 128; paper = pos 1 ∷ [] }
 abbrev P7 : Example
 P7 = record { defined = widthBack 129; paper = pos 2 ∷ [] }
 
--- the file that begin makes with URL `a` and empty MIME
+-- a buffer's room past the file in it
+abbrev spare : List ℕ
+spare = replicate 100 255
+
+-- the file that begin writes with URL `a` and empty MIME
 abbrev begunFile : List ℕ
-begunFile = beginning (97 ∷ []) []
+begunFile = fileIn (begin spare (97 ∷ []) [])
 
 -- P8: it has 55 bytes, the last fifteen those of its `surl`
 abbrev P8 : Example
@@ -102,19 +106,25 @@ P8 =
 
 -- a segment at an offset, last or not, with a chunk list and data
 abbrev segmentAt : ℕ → Bool → List ℕ → List ℕ → Addition
-segmentAt offset last list bytes = record { offset = offset; repair = 0; last = last; list = list; bytes = bytes }
+segmentAt offset last list bytes = record { sourceOffset = offset; repairTime = 0; last = last; list = list; bytes = bytes }
+
+-- the file that append makes of a file
+abbrev after : List ℕ → Addition → List ℕ
+after f a = fileIn (append sourceLimit (lent (f ++ spare) (length f)) a)
 
 abbrev missingIn : List ℕ → Answer (List ℤ)
 missingIn f = do
   ss ← reading sourceLimit f
-  given (map pos (rangeRows (listOf missing (rangesOf ss))))
+  given (map pos (missingRows ss))
 
 -- P9: offset 0, good 4, lost 6, last: missing is (4, 6)
-abbrev fileOf9 : List ℕ
-fileOf9 = begunFile ++ added (segmentAt 0 true (4 ∷ 2 ∷ 6 ∷ 0 ∷ []) (11 ∷ 12 ∷ 13 ∷ 14 ∷ []))
-
 abbrev P9 : Example
-P9 = record { defined = says (missingIn fileOf9); paper = pos 4 ∷ pos 6 ∷ [] }
+P9 =
+    let f = begunBytes ++ firstBytes in
+    record {
+      defined = map pos (after begunBytes (segmentAt 0 true (4 ∷ 2 ∷ 6 ∷ 0 ∷ []) (11 ∷ 12 ∷ 13 ∷ 14 ∷ []))) ++ says (missingIn f);
+      paper = map pos f ++ (pos 4 ∷ pos 6 ∷ []);
+    }
 
 -- the bytes served for positions 2 and 3
 abbrev servedIn : List ℕ → Answer (List ℤ)
@@ -123,33 +133,72 @@ servedIn f = do
   given (map pos (Option·getD (served f ss 2) 0 ∷ Option·getD (served f ss 3) 0 ∷ []))
 
 -- P10: P9 and then a segment at 2, good 5: positions 2 and 3 still come from the first; missing is (7, 3)
-abbrev fileOf10 : List ℕ
-fileOf10 = fileOf9 ++ added (segmentAt 2 false (5 ∷ 2 ∷ []) (21 ∷ 22 ∷ 23 ∷ 24 ∷ 25 ∷ []))
-
 abbrev P10 : Example
-P10 = record { defined = says (servedIn fileOf10) ++ says (missingIn fileOf10); paper = pos 13 ∷ pos 14 ∷ pos 7 ∷ pos 3 ∷ [] }
+P10 =
+    let f = begunBytes ++ (firstBytes ++ secondBytes) in
+    record {
+      defined =
+          map pos (after (begunBytes ++ firstBytes) (segmentAt 2 false (5 ∷ 2 ∷ []) (21 ∷ 22 ∷ 23 ∷ 24 ∷ 25 ∷ [])))
+          ++ (says (servedIn f) ++ says (missingIn f));
+      paper = map pos f ++ (pos 13 ∷ pos 14 ∷ pos 7 ∷ pos 3 ∷ []);
+    }
 
--- the described length, and 1 if the size is known, 0 if not
+-- the described length, 1 if the size is known and 0 if not, and what is missing
 abbrev lengthIn : List ℕ → Answer (List ℤ)
 lengthIn f = do
   ss ← reading sourceLimit f
-  given (pos (describedLength ss) ∷ elim (isClosed ss) [ true ↦ pos 1 | false ↦ pos 0 ] ∷ [])
+  given (pos (describedLength ss) ∷ elim (isClosed ss) [ true ↦ pos 1 | false ↦ pos 0 ] ∷ map pos (missingRows ss))
 
 -- P11: one open segment at 100: described length 100, missing (0, 100), open
-abbrev fileOf11 : List ℕ
-fileOf11 = begunFile ++ added (segmentAt 100 false [] [])
-
 abbrev P11 : Example
-P11 = record { defined = says (lengthIn fileOf11) ++ says (missingIn fileOf11); paper = pos 100 ∷ pos 0 ∷ pos 0 ∷ pos 100 ∷ [] }
+P11 = record { defined = says (lengthIn (after begunBytes (segmentAt 100 false [] []))); paper = pos 100 ∷ pos 0 ∷ pos 0 ∷ pos 100 ∷ [] }
 
 -- P12: empty input: 7
 abbrev P12 : Example
 P12 = record { defined = says (missingIn []); paper = pos 7 ∷ [] }
 
+-- what P10's file prints in full, and what P11's prints by the same rules
+abbrev map10 : Example
+map10 =
+    record {
+      defined = map pos (mapText sourceLimit (begunBytes ++ (firstBytes ++ secondBytes)));
+      paper = map pos (ascii "source\t10\tclosed\nhave\t0\t7\nmiss\t7\t3\ntotal\t7\t3\n");
+    }
+
+abbrev map11 : Example
+map11 =
+    record {
+      defined = map pos (mapText sourceLimit (begunBytes ++ added (segmentAt 100 false [] [])));
+      paper = map pos (ascii "source\t100\topen\nmiss\t0\t100\ntotal\t0\t100\n");
+    }
+
+-- a `pseg` as another writer makes it: source offset 2, and one good chunk of 2 bytes at an offset of one byte
+abbrev foreign : ℕ → List ℕ
+foreign offset =
+    boxed (pseg .code)
+    (boxed (pshd .code) (bytesOf 4 0 ++ (bytesOf 4 2 ++ bytesOf 8 0))
+    ++ boxed (ploc .code) (bytesOf 4 0 ++ (0x11 ∷ (bytesOf 2 0 ++ (bytesOf 2 1 ++ (0x40 ∷ 2 ∷ offset ∷ []))))))
+
+-- an offset ahead is counted from the first byte of `pseg`, not from its body: the box has 52 bytes, and the header of `pdat` 8
+abbrev ahead : Example
+ahead = record { defined = says (servedIn (begunBytes ++ (foreign 60 ++ boxed (pdat .code) (31 ∷ 32 ∷ [])))); paper = pos 31 ∷ pos 32 ∷ [] }
+
+-- a chunk that lies in the file but not in a `pdat` body: 24
+abbrev overHeader : Example
+overHeader = record { defined = says (missingIn (begunBytes ++ (foreign 59 ++ boxed (pdat .code) (31 ∷ 32 ∷ [])))); paper = pos 24 ∷ [] }
+
+-- damaged bytes are missing, though they are present
+abbrev damagedBytes : Example
+damagedBytes = record { defined = says (missingIn (begunBytes ++ added (segmentAt 0 false (3 ∷ 1 ∷ []) (1 ∷ 2 ∷ 3 ∷ [])))); paper = pos 0 ∷ pos 3 ∷ [] }
+
+-- an open last segment is not the end of the source
+abbrev openLast : Example
+openLast = record { defined = says (lengthIn (begunBytes ++ (added (segmentAt 5 true [] []) ++ added (segmentAt 0 false (10 ∷ 0 ∷ []) [])))); paper = pos 10 ∷ pos 0 ∷ pos 0 ∷ pos 10 ∷ [] }
+
 unfoldable pub table : List Example
-table = P1 ∷ P2 ∷ P3 ∷ P4 ∷ P5 ∷ P6 ∷ P7 ∷ P8 ∷ P9 ∷ P10 ∷ P11 ∷ P12 ∷ []
+table = P1 ∷ P2 ∷ P3 ∷ P4 ∷ P5 ∷ P6 ∷ P7 ∷ P8 ∷ P9 ∷ P10 ∷ P11 ∷ P12 ∷ map10 ∷ map11 ∷ ahead ∷ overHeader ∷ damagedBytes ∷ openLast ∷ []
 
 -- at every row the definitions say what the paper says
 pub as-the-paper-says : map (λ e. e .defined) table ≡ map (λ e. e .paper) table
-unfolding table number bytesOf valueOf signed unsigned holds holdsOffset least leastWidth sized header boxesFrom boxLimit boxesIn boxed is those keeps right someOf allOf sum largest stretch present corrupted isOpen isLast reach chunksOf boxAt firstOf ftypRight fours brands brandRight pfilRight pfhdFormed pfhdRight text url mime surlFormed surlRight heading plocHead state stateOf entry mayLie moved lying placeOf chunksFrom offsetWidth pshdFormed pshdRight segment segmentsFrom segments reading closes knownSize describedLength isClosed agree covers supplier supplied placeOfByte served joined ranges classOf rangesOf listOf rangeRows beginning items stored anyPresent dataBox offsets lengthSize offsetSize flagByte entryBytes plocBody pshdBody added
+unfolding table Rattle.boxes.specs.Framing.sized Rattle.boxes.specs.Framing.header Rattle.boxes.specs.Framing.boxesFrom Rattle.boxes.specs.Framing.boxLimit Rattle.boxes.specs.Framing.boxesIn Rattle.boxes.specs.Framing.boxOf Rattle.boxes.specs.Framing.headerAnswer Rattle.boxes.specs.Framing.boxed Rattle.boxes.specs.Kinds.kinds Rattle.boxes.specs.Kinds.is Rattle.boxes.specs.Kinds.those Rattle.boxes.specs.Kinds.keeps Rattle.boxes.specs.Kinds.right Rattle.boxes.specs.Numbers.number Rattle.boxes.specs.Numbers.bytesOf Rattle.boxes.specs.Numbers.valueOf Rattle.boxes.specs.Numbers.signed Rattle.boxes.specs.Numbers.unsigned Rattle.boxes.specs.Numbers.holds Rattle.boxes.specs.Numbers.holdsOffset Rattle.boxes.specs.Numbers.least Rattle.boxes.specs.Numbers.leastWidth Rattle.partial.specs.Entries.plocHead Rattle.partial.specs.Entries.state Rattle.partial.specs.Entries.stateOf Rattle.partial.specs.Entries.entry Rattle.partial.specs.Entries.mayLie Rattle.partial.specs.Entries.moved Rattle.partial.specs.Entries.placeOf Rattle.partial.specs.Entries.chunksFrom Rattle.partial.specs.Heading.boxAt Rattle.partial.specs.Heading.firstOf Rattle.partial.specs.Heading.ftypRight Rattle.partial.specs.Heading.brandsFrom Rattle.partial.specs.Heading.brands Rattle.partial.specs.Heading.brandRight Rattle.partial.specs.Heading.pfilRight Rattle.partial.specs.Heading.pfhdFormed Rattle.partial.specs.Heading.pfhdRight Rattle.partial.specs.Heading.text Rattle.partial.specs.Heading.url Rattle.partial.specs.Heading.mime Rattle.partial.specs.Heading.surlFormed Rattle.partial.specs.Heading.surlRight Rattle.partial.specs.Heading.heading Rattle.partial.specs.Map.ascii Rattle.partial.specs.Map.decimal Rattle.partial.specs.Map.line Rattle.partial.specs.Map.refusedLine Rattle.partial.specs.Map.rangeLine Rattle.partial.specs.Map.rangeLines Rattle.partial.specs.Map.sourceLine Rattle.partial.specs.Map.totalLine Rattle.partial.specs.Map.mapOf Rattle.partial.specs.Map.mapText Rattle.partial.specs.Meaning.givesSize Rattle.partial.specs.Meaning.knownSize Rattle.partial.specs.Meaning.describedLength Rattle.partial.specs.Meaning.isClosed Rattle.partial.specs.Meaning.agree Rattle.partial.specs.Meaning.covers Rattle.partial.specs.Meaning.supplier Rattle.partial.specs.Meaning.supplied Rattle.partial.specs.Meaning.placeOfByte Rattle.partial.specs.Meaning.served Rattle.partial.specs.Meaning.onward Rattle.partial.specs.Meaning.servedRun Rattle.partial.specs.Meaning.missingRun Rattle.partial.specs.Meaning.reply Rattle.partial.specs.Ranges.joined Rattle.partial.specs.Ranges.ranges Rattle.partial.specs.Ranges.classOf Rattle.partial.specs.Ranges.rangesOf Rattle.partial.specs.Ranges.ofClass Rattle.partial.specs.Ranges.hadList Rattle.partial.specs.Ranges.missingList Rattle.partial.specs.Ranges.total Rattle.partial.specs.Reading.offsetWidth Rattle.partial.specs.Reading.pshdFields Rattle.partial.specs.Reading.pshdRight Rattle.partial.specs.Reading.segment Rattle.partial.specs.Reading.segmentsFrom Rattle.partial.specs.Reading.segments Rattle.partial.specs.Reading.reading Rattle.partial.specs.Reading.earlierSegments Rattle.partial.specs.Runs.fileIn Rattle.partial.specs.Runs.sizeAfter Rattle.partial.specs.Runs.begin Rattle.partial.specs.Runs.append Rattle.partial.specs.Runs.appendAll Rattle.partial.specs.Segments.isState Rattle.partial.specs.Segments.present Rattle.partial.specs.Segments.corrupted Rattle.partial.specs.Segments.isOpen Rattle.partial.specs.Segments.isLast Rattle.partial.specs.Segments.endOf Rattle.partial.specs.Segments.chunksOf Rattle.partial.specs.Sequences.someOf Rattle.partial.specs.Sequences.allOf Rattle.partial.specs.Sequences.sum Rattle.partial.specs.Sequences.largest Rattle.partial.specs.Sequences.within Rattle.partial.specs.Sequences.stretch Rattle.partial.specs.Tables.segmentRow Rattle.partial.specs.Tables.segmentRows Rattle.partial.specs.Tables.chunkRow Rattle.partial.specs.Tables.chunkRowsOf Rattle.partial.specs.Tables.chunkRowsFrom Rattle.partial.specs.Tables.chunkRows Rattle.partial.specs.Tables.rangeRows Rattle.partial.specs.Tables.hadRows Rattle.partial.specs.Tables.missingRows Rattle.partial.specs.Tables.fits Rattle.partial.specs.Tables.filled Rattle.partial.specs.Tables.tabled Rattle.partial.specs.Tables.listed Rattle.partial.specs.Tables.after Rattle.partial.specs.Tables.summary Rattle.partial.specs.Tables.totals Rattle.partial.specs.Tables.bytesIn Rattle.partial.specs.Tables.nowhere Rattle.partial.specs.Tables.servedPart Rattle.partial.specs.Tables.asked Rattle.partial.specs.Tables.textOf Rattle.partial.specs.Writing.beginning Rattle.partial.specs.Writing.isText Rattle.partial.specs.Writing.begun Rattle.partial.specs.Writing.written Rattle.partial.specs.Writing.items Rattle.partial.specs.Writing.asks Rattle.partial.specs.Writing.listRight Rattle.partial.specs.Writing.dataSize Rattle.partial.specs.Writing.dataRight Rattle.partial.specs.Writing.anyPresent Rattle.partial.specs.Writing.dataBox Rattle.partial.specs.Writing.addedBoxes Rattle.partial.specs.Writing.offsetOf Rattle.partial.specs.Writing.offsets Rattle.partial.specs.Writing.lengthSize Rattle.partial.specs.Writing.offsetSize Rattle.partial.specs.Writing.flagByte Rattle.partial.specs.Writing.entryBytes Rattle.partial.specs.Writing.plocBody Rattle.partial.specs.Writing.versionFor Rattle.partial.specs.Writing.pshdBody Rattle.partial.specs.Writing.added Rattle.partial.specs.Writing.newChunks Rattle.partial.specs.Writing.newSegment Rattle.partial.specs.Writing.appended Rattle.partial.specs.Writing.result
 as-the-paper-says = refl

@@ -1,4 +1,4 @@
--- Document 01, refusals 1 to 11: the file's boxes, `ftyp` and `pfil`.
+-- Document 01, refusals 1 to 11: the file's boxes, `ftyp` and `pfil`. Boxes of other kinds are passed over.
 use Prim.Native.Nat.{ℕ, zero, suc, _+_, _-_, _/_, _%_}
 use mathlib.Core.Bool.{Bool, not, _&&_}
 use mathlib.Core.List.{List, [], _∷_}
@@ -32,13 +32,13 @@ ftypRight bs =
     is ftyp b && leb (b .body + 8) (b .end) && eqb ((b .end - b .body) % 4) 0 && right ftyp bs
 
 -- so many brands from a place on, four bytes each
-unfoldable pub fours : List ℕ → ℕ → ℕ → List ℕ
-fours f zero at = []
-fours f (suc more) at = number f at 4 ∷ fours f more (at + 4)
+unfoldable pub brandsFrom : List ℕ → ℕ → ℕ → List ℕ
+brandsFrom f zero at = []
+brandsFrom f (suc more) at = number f at 4 ∷ brandsFrom f more (at + 4)
 
 -- the compatible brands: after the major brand and the minor version, to the end
 unfoldable pub brands : List ℕ → Box → List ℕ
-brands f b = fours f ((b .end - b .body - 8) / 4) (b .body + 8)
+brands f b = brandsFrom f ((b .end - b .body - 8) / 4) (b .body + 8)
 
 abbrev pub paff : ℕ
 paff = 0x70616666

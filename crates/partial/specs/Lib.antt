@@ -3,12 +3,14 @@ pub mod Sequences
 pub mod Segments
 pub mod Heading
 pub mod Entries
-pub mod Reading
 pub mod Meaning
+pub mod Reading
 pub mod Ranges
 pub mod Tables
 pub mod Map
 pub mod Writing
+pub mod Runs
 pub mod Answers
+pub mod Lesson
 pub mod Examples
 pub mod Demands

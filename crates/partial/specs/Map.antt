@@ -14,7 +14,7 @@ use Rattle.partial.specs.Limits.{programLimit}
 use Rattle.partial.specs.Segments.{Segment}
 use Rattle.partial.specs.Reading.{reading}
 use Rattle.partial.specs.Meaning.{describedLength, isClosed}
-use Rattle.partial.specs.Ranges.{Range, rangesOf, totalOf, had, missing}
+use Rattle.partial.specs.Ranges.{Range, rangesOf, hadList, missingList, total, had}
 
 -- the bytes of a word
 unfoldable pub ascii : String → List ℕ
@@ -30,24 +30,31 @@ unfoldable pub line : List ℕ → List (List ℕ) → List ℕ
 line field [] = field ++ (10 ∷ [])
 line field (next ∷ rest) = field ++ (9 ∷ line next rest)
 
+-- the single line `refused` and its number
 unfoldable pub refusedLine : ℕ → List ℕ
 refusedLine n = line (ascii "refused") (decimal n ∷ [])
 
+-- `have` or `miss`, first position, length
 unfoldable pub rangeLine : Range → List ℕ
 rangeLine r =
-    line (elim (eqb (r .class) had) [ true ↦ ascii "have" | false ↦ ascii "miss" ]) (decimal (r .first) ∷ decimal (r .size) ∷ [])
+    line (elim (eqb (r .class) had) [ true ↦ ascii "have" | false ↦ ascii "miss" ]) (decimal (r .first) ∷ decimal (r .length) ∷ [])
 
 unfoldable pub rangeLines : List Range → List ℕ
 rangeLines [] = []
 rangeLines (r ∷ rs) = rangeLine r ++ rangeLines rs
 
--- the map of an accepted file
+-- `source`, described length, `closed` or `open`
+unfoldable pub sourceLine : List Segment → List ℕ
+sourceLine ss =
+    line (ascii "source") (decimal (describedLength ss) ∷ elim (isClosed ss) [ true ↦ ascii "closed" | false ↦ ascii "open" ] ∷ [])
+
+-- `total`, received, missing
+unfoldable pub totalLine : List Segment → List ℕ
+totalLine ss = line (ascii "total") (decimal (total (hadList ss)) ∷ decimal (total (missingList ss)) ∷ [])
+
+-- the map of an accepted file, both lists merged ascending
 unfoldable pub mapOf : List Segment → List ℕ
-mapOf ss =
-    let rs = rangesOf ss in
-    line (ascii "source")
-    (decimal (describedLength ss) ∷ elim (isClosed ss) [ true ↦ ascii "closed" | false ↦ ascii "open" ] ∷ [])
-    ++ (rangeLines rs ++ line (ascii "total") (decimal (totalOf had rs) ∷ decimal (totalOf missing rs) ∷ []))
+mapOf ss = sourceLine ss ++ (rangeLines (rangesOf ss) ++ totalLine ss)
 
 -- what the program prints for its input; 27 precedes all others
 unfoldable pub mapText : ℕ → List ℕ → List ℕ

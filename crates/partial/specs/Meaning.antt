@@ -5,22 +5,23 @@ use mathlib.Core.List.{List, [], _∷_, map}
 use mathlib.Core.Option.{Option, none, some}
 use lib.ListN.{length, getD}
 use lib.Dec.{leb, ltb, eqb}
-use Rattle.partial.specs.Sequences.{allOf, largest, stretch}
-use Rattle.partial.specs.Segments.{Chunk, Segment, good, isOpen, isLast, reach, chunksOf}
+use Rattle.partial.specs.Sequences.{allOf, largest, within, stretch}
+use Rattle.partial.specs.Segments.{Chunk, noChunk, Segment, good, isOpen, isLast, endOf, chunksOf}
 
--- a last_segment segment that isn't open makes the size known
-unfoldable pub closes : Segment → Bool
-closes s = isLast s && not (isOpen s)
+-- a last_segment segment that isn't open makes the size of the source known
+unfoldable pub givesSize : Segment → Bool
+givesSize s = isLast (s .flags) && not (isOpen s)
 
--- the size of the source, where it is known
+-- the size of the source, where it is known: that segment's end
 unfoldable pub knownSize : List Segment → Option ℕ
 knownSize [] = none
-knownSize (s ∷ ss) = elim (closes s) [ true ↦ some (reach s) | false ↦ knownSize ss ]
+knownSize (s ∷ ss) = elim (givesSize s) [ true ↦ some (endOf s) | false ↦ knownSize ss ]
 
 -- the described length: that size, else the largest of all segment ends and all offsets of open segments
 unfoldable pub describedLength : List Segment → ℕ
-describedLength ss = elim (knownSize ss) [ some n ↦ n | none ↦ largest (map reach ss) ]
+describedLength ss = elim (knownSize ss) [ some n ↦ n | none ↦ largest (map endOf ss) ]
 
+-- whether the size is known
 unfoldable pub isClosed : List Segment → Bool
 isClosed ss = elim (knownSize ss) [ some n ↦ true | none ↦ false ]
 
@@ -28,26 +29,27 @@ isClosed ss = elim (knownSize ss) [ some n ↦ true | none ↦ false ]
 unfoldable pub agree : List Segment → Bool
 agree ss =
     elim (knownSize ss) [
-      | some n ↦ allOf (λ s. leb (reach s) n && (not (closes s) || eqb (reach s) n)) ss
+      | some n ↦ allOf (λ s. leb (endOf s) n && (not (givesSize s) || eqb (endOf s) n)) ss
       | none ↦ true
     ]
 
 -- a chunk covers the positions from its start, as many as its size
 unfoldable pub covers : ℕ → Chunk → Bool
-covers p c = leb (c .start) p && ltb p (c .start + c .size)
+covers p c = within (c .start) (c .size) p
 
 -- the number of the first good chunk that covers a position; the number of all chunks where there is none
 unfoldable pub supplier : List Chunk → ℕ → ℕ
 supplier [] p = 0
 supplier (c ∷ cs) p = elim (eqb (c .state) good && covers p c) [ true ↦ 0 | false ↦ suc (supplier cs p) ]
 
+-- whether some good chunk covers a position
 unfoldable pub supplied : List Segment → ℕ → Bool
 supplied ss p = ltb (supplier (chunksOf ss) p) (length (chunksOf ss))
 
 -- the place in the file of a supplied position
 unfoldable pub placeOfByte : List Segment → ℕ → ℕ
 placeOfByte ss p =
-    let c = getD (chunksOf ss) (supplier (chunksOf ss) p) (record { start = 0; size = 0; state = 0; place = 0 }) in
+    let c = getD (chunksOf ss) (supplier (chunksOf ss) p) noChunk in
     c .place + (p - c .start)
 
 -- the byte that is served for a position: the file's byte at the supplier's place
@@ -70,11 +72,11 @@ missingRun ss p = onward ss (λ q. not (supplied ss q)) p
 pub data Reply : Type 0 where
   servedFor : ℕ → Reply
   missingFor : ℕ → Reply
-  beyond : Reply
+  notBelow : Reply
 
 unfoldable pub reply : List Segment → ℕ → Reply
 reply ss p =
     elim (ltb p (describedLength ss)) [
       | true ↦ elim (supplied ss p) [ true ↦ servedFor (servedRun ss p) | false ↦ missingFor (missingRun ss p) ]
-      | false ↦ beyond
+      | false ↦ notBelow
     ]

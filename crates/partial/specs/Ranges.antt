@@ -11,15 +11,15 @@ use Rattle.partial.specs.Meaning.{supplied, describedLength}
 pub record Range : Type 0 where
   pub class : ℕ
   pub first : ℕ
-  pub size : ℕ
+  pub length : ℕ
 
 -- one position more, before the ranges that follow it: it joins the first of them exactly where the classes are equal
 unfoldable pub joined : ℕ → ℕ → List Range → List Range
-joined class p [] = record { class = class; first = p; size = 1 } ∷ []
+joined class p [] = record { class = class; first = p; length = 1 } ∷ []
 joined class p (r ∷ rs) =
     elim (eqb class (r .class)) [
-      | true ↦ record { class = class; first = p; size = suc (r .size) } ∷ rs
-      | false ↦ record { class = class; first = p; size = 1 } ∷ (r ∷ rs)
+      | true ↦ record { class = class; first = p; length = suc (r .length) } ∷ rs
+      | false ↦ record { class = class; first = p; length = 1 } ∷ (r ∷ rs)
     ]
 
 -- so many positions from p on, cut into maximal ranges of one class
@@ -34,6 +34,7 @@ missing = 0
 abbrev pub had : ℕ
 had = 1
 
+-- had if some good chunk supplies it, else missing
 unfoldable pub classOf : List Segment → ℕ → ℕ
 classOf ss p = elim (supplied ss p) [ true ↦ had | false ↦ missing ]
 
@@ -41,11 +42,18 @@ classOf ss p = elim (supplied ss p) [ true ↦ had | false ↦ missing ]
 unfoldable pub rangesOf : List Segment → List Range
 rangesOf ss = ranges (classOf ss) (describedLength ss) 0
 
--- the list of one class
-unfoldable pub listOf : ℕ → List Range → List Range
-listOf class [] = []
-listOf class (r ∷ rs) = elim (eqb (r .class) class) [ true ↦ r ∷ listOf class rs | false ↦ listOf class rs ]
+-- the ranges of one class
+unfoldable pub ofClass : ℕ → List Range → List Range
+ofClass class [] = []
+ofClass class (r ∷ rs) = elim (eqb (r .class) class) [ true ↦ r ∷ ofClass class rs | false ↦ ofClass class rs ]
 
--- the total of a class: the sum of the lengths in its list
-unfoldable pub totalOf : ℕ → List Range → ℕ
-totalOf class rs = sum (map (λ r. r .size) (listOf class rs))
+-- the two lists
+unfoldable pub hadList : List Segment → List Range
+hadList ss = ofClass had (rangesOf ss)
+
+unfoldable pub missingList : List Segment → List Range
+missingList ss = ofClass missing (rangesOf ss)
+
+-- the total of a list: the sum of the lengths
+unfoldable pub total : List Range → ℕ
+total rs = sum (map (λ r. r .length) rs)

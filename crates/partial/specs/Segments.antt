@@ -15,6 +15,9 @@ damaged = 1
 abbrev pub lost : ℕ
 lost = 0
 
+unfoldable pub isState : ℕ → Bool
+isState n = eqb n good || eqb n damaged || eqb n lost
+
 -- the states of the bit present: good, and damaged but kept
 unfoldable pub present : ℕ → Bool
 present state = eqb state good || eqb state damaged
@@ -30,27 +33,31 @@ pub record Chunk : Type 0 where
   pub state : ℕ
   pub place : ℕ
 
+-- what stands past the end of a list of chunks
+abbrev pub noChunk : Chunk
+noChunk = record { start = 0; size = 0; state = lost; place = 0 }
+
 -- a segment: the place of its box, its source offset, flags and repair time, the place and length of its `pshd` body, its chunks
 pub record Segment : Type 0 where
-  pub at : ℕ
-  pub offset : ℕ
+  pub place : ℕ
+  pub sourceOffset : ℕ
   pub flags : ℕ
-  pub repair : ℕ
-  pub header : ℕ
+  pub repairTime : ℕ
+  pub headerPlace : ℕ
   pub headerLength : ℕ
   pub chunks : List Chunk
 
--- `chunk_count` 0 is one chunk of unknown size: an open segment. It has no chunk
+-- `chunk_count` 0 is one chunk of unknown size: an open segment. It counts as no chunk
 unfoldable pub isOpen : Segment → Bool
 isOpen s = elim (s .chunks) [ [] ↦ true | _ ∷ _ ↦ false ]
 
 -- flag 0x000001, last_segment
-unfoldable pub isLast : Segment → Bool
-isLast s = eqb (s .flags % 2) 1
+unfoldable pub isLast : ℕ → Bool
+isLast flags = eqb (flags % 2) 1
 
 -- the end of a segment in the source; of an open one its offset
-unfoldable pub reach : Segment → ℕ
-reach s = s .offset + sum (map (λ c. c .size) (s .chunks))
+unfoldable pub endOf : Segment → ℕ
+endOf s = s .sourceOffset + sum (map (λ c. c .size) (s .chunks))
 
 -- segments in file order, chunks in their order
 unfoldable pub chunksOf : List Segment → List Chunk

@@ -2,6 +2,7 @@
 use Prim.Native.Nat.{ℕ, zero, suc, _+_, max}
 use mathlib.Core.Bool.{Bool, true, false, _&&_, _||_}
 use mathlib.Core.List.{List, [], _∷_}
+use lib.Dec.{leb, ltb}
 
 module _ {A : Type 0} where
   -- some of the list pass the test
@@ -21,6 +22,10 @@ sum (n ∷ ns) = n + sum ns
 unfoldable pub largest : List ℕ → ℕ
 largest [] = 0
 largest (n ∷ ns) = max n (largest ns)
+
+-- whether a number is one of so many from the first on
+unfoldable pub within : ℕ → ℕ → ℕ → Bool
+within first many n = leb first n && ltb n (first + many)
 
 -- how many numbers in a row pass the test, from `at` on, of at most so many
 unfoldable pub stretch : (ℕ → Bool) → ℕ → ℕ → ℕ

@@ -1,4 +1,4 @@
--- Document 01, "Rows", "Serving" and refusal 26: what reading, serving, asking and listing leave in the lent tables and hand back.
+-- Document 01, "Rows", "Serving", "Lists" and refusal 26: what the reading calls answer, hand back and leave in the lent tables.
 use Prim.Native.Nat.{ℕ, suc}
 use mathlib.Core.Bool.{Bool, true, false, _&&_}
 use mathlib.Core.List.{List, [], _∷_, _++_}
@@ -11,11 +11,11 @@ use Rattle.partial.specs.Segments.{Chunk, Segment, chunksOf}
 use Rattle.partial.specs.Heading.{Part, heading, firstOf}
 use Rattle.partial.specs.Reading.{reading}
 use Rattle.partial.specs.Meaning.{describedLength, isClosed, supplied, placeOfByte, servedRun, Reply, reply}
-use Rattle.partial.specs.Ranges.{Range, rangesOf, listOf, totalOf, had, missing}
+use Rattle.partial.specs.Ranges.{Range, hadList, missingList, total}
 
 -- place of the box, source offset, flags, repair time, chunk count, place and length of the `pshd` body
 unfoldable pub segmentRow : Segment → List ℕ
-segmentRow s = s .at ∷ s .offset ∷ s .flags ∷ s .repair ∷ length (s .chunks) ∷ s .header ∷ s .headerLength ∷ []
+segmentRow s = s .place ∷ s .sourceOffset ∷ s .flags ∷ s .repairTime ∷ length (s .chunks) ∷ s .headerPlace ∷ s .headerLength ∷ []
 
 unfoldable pub segmentRows : List Segment → List ℕ
 segmentRows [] = []
@@ -31,14 +31,23 @@ chunkRowsOf n i [] = []
 chunkRowsOf n i (c ∷ cs) = chunkRow n i c ++ chunkRowsOf n (suc i) cs
 
 -- the rows of all chunks, from segment number n on
-unfoldable pub chunkRows : ℕ → List Segment → List ℕ
-chunkRows n [] = []
-chunkRows n (s ∷ ss) = chunkRowsOf n 0 (s .chunks) ++ chunkRows (suc n) ss
+unfoldable pub chunkRowsFrom : ℕ → List Segment → List ℕ
+chunkRowsFrom n [] = []
+chunkRowsFrom n (s ∷ ss) = chunkRowsOf n 0 (s .chunks) ++ chunkRowsFrom (suc n) ss
 
--- a range as it stands in a list: first, length
+unfoldable pub chunkRows : List Segment → List ℕ
+chunkRows ss = chunkRowsFrom 0 ss
+
+-- a range as it stands in a lent list: first, length
 unfoldable pub rangeRows : List Range → List ℕ
 rangeRows [] = []
-rangeRows (r ∷ rs) = r .first ∷ r .size ∷ rangeRows rs
+rangeRows (r ∷ rs) = r .first ∷ r .length ∷ rangeRows rs
+
+unfoldable pub hadRows : List Segment → List ℕ
+hadRows ss = rangeRows (hadList ss)
+
+unfoldable pub missingRows : List Segment → List ℕ
+missingRows ss = rangeRows (missingList ss)
 
 -- whether rows fit a lent table
 unfoldable pub fits : List ℕ → List ℕ → Bool
@@ -48,63 +57,57 @@ fits rows table = leb (length rows) (length table)
 unfoldable pub filled : List ℕ → List ℕ → List ℕ
 filled rows table = rows ++ drop (length rows) table
 
--- reading with the two lent tables: stages 1 to 25, then 26
+-- reading, serving and asking with the two lent tables: stages 1 to 25, then 26
 unfoldable pub tabled : ℕ → List ℕ → List ℕ → List ℕ → Answer (List Segment)
 tabled limit f segmentTable chunkTable = do
   ss ← reading limit f
-  _ ← hold 26 (fits (segmentRows ss) segmentTable && fits (chunkRows 0 ss) chunkTable)
+  _ ← hold 26 (fits (segmentRows ss) segmentTable && fits (chunkRows ss) chunkTable)
   given ss
 
--- listing with the tables and the two lent lists
+-- listing with the two tables and the two lent lists
 unfoldable pub listed : ℕ → List ℕ → List ℕ → List ℕ → List ℕ → List ℕ → Answer (List Segment)
-listed limit f segmentTable chunkTable hadList missingList = do
+listed limit f segmentTable chunkTable had missing = do
   ss ← tabled limit f segmentTable chunkTable
-  _ ← hold 26 (fits (rangeRows (listOf had (rangesOf ss))) hadList && fits (rangeRows (listOf missing (rangesOf ss))) missingList)
+  _ ← hold 26 (fits (hadRows ss) had && fits (missingRows ss) missing)
   given ss
 
--- a lent table or list after a call: filled by its rows, or after a refusal as it was
+-- a lent table or list after a call: filled by its rows, which are `segmentRows`, `chunkRows`, `hadRows` or `missingRows`; after a
+-- refusal as it was
 unfoldable pub after : (List Segment → List ℕ) → Answer (List Segment) → List ℕ → List ℕ
 after rows (refused n) table = table
 after rows (given ss) table = filled (rows ss) table
 
--- what reading says of an accepted file: numbers of segments and chunks, described length, whether the size is known
+-- what reading says of an accepted file: how many rows each table has, the described length, whether the size is known
 pub record Summary : Type 0 where
   pub segments : ℕ
   pub chunks : ℕ
-  pub length : ℕ
+  pub described : ℕ
   pub closed : Bool
 
 unfoldable pub summary : List Segment → Summary
-summary ss =
-    record {
-      segments = lib.ListN.length ss;
-      chunks = lib.ListN.length (chunksOf ss);
-      length = describedLength ss;
-      closed = isClosed ss;
-    }
+summary ss = record { segments = length ss; chunks = length (chunksOf ss); described = describedLength ss; closed = isClosed ss }
 
--- what listing says: how many ranges in each list, and the received and missing totals
+-- what listing says: how many ranges each list has, and the received and missing totals
 pub record Totals : Type 0 where
   pub had : ℕ
   pub missing : ℕ
-  pub received : ℕ
-  pub lacking : ℕ
+  pub receivedTotal : ℕ
+  pub missingTotal : ℕ
 
 unfoldable pub totals : List Segment → Totals
 totals ss =
-    let rs = rangesOf ss in
     record {
-      had = length (listOf had rs);
-      missing = length (listOf missing rs);
-      received = totalOf had rs;
-      lacking = totalOf missing rs;
+      had = length (hadList ss);
+      missing = length (missingList ss);
+      receivedTotal = total (hadList ss);
+      missingTotal = total (missingList ss);
     }
 
 -- the bytes of a part of the file
 unfoldable pub bytesIn : List ℕ → Part → List ℕ
 bytesIn f part = take (part .size) (drop (part .place) f)
 
--- no part: empty
+-- an empty part
 unfoldable pub nowhere : Part
 nowhere = record { place = 0; size = 0 }
 
@@ -119,7 +122,7 @@ asked read p = do
   ss ← read
   given (reply ss p)
 
--- a text of the first `surl`: empty after a refusal
+-- a text of the first `surl`, its URL or its MIME text: empty after a refusal
 unfoldable pub textOf : (List ℕ → Box → Part) → ℕ → List ℕ → Part
 textOf which limit f =
     elim (reading limit f) [

@@ -1,9 +1,10 @@
 -- Document 01, "Begin" and "Append": the bytes that they write, and their refusals in order.
-use Prim.Native.Nat.{ℕ, _+_, _-_, _*_, _%_, _^_}
+use Prim.Native.Nat.{ℕ, _+_, _*_, _%_}
 use mathlib.Core.Bool.{Bool, true, false, not, _&&_}
 use mathlib.Core.List.{List, [], _∷_, _++_, map}
+use mathlib.Core.Option.{Option·getD}
 use lib.ListN.{length, take}
-use lib.Dec.{leb, ltb, eqb}
+use lib.Dec.{leb, eqb}
 use Rattle.boxes.specs.Answer.{Answer, refused, given, _>>=_, hold}
 use Rattle.boxes.specs.Numbers.{bytesOf, unsigned, holds, holdsOffset, leastWidth}
 use Rattle.boxes.specs.Framing.{boxed, boxLimit}
@@ -13,22 +14,23 @@ use Rattle.boxes.specs.declared.numbers.Offset.the-variants.{Back}
 use Rattle.partial.specs.declared.header.SegmentHeader.{SegmentHeader}
 use Rattle.partial.specs.Limits.{fileLimit, segmentLimit, chunkLimit}
 use Rattle.partial.specs.Sequences.{someOf, allOf, sum}
-use Rattle.partial.specs.Segments.{Chunk, Segment, present, corrupted, reach, chunksOf}
+use Rattle.partial.specs.Segments.{Chunk, Segment, isState, present, corrupted, isLast, endOf, chunksOf}
 use Rattle.partial.specs.Heading.{heading, paff}
-use Rattle.partial.specs.Reading.{segments}
+use Rattle.partial.specs.Entries.{moved}
 use Rattle.partial.specs.Meaning.{agree}
+use Rattle.partial.specs.Reading.{offsetWidth, segments}
 use Rattle.partial.specs.Tables.{filled}
 
 -- version 0, flags 0
-abbrev pub plain : List ℕ
-plain = bytesOf 4 0
+abbrev pub versionAndFlags : List ℕ
+versionAndFlags = bytesOf 4 0
 
 -- begin: `ftyp` (major `paff`, minor 0, one brand `paff`), then `pfil` holding `pfhd` (flags 0) and one `surl`
 unfoldable pub beginning : List ℕ → List ℕ → List ℕ
 beginning urlText mimeText =
     boxed (ftyp .code) (bytesOf 4 paff ++ (bytesOf 4 0 ++ bytesOf 4 paff))
     ++ boxed (pfil .code)
-    (boxed (pfhd .code) plain ++ boxed (surl .code) (plain ++ (urlText ++ (0 ∷ (mimeText ++ (0 ∷ []))))))
+    (boxed (pfhd .code) versionAndFlags ++ boxed (surl .code) (versionAndFlags ++ (urlText ++ (0 ∷ (mimeText ++ (0 ∷ []))))))
 
 -- no zero byte
 unfoldable pub isText : List ℕ → Bool
@@ -43,7 +45,7 @@ begun buffer urlText mimeText = do
   _ ← hold 33 (leb n (length buffer))
   given n
 
--- a buffer after a call that writes a file: earlier bytes and bytes past the new end keep their values, and a refusal changes nothing
+-- a buffer after a call that writes a file: the file, and past its end what was there; after a refusal as it was
 unfoldable pub written : List ℕ → Answer ℕ → List ℕ → List ℕ
 written file (refused n) buffer = buffer
 written file (given n) buffer = filled file buffer
@@ -61,8 +63,8 @@ items (size ∷ state ∷ rest) = record { size = size; state = state } ∷ item
 
 -- what append is asked to add: the fields of `pshd`, the chunk list and the data
 pub record Addition : Type 0 where
-  pub offset : ℕ
-  pub repair : ℕ
+  pub sourceOffset : ℕ
+  pub repairTime : ℕ
   pub last : Bool
   pub list : List ℕ
   pub bytes : List ℕ
@@ -70,27 +72,40 @@ pub record Addition : Type 0 where
 -- what a header, a chunk list and data ask of append; of the header's flags it takes last_segment and no other
 unfoldable pub asks : SegmentHeader → List ℕ → List ℕ → Addition
 asks h list bytes =
-    record { offset = h .offset .0; repair = h .repair; last = eqb (h .flags % 2) 1; list = list; bytes = bytes }
+    record { sourceOffset = h .offset .0; repairTime = h .repair; last = isLast (h .flags); list = list; bytes = bytes }
 
--- 31: pairs of size and state, no size 0, each state 0, 1 or 2
+-- 31: pairs of size and state, no size 0, no other state
 unfoldable pub listRight : List ℕ → Bool
-listRight list = eqb (length list % 2) 0 && allOf (λ i. not (eqb (i .size) 0) && leb (i .state) 2) (items list)
+listRight list = eqb (length list % 2) 0 && allOf (λ i. not (eqb (i .size) 0) && isState (i .state)) (items list)
 
 -- how many bytes of data items have: the sizes of states 1 and 2
-unfoldable pub stored : List Item → ℕ
-stored is = sum (map (λ i. elim (present (i .state)) [ true ↦ i .size | false ↦ 0 ]) is)
+unfoldable pub dataSize : List Item → ℕ
+dataSize is = sum (map (λ i. elim (present (i .state)) [ true ↦ i .size | false ↦ 0 ]) is)
 
-unfoldable pub anyPresent : List Item → Bool
-anyPresent is = someOf (λ i. present (i .state)) is
+-- 32: as many data bytes as that
+unfoldable pub dataRight : Addition → Bool
+dataRight a = eqb (length (a .bytes)) (dataSize (items (a .list)))
 
--- the `pdat` with the data in chunk order, if any chunk is present
+-- whether any chunk is present
+unfoldable pub anyPresent : Addition → Bool
+anyPresent a = someOf (λ i. present (i .state)) (items (a .list))
+
+-- one `pdat` with the data in chunk order, if any chunk is present
 unfoldable pub dataBox : Addition → List ℕ
-dataBox a = elim (anyPresent (items (a .list))) [ true ↦ boxed (pdat .code) (a .bytes) | false ↦ [] ]
+dataBox a = elim (anyPresent a) [ true ↦ boxed (pdat .code) (a .bytes) | false ↦ [] ]
 
--- the data ends where `pseg` starts, so a chunk lies as far back as there are bytes from it on
+-- how many boxes append adds to the file: the `pseg`, and that `pdat`
+unfoldable pub addedBoxes : Addition → ℕ
+addedBoxes a = elim (anyPresent a) [ true ↦ 2 | false ↦ 1 ]
+
+-- the offset of the first of these items: the data ends where `pseg` starts, so it lies as far back as there are bytes from it on
+unfoldable pub offsetOf : List Item → Offset
+offsetOf is = Back (dataSize is)
+
+-- the offsets of all present items
 unfoldable pub offsets : List Item → List Offset
 offsets [] = []
-offsets (i ∷ is) = elim (present (i .state)) [ true ↦ Back (stored (i ∷ is)) ∷ offsets is | false ↦ offsets is ]
+offsets (i ∷ is) = elim (present (i .state)) [ true ↦ offsetOf (i ∷ is) ∷ offsets is | false ↦ offsets is ]
 
 -- `length_size`: the least that holds every size
 unfoldable pub lengthSize : List Item → ℕ
@@ -110,32 +125,35 @@ entryBytes l o [] = []
 entryBytes l o (i ∷ is) =
     flagByte (i .state)
     ∷ (bytesOf l (i .size)
-    ++ (elim (present (i .state)) [ true ↦ bytesOf o (unsigned o (Back (stored (i ∷ is)))) | false ↦ [] ] ++ entryBytes l o is))
+    ++ (elim (present (i .state)) [ true ↦ bytesOf o (unsigned o (offsetOf (i ∷ is))) | false ↦ [] ] ++ entryBytes l o is))
 
+-- version 0, flags 0, the two widths, data reference index 0, `chunk_count`, the entries
 unfoldable pub plocBody : List Item → List ℕ
 plocBody is =
     let l = lengthSize is in
     let o = offsetSize is in
-    plain ++ ((l * 16 + o) ∷ (bytesOf 2 0 ++ (bytesOf 2 (length is) ++ entryBytes l o is)))
+    versionAndFlags ++ ((l * 16 + o) ∷ (bytesOf 2 0 ++ (bytesOf 2 (length is) ++ entryBytes l o is)))
 
 -- last_segment, and no other flag
 abbrev pub flagsFor : Bool → ℕ
 flagsFor true = 1
 flagsFor false = 0
 
--- the writer's form of `pshd`: 32 bits of `source_byte_offset` where they hold it, else 64
+-- the writer's form of `pshd`: version 0 where 32 bits hold the offset, else version 1
+unfoldable pub versionFor : ℕ → ℕ
+versionFor offset = elim (holds 4 offset) [ true ↦ 0 | false ↦ 1 ]
+
+-- version, flags, `source_byte_offset`, `last_repair_time`
 unfoldable pub pshdBody : Addition → List ℕ
 pshdBody a =
-    elim (ltb (a .offset) (2 ^ 32)) [
-      | true ↦ 0 ∷ (bytesOf 3 (flagsFor (a .last)) ++ (bytesOf 4 (a .offset) ++ bytesOf 8 (a .repair)))
-      | false ↦ 1 ∷ (bytesOf 3 (flagsFor (a .last)) ++ (bytesOf 8 (a .offset) ++ bytesOf 8 (a .repair)))
-    ]
+    let version = versionFor (a .sourceOffset) in
+    version ∷ (bytesOf 3 (flagsFor (a .last)) ++ (bytesOf (offsetWidth version) (a .sourceOffset) ++ bytesOf 8 (a .repairTime)))
 
 -- what append adds to a file: the data, then the `pseg` with `pshd` and `ploc`
 unfoldable pub added : Addition → List ℕ
 added a = dataBox a ++ boxed (pseg .code) (boxed (pshd .code) (pshdBody a) ++ boxed (ploc .code) (plocBody (items (a .list))))
 
--- the chunks that items tell of, from a source position on, where the `pseg` starts at a place
+-- the chunks that items tell of, from a source position on, of a `pseg` at a place
 unfoldable pub newChunks : ℕ → ℕ → List Item → List Chunk
 newChunks at start [] = []
 newChunks at start (i ∷ is) =
@@ -143,7 +161,7 @@ newChunks at start (i ∷ is) =
       start = start;
       size = i .size;
       state = i .state;
-      place = elim (present (i .state)) [ true ↦ at - stored (i ∷ is) | false ↦ 0 ];
+      place = elim (present (i .state)) [ true ↦ Option·getD (moved at (offsetOf (i ∷ is))) 0 | false ↦ 0 ];
     }
     ∷ newChunks at (start + i .size) is
 
@@ -152,13 +170,13 @@ unfoldable pub newSegment : ℕ → Addition → Segment
 newSegment n a =
     let at = n + length (dataBox a) in
     record {
-      at = at;
-      offset = a .offset;
+      place = at;
+      sourceOffset = a .sourceOffset;
       flags = flagsFor (a .last);
-      repair = a .repair;
-      header = at + length (boxed (pseg .code) []) + length (boxed (pshd .code) []);
+      repairTime = a .repairTime;
+      headerPlace = at + length (boxed (pseg .code) []) + length (boxed (pshd .code) []);
       headerLength = length (pshdBody a);
-      chunks = newChunks at (a .offset) (items (a .list));
+      chunks = newChunks at (a .sourceOffset) (items (a .list));
     }
 
 -- what append answers for the first n bytes of a buffer: its refusals in order, or the length of the result
@@ -167,20 +185,20 @@ appended limit buffer n a = do
   _ ← hold 30 (leb n (length buffer))
   let f = take n buffer
   h ← heading f
-  ss ← segments limit f (h .boxes)
+  ss ← segments limit f h
   _ ← hold 31 (listRight (a .list))
-  _ ← hold 32 (eqb (length (a .bytes)) (stored (items (a .list))))
+  _ ← hold 32 (dataRight a)
   let new = newSegment n a
   let size = n + length (added a)
   _ ← hold 1 (leb size fileLimit)
-  _ ← hold 6 (leb (length (h .boxes) + elim (anyPresent (items (a .list))) [ true ↦ 2 | false ↦ 1 ]) boxLimit)
+  _ ← hold 6 (leb (length (h .boxes) + addedBoxes a) boxLimit)
   _ ← hold 13 (leb (length ss + 1) segmentLimit)
   _ ← hold 22 (leb (length (chunksOf ss) + length (new .chunks)) chunkLimit)
-  _ ← hold 23 (leb (reach new) limit)
+  _ ← hold 23 (leb (endOf new) limit)
   _ ← hold 25 (agree (ss ++ (new ∷ [])))
   _ ← hold 33 (leb size (length buffer))
   given size
 
--- the file that append makes of the first n bytes of a buffer
-unfoldable pub grown : List ℕ → ℕ → Addition → List ℕ
-grown buffer n a = take n buffer ++ added a
+-- the result of append on the first n bytes of a buffer: earlier bytes keep their values
+unfoldable pub result : List ℕ → ℕ → Addition → List ℕ
+result buffer n a = take n buffer ++ added a

@@ -7,7 +7,7 @@ pub enum Read {
     Tables {
         segments: u64,
         chunks: u64,
-        length: Position,
+        described: Position,
         closed: bool,
     },
 }
@@ -17,7 +17,7 @@ pub enum Asked {
     Refused(u64),
     Served(u64),
     Missing(u64),
-    Beyond,
+    NotBelow,
 }
 
 // Listing: how many ranges each list has, and the received and missing totals.
@@ -26,8 +26,8 @@ pub enum Listed {
     Lists {
         had: u64,
         missing: u64,
-        received: u64,
-        lacking: u64,
+        received_total: u64,
+        missing_total: u64,
     },
 }
 
