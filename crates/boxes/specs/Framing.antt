@@ -24,12 +24,18 @@ sized s at end header size = do
   _ ← hold 5 (leb (at + size) end)
   given (record { kind = number s (at + 4) 4; at = at; body = at + header; end = at + size })
 
+-- the box at a place whose 64-bit size follows its type
+unfoldable pub large : List ℕ → ℕ → ℕ → Answer Box
+large s at end = do
+  _ ← hold 2 (leb (at + 16) end)
+  sized s at end 16 (number s (at + 8) 8)
+
 -- a 32-bit size, then the type; size 1 means that a 64-bit size follows
 unfoldable pub header : List ℕ → ℕ → ℕ → Answer Box
 header s at end = do
   _ ← hold 2 (leb (at + 8) end)
   _ ← hold 3 (not (eqb (number s at 4) 0))
-  elim (eqb (number s at 4) 1) [ true ↦ hold 2 (leb (at + 16) end) >>= λ _. sized s at end 16 (number s (at + 8) 8) | false ↦ sized s at end 8 (number s at 4) ]
+  elim (eqb (number s at 4) 1) [ true ↦ large s at end | false ↦ sized s at end 8 (number s at 4) ]
 
 -- the boxes from a place to the end of their container, of which so many more are allowed
 unfoldable pub boxesFrom : List ℕ → ℕ → ℕ → ℕ → Answer (List Box)

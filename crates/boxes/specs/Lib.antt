@@ -2,3 +2,4 @@ pub mod Answer
 pub mod Numbers
 pub mod Framing
 pub mod Kinds
+pub mod Walk
