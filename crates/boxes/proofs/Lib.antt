@@ -1,2 +1,4 @@
-pub mod NumberLaws
+pub mod AnswerLaws
 pub mod HeaderLaws
+pub mod NumberLaws
+pub mod WalkLaws

@@ -5,7 +5,6 @@ use crate::refusals::BOX_PAST_END;
 use crate::refusals::HEADER_CUT;
 use crate::refusals::SIZE_UNDER_HEADER;
 use crate::refusals::SIZE_ZERO;
-
 ghost use Prim.Native.Nat.{_+_, _-_, _≤_};
 ghost use mathlib.Core.Path.{_≡_};
 ghost use Rattle.boxes.specs.Framing.{header, large, sized, headerAnswer};
@@ -26,6 +25,7 @@ pub enum Header {
 
 // The bytes of a header with a 32-bit size, and of one with a 64-bit size.
 const SHORT: u64 = 8;
+
 const LARGE: u64 = 16;
 
 // How many bytes stand from a place to an end, none where the end comes first.

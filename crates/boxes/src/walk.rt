@@ -5,7 +5,6 @@ use crate::framing::header_at;
 use crate::limits::BOX_LIMIT;
 use crate::place::Place;
 use crate::refusals::TOO_MANY_BOXES;
-
 ghost use mathlib.Core.Path.{_≡_};
 ghost use Rattle.boxes.specs.Framing.{boxLimit};
 ghost use Rattle.boxes.specs.Walk.{stepped, stepAnswer, counted, walkedAnswer};

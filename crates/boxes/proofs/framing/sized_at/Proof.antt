@@ -8,10 +8,6 @@ use Rattle.boxes.proofs.NumberLaws.{number-below}
 use Rattle.boxes.proofs.HeaderLaws.{sized-under, sized-past, sized-fits}
 use Rattle.boxes.proofs.framing.sized_at.Statement.{statement}
 use Rattle.boxes.proofs.framing.sized_at.Tie as tie
-use Rattle.boxes.proofs.framing.sized_at.Reads as reads
-use Rattle.boxes.proofs.framing.sized_at.Lts as lts
-use Rattle.boxes.proofs.framing.between.Reads as between-reads
-use Rattle.boxes.proofs.numbers.unsigned.Reads as unsigned-reads
 
 returns : tie.Need-returns
 unfolding headerAnswer

@@ -1,59 +1,64 @@
+-- `boxes::walk::count` meets its contract. The loop's invariant: the walk has passed as many boxes as were counted.
+use Prim.Native.Nat.{_+_}
+use mathlib.Core.List.{List, [], _∷_, _++_}
+use mathlib.Core.Path.{_≡_, refl, sym, ap, _∙_}
+use borrow.Author.Needs.{needs}
+use native.Mathlib.Omega.{arith}
+use lib.ListN.{length, length-append}
+use Rattle.boxes.specs.Answer.{given}
+use Rattle.boxes.specs.Framing.{Box, boxOf, boxesIn, boxLimit}
+use Rattle.boxes.specs.Walk.{stepAnswer, counted, walkedAnswer}
+use Rattle.boxes.proofs.WalkLaws.{Passed, passed-none, passed-more, passed-all, passed-fault, fewer, next-box, no-more, a-fault}
 use Rattle.boxes.proofs.walk.count.Statement.{statement}
 use Rattle.boxes.proofs.walk.count.Tie as tie
-use Rattle.boxes.proofs.walk.count.Reads as reads
-use Rattle.boxes.proofs.walk.count.Lts as lts
-use Rattle.boxes.proofs.walk.Walk.new.Reads as new-reads
-use Rattle.boxes.proofs.walk.Walk.step.Reads as step-reads
 
 abbrev Inv-loop : tie.InvT-loop
-Inv-loop s walk₀ boxes₀ walk boxes = ?
+Inv-loop s walk₀ boxes₀ walk boxes = (bs : List Box) × Passed s walk₀ bs walk × (boxes ≡ length bs) × (walk₀ .left ≡ 512)
 
 abbrev μ-loop : tie.MeasureT-loop
-μ-loop s walk₀ boxes₀ walk boxes = ?
+μ-loop s walk₀ boxes₀ walk boxes = walk .left
 
--- src/walk.rt:78:9
 new-requires : tie.Need-new-requires Inv-loop μ-loop
-new-requires c κs = ?
+new-requires c κs = tt
 
--- src/walk.rt:80:5
 loop-holds : tie.Need-loop-holds Inv-loop μ-loop
-loop-holds c = ?
+unfolding boxLimit
+loop-holds c = ([], passed-none _ _, refl, ap (λ w. w .left) (c .new .ensures))
 
--- src/walk.rt:81:15
 step-requires : tie.Need-step-requires Inv-loop μ-loop
-step-requires c κs = ?
+step-requires c κs = tt
 
--- src/walk.rt:82:27
 enum-known-next : tie.Need-enum-known-next Inv-loop μ-loop
-enum-known-next c = ?
+enum-known-next c = search needs
 
--- src/walk.rt:84:17
 add-boxes : tie.Need-add-boxes Inv-loop μ-loop
-add-boxes c = ?
+add-boxes c = omega arith
 
--- src/walk.rt:80:5
 loop-less : tie.Need-loop-less Inv-loop μ-loop
-loop-less c = ?
+loop-less c = fewer _ _ (next-box (c .before .before .before .step .ensures) (c .before .next .given .1))
 
--- src/walk.rt:80:5
 loop-again : tie.Need-loop-again Inv-loop μ-loop
-loop-again c = ?
+loop-again c =
+    let inv = c .before .before .before .before .loop .inv in
+    (inv .0 ++ (boxOf (c .before .next .given .0 .0) ∷ []), passed-more (inv .1) (next-box (c .before .before .before .step .ensures) (c .before .next .given .1)), simp length-append (omega arith), inv .3)
 
--- src/walk.rt:86:26
 enum-told : tie.Need-enum-told Inv-loop μ-loop
-enum-told c = ?
+enum-told c = search needs
 
--- src/walk.rt:86:26
 returns : tie.Need-returns Inv-loop μ-loop
-returns c = ?
+unfolding counted walkedAnswer boxesIn
+returns c =
+    let inv = c .before .before .before .loop .inv in
+    rw (rw (c .before .before .before .before .new .ensures) at (passed-all (inv .1) (no-more (c .before .before .step .ensures) (c .enum-told .given .1)))) (ap given (inv .2))
 
--- src/walk.rt:87:27
 enum-known-n : tie.Need-enum-known-n Inv-loop μ-loop
-enum-known-n c = ?
+enum-known-n c = search needs
 
--- src/walk.rt:87:33
 returns-2 : tie.Need-returns-2 Inv-loop μ-loop
-returns-2 c = ?
+unfolding counted walkedAnswer boxesIn
+returns-2 c =
+    let inv = c .before .before .before .before .loop .inv in
+    rw (rw (c .before .before .before .before .before .new .ensures) at (passed-fault (inv .1) (a-fault (c .before .before .before .step .ensures) (c .before .n .given .1))))
 
 pub count-spec : {M : Type 1} → statement M
 count-spec =

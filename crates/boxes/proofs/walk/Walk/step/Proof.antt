@@ -1,41 +1,43 @@
+-- `boxes::walk::Walk::step` meets its contract: each test is one of the definition's, and the header is read by `header_at`.
+use mathlib.Core.Path.{sym, _∙_}
 use borrow.Author.Needs.{needs}
+use Rattle.boxes.specs.Framing.{headerAnswer, boxOf}
+use Rattle.boxes.specs.Walk.{stepAnswer}
+use Rattle.boxes.proofs.WalkLaws.{step-end, step-over, step-header}
 use Rattle.boxes.proofs.walk.Walk.step.Statement.{statement}
 use Rattle.boxes.proofs.walk.Walk.step.Tie as tie
-use Rattle.boxes.proofs.walk.Walk.step.Reads as reads
-use Rattle.boxes.proofs.walk.Walk.step.Lts as lts
-use Rattle.boxes.proofs.framing.header_at.Reads as header-at-reads
 
--- src/walk.rt:52:13
 returns : tie.Need-returns
-returns c = ?
+unfolding stepAnswer
+returns c = sym (step-end _ _ (c .if1 .taken))
 
--- src/walk.rt:55:13
 returns-2 : tie.Need-returns-2
-returns-2 c = ?
+unfolding stepAnswer
+returns-2 c = sym (step-over _ _ (c .before .before .if1 .left) (c .if2 .taken))
 
--- src/walk.rt:57:15
 header-at-requires : tie.Need-header-at-requires
 header-at-requires c κs = search needs
 
--- src/walk.rt:58:27
 enum-known-b : tie.Need-enum-known-b
 enum-known-b c = search needs
 
--- src/walk.rt:65:31
 sub-t11 : tie.Need-sub-t11
 sub-t11 c = search needs
 
--- src/walk.rt:69:29
 enum-known-n : tie.Need-enum-known-n
 enum-known-n c = search needs
 
--- src/walk.rt:46:5
 returns-3 : tie.Need-returns-3
-returns-3 c = ?
+unfolding stepAnswer headerAnswer boxOf
+returns-3 c =
+    let h = c .before .before .before .before .before in
+    sym (step-header _ _ (h .before .before .before .if1 .left) (h .before .if2 .left) ∙ rw (← h .header-at .ensures, c .before .before .before .b .given .1))
 
--- src/walk.rt:46:5
 returns-4 : tie.Need-returns-4
-returns-4 c = ?
+unfolding stepAnswer headerAnswer
+returns-4 c =
+    let h = c .before .before .before in
+    sym (step-header _ _ (h .before .before .before .if1 .left) (h .before .if2 .left) ∙ rw (← h .header-at .ensures, c .before .n .given .1))
 
 pub step-spec : {M : Type 1} → statement M
 step-spec =
