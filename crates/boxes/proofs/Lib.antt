@@ -1,4 +1,5 @@
 pub mod AnswerLaws
+pub mod ContainerLaws
 pub mod HeaderLaws
 pub mod NumberLaws
 pub mod WalkLaws
