@@ -1,5 +1,6 @@
 pub mod AnswerLaws
 pub mod ContainerLaws
 pub mod HeaderLaws
+pub mod KindLaws
 pub mod NumberLaws
 pub mod WalkLaws

@@ -10,8 +10,8 @@ use borrow.Author.Tests.{le-leb, lt-leb, leb-true, leb-false}
 use lib.Dec.{leb}
 use lib.ListN.{length, length-append}
 use Rattle.boxes.specs.Answer.{Answer, refused, given, _>>=_, hold}
-use Rattle.boxes.specs.Framing.{Box, boxOf, header, boxesFrom}
-use Rattle.boxes.specs.Walk.{stepped, stepAnswer}
+use Rattle.boxes.specs.Framing.{Box, boxOf, header, boxesFrom, boxesIn, boxLimit}
+use Rattle.boxes.specs.Walk.{begun, stepped, stepAnswer}
 use Rattle.boxes.specs.declared.framing.Framed.{Framed}
 use Rattle.boxes.specs.declared.place.Place.{Place}
 use Rattle.boxes.specs.declared.walk.Step.{Step}
@@ -120,13 +120,19 @@ passed-more {s} {w₀} {w} {w′} {bs} {b} p h =
     box-passed (refused n) = refl
     box-passed (given more) = ap given (sym (append-assoc bs (b ∷ []) more))
 
--- at the container's end the boxes passed are its boxes
-pub passed-all : {s : List ℕ} {w₀ w : Walk} {bs : List Box} → Passed s w₀ bs w → stepped s w ≡ given none → ahead s w₀ ≡ given bs
-passed-all {s} {w₀} {w} {bs} p h = p .rest ∙ rw (walk-steps s w, h) (ap given (append-nil bs))
+-- a walk that began at a container's start: at its end the boxes passed are the container's, and its fault is the container's first
+module _ {s : List ℕ} {start end : Place} {w₀ w : Walk} {bs : List Box} (new : w₀ ≡ begun start end) (p : Passed s w₀ bs w) where
+  pub all-boxes : stepped s w ≡ given none → boxesIn s (start .0) (end .0) ≡ given bs
+  unfolding boxesIn
+  all-boxes h = rw new at (p .rest) ∙ rw (walk-steps s w, h) (ap given (append-nil bs))
 
--- a fault of a step is the container's first fault
-pub passed-fault : {s : List ℕ} {w₀ w : Walk} {bs : List Box} {n : ℕ} → Passed s w₀ bs w → stepped s w ≡ refused n → ahead s w₀ ≡ refused n
-passed-fault {s} {w₀} {w} {bs} p h = p .rest ∙ rw (walk-steps s w, h)
+  pub first-fault : {n : ℕ} → stepped s w ≡ refused n → boxesIn s (start .0) (end .0) ≡ refused n
+  unfolding boxesIn
+  first-fault h = rw new at (p .rest) ∙ rw (walk-steps s w, h)
+
+pub begun-left : {start end : Place} {w : Walk} → w ≡ begun start end → w .left ≡ 512
+unfolding boxLimit
+begun-left new = ap (λ w. w .left) new
 
 -- after a step that met a box fewer are allowed
 pub fewer : (s : List ℕ) (w : Walk) {b : Box} {w′ : Walk} → stepped s w ≡ given (some (b, w′)) → w′ .left < w .left

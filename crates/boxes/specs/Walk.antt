@@ -6,12 +6,17 @@ use mathlib.Core.Option.{Option, none, some}
 use lib.ListN.{length}
 use lib.Dec.{leb}
 use Rattle.boxes.specs.Answer.{Answer, refused, given, _>>=_, hold}
-use Rattle.boxes.specs.Framing.{Box, header, boxesIn, boxOf}
+use Rattle.boxes.specs.Framing.{Box, header, boxLimit, boxesIn, boxOf}
+use Rattle.boxes.specs.declared.place.Place.{Place}
 use Rattle.boxes.specs.declared.walk.Walk.{Walk}
 use Rattle.boxes.specs.declared.walk.Step.{Step}
 use Rattle.boxes.specs.declared.walk.Step.the-variants as Step
 use Rattle.boxes.specs.declared.walk.Walked.{Walked}
 use Rattle.boxes.specs.declared.walk.Walked.the-variants as Walked
+
+-- the walk over the container that starts and ends at these places
+abbrev pub begun : Place → Place → Walk
+begun start end = record { at = start; end = end; left = boxLimit }
 
 -- what a walk meets next: nothing at the container's end, else a box, after which it goes on at the box's end with one box fewer allowed
 unfoldable pub stepped : List ℕ → Walk → Answer (Option (Box × Walk))

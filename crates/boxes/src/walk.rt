@@ -6,8 +6,7 @@ use crate::limits::BOX_LIMIT;
 use crate::place::Place;
 use crate::refusals::TOO_MANY_BOXES;
 ghost use mathlib.Core.Path.{_≡_};
-ghost use Rattle.boxes.specs.Framing.{boxLimit};
-ghost use Rattle.boxes.specs.Walk.{stepped, stepAnswer, counted, walkedAnswer};
+ghost use Rattle.boxes.specs.Walk.{begun, stepped, stepAnswer, counted, walkedAnswer};
 
 // Where the next box of a container stands, where the container ends, and how many more boxes it may hold.
 pub struct Walk {
@@ -32,7 +31,7 @@ pub enum Walked {
 impl Walk {
     // The walk over the container that starts and ends at these places.
     pub fn new(start: Place, end: Place) -> Self
-        ensures { λ r. ⌜ r ≡ record { at = start; end = end; left = boxLimit } ⌝ }
+        ensures { λ r. ⌜ r ≡ begun start end ⌝ }
     {
         Self {
             at: start,
