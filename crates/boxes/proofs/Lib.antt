@@ -1,1 +1,4 @@
 pub mod NumberLaws
+pub mod OffsetLaws
+pub mod StoredLaws
+pub mod WidthLaws

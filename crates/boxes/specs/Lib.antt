@@ -1,4 +1,5 @@
 pub mod Answer
 pub mod Numbers
+pub mod Stored
 pub mod Framing
 pub mod Kinds
