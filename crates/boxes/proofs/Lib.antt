@@ -3,4 +3,7 @@ pub mod ContainerLaws
 pub mod HeaderLaws
 pub mod KindLaws
 pub mod NumberLaws
+pub mod OffsetLaws
+pub mod StoredLaws
 pub mod WalkLaws
+pub mod WidthLaws

@@ -1,5 +1,6 @@
 pub mod Answer
 pub mod Numbers
+pub mod Stored
 pub mod Framing
 pub mod Kinds
 pub mod Walk

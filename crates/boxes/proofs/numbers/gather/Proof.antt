@@ -4,15 +4,15 @@ use mathlib.Core.Path.{_≡_}
 use borrow.Author.Needs.{needs}
 use native.Mathlib.Omega.{arith}
 use lib.ListN.{length, getD}
-use Rattle.boxes.proofs.NumberLaws.{stored-below}
+use Rattle.boxes.proofs.NumberLaws.{gathered-more}
 use Rattle.boxes.proofs.numbers.gather.Statement.{statement}
 use Rattle.boxes.proofs.numbers.gather.Tie as tie
 
 abbrev Inv-loop : tie.InvT-loop
-Inv-loop s at field₀ i₀ field i = (i ≤ 8) × (length field ≡ 8) × ((k : ℕ) → k < i → getD field k 0 ≡ getD s (at .0 + k) 0)
+Inv-loop s at w field₀ i₀ field i = (i ≤ w) × (length field ≡ 8) × ((k : ℕ) → k < i → getD field k 0 ≡ getD s (at .0 + k) 0)
 
 abbrev μ-loop : tie.MeasureT-loop
-μ-loop s at field₀ i₀ field i = 8 - i
+μ-loop s at w field₀ i₀ field i = w - i
 
 loop-holds : tie.Need-loop-holds Inv-loop μ-loop
 loop-holds c = search needs
@@ -33,7 +33,7 @@ loop-again : tie.Need-loop-again Inv-loop μ-loop
 loop-again c = (
   search needs,
   search needs,
-  stored-below (c .before .before .loop .field) (c .before .before .before .before .args .s .now)
+  gathered-more (c .before .before .loop .field) (c .before .before .before .before .args .s .now)
       (c .before .before .before .before .args .at .0) (c .before .before .loop .i) (c .byte-after .result)
       (omega arith) (c .before .before .loop .inv .2) (c .byte-after .ensures),
 )

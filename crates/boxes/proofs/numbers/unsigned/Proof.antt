@@ -7,22 +7,22 @@ use Rattle.boxes.proofs.NumberLaws.{number-same}
 use Rattle.boxes.proofs.numbers.unsigned.Statement.{statement}
 use Rattle.boxes.proofs.numbers.unsigned.Tie as tie
 
-gather-requires : tie.Need-gather-requires
-gather-requires c κs = search needs
-
 within-requires : tie.Need-within-requires
 within-requires c κs = search needs
+
+gather-requires : tie.Need-gather-requires
+gather-requires c κs = search needs
 
 number-in-requires : tie.Need-number-in-requires
 number-in-requires c κs = search needs
 
 returns : tie.Need-returns
 returns c =
-    rw (← c .before .within .ensures)
+    rw (← c .before .before .within .ensures)
     (c .number-in .ensures
-    ∙ number-same (c .before .before .gather .result) (c .before .before .before .before .args .s .now) 0
-    (c .before .before .before .before .args .at .0) (c .before .within .result)
-    (λ k h. rw zero-add (c .before .before .gather .ensures k (omega arith))))
+    ∙ number-same (c .before .gather .result) (c .before .before .before .before .args .s .now) 0
+    (c .before .before .before .before .args .at .0) (c .before .before .within .result)
+    (λ k h. rw zero-add (c .before .gather .ensures k h)))
 
 pub unsigned-spec : {M : Type 1} → statement M
-unsigned-spec = tie.close (tie.spec gather-requires within-requires number-in-requires returns)
+unsigned-spec = tie.close (tie.spec within-requires gather-requires number-in-requires returns)
