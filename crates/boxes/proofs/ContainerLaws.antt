@@ -144,9 +144,13 @@ module _ (f g : List ℕ) {bs : List Box} where
       rw length-append (joined filled (length f + length g) left (omega arith) (omega arith)
       ∙ rw after (then-then (boxesFrom g (length g) left 0) (λ cs. given (map (moved (length f)) cs)) (λ rest. given (bs ++ rest))))
 
+  pub appended : (more : ℕ) → boxesFrom f (length f) more 0 ≡ given bs
+      → boxesFrom (f ++ g) (length (f ++ g)) more 0 ≡ (boxesFrom g (length g) (more - length bs) 0 >>= λ cs. given (bs ++ map (moved (length f)) cs))
+  appended more h =
+      let filled = fills (f ++ g) (length f) more 0 (boxes-same f (f ++ g) (length f) (kept f g (length f) (le-refl (length f))) more 0 ∙ h) in
+      rw (add-sub-of-le (filled .within)) at (joined-appended (more - length bs) (filled .boxes))
+
   pub boxes-appended : boxesIn f 0 (length f) ≡ given bs
       → boxesIn (f ++ g) 0 (length (f ++ g)) ≡ (boxesFrom g (length g) (boxLimit - length bs) 0 >>= λ cs. given (bs ++ map (moved (length f)) cs))
   unfolding boxesIn
-  boxes-appended h =
-      let filled = fills (f ++ g) (length f) boxLimit 0 (boxes-kept f g (length f) (le-refl (length f)) 0 ∙ h) in
-      rw (add-sub-of-le (filled .within)) at (joined-appended (boxLimit - length bs) (filled .boxes))
+  boxes-appended = appended boxLimit

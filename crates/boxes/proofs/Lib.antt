@@ -1,4 +1,5 @@
 pub mod AnswerLaws
+pub mod BoxedLaws
 pub mod ContainerLaws
 pub mod HeaderLaws
 pub mod KindLaws

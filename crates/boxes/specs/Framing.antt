@@ -1,11 +1,13 @@
 -- Document 01, "Framing" and refusals 2 to 6: a box header, and the boxes of one container or its first fault.
 use Prim.Native.Nat.{ℕ, zero, suc, _+_}
 use mathlib.Core.Bool.{Bool, true, false, not}
+use mathlib.Core.Path.{_≡_}
 use mathlib.Core.List.{List, [], _∷_, _++_}
 use lib.ListN.{length}
 use lib.Dec.{leb, eqb}
 use Rattle.boxes.specs.Answer.{Answer, refused, given, _>>=_, hold}
-use Rattle.boxes.specs.Numbers.{number, bytesOf}
+use Rattle.boxes.specs.Numbers.{number, bytesOf, holds}
+use Rattle.boxes.specs.Stored.{roomFor, stored}
 use Rattle.boxes.specs.declared.framing.Framed.{Framed}
 use Rattle.boxes.specs.declared.framing.Header.{Header}
 use Rattle.boxes.specs.declared.framing.Header.the-variants.{Found, Refused}
@@ -63,6 +65,19 @@ unfoldable pub headerAnswer : Header → Answer Box
 headerAnswer (Found b) = given (boxOf b)
 headerAnswer (Refused n) = refused n
 
--- a box as we write it: the 32-bit form, its size, its type and its body
+-- the bytes of a header as we write it: the 32-bit form
+unfoldable pub frontSize : ℕ
+frontSize = 8
+
+-- the header, as we write it, of a box with a body of so many bytes: its size, then its type
+unfoldable pub front : ℕ → ℕ → List ℕ
+front kind size = bytesOf 4 (frontSize + size) ++ bytesOf 4 kind
+
+-- a box as we write it
 unfoldable pub boxed : ℕ → List ℕ → List ℕ
-boxed kind body = bytesOf 4 (8 + length body) ++ (bytesOf 4 kind ++ body)
+boxed kind body = front kind (length body) ++ body
+
+-- what a call that writes a header answers, and how it leaves the buffer: a size that 4 bytes do not hold is not written
+pub record StoresHeader (s : List ℕ) (at kind size : ℕ) (answer : Bool) (after : List ℕ) : Type 0 where
+  pub room : answer ≡ elim (holds 4 (frontSize + size)) [ true ↦ roomFor s at (front kind size) | false ↦ false ]
+  pub left : after ≡ elim (holds 4 (frontSize + size)) [ true ↦ stored s at (front kind size) | false ↦ s ]

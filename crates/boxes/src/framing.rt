@@ -1,4 +1,5 @@
 // Box headers: where a box starts, where its body starts and where it ends.
+use crate::numbers::put_number;
 use crate::numbers::unsigned;
 use crate::place::Place;
 use crate::refusals::BOX_PAST_END;
@@ -7,7 +8,7 @@ use crate::refusals::SIZE_UNDER_HEADER;
 use crate::refusals::SIZE_ZERO;
 ghost use Prim.Native.Nat.{_+_, _-_, _≤_};
 ghost use mathlib.Core.Path.{_≡_};
-ghost use Rattle.boxes.specs.Framing.{header, large, sized, headerAnswer};
+ghost use Rattle.boxes.specs.Framing.{header, large, sized, headerAnswer, StoresHeader};
 
 // A box that was read: its kind, its first byte, the first byte of its body, and the first byte after it.
 pub struct Framed {
@@ -27,6 +28,9 @@ pub enum Header {
 const SHORT: u64 = 8;
 
 const LARGE: u64 = 16;
+
+// The largest body whose box has a size of 32 bits.
+const LARGEST_BODY: u64 = 0xffff_ffff - SHORT;
 
 // How many bytes stand from a place to an end, none where the end comes first.
 fn between(at: Place, end: Place) -> u64
@@ -79,4 +83,14 @@ pub fn header_at(s: &[u8], at: Place, end: Place) -> Header
         return large_at(s, at, end);
     }
     sized_at(s, at, end, SHORT, size)
+}
+
+// Writes the header of a box with a body of so many bytes, if its size fits 32 bits and there is room.
+pub fn put_header(buf: &mut [u8], at: Place, kind: u32, size: u64) -> bool
+    ensures { λ r. ⌜ StoresHeader (now (buf .entry)) (at .0) kind size r (now (buf .exit)) ⌝ }
+{
+    if LARGEST_BODY < size {
+        return false;
+    }
+    put_number(buf, at, 8, (SHORT + size) * 0x1_0000_0000 + kind as u64)
 }
