@@ -5,6 +5,7 @@ pub mod HeaderLaws
 pub mod KindLaws
 pub mod NumberLaws
 pub mod OffsetLaws
+pub mod OneAnswer
 pub mod StoredLaws
 pub mod WalkLaws
 pub mod WidthLaws
