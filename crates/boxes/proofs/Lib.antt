@@ -2,3 +2,4 @@ pub mod NumberLaws
 pub mod OffsetLaws
 pub mod StoredLaws
 pub mod WidthLaws
+pub mod Determined
