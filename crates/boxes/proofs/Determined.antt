@@ -11,12 +11,14 @@ use Rattle.boxes.proofs.numbers.width_of_offset.Reads as width-of-offse
 module _ {L : Type 0} {A R E : L → Type 0} (post : (κs : L) → A κs → R κs → E κs → Type 0) where
   -- a contract allows one result
   abbrev pub OneResult : Type 0
-  OneResult = (κs : L) (args : A κs) (x y : R κs) (after after′ : E κs) → post κs args x after → post κs args y after′ → x ≡ y
+  OneResult =
+      (κs : L) (args : A κs) (x y : R κs) (after after′ : E κs) → post κs args x after → post κs args y after′ → x ≡ y
 
   -- a contract allows one value of something that the call leaves behind
   abbrev pub OneLeft : {X : Type 0} → ((κs : L) → E κs → X) → Type 0
   OneLeft of =
-      (κs : L) (args : A κs) (x y : R κs) (after after′ : E κs) → post κs args x after → post κs args y after′ → of κs after ≡ of κs after′
+      (κs : L) (args : A κs) (x y : R κs) (after after′ : E κs) → post κs args x after → post κs args y after′
+      → of κs after ≡ of κs after′
 
 unsigned-result : OneResult unsigned.Post
 unsigned-result κs args x y after after′ p q = p ∙ sym q
