@@ -9,3 +9,4 @@ pub mod OneAnswer
 pub mod StoredLaws
 pub mod WalkLaws
 pub mod WidthLaws
+pub mod Determined

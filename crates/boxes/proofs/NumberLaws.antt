@@ -1,7 +1,7 @@
--- Laws of `number` and `bytesOf`, each over the width: how a loop reads a number, what it depends on, and that what was written is read back.
+-- Laws of `number` and `bytesOf`, each over the width: how a loop reads a number, what it depends on, what it is read back as.
 use mathlib.Core.Path.{_≡_, refl, sym, ap, ap₂, _∙_}
 use Prim.Native.Nat.{ℕ, zero, suc, _+_, _-_, _*_, _/_, _%_, _^_, _≤_, _<_}
-use native.Mathlib.Nat.{pow-suc, pow-le-pow-right, one-le-pow, lt-of-lt-of-le, zero-lt-suc, mod-lt, mod-eq-of-lt, mod-self, mul-suc, add-assoc, sub-zero}
+use native.Mathlib.Nat.{pow-suc, pow-le-pow-right, one-le-pow, lt-of-lt-of-le, zero-lt-suc, mod-lt, mod-eq-of-lt, mul-suc, add-assoc}
 use native.Mathlib.Numerals.{add-one}
 use native.Mathlib.Omega.{arith}
 use mathlib.Core.List.{List, [], _∷_, _++_, append-assoc}
@@ -19,7 +19,9 @@ pub past-end : (s : List ℕ) (n : ℕ) → length s ≤ n → 0 ≡ getD s n 0
 past-end s n h = sym (List·getD-eq-default s 0 h)
 
 -- a list that has the first bytes from a place, and is given the next one
-pub gathered-more : (f s : List ℕ) (at i d : ℕ) → i < length f → ((k : ℕ) → k < i → getD f k 0 ≡ getD s (at + k) 0) → d ≡ getD s (at + i) 0
+pub gathered-more : (f s : List ℕ) (at i d : ℕ) → i < length f
+    → ((k : ℕ) → k < i → getD f k 0 ≡ getD s (at + k) 0)
+    → d ≡ getD s (at + i) 0
     → (k : ℕ) → k < i + 1 → getD (set f i d) k 0 ≡ getD s (at + k) 0
 gathered-more f s at i d inside before here =
     below-more (λ k. getD (set f i d) k 0 ≡ getD s (at + k) 0) i
@@ -32,7 +34,8 @@ unfolding number
 number-more s at w = rw add-one
 
 -- a number is that of any other place where the same bytes stand
-pub number-same : (s t : List ℕ) (a b w : ℕ) → ((k : ℕ) → k < w → getD s (a + k) 0 ≡ getD t (b + k) 0) → number s a w ≡ number t b w
+pub number-same : (s t : List ℕ) (a b w : ℕ) → ((k : ℕ) → k < w → getD s (a + k) 0 ≡ getD t (b + k) 0)
+    → number s a w ≡ number t b w
 unfolding number
 number-same s t a b zero same = refl
 number-same s t a b (suc w) same =
@@ -63,9 +66,11 @@ number-below s at zero bytes = omega arith
 number-below s at (suc w) bytes =
     rw add-one at (more-below (number s at w) (getD s (at + w) 0) w (number-below s at w bytes) (bytes (at + w)))
 
+-- a power of 256 is not 0
 pub power-pos : (w : ℕ) → 0 < 256 ^ w
 power-pos w = one-le-pow w 256 (zero-lt-suc 255)
 
+-- 8 bits are a byte
 power-two : (w : ℕ) → 2 ^ (8 * w) ≡ 256 ^ w
 power-two zero = refl
 power-two (suc w) = rw (mul-suc, pow-add, power-two w, pow-suc 256 w)
@@ -104,7 +109,7 @@ number-bytesOf-mod p t (suc w) n =
     (ap₂ (λ (m d : ℕ). m * 256 + d) (number-bytesOf-mod p rest w (n / 256))
     (getD-append-add p (bytesOf w (n / 256) ++ rest) w 0 ∙ getD-at (bytesOf w (n / 256)) (n % 256) t 0 w (length-bytesOf w (n / 256))))
 
--- reading back a number that fits
+-- reading back a number that fits, at the place where its bytes stand, 0 where nothing precedes them
 pub number-bytesOf : (p t : List ℕ) (w n : ℕ) → n < 256 ^ w → number (p ++ (bytesOf w n ++ t)) (length p) w ≡ n
 number-bytesOf p t w n h = number-bytesOf-mod p t w n ∙ mod-eq-of-lt h
 
@@ -114,8 +119,10 @@ unfolding bytesOf
 bytesOf-mod zero n = refl
 bytesOf-mod (suc w) n =
     let byte : n % 256 < 256 = mod-lt n (zero-lt-suc 255) in
-    rw (pow-suc 256 w, mod-mul n (power-pos w) (zero-lt-suc 255), digits-div (n / 256 % 256 ^ w) byte, digits-mod (n / 256 % 256 ^ w) byte, bytesOf-mod w (n / 256))
-
--- so the power of 256 itself, which is two's complement's second name of 0, has the bytes of 0
-pub bytes-of-power : (w : ℕ) → bytesOf w 0 ≡ bytesOf w (256 ^ w - 0)
-bytes-of-power w = rw (sub-zero, ← bytesOf-mod w (256 ^ w), mod-self)
+    rw (
+      pow-suc 256 w,
+      mod-mul n (power-pos w) (zero-lt-suc 255),
+      digits-div (n / 256 % 256 ^ w) byte,
+      digits-mod (n / 256 % 256 ^ w) byte,
+      bytesOf-mod w (n / 256),
+    )

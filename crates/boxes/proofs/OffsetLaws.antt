@@ -1,8 +1,8 @@
 -- Laws of offsets in two's complement, each over the width: how a number is read as one, and that what was written is read back.
-use mathlib.Core.Path.{_≡_, refl, sym, ap, _∙_}
-use mathlib.Core.Bool.{true, false}
+use mathlib.Core.Path.{_≡_, refl, ap}
+use mathlib.Core.Bool.{true}
 use mathlib.Core.List.{List, _++_}
-use Prim.Native.Nat.{ℕ, zero, suc, _+_, _-_, _*_, _/_, _%_, _^_, _≤_, _<_, zero-le}
+use Prim.Native.Nat.{ℕ, zero, suc, _+_, _-_, _*_, _/_, _^_, _≤_, _<_, zero-le}
 use native.Mathlib.Nat.{mod-self, sub-zero}
 use native.Mathlib.Omega.{arith}
 use borrow.Author.Tests.{lt-ltb, le-ltb, ltb-true, leb-true}
@@ -10,17 +10,34 @@ use lib.ListN.{length}
 use Rattle.boxes.specs.Numbers.{number, bytesOf, signed, unsigned, holdsOffset, valueOf}
 use Rattle.boxes.specs.declared.numbers.Offset.{Offset}
 use Rattle.boxes.specs.declared.numbers.Offset.the-variants.{Ahead, Back}
-use Rattle.boxes.proofs.NumberLaws.{number-bytesOf, number-bytesOf-mod, power-pos}
+use Rattle.boxes.proofs.NumberLaws.{bytesOf-mod, number-bytesOf, number-bytesOf-mod, power-pos}
 
--- a number of the lower half is ahead; the largest of its width tells the halves apart, since 256 to the 8 is past 64 bits
-pub signed-ahead : (w n top : ℕ) → top + 1 ≡ 256 ^ w → n ≤ top / 2 → Ahead n ≡ signed w n
-unfolding signed
-signed-ahead w n top e h = rw (lt-ltb (2 * n) (256 ^ w) (omega arith), signed)
+-- By the largest number of w bytes, since 256 to the 8 is past 64 bits.
+module _ (w n top : ℕ) (largest : top + 1 ≡ 256 ^ w) where
+  -- a number of the lower half is ahead
+  pub signed-ahead : n ≤ top / 2 → Ahead n ≡ signed w n
+  unfolding signed
+  signed-ahead h = rw (lt-ltb (2 * n) (256 ^ w) (omega arith), signed)
 
--- a number of the upper half is back
-pub signed-back : (w n top : ℕ) → top + 1 ≡ 256 ^ w → top / 2 < n → n ≤ top → Back (top - n + 1) ≡ signed w n
-unfolding signed
-signed-back w n top e h l = rw (le-ltb (2 * n) (256 ^ w) (omega arith), signed) (ap Back (omega arith))
+  -- a number of the upper half is back
+  pub signed-back : top / 2 < n → n ≤ top → Back (top - n + 1) ≡ signed w n
+  unfolding signed
+  signed-back h l = rw (le-ltb (2 * n) (256 ^ w) (omega arith), signed) (ap Back (omega arith))
+
+  -- so many back, as a number
+  pub unsigned-back : n ≤ top → unsigned w (Back n) ≡ top - n + 1
+  unfolding unsigned
+  unsigned-back h = omega arith
+
+  -- too many back
+  pub unsigned-over : top < n → unsigned w (Back n) ≡ 0
+  unfolding unsigned
+  unsigned-over h = omega arith
+
+-- none back is the power of 256 itself, whose bytes are those of 0
+pub unsigned-none : (w : ℕ) → bytesOf w 0 ≡ bytesOf w (unsigned w (Back 0))
+unfolding unsigned
+unsigned-none w = rw (sub-zero, ← bytesOf-mod w (256 ^ w), mod-self)
 
 -- reading back, as numbers
 pub signed-unsigned : (w : ℕ) (z : Offset) → holdsOffset w z ≡ true → signed w (unsigned w z) ≡ z

@@ -1,11 +1,11 @@
 -- Laws of `stored`: what a buffer holds after bytes were written into it.
-use mathlib.Core.Path.{_≡_, refl, sym, ap, _∙_}
-use mathlib.Core.Bool.{Bool, true, false}
+use mathlib.Core.Path.{_≡_, sym, ap, _∙_}
+use mathlib.Core.Bool.{true, false}
 use mathlib.Core.List.{List, [], _∷_, _++_, append-assoc}
 use Prim.Native.Nat.{ℕ, zero, suc, _+_, _-_, _/_, _%_, _^_, _≤_, _<_}
 use native.Mathlib.Nat.{le-refl, add-zero}
 use native.Mathlib.Omega.{arith}
-use borrow.Author.Tests.{le-leb, lt-leb, leb-true}
+use borrow.Author.Tests.{le-leb, lt-leb}
 use lib.ListN.{length, take, drop, set, length-append, length-set, take-append-drop}
 use lib.Seq.{length-take-le, drop-cons, drop-set-lt, take-set-le, getD-set-same, take-at, drop-at}
 use Rattle.boxes.specs.Numbers.{number, bytesOf}
@@ -23,16 +23,7 @@ module _ (s : List ℕ) (at : ℕ) (bytes : List ℕ) where
   unfolding stored roomFor
   stored-none h = rw (lt-leb (at + length bytes) (length s) h, stored)
 
-  -- what a call that found room has done
-  pub stores-room : (after : List ℕ) → at + length bytes ≤ length s → after ≡ stored s at bytes → Stores s at bytes true after
-  unfolding roomFor
-  stores-room after h e = record { room = sym (le-leb (at + length bytes) (length s) h); left = e }
-
-  -- what a call that found none has done: nothing
-  pub stores-none : length s < at + length bytes → Stores s at bytes false s
-  unfolding roomFor
-  stores-none h = record { room = sym (lt-leb (at + length bytes) (length s) h); left = sym (stored-none h) }
-
+  -- what is before their end
   front : at + length bytes ≤ length s → length (take at s ++ bytes) ≡ at + length bytes
   front h = rw (length-append, length-take-le at s (omega arith))
 
@@ -69,7 +60,8 @@ pub stored-number-more : (s : List ℕ) (at i n : ℕ) → 0 < i → at + i ≤ 
     → stored (set s (at + (i - 1)) (n % 256)) at (bytesOf (i - 1) (n / 256)) ≡ stored s at (bytesOf i n)
 stored-number-more s at i n some fits =
     let one : i ≡ (i - 1) + 1 = omega arith in
-    let bytes : bytesOf i n ≡ bytesOf (i - 1) (n / 256) ++ (n % 256 ∷ []) = ap (λ (w : ℕ). bytesOf w n) one ∙ bytesOf-more (i - 1) n in
+    let bytes : bytesOf i n ≡ bytesOf (i - 1) (n / 256) ++ (n % 256 ∷ []) =
+    ap (λ (w : ℕ). bytesOf w n) one ∙ bytesOf-more (i - 1) n in
     rw bytes (stored-more s at (bytesOf (i - 1) (n / 256)) (at + (i - 1)) (n % 256) (rw length-bytesOf) (omega arith))
 
 -- the end of that loop: no bytes change nothing
@@ -77,6 +69,21 @@ pub stored-number-none : (s : List ℕ) (at i n : ℕ) → i ≤ 0 → at ≤ le
 unfolding bytesOf
 stored-number-none s at zero n none fits = sym (stored-room s at [] (omega arith) ∙ rw add-zero (take-append-drop at s))
 stored-number-none s at (suc i) n none fits = absurd (omega arith)
+
+module _ (s : List ℕ) (at w n : ℕ) where
+  -- what a call that found room for a number has done
+  pub stores-number : (after : List ℕ) → at + w ≤ length s → after ≡ stored s at (bytesOf w n)
+      → Stores s at (bytesOf w n) true after
+  unfolding roomFor
+  stores-number after h e = record { room = rw (length-bytesOf, le-leb (at + w) (length s) h); left = e }
+
+  -- what a call that found none has done: nothing
+  pub stores-no-number : length s < at + w → Stores s at (bytesOf w n) false s
+  unfolding roomFor
+  stores-no-number h = record {
+    room = rw (length-bytesOf, lt-leb (at + w) (length s) h);
+    left = sym (stored-none s at (bytesOf w n) (rw length-bytesOf h));
+  }
 
 -- reading back a number where it was stored
 pub number-stored : (s : List ℕ) (at w n : ℕ) → at + w ≤ length s → number (stored s at (bytesOf w n)) at w ≡ n % 256 ^ w

@@ -1,8 +1,6 @@
 -- `boxes::numbers::complement` meets its contract: more than the power is cut to 0, and 0 itself is the power, whose bytes are 0.
-use mathlib.Core.Path.{ap}
-use native.Mathlib.Omega.{arith}
-use Rattle.boxes.specs.Numbers.{bytesOf, unsigned}
-use Rattle.boxes.proofs.NumberLaws.{bytes-of-power}
+use Rattle.boxes.specs.Numbers.{unsigned}
+use Rattle.boxes.proofs.OffsetLaws.{unsigned-back, unsigned-over, unsigned-none}
 use borrow.Author.Needs.{needs}
 use Rattle.boxes.proofs.numbers.complement.Statement.{statement}
 use Rattle.boxes.proofs.numbers.complement.Tie as tie
@@ -17,8 +15,7 @@ largest-requires : tie.Need-largest-requires
 largest-requires c κs = search needs
 
 returns : tie.Need-returns
-unfolding unsigned
-returns c = rw (c .before .before .before .z2 .given .1, c .if1 .taken) (bytes-of-power _)
+returns c = rw (c .before .before .before .z2 .given .1, c .if1 .taken) (unsigned-none _)
 
 add-result : tie.Need-add-result
 add-result c = search needs
@@ -28,12 +25,12 @@ unfolding unsigned
 returns-2 c = rw (c .before .z .given .1)
 
 returns-3 : tie.Need-returns-3
-unfolding unsigned
-returns-3 c = rw (c .before .before .before .before .z2 .given .1) (ap (bytesOf (c .before .before .before .before .before .before .args .w)) (omega (arith, c .before .before .largest .ensures)))
+returns-3 c =
+    rw (c .before .before .before .before .z2 .given .1, unsigned-over _ _ _ (c .before .before .largest .ensures) (c .if2 .taken))
 
 returns-4 : tie.Need-returns-4
-unfolding unsigned
-returns-4 c = rw (c .before .before .before .before .z2 .given .1) (ap (bytesOf (c .before .before .before .before .before .before .args .w)) (omega (arith, c .before .before .largest .ensures)))
+returns-4 c =
+    rw (c .before .before .before .before .z2 .given .1, unsigned-back _ _ _ (c .before .before .largest .ensures) (c .if2 .left))
 
 pub complement-spec : {M : Type 1} → statement M
 complement-spec =

@@ -1,6 +1,6 @@
 -- `boxes::numbers::signed` meets its contract: the number is one of its width, so the largest of that width is not below it.
 use Prim.Native.Nat.{ℕ, _^_, _≤_, min}
-use mathlib.Core.Path.{_≡_, ap}
+use mathlib.Core.Path.{_≡_}
 use native.Mathlib.Omega.{arith}
 use Rattle.boxes.proofs.NumberLaws.{number-below}
 use Rattle.boxes.proofs.OffsetLaws.{signed-ahead, signed-back}
@@ -19,12 +19,12 @@ largest-requires c κs = search needs
 
 below : (c : tie.Else1) → c .before .before .before .unsigned .result ≤ c .before .largest .result
 below c =
-    let power : 256 ^ c .before .before .within .result ≡ 256 ^ min (c .before .before .before .before .before .args .width) 8 =
-    ap (λ (w : ℕ). 256 ^ w) (c .before .before .within .ensures) in
+    let start = c .before .before .before .before .before in
+    let w : ℕ = min (start .args .width) 8 in
+    let power : 256 ^ c .before .before .within .result ≡ 256 ^ w = rw (c .before .before .within .ensures) in
     omega (
       arith,
-      number-below (c .before .before .before .before .before .args .s .now) (c .before .before .before .before .before .args .at .0)
-          (min (c .before .before .before .before .before .args .width) 8)
+      number-below (start .args .s .now) (start .args .at .0) w
           (λ k. omega (arith, c .before .before .before .before .shared-slice-known .given k)),
     )
 

@@ -1,7 +1,6 @@
 -- `boxes::numbers::unsigned` meets its contract: the field has the bytes of the place, so it has its number.
 use mathlib.Core.Path.{_∙_}
 use native.Mathlib.Nat.{zero-add}
-use native.Mathlib.Omega.{arith}
 use borrow.Author.Needs.{needs}
 use Rattle.boxes.proofs.NumberLaws.{number-same}
 use Rattle.boxes.proofs.numbers.unsigned.Statement.{statement}

@@ -34,7 +34,10 @@ loop-less : tie.Need-loop-less Inv-loop μ-loop
 loop-less c = search needs
 
 loop-again : tie.Need-loop-again Inv-loop μ-loop
-loop-again c = (search needs, below-more _ _ (c .before .before .before .loop .inv .1) (holds-none-above _ _ _ (c .before .largest .ensures) (c .if1 .left)))
+loop-again c = (
+  search needs,
+  below-more _ _ (c .before .before .before .loop .inv .1) (holds-none-above _ _ _ (c .before .largest .ensures) (c .if1 .left)),
+)
 
 returns-2 : tie.Need-returns-2 Inv-loop μ-loop
 returns-2 c =

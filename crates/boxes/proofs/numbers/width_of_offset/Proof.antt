@@ -15,7 +15,8 @@ width-of-requires c κs = search needs
 returns : tie.Need-returns
 returns c =
     c .width-of .ensures
-    ∙ leastWidth-same (λ w. holds w (c .before .spread .result)) (λ w. holdsOffset w (c .before .before .args .z)) (c .before .spread .ensures)
+    ∙ leastWidth-same (λ w. holds w (c .before .spread .result)) (λ w. holdsOffset w (c .before .before .args .z))
+    (c .before .spread .ensures)
 
 pub width-of-offset-spec : {M : Type 1} → statement M
 width-of-offset-spec = tie.close (tie.spec spread-requires width-of-requires returns)
