@@ -1,12 +1,12 @@
 pub mod AnswerLaws
 pub mod BoxedLaws
 pub mod ContainerLaws
+pub mod Determined
 pub mod HeaderLaws
 pub mod KindLaws
 pub mod NumberLaws
 pub mod OffsetLaws
-pub mod OneAnswer
 pub mod StoredLaws
+pub mod ToldLaws
 pub mod WalkLaws
 pub mod WidthLaws
-pub mod Determined

@@ -1,9 +1,6 @@
--- Each contract allows one answer: two answers that say the same are the same.
-use Prim.Native.Nat.{ℕ}
-use mathlib.Core.Path.{_≡_, sym, ap, ap₂, _∙_}
-use mathlib.Core.Bool.{Bool}
-use mathlib.Core.List.{List}
-use Rattle.boxes.specs.Framing.{Box, boxOf, headerAnswer, StoresHeader}
+-- Laws of what answers say: two answers that say the same are the same.
+use mathlib.Core.Path.{_≡_, ap, ap₂}
+use Rattle.boxes.specs.Framing.{Box, boxOf, headerAnswer}
 use Rattle.boxes.specs.Kinds.{rightAnswer}
 use Rattle.boxes.specs.Walk.{stepAnswer, walkedAnswer}
 use Rattle.boxes.specs.declared.framing.Framed.{Framed}
@@ -17,13 +14,8 @@ use Rattle.boxes.specs.declared.walk.Walk.{Walk}
 use Rattle.boxes.specs.declared.walk.Walked.{Walked}
 use Rattle.boxes.specs.declared.walk.Walked.the-variants as Walked
 
--- answers that say the same are the same
 abbrev pub Tells : {R A : Type 0} → (R → A) → Type 0
 Tells {R} says = (r t : R) → says r ≡ says t → r ≡ t
-
--- so a contract `says r ≡ what` allows one r
-pub one-answer : {R A : Type 0} (says : R → A) → Tells says → {what : A} (r t : R) → says r ≡ what → says t ≡ what → r ≡ t
-one-answer says tells r t p q = tells r t (p ∙ sym q)
 
 box-told : Tells boxOf
 unfolding boxOf
@@ -63,7 +55,3 @@ step-told Step.End (Step.Refused m) e = cc
 step-told (Step.Refused n) (Step.Next c w) e = cc
 step-told (Step.Refused n) Step.End e = cc
 step-told (Step.Refused n) (Step.Refused m) e = cc
-
-pub stores-header-told : {s : List ℕ} {at kind size : ℕ} {a b : Bool} {t u : List ℕ} → StoresHeader s at kind size a t → StoresHeader s at kind size b u
-    → (a ≡ b) × (t ≡ u)
-stores-header-told p q = (p .room ∙ sym (q .room), p .left ∙ sym (q .left))
