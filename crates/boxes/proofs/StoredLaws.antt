@@ -3,11 +3,11 @@ use mathlib.Core.Path.{_≡_, sym, ap, _∙_}
 use mathlib.Core.Bool.{true, false}
 use mathlib.Core.List.{List, [], _∷_, _++_, append-assoc}
 use Prim.Native.Nat.{ℕ, zero, suc, _+_, _-_, _/_, _%_, _^_, _≤_, _<_}
-use native.Mathlib.Nat.{le-refl, add-zero}
+use native.Mathlib.Nat.{le-refl, add-zero, add-assoc}
 use native.Mathlib.Omega.{arith}
 use borrow.Author.Tests.{le-leb, lt-leb}
-use lib.ListN.{length, take, drop, set, length-append, length-set, take-append-drop}
-use lib.Seq.{length-take-le, drop-cons, drop-set-lt, take-set-le, getD-set-same, take-at, drop-at}
+use lib.ListN.{length, take, drop, set, length-append, length-drop, length-set, take-append-drop}
+use lib.Seq.{length-take-le, drop-cons, drop-set-lt, take-set-le, getD-set-same, take-at, drop-at, drop-drop}
 use Rattle.boxes.specs.Numbers.{number, bytesOf}
 use Rattle.boxes.specs.Stored.{roomFor, stored, Stores}
 use Rattle.boxes.proofs.NumberLaws.{length-bytesOf, bytesOf-more, number-bytesOf-mod}
@@ -36,6 +36,30 @@ module _ (s : List ℕ) (at : ℕ) (bytes : List ℕ) where
   pub drop-stored : at + length bytes ≤ length s → drop (at + length bytes) (stored s at bytes) ≡ drop (at + length bytes) s
   drop-stored h =
       rw (stored-room h, ← append-assoc) (drop-at (take at s ++ bytes) (drop (at + length bytes) s) (at + length bytes) (front h))
+
+  -- no byte more and none less
+  pub length-stored : at + length bytes ≤ length s → length (stored s at bytes) ≡ length s
+  length-stored h =
+      rw (stored-room h, length-append, length-append, length-take-le at s (omega arith), length-drop) (omega arith)
+
+-- bytes stored behind others are both stored at once
+pub stored-append : (s : List ℕ) (at : ℕ) (a b : List ℕ) → at + (length a + length b) ≤ length s
+    → stored (stored s at a) (at + length a) b ≡ stored s at (a ++ b)
+stored-append s at a b h =
+    let inside : at + length a ≤ length s = omega arith in
+    let size : length (stored s at a) ≡ length s = length-stored s at a inside in
+    let both : length (a ++ b) ≡ length a + length b = length-append a b in
+    rw (
+      stored-room (stored s at a) (at + length a) b (omega arith),
+      take-stored s at a inside,
+      ← drop-drop (length b) (at + length a) (stored s at a),
+      drop-stored s at a inside,
+      drop-drop (length b) (at + length a) s,
+      stored-room s at (a ++ b) (omega arith),
+      both,
+      ← add-assoc,
+    )
+    (simp append-assoc)
 
 -- a byte that is set right after some bytes is one more to store
 pub stored-more : (s : List ℕ) (at : ℕ) (bytes : List ℕ) (i d : ℕ) → at + length bytes ≡ i → i < length s

@@ -121,7 +121,7 @@ pub fn put_number(buf: &mut [u8], at: Place, width: usize, n: u64) -> bool
     true
 }
 
-// A number whose w bytes stand for an offset. Of the power of 256 that -0 would be, 64 bits keep 0, which has the same bytes.
+// A number whose w bytes stand for an offset. None back would be the power of 256, which may not fit; 0 has the same bytes.
 fn complement(w: usize, z: Offset) -> u64
     requires { ⌜ w ≤ 8 ⌝ }
     ensures { λ r. ⌜ bytesOf w r ≡ bytesOf w (unsigned w z) ⌝ }
@@ -159,7 +159,7 @@ pub fn width_of(n: u64) -> usize
     w
 }
 
-// A number and 2 to the 62, whichever is less. Twice either takes 8 bytes where the number is more.
+// The lesser of a number and 2 to the 62, so that it can be doubled: past that, the double takes 8 bytes in any case.
 fn capped(n: u64) -> u64
     ensures { λ r. ⌜ r ≡ min n (2 ^ 62) ⌝ }
 {
@@ -170,7 +170,8 @@ fn capped(n: u64) -> u64
     }
 }
 
-// A number as wide as an offset: its size twice, for the sign, less one if it is back, as each width holds one more back than ahead.
+// A number as wide as an offset: its size twice, for the sign, less one if it is back, since each width holds one more back
+// than ahead.
 fn spread(z: Offset) -> u64
     ensures { λ r. ⌜ ((w : ℕ) → w < 8 → holds w r ≡ holdsOffset w z) ⌝ }
 {
