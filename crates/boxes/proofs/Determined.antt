@@ -4,8 +4,8 @@ use denote.Ref.{now}
 use Rattle.boxes.proofs.ToldLaws.{header-told, step-told, walked-told, right-told}
 use Rattle.boxes.proofs.framing.header_at.Reads as header-at
 use Rattle.boxes.proofs.framing.put_header.Reads as put-header
-use Rattle.boxes.proofs.kinds.check_kind.Reads as check-kind
-use Rattle.boxes.proofs.kinds.count_of.Reads as count-of
+use Rattle.boxes.proofs.rules.check_kind.Reads as check-kind
+use Rattle.boxes.proofs.rules.count_of.Reads as count-of
 use Rattle.boxes.proofs.kinds.table.Reads as table
 use Rattle.boxes.proofs.numbers.put_number.Reads as put-number
 use Rattle.boxes.proofs.numbers.put_offset.Reads as put-offset

@@ -3,9 +3,9 @@ pub mod BoxedLaws
 pub mod ContainerLaws
 pub mod Determined
 pub mod HeaderLaws
-pub mod KindLaws
 pub mod NumberLaws
 pub mod OffsetLaws
+pub mod RuleLaws
 pub mod StoredLaws
 pub mod ToldLaws
 pub mod WalkLaws

@@ -1,13 +1,13 @@
 -- Laws of what answers say: two answers that say the same are the same.
 use mathlib.Core.Path.{_≡_, ap, ap₂}
 use Rattle.boxes.specs.Framing.{Box, boxOf, headerAnswer}
-use Rattle.boxes.specs.Kinds.{rightAnswer}
+use Rattle.boxes.specs.Rules.{rightAnswer}
 use Rattle.boxes.specs.Walk.{stepAnswer, walkedAnswer}
 use Rattle.boxes.specs.declared.framing.Framed.{Framed}
 use Rattle.boxes.specs.declared.framing.Header.{Header}
 use Rattle.boxes.specs.declared.framing.Header.the-variants as Header
-use Rattle.boxes.specs.declared.kinds.Checked.{Checked}
-use Rattle.boxes.specs.declared.kinds.Checked.the-variants as Checked
+use Rattle.boxes.specs.declared.rules.Checked.{Checked}
+use Rattle.boxes.specs.declared.rules.Checked.the-variants as Checked
 use Rattle.boxes.specs.declared.walk.Step.{Step}
 use Rattle.boxes.specs.declared.walk.Step.the-variants as Step
 use Rattle.boxes.specs.declared.walk.Walk.{Walk}

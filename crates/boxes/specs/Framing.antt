@@ -21,10 +21,10 @@ pub record Box : Type 0 where
 
 -- the box at a place whose header has that many bytes and states that size
 unfoldable pub sized : List ℕ → ℕ → ℕ → ℕ → ℕ → Answer Box
-sized s at end header size = do
-  _ ← hold 4 (leb header size)
+sized s at end front size = do
+  _ ← hold 4 (leb front size)
   _ ← hold 5 (leb (at + size) end)
-  given (record { kind = number s (at + 4) 4; at = at; body = at + header; end = at + size })
+  given (record { kind = number s (at + 4) 4; at = at; body = at + front; end = at + size })
 
 -- the box at a place whose 64-bit size follows its type
 unfoldable pub large : List ℕ → ℕ → ℕ → Answer Box
@@ -65,19 +65,19 @@ unfoldable pub headerAnswer : Header → Answer Box
 headerAnswer (Found b) = given (boxOf b)
 headerAnswer (Refused n) = refused n
 
--- the bytes of a header as we write it: the 32-bit form
+-- a header as we write it, in the 32-bit form, has 8 bytes
 unfoldable pub frontSize : ℕ
 frontSize = 8
 
--- the header, as we write it, of a box with a body of so many bytes: its size, then its type
+-- the header of a box with a body of n bytes, as we write it: its size, then its type
 unfoldable pub front : ℕ → ℕ → List ℕ
-front kind size = bytesOf 4 (frontSize + size) ++ bytesOf 4 kind
+front kind n = bytesOf 4 (frontSize + n) ++ bytesOf 4 kind
 
 -- a box as we write it
 unfoldable pub boxed : ℕ → List ℕ → List ℕ
 boxed kind body = front kind (length body) ++ body
 
--- what a call that writes a header answers, and how it leaves the buffer: a size that 4 bytes do not hold is not written
-pub record StoresHeader (s : List ℕ) (at kind size : ℕ) (answer : Bool) (after : List ℕ) : Type 0 where
-  pub room : answer ≡ elim (holds 4 (frontSize + size)) [ true ↦ roomFor s at (front kind size) | false ↦ false ]
-  pub left : after ≡ elim (holds 4 (frontSize + size)) [ true ↦ stored s at (front kind size) | false ↦ s ]
+-- what a call that writes a header answers, and how it leaves the buffer: nothing is written of a size that 4 bytes do not hold
+pub record StoresHeader (s : List ℕ) (at kind n : ℕ) (answer : Bool) (after : List ℕ) : Type 0 where
+  pub room : answer ≡ elim (holds 4 (frontSize + n)) [ true ↦ roomFor s at (front kind n) | false ↦ false ]
+  pub left : after ≡ elim (holds 4 (frontSize + n)) [ true ↦ stored s at (front kind n) | false ↦ s ]

@@ -4,10 +4,7 @@ use mathlib.Core.Bool.{Bool, true, false}
 use mathlib.Core.List.{List, [], _∷_}
 use lib.ListN.{length}
 use lib.Dec.{leb, eqb}
-use Rattle.boxes.specs.Answer.{Answer, refused, given, _>>=_}
-use Rattle.boxes.specs.Framing.{Box, boxesIn}
-use Rattle.boxes.specs.declared.kinds.Checked.{Checked}
-use Rattle.boxes.specs.declared.kinds.Checked.the-variants.{Right, Refused}
+use Rattle.boxes.specs.Framing.{Box}
 use Rattle.boxes.specs.declared.kinds.Kind.{Kind}
 use Rattle.boxes.specs.declared.kinds.Container.the-variants.{File, Pfil, Pseg}
 use Rattle.boxes.specs.declared.kinds.Count.{Count}
@@ -58,20 +55,3 @@ keeps Any n = true
 -- whether the boxes of a container hold as many of a kind as the table says
 unfoldable pub right : Kind → List Box → Bool
 right k bs = keeps (k .count) (length (those k bs))
-
--- how many boxes of a kind the container that starts and ends at these places holds, or its first fault
-unfoldable pub countedOf : Kind → List ℕ → ℕ → ℕ → Answer ℕ
-countedOf k s start end = do
-  bs ← boxesIn s start end
-  given (length (those k bs))
-
--- whether the container that starts and ends at these places holds as many of a kind as the table says, or its first fault
-unfoldable pub rightIn : Kind → List ℕ → ℕ → ℕ → Answer Bool
-rightIn k s start end = do
-  bs ← boxesIn s start end
-  given (right k bs)
-
--- what an answer about a rule says
-unfoldable pub rightAnswer : Checked → Answer Bool
-rightAnswer (Right b) = given b
-rightAnswer (Refused n) = refused n

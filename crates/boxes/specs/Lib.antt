@@ -4,3 +4,4 @@ pub mod Stored
 pub mod Framing
 pub mod Kinds
 pub mod Walk
+pub mod Rules

@@ -1,4 +1,4 @@
-// Box headers: where a box starts, where its body starts and where it ends.
+// Box headers, read and written: where a box starts, where its body starts and where it ends.
 use crate::numbers::put_number;
 use crate::numbers::unsigned;
 use crate::place::Place;
@@ -24,13 +24,14 @@ pub enum Header {
     Refused(u64),
 }
 
-// The bytes of a header with a 32-bit size, and of one with a 64-bit size.
-const SHORT: u64 = 8;
+// The bytes of a header with a 32-bit size, which is the form that we write.
+pub const FRONT_SIZE: u64 = 8;
 
-const LARGE: u64 = 16;
+// The bytes of a header with a 64-bit size.
+const LARGE_FRONT_SIZE: u64 = 16;
 
-// The largest body whose box has a size of 32 bits.
-const LARGEST_BODY: u64 = 0xffff_ffff - SHORT;
+// The largest body whose box has a 32-bit size.
+const LARGEST_BODY: u64 = 0xffff_ffff - FRONT_SIZE;
 
 // How many bytes stand from a place to an end, none where the end comes first.
 fn between(at: Place, end: Place) -> u64
@@ -40,11 +41,11 @@ fn between(at: Place, end: Place) -> u64
 }
 
 // The box whose header has that many bytes and states that size.
-fn sized_at(s: &[u8], at: Place, end: Place, header: u64, size: u64) -> Header
-    requires { ⌜ (4 ≤ header) × (at .0 + header ≤ end .0) ⌝ }
-    ensures { λ r. ⌜ headerAnswer r ≡ sized (now (s .entry)) (at .0) (end .0) header size ⌝ }
+fn sized_at(s: &[u8], at: Place, end: Place, front: u64, size: u64) -> Header
+    requires { ⌜ (4 ≤ front) × (at .0 + front ≤ end .0) ⌝ }
+    ensures { λ r. ⌜ headerAnswer r ≡ sized (now (s .entry)) (at .0) (end .0) front size ⌝ }
 {
-    if size < header {
+    if size < front {
         return Header::Refused(SIZE_UNDER_HEADER);
     }
     if between(at, end) < size {
@@ -53,7 +54,7 @@ fn sized_at(s: &[u8], at: Place, end: Place, header: u64, size: u64) -> Header
     Header::Found(Framed {
         kind: unsigned(s, Place(at.0 + 4), 4) as u32,
         at,
-        body: Place(at.0 + header),
+        body: Place(at.0 + front),
         end: Place(at.0 + size),
     })
 }
@@ -62,17 +63,23 @@ fn sized_at(s: &[u8], at: Place, end: Place, header: u64, size: u64) -> Header
 fn large_at(s: &[u8], at: Place, end: Place) -> Header
     ensures { λ r. ⌜ headerAnswer r ≡ large (now (s .entry)) (at .0) (end .0) ⌝ }
 {
-    if between(at, end) < LARGE {
+    if between(at, end) < LARGE_FRONT_SIZE {
         return Header::Refused(HEADER_CUT);
     }
-    sized_at(s, at, end, LARGE, unsigned(s, Place(at.0 + SHORT), 8))
+    sized_at(
+        s,
+        at,
+        end,
+        LARGE_FRONT_SIZE,
+        unsigned(s, Place(at.0 + FRONT_SIZE), 8),
+    )
 }
 
 // The box at a place of a container that ends at `end`, or the fault in its header.
 pub fn header_at(s: &[u8], at: Place, end: Place) -> Header
     ensures { λ r. ⌜ headerAnswer r ≡ header (now (s .entry)) (at .0) (end .0) ⌝ }
 {
-    if between(at, end) < SHORT {
+    if between(at, end) < FRONT_SIZE {
         return Header::Refused(HEADER_CUT);
     }
     let size = unsigned(s, at, 4);
@@ -82,15 +89,16 @@ pub fn header_at(s: &[u8], at: Place, end: Place) -> Header
     if size == 1 {
         return large_at(s, at, end);
     }
-    sized_at(s, at, end, SHORT, size)
+    sized_at(s, at, end, FRONT_SIZE, size)
 }
 
-// Writes the header of a box with a body of so many bytes, if its size fits 32 bits and there is room.
-pub fn put_header(buf: &mut [u8], at: Place, kind: u32, size: u64) -> bool
-    ensures { λ r. ⌜ StoresHeader (now (buf .entry)) (at .0) kind size r (now (buf .exit)) ⌝ }
+// Writes the header of a box with a body of n bytes, if its size fits 32 bits and there is room. The size and the type are the halves of
+// one number, so that both are written or neither.
+pub fn put_header(buf: &mut [u8], at: Place, kind: u32, n: u64) -> bool
+    ensures { λ r. ⌜ StoresHeader (now (buf .entry)) (at .0) kind n r (now (buf .exit)) ⌝ }
 {
-    if LARGEST_BODY < size {
+    if LARGEST_BODY < n {
         return false;
     }
-    put_number(buf, at, 8, (SHORT + size) * 0x1_0000_0000 + kind as u64)
+    put_number(buf, at, 8, (FRONT_SIZE + n) * 0x1_0000_0000 + kind as u64)
 }

@@ -5,4 +5,5 @@ pub mod limits;
 pub mod numbers;
 pub mod place;
 pub mod refusals;
+pub mod rules;
 pub mod walk;

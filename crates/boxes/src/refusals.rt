@@ -1,4 +1,4 @@
-// The numbers of the refusals that reading box headers can give.
+// The numbers of the refusals of box framing.
 
 // The header is cut short by the end of its container.
 pub const HEADER_CUT: u64 = 2;

@@ -1,7 +1,7 @@
 // The lines of the output.
 use boxes::framing::Framed;
 use boxes::framing::Header;
-use boxes::kinds::Checked;
+use boxes::rules::Checked;
 use boxes::walk::Walked;
 use libc::STDOUT_FILENO;
 

@@ -6,9 +6,9 @@ use boxes::kinds::PDAT;
 use boxes::kinds::PFIL;
 use boxes::kinds::PSEG;
 use boxes::kinds::SURL;
-use boxes::kinds::check_kind;
-use boxes::kinds::count_of;
 use boxes::place::Place;
+use boxes::rules::check_kind;
+use boxes::rules::count_of;
 use boxes::walk::count;
 
 // Makes boxes of 8 bytes of a buffer of zeros.

@@ -1,9 +1,9 @@
--- `boxes::kinds::check_kind` meets its contract: the rule is held against the number that was counted.
+-- `boxes::rules::check_kind` meets its contract: the rule is held against the number that was counted.
 use borrow.Author.Needs.{needs}
-use Rattle.boxes.specs.Kinds.{rightAnswer}
-use Rattle.boxes.proofs.KindLaws.{rule-held, rule-fault}
-use Rattle.boxes.proofs.kinds.check_kind.Statement.{statement}
-use Rattle.boxes.proofs.kinds.check_kind.Tie as tie
+use Rattle.boxes.specs.Rules.{rightAnswer}
+use Rattle.boxes.proofs.RuleLaws.{rule-held, rule-fault}
+use Rattle.boxes.proofs.rules.check_kind.Statement.{statement}
+use Rattle.boxes.proofs.rules.check_kind.Tie as tie
 
 count-of-requires : tie.Need-count-of-requires
 count-of-requires c κs = search needs

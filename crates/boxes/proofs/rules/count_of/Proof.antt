@@ -1,4 +1,4 @@
--- `boxes::kinds::count_of` meets its contract. The loop's invariant: of the boxes passed, as many are of the kind as were counted.
+-- `boxes::rules::count_of` meets its contract. The loop's invariant: of the boxes passed, as many are of the kind as were counted.
 use mathlib.Core.List.{List, [], _∷_, _++_}
 use mathlib.Core.Path.{_≡_, refl, ap}
 use borrow.Author.Needs.{needs}
@@ -6,12 +6,13 @@ use native.Mathlib.Omega.{arith}
 use lib.ListN.{length}
 use Rattle.boxes.specs.Answer.{given}
 use Rattle.boxes.specs.Framing.{Box, boxOf}
-use Rattle.boxes.specs.Kinds.{those, countedOf}
+use Rattle.boxes.specs.Kinds.{those}
+use Rattle.boxes.specs.Rules.{countedOf}
 use Rattle.boxes.specs.Walk.{walkedAnswer}
-use Rattle.boxes.proofs.KindLaws.{those-few, one-found, one-passed}
+use Rattle.boxes.proofs.RuleLaws.{those-few, one-found, one-passed}
 use Rattle.boxes.proofs.WalkLaws.{Passed, passed-none, passed-more, all-boxes, first-fault, begun-left, fewer, next-box, no-more, a-fault}
-use Rattle.boxes.proofs.kinds.count_of.Statement.{statement}
-use Rattle.boxes.proofs.kinds.count_of.Tie as tie
+use Rattle.boxes.proofs.rules.count_of.Statement.{statement}
+use Rattle.boxes.proofs.rules.count_of.Tie as tie
 
 abbrev Inv-loop : tie.InvT-loop
 Inv-loop s kind walk₀ found₀ walk found = (bs : List Box) × Passed s walk₀ bs walk × (found ≡ length (those kind bs))

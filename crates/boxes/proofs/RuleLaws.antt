@@ -1,4 +1,4 @@
--- Laws of the boxes of a kind.
+-- Laws of the boxes of a kind and of the count rules.
 use Prim.Native.Nat.{ℕ, suc, _+_, _≤_}
 use mathlib.Core.Bool.{Bool, true, false}
 use mathlib.Core.List.{List, [], _∷_, _++_}
@@ -9,7 +9,8 @@ use borrow.Author.Tests.{eq-eqb, ne-eqb}
 use lib.ListN.{length, length-append}
 use Rattle.boxes.specs.Answer.{refused, given, _>>=_}
 use Rattle.boxes.specs.Framing.{Box, boxesIn}
-use Rattle.boxes.specs.Kinds.{is, those, keeps, right, countedOf, rightIn}
+use Rattle.boxes.specs.Kinds.{is, those, keeps, right}
+use Rattle.boxes.specs.Rules.{countedOf, rightIn}
 use Rattle.boxes.specs.Walk.{walkedAnswer}
 use Rattle.boxes.specs.declared.kinds.Kind.{Kind}
 use Rattle.boxes.specs.declared.walk.Walked.{Walked}
