@@ -1,7 +1,7 @@
 -- Laws of answers: what is known of a call's parts where the whole of it gave a value.
 use Prim.Native.Nat.{ℕ}
 use mathlib.Core.Bool.{Bool, true, false}
-use mathlib.Core.Path.{_≡_, refl}
+use mathlib.Core.Path.{_≡_, refl, sym}
 use native.Mathlib.Omega.{arith}
 use Rattle.boxes.specs.Answer.{Answer, refused, given, _>>=_, hold}
 
@@ -16,6 +16,11 @@ pub both-given : {A B : Type 0} (x : Answer A) (next : A → Answer B) {b : B} �
     → (a : A) × (x ≡ given a) × (next a ≡ given b)
 both-given (refused n) next h = absurd (not-both h)
 both-given (given a) next h = (a, refl, h)
+
+-- a fault after which there is nothing to refuse was there before
+pub fault-first : {A B : Type 0} (x : Answer A) (f : A → B) {n : ℕ} → (x >>= λ a. given (f a)) ≡ refused n → x ≡ refused n
+fault-first (refused m) f h = cc
+fault-first (given a) f h = absurd (not-both (sym h))
 
 -- a value after a test comes where the test holds
 pub held : {A : Type 0} (n : ℕ) (t : Bool) (next : Unit {0} → Answer A) {a : A} → (hold n t >>= next) ≡ given a → (t ≡ true) × (next tt ≡ given a)

@@ -4,6 +4,7 @@ use denote.Ref.{now}
 use Rattle.boxes.proofs.ToldLaws.{header-told, step-told, walked-told, right-told}
 use Rattle.boxes.proofs.framing.header_at.Reads as header-at
 use Rattle.boxes.proofs.framing.put_header.Reads as put-header
+use Rattle.boxes.proofs.rules.check_container.Reads as check-container
 use Rattle.boxes.proofs.rules.check_kind.Reads as check-kind
 use Rattle.boxes.proofs.rules.count_of.Reads as count-of
 use Rattle.boxes.proofs.kinds.table.Reads as table
@@ -79,3 +80,6 @@ count-of-result κs args x y after after′ p q = walked-told x y (p ∙ sym q)
 
 check-kind-result : OneResult check-kind.Post
 check-kind-result κs args x y after after′ p q = right-told x y (p ∙ sym q)
+
+check-container-result : OneResult check-container.Post
+check-container-result κs args x y after after′ p q = right-told x y (p ∙ sym q)
