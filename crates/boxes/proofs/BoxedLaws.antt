@@ -1,9 +1,8 @@
 -- Laws of boxes as we write them: their header is one number of eight bytes, and they are read back as they were written.
-use Prim.Native.Nat.{ℕ, zero, suc, _+_, _-_, _*_, _/_, _%_, _^_, _≤_, _<_}
-use mathlib.Core.Bool.{Bool, true, false}
+use Prim.Native.Nat.{ℕ, suc, _+_, _-_, _*_, _^_, _≤_, _<_}
+use mathlib.Core.Bool.{Bool, false}
 use mathlib.Core.List.{List, [], _∷_, _++_, append-assoc, append-nil, map}
-use mathlib.Core.Path.{_≡_, refl, sym, ap, ap₂, _∙_}
-use native.Mathlib.Nat.{add-zero, add-suc, pow-zero, pow-suc}
+use mathlib.Core.Path.{_≡_, sym, _∙_}
 use native.Mathlib.Omega.{arith}
 use borrow.Author.Tests.{lt-ltb, le-ltb}
 use lib.ListN.{length, length-append}
@@ -13,19 +12,7 @@ use Rattle.boxes.specs.Stored.{Stores}
 use Rattle.boxes.specs.Framing.{Box, header, frontSize, front, boxed, boxesFrom, StoresHeader}
 use Rattle.boxes.proofs.ContainerLaws.{boxes-end, boxes-next, appended}
 use Rattle.boxes.proofs.HeaderLaws.{sized-fits, header-short, moved}
-use Rattle.boxes.proofs.NumberLaws.{length-bytesOf, number-bytesOf}
-
--- two numbers, one after the other, are one number of both widths
-pub bytesOf-joined : (w v q r : ℕ) → r < 256 ^ v → bytesOf (w + v) (q * 256 ^ v + r) ≡ bytesOf w q ++ bytesOf v r
-unfolding bytesOf
-bytesOf-joined w zero q r h =
-    let none : q * 256 ^ 0 + r ≡ q = omega arith in
-    rw (none, add-zero) (sym (append-nil (bytesOf w q)))
-bytesOf-joined w (suc v) q r h =
-    let high : (q * (256 ^ v * 256) + r) / 256 ≡ q * 256 ^ v + r / 256 = omega arith in
-    let low : (q * (256 ^ v * 256) + r) % 256 ≡ r % 256 = omega arith in
-    let below : r / 256 < 256 ^ v = omega (arith, rw pow-suc at h) in
-    rw (add-suc, pow-suc, high, low, bytesOf-joined w v q (r / 256) below) (append-assoc (bytesOf w q) (bytesOf v (r / 256)) (r % 256 ∷ []))
+use Rattle.boxes.proofs.NumberLaws.{length-bytesOf, number-bytesOf, bytesOf-joined}
 
 -- a header as we write it is one number
 pub front-bytes : (kind size : ℕ) → kind < 2 ^ 32 → bytesOf 8 ((8 + size) * 0x1_0000_0000 + kind) ≡ front kind size
@@ -84,15 +71,15 @@ module _ (p q : List ℕ) (kind : ℕ) (body : List ℕ) where
 
 -- a box that was written fills its own bytes, and what follows it is walked after it
 module _ (kind : ℕ) (body : List ℕ) (code : kind < 2 ^ 32) (fits : frontSize + length body < 2 ^ 32) where
+  boxed-read : header (boxed kind body) 0 (frontSize + length body) ≡ given (written 0 kind (length body))
+  boxed-read = simp append-nil at (header-boxed [] [] kind body (frontSize + length body) code fits (omega arith))
+
   pub boxed-alone : (more : ℕ) → boxesFrom (boxed kind body) (length (boxed kind body)) (suc more) 0 ≡ given (written 0 kind (length body) ∷ [])
   unfolding frontSize
   boxed-alone more =
-      let size : ℕ = frontSize + length body in
-      let read : header (boxed kind body) 0 size ≡ given (written 0 kind (length body)) =
-      simp append-nil at (header-boxed [] [] kind body size code fits (omega arith)) in
       rw length-boxed
-      (boxes-next (boxed kind body) size 0 (omega arith) more
-      ∙ rw (read, boxes-end (boxed kind body) size (0 + size) more (omega arith)))
+      (boxes-next (boxed kind body) (frontSize + length body) 0 (omega arith) more
+      ∙ rw (boxed-read, boxes-end (boxed kind body) (frontSize + length body) (0 + (frontSize + length body)) more (omega arith)))
 
   pub boxed-then : (g : List ℕ) (more : ℕ)
       → boxesFrom (boxed kind body ++ g) (length (boxed kind body ++ g)) (suc more) 0

@@ -1,7 +1,8 @@
 -- Laws of the boxes of a container: which they are, what does not change them, and how two runs of boxes join.
 use Prim.Native.Nat.{ℕ, zero, suc, _+_, _-_, _≤_, _<_}
-use mathlib.Core.List.{List, [], _∷_, _++_, map}
-use mathlib.Core.Path.{_≡_, refl, sym, ap₂, subst, _∙_}
+use mathlib.Core.List.{List, [], _∷_, _++_, map, List·Memᴰ, List·Memᴰ·not-nil, List·Memᴰ·cases-cons}
+use mathlib.Core.Logic.{⊎-elim}
+use mathlib.Core.Path.{_≡_, refl, sym, ap, ap₂, subst, _∙_}
 use native.Mathlib.Decide.{decLe}
 use native.Mathlib.Nat.{zero-add, add-zero, suc-add, add-sub-of-le, le-refl}
 use native.Mathlib.Omega.{arith}
@@ -11,8 +12,9 @@ use lib.Seq.{getD-append-add}
 use Rattle.boxes.specs.Answer.{Answer, refused, given, _>>=_}
 use Rattle.boxes.specs.Framing.{Box, header, boxesFrom, boxesIn, boxLimit}
 use Rattle.boxes.proofs.AnswerLaws.{not-both, given-same, both-given, then-given, then-then}
-use Rattle.boxes.proofs.HeaderLaws.{Inside, header-inside, header-further, header-moved, moved}
+use Rattle.boxes.proofs.HeaderLaws.{header-inside, header-further, header-moved, moved}
 
+-- what the tests decide
 module _ (s : List ℕ) (end at : ℕ) where
   pub boxes-end : (more : ℕ) → end ≤ at → boxesFrom s end more at ≡ given []
   unfolding boxesFrom
@@ -61,6 +63,13 @@ module _ (s : List ℕ) (end : ℕ) where
             let r = both-given (boxesFrom s end more (a .0 .end)) _ (a .2) in
             fills-more more at (omega arith) (a .1) (fills more (a .0 .end) (r .1)) (r .2)
       ]
+
+-- each of the boxes is read at its own place
+pub each-read : {s : List ℕ} {end at : ℕ} {bs : List Box} → Filled s end at bs → {b : Box} → List·Memᴰ b bs → header s (b .at) end ≡ given b
+each-read (full e) m = absurd (List·Memᴰ·not-nil m)
+each-read {s} {end} (next {at = at} {b = first} short read rest) {b} m =
+    let here : header s (first .at) end ≡ given first = ap (λ n. header s n end) (header-inside s at end read .starts) ∙ read in
+    ⊎-elim (λ e. subst (λ x. header s (x .at) end ≡ given x) (sym e) here) (each-read rest) (List·Memᴰ·cases-cons m)
 
 -- where as many boxes are allowed as fill the container, they are given; where fewer are, it is 6
 pub within : {s : List ℕ} {end at : ℕ} {bs : List Box} → Filled s end at bs → (more : ℕ) → length bs ≤ more → boxesFrom s end more at ≡ given bs
@@ -115,6 +124,7 @@ unmoved : (bs : List Box) → map (moved 0) bs ≡ bs
 unmoved [] = refl
 unmoved (b ∷ bs) = ap₂ _∷_ (simp zero-add) (unmoved bs)
 
+-- and where the same bytes stand at the same places
 module _ (s t : List ℕ) (end : ℕ) (same : (i : ℕ) → i < end → getD t i 0 ≡ getD s i 0) where
   pub header-same : (at : ℕ) → header t at end ≡ header s at end
   header-same at = simp (zero-add, then-given) at (header-moved s t 0 at end (λ i h. simp zero-add (same i h)))
@@ -134,15 +144,19 @@ module _ (f g : List ℕ) (end : ℕ) (inside : end ≤ length f) where
   unfolding boxesIn
   boxes-kept start = boxes-same f (f ++ g) end kept boxLimit start
 
+-- the boxes of g stand in f ++ g behind f
+boxes-behind : (f g : List ℕ) (left : ℕ)
+    → boxesFrom (f ++ g) (length f + length g) left (length f) ≡ (boxesFrom g (length g) left 0 >>= λ cs. given (map (moved (length f)) cs))
+boxes-behind f g left =
+    simp add-zero at (boxes-moved g (f ++ g) (length f) (length g) (λ i h. getD-append-add f g i 0) left 0)
+
 -- the boxes of f ++ g are those of f and then those of g, of which as many are allowed as f leaves
 module _ (f g : List ℕ) {bs : List Box} where
   joined-appended : (left : ℕ) → Filled (f ++ g) (length f) 0 bs
       → boxesFrom (f ++ g) (length (f ++ g)) (length bs + left) 0 ≡ (boxesFrom g (length g) left 0 >>= λ cs. given (bs ++ map (moved (length f)) cs))
   joined-appended left filled =
-      let after : boxesFrom (f ++ g) (length f + length g) left (length f) ≡ (boxesFrom g (length g) left 0 >>= λ cs. given (map (moved (length f)) cs)) =
-      simp add-zero at (boxes-moved g (f ++ g) (length f) (length g) (λ i h. getD-append-add f g i 0) left 0) in
       rw length-append (joined filled (length f + length g) left (omega arith) (omega arith)
-      ∙ rw after (then-then (boxesFrom g (length g) left 0) (λ cs. given (map (moved (length f)) cs)) (λ rest. given (bs ++ rest))))
+      ∙ rw (boxes-behind f g left) (then-then (boxesFrom g (length g) left 0) (λ cs. given (map (moved (length f)) cs)) (λ rest. given (bs ++ rest))))
 
   pub appended : (more : ℕ) → boxesFrom f (length f) more 0 ≡ given bs
       → boxesFrom (f ++ g) (length (f ++ g)) more 0 ≡ (boxesFrom g (length g) (more - length bs) 0 >>= λ cs. given (bs ++ map (moved (length f)) cs))

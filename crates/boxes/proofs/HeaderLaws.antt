@@ -15,6 +15,7 @@ use Rattle.boxes.specs.Framing.{Box, sized, large, header}
 use Rattle.boxes.proofs.AnswerLaws.{held, given-same}
 use Rattle.boxes.proofs.NumberLaws.{number-same}
 
+-- what the tests decide
 module _ (s : List ℕ) (at end : ℕ) where
   pub sized-under : (front size : ℕ) → size < front → sized s at end front size ≡ refused 4
   unfolding sized

@@ -3,6 +3,7 @@ pub mod BoxedLaws
 pub mod ContainerLaws
 pub mod Determined
 pub mod HeaderLaws
+pub mod KindLaws
 pub mod NumberLaws
 pub mod OffsetLaws
 pub mod RuleLaws

@@ -1,10 +1,10 @@
 -- Laws of `number` and `bytesOf`, each over the width: how a loop reads a number, what it depends on, what it is read back as.
 use mathlib.Core.Path.{_≡_, refl, sym, ap, ap₂, _∙_}
 use Prim.Native.Nat.{ℕ, zero, suc, _+_, _-_, _*_, _/_, _%_, _^_, _≤_, _<_}
-use native.Mathlib.Nat.{pow-suc, pow-le-pow-right, one-le-pow, lt-of-lt-of-le, zero-lt-suc, mod-lt, mod-eq-of-lt, mul-suc, add-assoc}
+use native.Mathlib.Nat.{pow-suc, pow-le-pow-right, one-le-pow, lt-of-lt-of-le, zero-lt-suc, mod-lt, mod-eq-of-lt, mul-suc, add-zero, add-suc, add-assoc}
 use native.Mathlib.Numerals.{add-one}
 use native.Mathlib.Omega.{arith}
-use mathlib.Core.List.{List, [], _∷_, _++_, append-assoc}
+use mathlib.Core.List.{List, [], _∷_, _++_, append-assoc, append-nil}
 use borrow.Author.Count.{below-more}
 use lib.Arith.{digits-lt, digits-div, digits-mod, mod-mul}
 use lib.ListN.{length, getD, set, length-append, List·getD-append, List·getD-eq-default}
@@ -126,3 +126,15 @@ bytesOf-mod (suc w) n =
       digits-mod (n / 256 % 256 ^ w) byte,
       bytesOf-mod w (n / 256),
     )
+
+-- two numbers, one after the other, are one number of both widths
+pub bytesOf-joined : (w v q r : ℕ) → r < 256 ^ v → bytesOf (w + v) (q * 256 ^ v + r) ≡ bytesOf w q ++ bytesOf v r
+unfolding bytesOf
+bytesOf-joined w zero q r h =
+    let none : q * 256 ^ 0 + r ≡ q = omega arith in
+    rw (none, add-zero) (sym (append-nil (bytesOf w q)))
+bytesOf-joined w (suc v) q r h =
+    let high : (q * (256 ^ v * 256) + r) / 256 ≡ q * 256 ^ v + r / 256 = omega arith in
+    let low : (q * (256 ^ v * 256) + r) % 256 ≡ r % 256 = omega arith in
+    let below : r / 256 < 256 ^ v = omega (arith, rw pow-suc at h) in
+    rw (add-suc, pow-suc, high, low, bytesOf-joined w v q (r / 256) below) (append-assoc (bytesOf w q) (bytesOf v (r / 256)) (r % 256 ∷ []))

@@ -1,17 +1,15 @@
--- Laws of the boxes of a kind and of the count rules.
-use Prim.Native.Nat.{ℕ, suc, _+_, _≤_, _<_}
+-- Laws of the count rules, one kind at a time and over a table.
+use Prim.Native.Nat.{ℕ, suc, _+_, _<_}
 use mathlib.Core.Bool.{Bool, true, false}
-use mathlib.Core.List.{List, [], _∷_, _++_}
+use mathlib.Core.List.{List, [], _∷_}
 use mathlib.Core.Path.{_≡_, refl, sym, ap, _∙_}
-use native.Mathlib.Nat.{add-zero}
 use native.Mathlib.Numerals.{add-one}
-use native.Mathlib.Omega.{arith}
 use borrow.Author.Tests.{eq-eqb, ne-eqb}
-use lib.ListN.{length, getD, drop, length-append}
+use lib.ListN.{length, getD, drop}
 use lib.Seq.{drop-cons}
 use Rattle.boxes.specs.Answer.{Answer, refused, given, _>>=_}
 use Rattle.boxes.specs.Framing.{Box, boxesIn}
-use Rattle.boxes.specs.Kinds.{is, those, keeps, right}
+use Rattle.boxes.specs.Kinds.{those, keeps, right}
 use Rattle.boxes.specs.Rules.{countedOf, rightIn, containerNo, rightHere, allRight, allRightIn, rightAnswer}
 use Rattle.boxes.specs.Walk.{counted, walkedAnswer}
 use Rattle.boxes.specs.declared.kinds.Container.{Container}
@@ -21,37 +19,6 @@ use Rattle.boxes.specs.declared.rules.Checked.the-variants.{Right, Refus
 use Rattle.boxes.specs.declared.walk.Walked.{Walked}
 use Rattle.boxes.specs.declared.walk.Walked.the-variants as Walked
 use Rattle.boxes.proofs.AnswerLaws.{given-same, both-given, fault-first, then-then}
-
--- the boxes of a kind, run by run
-pub those-append : (k : Kind) (bs cs : List Box) → those k (bs ++ cs) ≡ those k bs ++ those k cs
-unfolding those
-those-append k [] cs = refl
-those-append k (b ∷ bs) cs = go (is k b) (those-append k bs cs)
-  where
-    go : (t : Bool) → those k (bs ++ cs) ≡ those k bs ++ those k cs
-        → elim t [ true ↦ b ∷ those k (bs ++ cs) | false ↦ those k (bs ++ cs) ] ≡ (elim t [ true ↦ b ∷ those k bs | false ↦ those k bs ]) ++ those k cs
-    go true e = ap (λ l. b ∷ l) e
-    go false e = e
-
--- they are no more than all
-pub those-few : (k : Kind) (bs : List Box) → length (those k bs) ≤ length bs
-unfolding those
-those-few k [] = omega arith
-those-few k (b ∷ bs) = go (is k b) (those-few k bs)
-  where
-    go : (t : Bool) → length (those k bs) ≤ length bs → length {A = Box} (elim t [ true ↦ b ∷ those k bs | false ↦ those k bs ]) ≤ suc (length bs)
-    go true h = omega arith
-    go false h = omega arith
-
--- one box more: one more of its kind, and none more of another
-module _ (k : Kind) (bs : List Box) (b : Box) {n : ℕ} (before : n ≡ length (those k bs)) where
-  pub one-found : b .kind ≡ k .code → n + 1 ≡ length (those k (bs ++ (b ∷ [])))
-  unfolding those is
-  one-found h = rw (before, those-append, length-append) (simp (those, eq-eqb (b .kind) (k .code) h))
-
-  pub one-passed : (b .kind ≡ k .code → ⊥) → n ≡ length (those k (bs ++ (b ∷ [])))
-  unfolding those is
-  one-passed h = rw (before, those-append, length-append) (simp (those, ne-eqb (b .kind) (k .code) h, add-zero))
 
 -- a rule is held against the number that was counted
 module _ (k : Kind) (s : List ℕ) (start end : ℕ) where

@@ -3,7 +3,6 @@ use mathlib.Core.Path.{_≡_, ap, ap₂}
 use Rattle.boxes.specs.Framing.{Box, boxOf, headerAnswer}
 use Rattle.boxes.specs.Rules.{rightAnswer}
 use Rattle.boxes.specs.Walk.{stepAnswer, walkedAnswer}
-use Rattle.boxes.specs.declared.framing.Framed.{Framed}
 use Rattle.boxes.specs.declared.framing.Header.{Header}
 use Rattle.boxes.specs.declared.framing.Header.the-variants as Header
 use Rattle.boxes.specs.declared.rules.Checked.{Checked}

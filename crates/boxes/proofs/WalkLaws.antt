@@ -9,7 +9,7 @@ use native.Mathlib.Omega.{arith}
 use borrow.Author.Tests.{le-leb, lt-leb, leb-true, leb-false}
 use lib.Dec.{leb}
 use lib.ListN.{length, length-append}
-use Rattle.boxes.specs.Answer.{Answer, refused, given, _>>=_, hold}
+use Rattle.boxes.specs.Answer.{Answer, refused, given, _>>=_}
 use Rattle.boxes.specs.Framing.{Box, boxOf, header, boxesFrom, boxesIn, boxLimit}
 use Rattle.boxes.specs.Walk.{begun, stepped, stepAnswer}
 use Rattle.boxes.specs.declared.framing.Framed.{Framed}
@@ -17,7 +17,8 @@ use Rattle.boxes.specs.declared.place.Place.{Place}
 use Rattle.boxes.specs.declared.walk.Step.{Step}
 use Rattle.boxes.specs.declared.walk.Step.the-variants as Step
 use Rattle.boxes.specs.declared.walk.Walk.{Walk}
-use Rattle.boxes.proofs.AnswerLaws.{held, not-both, then-given, then-then}
+use Rattle.boxes.proofs.AnswerLaws.{not-both, given-same, both-given, held, then-given}
+use Rattle.boxes.proofs.HeaderLaws.{Inside, header-inside}
 
 -- the boxes that a walk has before it
 abbrev pub ahead : List ℕ → Walk → Answer (List Box)
@@ -74,6 +75,7 @@ pub record Met (s : List ℕ) (w : Walk) (b : Box) (w′ : Walk) : Type 0 where
   pub short : w .at .0 < w .end .0
   pub allowed : 1 ≤ w .left
   pub read : header s (w .at .0) (w .end .0) ≡ given b
+  pub inside : Inside (w .at .0) (w .end .0) b
   pub onward : w′ ≡ past w b
 
 box-read : (x : Answer Box) (next : Box → Walk) {b : Box} {w : Walk} → _>>=_ {B = Option (Box × Walk)} x (λ b. given (some (b, next b))) ≡ given (some (b, w)) → (x ≡ given b) × (w ≡ next b)
@@ -94,7 +96,20 @@ met s w {b} {w′} h = go (leb (w .end .0) (w .at .0)) refl
     go false e =
         let r = held 6 (leb 1 (w .left)) _ (simp (stepped, e) at h) in
         let q = box-read (header s (w .at .0) (w .end .0)) (past w) (r .1) in
-        record { short = leb-false _ _ e; allowed = leb-true 1 (w .left) (r .0); read = q .0; onward = q .1 }
+        record { short = leb-false _ _ e; allowed = leb-true 1 (w .left) (r .0); read = q .0; inside = header-inside s _ _ (q .0); onward = q .1 }
+
+-- a walk whose boxes are known meets them one by one and no fault
+module _ (s : List ℕ) (w : Walk) {bs : List Box} (known : ahead s w ≡ given bs) where
+  pub known-next : {b : Box} {w′ : Walk} → stepped s w ≡ given (some (b, w′)) → (rest : List Box) × (ahead s w′ ≡ given rest) × (bs ≡ b ∷ rest)
+  known-next {b} {w′} h =
+      let rest = both-given (ahead s w′) _ (sym (rw h at (walk-steps s w)) ∙ known) in
+      (rest .0, rest .1, sym (given-same (rest .2)))
+
+  pub known-end : stepped s w ≡ given none → bs ≡ []
+  known-end h = given-same (sym known ∙ rw h at (walk-steps s w))
+
+  pub known-sound : {n : ℕ} → stepped s w ≡ refused n → ⊥
+  known-sound h = not-both (sym (rw h at (walk-steps s w)) ∙ known)
 
 -- a walk that began as w₀ has passed these boxes and stands at w
 pub record Passed (s : List ℕ) (w₀ : Walk) (bs : List Box) (w : Walk) : Type 0 where

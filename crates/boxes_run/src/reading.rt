@@ -5,20 +5,24 @@ use boxes::place::Place;
 
 const LAST: u64 = 0xffff_ffff_ffff_ffff;
 
-// A box of 8 bytes and one with a large size of 16, in containers that end after so many bytes.
+// A box of 8 bytes, in containers that end after so many.
 pub fn by_bytes_left() {
-    let short = b"\x00\x00\x00\x08free\x00\x00\x00\x00\x00\x00\x00\x00";
-    header(b"short, 0 left", header_at(short, Place(0), Place(0)));
-    header(b"short, 7 left", header_at(short, Place(0), Place(7)));
-    header(b"short, 8 left", header_at(short, Place(0), Place(8)));
-    header(b"short, 15 left", header_at(short, Place(0), Place(15)));
-    header(b"short, 16 left", header_at(short, Place(0), Place(16)));
-    let large = b"\x00\x00\x00\x01free\x00\x00\x00\x00\x00\x00\x00\x10";
-    header(b"large, 0 left", header_at(large, Place(0), Place(0)));
-    header(b"large, 7 left", header_at(large, Place(0), Place(7)));
-    header(b"large, 8 left", header_at(large, Place(0), Place(8)));
-    header(b"large, 15 left", header_at(large, Place(0), Place(15)));
-    header(b"large, 16 left", header_at(large, Place(0), Place(16)));
+    let s = b"\x00\x00\x00\x08free\x00\x00\x00\x00\x00\x00\x00\x00";
+    header(b"short, 0 left", header_at(s, Place(0), Place(0)));
+    header(b"short, 7 left", header_at(s, Place(0), Place(7)));
+    header(b"short, 8 left", header_at(s, Place(0), Place(8)));
+    header(b"short, 15 left", header_at(s, Place(0), Place(15)));
+    header(b"short, 16 left", header_at(s, Place(0), Place(16)));
+}
+
+// A box of 16 bytes with a large size.
+pub fn large_by_bytes_left() {
+    let s = b"\x00\x00\x00\x01free\x00\x00\x00\x00\x00\x00\x00\x10";
+    header(b"large, 0 left", header_at(s, Place(0), Place(0)));
+    header(b"large, 7 left", header_at(s, Place(0), Place(7)));
+    header(b"large, 8 left", header_at(s, Place(0), Place(8)));
+    header(b"large, 15 left", header_at(s, Place(0), Place(15)));
+    header(b"large, 16 left", header_at(s, Place(0), Place(16)));
 }
 
 // A header whose size field has four given bytes, in a container of 16 bytes or one that ends further on.
@@ -45,18 +49,25 @@ fn sized(asked: &[u8], size: [u8; 4], at: Place, end: Place) {
 }
 
 pub fn by_size() {
-    let end = Place(16);
     sized(b"size 0, 7 left", [0, 0, 0, 0], Place(0), Place(7));
-    sized(b"size 0", [0, 0, 0, 0], Place(0), end);
-    sized(b"size 1 and large size 0", [0, 0, 0, 1], Place(0), end);
-    sized(b"size 2", [0, 0, 0, 2], Place(0), end);
-    sized(b"size 7", [0, 0, 0, 7], Place(0), end);
-    sized(b"size 8", [0, 0, 0, 8], Place(0), end);
-    sized(b"size 15", [0, 0, 0, 15], Place(0), end);
-    sized(b"size 16", [0, 0, 0, 16], Place(0), end);
-    sized(b"size 17", [0, 0, 0, 17], Place(0), end);
+    sized(b"size 0", [0, 0, 0, 0], Place(0), Place(16));
+    sized(
+        b"size 1 and large size 0",
+        [0, 0, 0, 1],
+        Place(0),
+        Place(16),
+    );
+    sized(b"size 2", [0, 0, 0, 2], Place(0), Place(16));
+    sized(b"size 7", [0, 0, 0, 7], Place(0), Place(16));
+    sized(b"size 8", [0, 0, 0, 8], Place(0), Place(16));
+}
+
+pub fn by_more_size() {
+    sized(b"size 15", [0, 0, 0, 15], Place(0), Place(16));
+    sized(b"size 16", [0, 0, 0, 16], Place(0), Place(16));
+    sized(b"size 17", [0, 0, 0, 17], Place(0), Place(16));
     let most = [255, 255, 255, 255];
-    sized(b"size 4294967295", most, Place(0), end);
+    sized(b"size 4294967295", most, Place(0), Place(16));
     sized(
         b"size 4294967295 of 4294967294",
         most,
@@ -95,18 +106,20 @@ fn large(asked: &[u8], n: [u8; 8], end: Place) {
 }
 
 pub fn by_large_size() {
-    let end = Place(16);
-    large(b"large size 0", [0, 0, 0, 0, 0, 0, 0, 0], end);
-    large(b"large size 1", [0, 0, 0, 0, 0, 0, 0, 1], end);
-    large(b"large size 7", [0, 0, 0, 0, 0, 0, 0, 7], end);
-    large(b"large size 8", [0, 0, 0, 0, 0, 0, 0, 8], end);
-    large(b"large size 15", [0, 0, 0, 0, 0, 0, 0, 15], end);
-    large(b"large size 16", [0, 0, 0, 0, 0, 0, 0, 16], end);
-    large(b"large size 17", [0, 0, 0, 0, 0, 0, 0, 17], end);
+    large(b"large size 0", [0, 0, 0, 0, 0, 0, 0, 0], Place(16));
+    large(b"large size 1", [0, 0, 0, 0, 0, 0, 0, 1], Place(16));
+    large(b"large size 7", [0, 0, 0, 0, 0, 0, 0, 7], Place(16));
+    large(b"large size 8", [0, 0, 0, 0, 0, 0, 0, 8], Place(16));
+    large(b"large size 15", [0, 0, 0, 0, 0, 0, 0, 15], Place(16));
+    large(b"large size 16", [0, 0, 0, 0, 0, 0, 0, 16], Place(16));
+}
+
+pub fn by_more_large_size() {
+    large(b"large size 17", [0, 0, 0, 0, 0, 0, 0, 17], Place(16));
     large(
         b"large size 4294967295",
         [0, 0, 0, 0, 255, 255, 255, 255],
-        end,
+        Place(16),
     );
     large(
         b"large size 4294967296",
@@ -114,7 +127,7 @@ pub fn by_large_size() {
         Place(4294967296),
     );
     let most = [255, 255, 255, 255, 255, 255, 255, 255];
-    large(b"large size 18446744073709551615", most, end);
+    large(b"large size 18446744073709551615", most, Place(16));
     large(
         b"large size 18446744073709551615 of as many",
         most,

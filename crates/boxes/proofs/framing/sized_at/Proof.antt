@@ -1,5 +1,4 @@
 -- `boxes::framing::sized_at` meets its contract: each test is one of the definition's.
-use Prim.Native.Nat.{_+_}
 use mathlib.Core.Path.{sym}
 use borrow.Author.Needs.{needs}
 use native.Mathlib.Omega.{arith}

@@ -9,7 +9,7 @@ use Rattle.boxes.specs.Framing.{Box, boxOf}
 use Rattle.boxes.specs.Kinds.{those}
 use Rattle.boxes.specs.Rules.{countedOf}
 use Rattle.boxes.specs.Walk.{walkedAnswer}
-use Rattle.boxes.proofs.RuleLaws.{those-few, one-found, one-passed}
+use Rattle.boxes.proofs.KindLaws.{those-few, one-found, one-passed}
 use Rattle.boxes.proofs.WalkLaws.{Passed, passed-none, passed-more, all-boxes, first-fault, begun-left, fewer, next-box, no-more, a-fault}
 use Rattle.boxes.proofs.rules.count_of.Statement.{statement}
 use Rattle.boxes.proofs.rules.count_of.Tie as tie
