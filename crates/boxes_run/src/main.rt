@@ -7,14 +7,12 @@ mod writing;
 
 fn main() {
     reading::by_bytes_left();
-    reading::large_by_bytes_left();
     reading::by_size();
-    reading::by_more_size();
     reading::by_large_size();
-    reading::by_more_large_size();
     reading::by_place();
     walking::by_number_of_boxes();
     walking::by_kind();
+    walking::by_table();
     writing::by_room();
     writing::by_size();
 }

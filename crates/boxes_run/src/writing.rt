@@ -5,27 +5,23 @@ use boxes::place::Place;
 
 const FREE: u32 = 0x6672_6565;
 
-fn put(asked: &[u8], at: Place, size: u64) {
+fn put(asked: &[u8], at: u64, n: u64) {
     let mut buf = [170u8; 12];
-    let done = put_header(&mut buf, at, FREE, size);
+    let done = put_header(&mut buf, Place(at), FREE, n);
     written(asked, done, &buf);
 }
 
 pub fn by_room() {
-    put(b"at 0 of 12", Place(0), 0);
-    put(b"at 2 of 12", Place(2), 0);
-    put(b"at 4 of 12", Place(4), 0);
-    put(b"at 5 of 12", Place(5), 0);
-    put(b"at the largest place", Place(0xffff_ffff_ffff_ffff), 0);
+    put(b"at 0 of 12", 0, 0);
+    put(b"at 2 of 12", 2, 0);
+    put(b"at 4 of 12", 4, 0);
+    put(b"at 5 of 12", 5, 0);
+    put(b"at the largest place", 0xffff_ffff_ffff_ffff, 0);
 }
 
 pub fn by_size() {
-    put(b"a body of 8", Place(0), 8);
-    put(b"a body of 4294967287", Place(0), 4294967287);
-    put(b"a body of 4294967288", Place(0), 4294967288);
-    put(
-        b"a body of 18446744073709551615",
-        Place(0),
-        0xffff_ffff_ffff_ffff,
-    );
+    put(b"a body of 8", 0, 8);
+    put(b"a body of 4294967287", 0, 4294967287);
+    put(b"a body of 4294967288", 0, 4294967288);
+    put(b"a body of 18446744073709551615", 0, 0xffff_ffff_ffff_ffff);
 }
