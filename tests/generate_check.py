@@ -13,7 +13,6 @@ from spoiling import boxes_in
 KNOWN = [b"ftyp", b"pfil", b"pfhd", b"surl", b"pseg", b"pshd", b"ploc", b"pdat"]
 
 
-
 def accepted(file):
     return model.read(file)[0] == "read"
 

@@ -11,7 +11,6 @@ P1 = bytes.fromhex("00 00 00 14 70 6c 6f 63 00 00 00 00 11 00 00 00 01 40 05 fb"
 P2 = bytes.fromhex("00 00 00 14 70 6c 6f 63 00 00 00 00 20 00 00 00 01 80 01 2c")
 
 
-
 def refused(number):
     return ("refused", number)
 
