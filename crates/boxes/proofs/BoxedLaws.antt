@@ -15,36 +15,42 @@ use Rattle.boxes.proofs.HeaderLaws.{sized-fits, header-short, moved}
 use Rattle.boxes.proofs.NumberLaws.{length-bytesOf, number-bytesOf, bytesOf-joined}
 
 -- a header as we write it is one number
-pub front-bytes : (kind size : ℕ) → kind < 2 ^ 32 → bytesOf 8 ((8 + size) * 0x1_0000_0000 + kind) ≡ front kind size
+pub front-bytes : (kind n : ℕ) → kind < 2 ^ 32 → bytesOf 8 ((8 + n) * 0x1_0000_0000 + kind) ≡ front kind n
 unfolding front frontSize
-front-bytes kind size h = bytesOf-joined 4 4 (8 + size) kind h
+front-bytes kind n h = bytesOf-joined 4 4 (8 + n) kind h
 
-module _ (s : List ℕ) (at kind size : ℕ) where
-  -- a header whose size 4 bytes hold is written as its bytes are
-  pub header-stored : size ≤ 0xffff_ffff - 8 → (answer : Bool) (after : List ℕ) → Stores s at (front kind size) answer after → StoresHeader s at kind size answer after
+-- writing a header is storing its bytes where 4 bytes hold its size, and nothing where they do not
+module _ (s : List ℕ) (at kind n : ℕ) {answer : Bool} {after : List ℕ} where
+  pub header-stored : n ≤ 0xffff_ffff - 8 → Stores s at (front kind n) answer after → StoresHeader s at kind n answer after
   unfolding holds frontSize
-  header-stored h answer after stores =
-      let fits = lt-ltb (8 + size) (2 ^ 32) (omega arith) in
+  header-stored h stores =
+      let fits = lt-ltb (8 + n) (2 ^ 32) (omega arith) in
       record { room = rw fits (stores .room); left = rw fits (stores .left) }
 
-  pub header-unstored : 0xffff_ffff - 8 < size → StoresHeader s at kind size false s
-  unfolding holds frontSize
-  header-unstored h =
-      let large = le-ltb (8 + size) (2 ^ 32) (omega arith) in
-      record { room = rw large; left = rw large }
+  pub front-stored : frontSize + n < 2 ^ 32 → StoresHeader s at kind n answer after → Stores s at (front kind n) answer after
+  unfolding holds
+  front-stored h stores =
+      let fits = lt-ltb (frontSize + n) (2 ^ 32) h in
+      record { room = rw fits at (stores .room); left = rw fits at (stores .left) }
+
+pub header-unstored : (s : List ℕ) (at kind n : ℕ) → 0xffff_ffff - 8 < n → StoresHeader s at kind n false s
+unfolding holds frontSize
+header-unstored s at kind n h =
+    let large = le-ltb (8 + n) (2 ^ 32) (omega arith) in
+    record { room = rw large; left = rw large }
 
 -- how long a header and a box as we write them are
-pub length-front : (kind size : ℕ) → length (front kind size) ≡ frontSize
+pub length-front : (kind n : ℕ) → length (front kind n) ≡ frontSize
 unfolding front frontSize
-length-front kind size = simp (length-append, length-bytesOf)
+length-front kind n = simp (length-append, length-bytesOf)
 
 pub length-boxed : (kind : ℕ) (body : List ℕ) → length (boxed kind body) ≡ frontSize + length body
 unfolding boxed
 length-boxed kind body = rw (length-append, length-front)
 
--- a box that was written is read back: the box of that kind around that body
+-- a box that was written is read back: the box of that kind, at that place, with a body of n bytes
 abbrev pub written : ℕ → ℕ → ℕ → Box
-written at kind size = record { kind = kind; at = at; body = at + frontSize; end = at + (frontSize + size) }
+written at kind n = record { kind = kind; at = at; body = at + frontSize; end = at + (frontSize + n) }
 
 module _ (p q : List ℕ) (kind : ℕ) (body : List ℕ) where
   boxed-in : List ℕ

@@ -25,7 +25,7 @@ same-length c = search needs
 returns-2 : tie.Need-returns-2
 returns-2 c =
     let start = c .before .before .before .before .before .before in
-    header-stored _ _ _ _ (c .before .before .before .before .if1 .left) _ _
+    header-stored _ _ _ _ (c .before .before .before .before .if1 .left)
     (rw (front-bytes (start .args .kind) (start .args .n) (start .fits .kind .fits)) at (c .before .before .put-number .ensures))
 
 pub put-header-spec : {M : Type 1} → statement M

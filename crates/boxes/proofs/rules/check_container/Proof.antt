@@ -66,9 +66,8 @@ check-framing-requires c κs = tt
 returns-3 : tie.Need-returns-3 Inv-loop μ-loop
 unfolding kinds
 returns-3 c =
-    let at-loop = c .before .before in
-    let all : at-loop .loop .i ≡ 8 = omega arith in
-    c .check-framing .ensures ∙ sym (rw all at (at-loop .loop .inv .1))
+    let all : c .before .before .loop .i ≡ 8 = omega arith in
+    c .check-framing .ensures ∙ sym (rw all at (c .before .before .loop .inv .1))
 
 pub check-container-spec : {M : Type 1} → statement M
 check-container-spec =
