@@ -32,7 +32,7 @@ large s at end = do
   _ ← hold 2 (leb (at + 16) end)
   sized s at end 16 (number s (at + 8) 8)
 
--- a 32-bit size, then the type; size 1 means that a 64-bit size follows
+-- a 32-bit size, then the type; size 1 means that a 64-bit size follows. For `uuid` the sixteen extra bytes count as body
 unfoldable pub header : List ℕ → ℕ → ℕ → Answer Box
 header s at end = do
   _ ← hold 2 (leb (at + 8) end)
