@@ -1,0 +1,55 @@
+-- Laws of a test's two values, of `within`, and of what is said of a list: some or all pass a test, the largest.
+use Prim.Native.Nat.{ℕ, _+_, _≤_, _<_}
+use mathlib.Core.Bool.{Bool, true, false, _&&_, _||_, and-false, or-assoc, false≢true}
+use mathlib.Core.List.{List, [], _∷_, _++_, map}
+use mathlib.Core.Logic.{_⊎_, inl, inr}
+use mathlib.Core.Path.{_≡_, refl, sym, ap, _∙_}
+use native.Mathlib.Omega.{arith}
+use borrow.Author.Tests.{le-leb, lt-ltb, le-ltb}
+use lib.Dec.{T}
+use Rattle.partial.specs.Sequences.{someOf, allOf, largest, within}
+
+-- a test passes or fails
+pub which : (b : Bool) → (b ≡ true) ⊎ (b ≡ false)
+which true = inl refl
+which false = inr refl
+
+-- both of two tests pass where the one and the other does
+pub both : (a b : Bool) → (a && b) ≡ true → (a ≡ true) × (b ≡ true)
+both true b h = (refl, h)
+both false b h = (h, absurd (false≢true h))
+
+-- a test as a type
+pub passes : (b : Bool) → T b → b ≡ true
+passes true h = refl
+passes false h = absurd h
+
+-- what the tests of `within` decide
+module _ (first many n : ℕ) where
+  pub inside : first ≤ n → n < first + many → within first many n ≡ true
+  unfolding within
+  inside from to = simp (le-leb first n from, lt-ltb n (first + many) to)
+
+  pub past : first + many ≤ n → within first many n ≡ false
+  unfolding within
+  past h = simp (le-ltb n (first + many) h, and-false)
+
+module _ {A : Type 0} where
+  pub some-append : (test : A → Bool) (xs ys : List A) → someOf test (xs ++ ys) ≡ (someOf test xs || someOf test ys)
+  unfolding someOf
+  some-append test [] ys = refl
+  some-append test (x ∷ xs) ys = ap (λ b. test x || b) (some-append test xs ys) ∙ sym (or-assoc (test x) (someOf test xs) (someOf test ys))
+
+  -- the largest is at most n where each is, and no smaller of a longer list
+  pub largest-most : (of : A → ℕ) (test : A → Bool) (n : ℕ) → ((x : A) → test x ≡ true → of x ≤ n) → (xs : List A) → allOf test xs ≡ true
+      → largest (map of xs) ≤ n
+  unfolding allOf largest
+  largest-most of test n each [] h = omega arith
+  largest-most of test n each (x ∷ xs) h =
+      let (here, there) = both (test x) (allOf test xs) h in
+      omega (arith, each x here, largest-most of test n each xs there)
+
+  pub largest-append : (of : A → ℕ) (xs ys : List A) → largest (map of xs) ≤ largest (map of (xs ++ ys))
+  unfolding largest
+  largest-append of [] ys = omega arith
+  largest-append of (x ∷ xs) ys = omega (arith, largest-append of xs ys)
