@@ -2,4 +2,6 @@ pub mod DescribedLaws
 pub mod ListingLaws
 pub mod RangeLaws
 pub mod SequenceLaws
+pub mod ServingLaws
+pub mod StretchLaws
 pub mod SupplyLaws

@@ -5,7 +5,7 @@ use mathlib.Core.List.{List, [], _∷_, _++_, map}
 use mathlib.Core.Logic.{_⊎_, inl, inr}
 use mathlib.Core.Path.{_≡_, refl, sym, ap, _∙_}
 use native.Mathlib.Omega.{arith}
-use borrow.Author.Tests.{le-leb, lt-ltb, le-ltb}
+use borrow.Author.Tests.{le-leb, lt-ltb, le-ltb, leb-true, ltb-true}
 use lib.Dec.{T}
 use Rattle.partial.specs.Sequences.{someOf, allOf, largest, within}
 
@@ -33,6 +33,10 @@ module _ (first many n : ℕ) where
   pub past : first + many ≤ n → within first many n ≡ false
   unfolding within
   past h = simp (le-ltb n (first + many) h, and-false)
+
+  pub within-true : within first many n ≡ true → (first ≤ n) × (n < first + many)
+  unfolding within
+  within-true h = let (from, to) = both _ _ h in (leb-true _ _ from, ltb-true _ _ to)
 
 module _ {A : Type 0} where
   pub some-append : (test : A → Bool) (xs ys : List A) → someOf test (xs ++ ys) ≡ (someOf test xs || someOf test ys)

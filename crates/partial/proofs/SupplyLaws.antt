@@ -1,15 +1,15 @@
 -- Laws of supply: which chunk supplies a position, in a list of chunks and after segments are added.
 use Prim.Native.Nat.{ℕ, suc, zero, _+_, _-_, _≤_, _<_}
-use mathlib.Core.Bool.{Bool, true, false, _&&_, _||_, true≢false}
+use mathlib.Core.Bool.{Bool, true, false, _&&_, _||_}
 use mathlib.Core.List.{List, [], _∷_, _++_, append-assoc}
 use mathlib.Core.Logic.{inl, inr}
 use mathlib.Core.Option.{Option, none, some}
 use mathlib.Core.Path.{_≡_, refl, sym, ap, _∙_}
 use native.Mathlib.Decide.{decLe}
-use native.Mathlib.Nat.{add-sub-of-le, le-antisymm}
+use native.Mathlib.Nat.{add-sub-of-le}
 use native.Mathlib.Omega.{arith}
 use borrow.Author.Tests.{ltb-true, lt-ltb, eqb-true}
-use lib.Dec.{T, ltb, eqb, leb·suc-suc}
+use lib.Dec.{ltb, eqb, leb·suc-suc}
 use lib.ListN.{length, getD, length-append, List·getD-append}
 use lib.Seq.{getD-append-add}
 use Rattle.partial.specs.Sequences.{someOf}
@@ -17,6 +17,7 @@ use Rattle.partial.specs.Segments.{Chunk, noChunk, Segment, good, chunks
 use Rattle.partial.specs.Meaning.{covers, supplier, supplied, placeOfByte, served}
 use Rattle.partial.specs.Demands.{orElse}
 use Rattle.partial.proofs.SequenceLaws.{which, both, some-append}
+use Rattle.partial.proofs.StretchLaws.{First, first-one}
 
 -- whether a chunk is good and covers a position
 abbrev pub supplies : ℕ → Chunk → Bool
@@ -36,61 +37,51 @@ module _ (c : Chunk) (cs : List Chunk) (p : ℕ) where
   unfolding supplier
   supplier-on e = rw (supplier, e)
 
--- what the number of a supplier says: it is the first chunk that supplies the position, or past the end where none does
-pub record Supply (cs : List Chunk) (p n : ℕ) : Type 0 where
-  pub most : n ≤ length cs
-  pub does : n < length cs → supplies p (getD cs n noChunk) ≡ true
-  pub earlier : (k : ℕ) → k < n → supplies p (getD cs k noChunk) ≡ false
+-- a number is the supplier's: that of the first chunk that supplies the position, or of all chunks where none does
+abbrev pub Supply : List Chunk → ℕ → ℕ → Type 0
+Supply cs p = First true (λ k. supplies p (getD cs k noChunk)) (length cs)
 
 pub supply : (cs : List Chunk) (p : ℕ) → Supply cs p (supplier cs p)
-supply [] p = unfold supplier in record { most = omega arith; does = λ h. absurd (omega arith); earlier = λ k h. absurd (omega arith) }
+supply [] p = unfold supplier in record { most = omega arith; before = λ k h. absurd (omega arith); there = λ h. absurd (omega arith) }
 supply (c ∷ cs) p =
     let s = supply cs p in
     elim (which (supplies p c)) [
-      | inl e ↦ rw supplier-here (record { most = omega arith; does = λ _. e; earlier = λ k h. absurd (omega arith) })
+      | inl e ↦ rw supplier-here (record { most = omega arith; before = λ k h. absurd (omega arith); there = λ _. e })
       | inr e ↦
           rw supplier-on
           (record {
             most = omega arith;
-            does = λ h. s .does (omega arith);
-            earlier = elim [ zero ↦ λ _. e | suc k ↦ λ h. s .earlier k (omega arith) ];
+            before = elim [ zero ↦ λ _. e | suc k ↦ λ h. s .before k (omega arith) ];
+            there = λ h. s .there (omega arith);
           })
     ]
-
--- and it is the only number of which that holds
-supply-first : {cs : List Chunk} {p m n : ℕ} → Supply cs p m → Supply cs p n → m ≤ n
-supply-first {cs} {p} {m} {n} s t =
-    elim (decLe m n) [ yes h ↦ h | no d ↦ absurd (true≢false (sym (t .does (omega arith)) ∙ s .earlier n (omega arith))) ]
-
-pub supplier-is : (cs : List Chunk) (p n : ℕ) → Supply cs p n → supplier cs p ≡ n
-supplier-is cs p n s = le-antisymm (supply-first (supply cs p) s) (supply-first s (supply cs p))
 
 -- of two lists, one after the other: the first list's supplier if it has one, else the second's, counted on
 module _ (cs ds : List Chunk) (p : ℕ) where
   pub supplier-first : supplier cs p < length cs → supplier (cs ++ ds) p ≡ supplier cs p
   supplier-first h =
       let s = supply cs p in
-      supplier-is (cs ++ ds) p (supplier cs p)
-      (record {
+      let here : Supply (cs ++ ds) p (supplier cs p) = record {
         most = omega (arith, length-append cs ds);
-        does = λ _. rw List·getD-append (s .does h);
-        earlier = λ k l. rw (List·getD-append cs ds noChunk k (omega arith)) (s .earlier k l);
-      })
+        before = λ k l. rw (List·getD-append cs ds noChunk k (omega arith)) (s .before k l);
+        there = λ _. rw List·getD-append (s .there h);
+      } in
+      first-one (supply (cs ++ ds) p) here
 
   pub supplier-second : length cs ≤ supplier cs p → supplier (cs ++ ds) p ≡ length cs + supplier ds p
   supplier-second h =
       let s = supply cs p in
       let t = supply ds p in
-      supplier-is (cs ++ ds) p (length cs + supplier ds p)
-      (record {
+      let here : Supply (cs ++ ds) p (length cs + supplier ds p) = record {
         most = omega (arith, length-append cs ds);
-        does = λ l. rw getD-append-add (t .does (omega (arith, length-append cs ds)));
-        earlier = λ k l.
+        before = λ k l.
             elim (decLe (length cs) k) [
-              | yes past ↦ rw (add-sub-of-le past) at (rw (← (getD-append-add cs ds (k - length cs) noChunk)) at (t .earlier (k - length cs) (omega arith)))
-              | no short ↦ rw (List·getD-append cs ds noChunk k (omega arith)) (s .earlier k (omega arith))
+              | yes past ↦ rw (add-sub-of-le past) at (rw (← (getD-append-add cs ds (k - length cs) noChunk)) at (t .before (k - length cs) (omega arith)))
+              | no short ↦ rw (List·getD-append cs ds noChunk k (omega arith)) (s .before k (omega arith))
             ];
-      })
+        there = λ l. rw getD-append-add (t .there (omega (arith, length-append cs ds)));
+      } in
+      first-one (supply (cs ++ ds) p) here
 
 -- a position is supplied exactly if some chunk supplies it
 some-supplies : (cs : List Chunk) (p : ℕ) → ltb (supplier cs p) (length cs) ≡ someOf (supplies p) cs
@@ -147,16 +138,18 @@ served-from f ss p = byte-from f (chunksOf ss) p
 pub served-append : (f : List ℕ) (ss ts : List Segment) (p : ℕ) → served f (ss ++ ts) p ≡ orElse (served f ss p) (served f ts p)
 served-append f ss ts p = simp (served-from, chunks-append, byte-append)
 
--- of a supplied position
-module _ (ss : List Segment) (p : ℕ) (h : supplied ss p ≡ true) where
-  by-supplier : supplies p (getD (chunksOf ss) (supplier (chunksOf ss) p) noChunk) ≡ true
-  unfolding supplied
-  by-supplier = supply (chunksOf ss) p .does (ltb-true _ _ h)
+-- the chunk that supplies a position
+abbrev pub chunkFor : List Segment → ℕ → Chunk
+chunkFor ss p = getD (chunksOf ss) (supplier (chunksOf ss) p) noChunk
 
-  pub supplier-good : getD (chunksOf ss) (supplier (chunksOf ss) p) noChunk .state ≡ good
+-- of a supplied position it is good and covers it
+module _ (ss : List Segment) (p : ℕ) (h : supplied ss p ≡ true) where
+  by-supplier : supplies p (chunkFor ss p) ≡ true
+  unfolding supplied
+  by-supplier = supply (chunksOf ss) p .there (ltb-true _ _ h)
+
+  pub supplier-good : chunkFor ss p .state ≡ good
   supplier-good = eqb-true _ _ (both _ _ by-supplier .0)
 
-  pub supplier-covers : T (covers p (getD (chunksOf ss) (supplier (chunksOf ss) p) noChunk))
-  supplier-covers =
-      let c = getD (chunksOf ss) (supplier (chunksOf ss) p) noChunk in
-      rw (both (eqb (c .state) good) (covers p c) by-supplier .1) tt
+  pub supplier-covers : covers p (chunkFor ss p) ≡ true
+  supplier-covers = both (eqb (chunkFor ss p .state) good) (covers p (chunkFor ss p)) by-supplier .1
