@@ -1,5 +1,6 @@
 pub mod DescribedLaws
 pub mod ListingLaws
+pub mod MappedLaws
 pub mod RangeLaws
 pub mod SequenceLaws
 pub mod ServingLaws

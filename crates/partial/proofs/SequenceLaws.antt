@@ -1,12 +1,13 @@
 -- Laws of a test's two values, of `within`, and of what is said of a list: some or all pass a test, the largest.
-use Prim.Native.Nat.{ℕ, _+_, _≤_, _<_}
-use mathlib.Core.Bool.{Bool, true, false, _&&_, _||_, and-false, or-assoc, false≢true}
+use Prim.Native.Nat.{ℕ, zero, suc, _+_, _≤_, _<_}
+use mathlib.Core.Bool.{Bool, true, false, _&&_, _||_, and-false, and-assoc, or-assoc, false≢true}
 use mathlib.Core.List.{List, [], _∷_, _++_, map}
 use mathlib.Core.Logic.{_⊎_, inl, inr}
 use mathlib.Core.Path.{_≡_, refl, sym, ap, _∙_}
 use native.Mathlib.Omega.{arith}
 use borrow.Author.Tests.{le-leb, lt-ltb, le-ltb, leb-true, ltb-true}
 use lib.Dec.{T}
+use lib.ListN.{length, getD}
 use Rattle.partial.specs.Sequences.{someOf, allOf, largest, within}
 
 -- a test passes or fails
@@ -43,6 +44,29 @@ module _ {A : Type 0} where
   unfolding someOf
   some-append test [] ys = refl
   some-append test (x ∷ xs) ys = ap (λ b. test x || b) (some-append test xs ys) ∙ sym (or-assoc (test x) (someOf test xs) (someOf test ys))
+
+  pub all-append : (test : A → Bool) (xs ys : List A) → allOf test (xs ++ ys) ≡ (allOf test xs && allOf test ys)
+  unfolding allOf
+  all-append test [] ys = refl
+  all-append test (x ∷ xs) ys = ap (λ b. test x && b) (all-append test xs ys) ∙ sym (and-assoc (test x) (allOf test xs) (allOf test ys))
+
+  -- by number
+  pub some-at : (test : A → Bool) (d : A) (xs : List A) → someOf test xs ≡ true → (k : ℕ) × (k < length xs) × (test (getD xs k d) ≡ true)
+  unfolding someOf
+  some-at test d [] h = absurd (false≢true h)
+  some-at test d (x ∷ xs) h =
+      elim (which (test x)) [
+        | inl e ↦ (0, omega arith, e)
+        | inr e ↦
+            let (k, less, there) = some-at test d xs (rw e at h) in
+            (suc k, omega arith, there)
+      ]
+
+  pub all-at : (test : A → Bool) (d : A) (xs : List A) → allOf test xs ≡ true → (k : ℕ) → k < length xs → test (getD xs k d) ≡ true
+  unfolding allOf
+  all-at test d [] h k l = absurd (omega arith)
+  all-at test d (x ∷ xs) h zero l = both _ _ h .0
+  all-at test d (x ∷ xs) h (suc k) l = all-at test d xs (both (test x) _ h .1) k (omega arith)
 
   -- the largest is at most n where each is, and no smaller of a longer list
   pub largest-most : (of : A → ℕ) (test : A → Bool) (n : ℕ) → ((x : A) → test x ≡ true → of x ≤ n) → (xs : List A) → allOf test xs ≡ true

@@ -1,19 +1,20 @@
 -- What serving and asking say of a position, where the sizes agree and the chunks follow each other: the facts of document 01's "Serving".
-use Prim.Native.Nat.{ℕ, suc, _+_, _-_, _<_, _≤_}
+use Prim.Native.Nat.{ℕ, _+_, _-_, _<_, _≤_}
 use mathlib.Core.Bool.{Bool, true, false, not, true≢false}
-use mathlib.Core.List.{List, []}
-use mathlib.Core.Logic.{_⊎_, inl, inr, ⊎-elim}
+use mathlib.Core.List.{List}
+use mathlib.Core.Logic.{inl, inr, ⊎-elim}
 use mathlib.Core.Option.{some}
 use mathlib.Core.Path.{_≡_, refl, sym, ap, _∙_}
 use native.Mathlib.Decide.{decLe}
-use native.Mathlib.Nat.{add-zero, eq-or-lt-of-le, eq-zero-or-pos}
+use native.Mathlib.Nat.{eq-or-lt-of-le, eq-zero-or-pos}
 use native.Mathlib.Omega.{arith}
-use borrow.Author.Tests.{lt-ltb, le-ltb, ltb-true, ltb-false, eq-eqb, eqb-true, eqb-false, not-true, not-false}
-use lib.Dec.{T, ltb, eqb}
-use lib.ListN.{length, getD}
+use borrow.Author.Tests.{lt-ltb, le-ltb, eq-eqb, eqb-true, eqb-false, not-true, not-false}
+use lib.Dec.{eqb}
+use lib.ListN.{length, getD, length-take, length-drop}
+use lib.Seq.{getD-take, getD-drop}
 use Rattle.boxes.specs.Answer.{given}
-use Rattle.partial.specs.Segments.{noChunk, Segment, chunksOf}
-use Rattle.partial.specs.Meaning.{agree, describedLength, covers, supplier, supplied, onward, servedRun, missingRun, reply, servedFor, missingFor, notBelow}
+use Rattle.partial.specs.Segments.{Segment, chunksOf}
+use Rattle.partial.specs.Meaning.{agree, describedLength, covers, supplier, supplied, onward, servedRun, missingRun, reply, servedFor, notBelow, placeOfByte, served}
 use Rattle.partial.specs.Tables.{bytesIn, nowhere, servedPart}
 use Rattle.partial.specs.Demands.{Missing}
 use Rattle.partial.proofs.SequenceLaws.{within-true}
@@ -67,11 +68,23 @@ module _ (ss : List Segment) (p : ℕ) (supply : supplied ss p ≡ true) where
   same-chunk i h = eqb-true _ _ (onward-first ss _ p .before i h)
 
   -- and so lies inside it
-  in-chunk : (i : ℕ) → i < servedRun ss p → (chunkFor ss p .start ≤ p + i) × (p + i < chunkFor ss p .start + chunkFor ss p .size)
+  pub in-chunk : (i : ℕ) → i < servedRun ss p → (chunkFor ss p .start ≤ p + i) × (p + i < chunkFor ss p .start + chunkFor ss p .size)
   unfolding covers
   in-chunk i h =
       let e = same-chunk i h in
       within-true _ _ _ (rw e at (supplier-covers ss (p + i) (same-supplied (p + i) e)))
+
+  -- each byte of the part is the one that is served
+  place-on : (i : ℕ) → i < servedRun ss p → placeOfByte ss (p + i) ≡ placeOfByte ss p + i
+  unfolding placeOfByte
+  place-on i h =
+      let first = in-chunk 0 (omega arith) in
+      rw (placeOfByte, same-chunk i h) (omega arith)
+
+  pub served-part : (f : List ℕ) (i : ℕ) → i < servedRun ss p → served f ss (p + i) ≡ some (getD (bytesIn f (servedPart (given ss) p)) i 0)
+  unfolding served servedPart bytesIn
+  served-part f i h =
+      rw (served, same-supplied (p + i) (same-chunk i h), servedPart, supply) (rw (place-on i h, getD-take, getD-drop))
 
   module _ (agreed : agree ss ≡ true) (order : InOrder ss) where
     pub below : p < describedLength ss
@@ -90,6 +103,15 @@ module _ (ss : List Segment) (p : ℕ) (supply : supplied ss p ≡ true) where
           | inl end ↦ true≢false (sym (same-supplied (p + servedRun ss p) e) ∙ none-supplied ss agreed order (p + servedRun ss p) (omega arith))
           | inr short ↦ eqb-false _ _ (r .there short) e
         ]
+
+    -- the part is as long as the run, where the chunk lies in the file
+    pub served-long : (f : List ℕ) → chunkFor ss p .place + chunkFor ss p .size ≤ length f → length (bytesIn f (servedPart (given ss) p)) ≡ servedRun ss p
+    unfolding servedPart bytesIn placeOfByte
+    served-long f h =
+        let some = some-served in
+        let first = in-chunk 0 some in
+        let last = in-chunk (servedRun ss p - 1) (omega arith) in
+        rw (servedPart, supply) (simp (length-take, length-drop) (omega arith))
 
     pub served-told : reply ss p ≡ servedFor (servedRun ss p)
     unfolding reply
