@@ -2,6 +2,7 @@ pub mod DescribedLaws
 pub mod ListingLaws
 pub mod MappedLaws
 pub mod RangeLaws
+pub mod RunLaws
 pub mod SequenceLaws
 pub mod ServingLaws
 pub mod StretchLaws

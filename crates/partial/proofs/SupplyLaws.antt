@@ -29,11 +29,11 @@ byteFrom f [] p = none
 byteFrom f (c ∷ cs) p = elim (supplies p c) [ true ↦ some (getD f (c .place + (p - c .start)) 0) | false ↦ byteFrom f cs p ]
 
 module _ (c : Chunk) (cs : List Chunk) (p : ℕ) where
-  supplier-here : supplies p c ≡ true → supplier (c ∷ cs) p ≡ 0
+  pub supplier-here : supplies p c ≡ true → supplier (c ∷ cs) p ≡ 0
   unfolding supplier
   supplier-here e = rw (supplier, e)
 
-  supplier-on : supplies p c ≡ false → supplier (c ∷ cs) p ≡ suc (supplier cs p)
+  pub supplier-on : supplies p c ≡ false → supplier (c ∷ cs) p ≡ suc (supplier cs p)
   unfolding supplier
   supplier-on e = rw (supplier, e)
 
