@@ -1,4 +1,5 @@
 pub mod DescribedLaws
+pub mod GrownLaws
 pub mod ListingLaws
 pub mod MappedLaws
 pub mod RangeLaws

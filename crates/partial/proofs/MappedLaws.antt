@@ -13,7 +13,7 @@ use Rattle.partial.specs.Sequences.{allOf}
 use Rattle.partial.specs.Segments.{Chunk, noChunk, Segment, present, chunksOf}
 use Rattle.partial.specs.Heading.{Heading, boxAt}
 use Rattle.partial.specs.Entries.{mayLie}
-use Rattle.partial.specs.Meaning.{agree, supplier, supplied}
+use Rattle.partial.specs.Meaning.{agree, supplier, supplied, placeOfByte}
 use Rattle.partial.specs.Demands.{Serving, Mapped}
 use Rattle.partial.proofs.SequenceLaws.{both, passes, all-at, some-at}
 use Rattle.partial.proofs.SupplyLaws.{chunkFor, supply, supplier-good, supplier-covers}
@@ -40,44 +40,52 @@ in-box h place size may =
     let (kind, starts) = both (is pdat b) (leb (b .body) place) front in
     (k, less, kind, leb-true _ _ starts, leb-true _ _ ends)
 
-module _
-    (f : List ℕ)
-    (h : Heading)
-    (ss : List Segment)
-    (agreed : agree ss ≡ true)
-    (order : InOrder ss)
-    (lie : allOf (lies h) (chunksOf ss) ≡ true)
-    (inside : (k : ℕ) → k < length (h .boxes) → boxAt k (h .boxes) .end ≤ length f)
-  where
-    may-lie : (p : ℕ) → supplied ss p ≡ true → mayLie h (chunkFor ss p .place) (chunkFor ss p .size) ≡ true
-    unfolding supplied lies present
-    may-lie p e =
-        let room = in-chunk ss p e 0 (some-served ss p e agreed order) in
-        rw (supplier-good ss p e, lt-ltb 0 (chunkFor ss p .size) (omega arith)) at
-        (all-at (lies h) noChunk (chunksOf ss) lie (supplier (chunksOf ss) p) (ltb-true _ _ e))
+-- what reading has to give of an accepted file: sizes agree, chunks follow each other and lie in data boxes, and boxes lie in the file
+pub record Accepted (f : List ℕ) (h : Heading) (ss : List Segment) : Type 0 where
+  pub agreed : agree ss ≡ true
+  pub order : InOrder ss
+  pub lie : allOf (lies h) (chunksOf ss) ≡ true
+  pub inside : (k : ℕ) → k < length (h .boxes) → boxAt k (h .boxes) .end ≤ length f
 
-    serving : (p : ℕ) → supplied ss p ≡ true → Serving f h ss p
-    serving p e =
-        let held = in-box h (chunkFor ss p .place) (chunkFor ss p .size) (may-lie p e) in
-        let whole = inside (held .0) (held .1) in
-        record {
-          isGood = supplier-good ss p e;
-          covered = rw (supplier-covers ss p e) tt;
-          earliest = supply (chunksOf ss) p .before;
-          inData = held;
-          part = served-part ss p e f;
-          long = served-long ss p e agreed order f (omega arith);
-          sameChunk = same-chunk ss p e;
-          noLonger = no-longer ss p e agreed order;
-          notEmpty = some-served ss p e agreed order;
-          told = served-told ss p e agreed order;
-        }
+module _ (f : List ℕ) (h : Heading) (ss : List Segment) (ok : Accepted f h ss) where
+  may-lie : (p : ℕ) → supplied ss p ≡ true → mayLie h (chunkFor ss p .place) (chunkFor ss p .size) ≡ true
+  unfolding supplied lies present
+  may-lie p e =
+      let room = in-chunk ss p e 0 (some-served ss p e (ok .agreed) (ok .order)) in
+      rw (supplier-good ss p e, lt-ltb 0 (chunkFor ss p .size) (omega arith)) at
+      (all-at (lies h) noChunk (chunksOf ss) (ok .lie) (supplier (chunksOf ss) p) (ltb-true _ _ e))
 
-    pub mapped : Mapped f h ss
-    mapped =
-        record {
-          listing = listing ss agreed order;
-          serving = λ p e. serving p (passes _ e);
-          missing = missing f ss;
-          beyond = beyond ss;
-        }
+  serving : (p : ℕ) → supplied ss p ≡ true → Serving f h ss p
+  serving p e =
+      let held = in-box h (chunkFor ss p .place) (chunkFor ss p .size) (may-lie p e) in
+      let whole = ok .inside (held .0) (held .1) in
+      record {
+        isGood = supplier-good ss p e;
+        covered = rw (supplier-covers ss p e) tt;
+        earliest = supply (chunksOf ss) p .before;
+        inData = held;
+        part = served-part ss p e f;
+        long = served-long ss p e (ok .agreed) (ok .order) f (omega arith);
+        sameChunk = same-chunk ss p e;
+        noLonger = no-longer ss p e (ok .agreed) (ok .order);
+        notEmpty = some-served ss p e (ok .agreed) (ok .order);
+        told = served-told ss p e (ok .agreed) (ok .order);
+      }
+
+  pub mapped : Mapped f h ss
+  mapped =
+      record {
+        listing = listing ss (ok .agreed) (ok .order);
+        serving = λ p e. serving p (passes _ e);
+        missing = missing f ss;
+        beyond = beyond ss;
+      }
+
+  -- a served byte stands in the file
+  pub place-inside : (p : ℕ) → supplied ss p ≡ true → placeOfByte ss p < length f
+  unfolding placeOfByte
+  place-inside p e =
+      let s = serving p e in
+      let whole = ok .inside (s .inData .0) (s .inData .1) in
+      let room = in-chunk ss p e 0 (s .notEmpty) in
+      omega arith
