@@ -1,1 +1,11 @@
+pub mod DescribedLaws
 pub mod Determined
+pub mod GrownLaws
+pub mod ListingLaws
+pub mod MappedLaws
+pub mod RangeLaws
+pub mod RunLaws
+pub mod SequenceLaws
+pub mod ServingLaws
+pub mod StretchLaws
+pub mod SupplyLaws

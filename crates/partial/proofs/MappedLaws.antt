@@ -1,0 +1,91 @@
+-- Each source byte is served or listed missing as document 01 says, where the sizes agree, the chunks follow each other and lie in data boxes, and
+-- the boxes lie in the file.
+use Prim.Native.Nat.{ℕ, _+_, _≤_, _<_}
+use mathlib.Core.Bool.{Bool, true, not, _&&_, _||_}
+use mathlib.Core.List.{List}
+use mathlib.Core.Path.{_≡_}
+use native.Mathlib.Omega.{arith}
+use borrow.Author.Tests.{lt-ltb, ltb-true, leb-true}
+use lib.Dec.{leb, ltb}
+use lib.ListN.{length}
+use Rattle.boxes.specs.Kinds.{pdat, is}
+use Rattle.partial.specs.Sequences.{allOf}
+use Rattle.partial.specs.Segments.{Chunk, noChunk, Segment, present, chunksOf}
+use Rattle.partial.specs.Heading.{Heading, boxAt}
+use Rattle.partial.specs.Entries.{mayLie}
+use Rattle.partial.specs.Meaning.{agree, supplier, supplied, placeOfByte}
+use Rattle.partial.specs.Demands.{Serving, Mapped}
+use Rattle.partial.proofs.SequenceLaws.{both, passes, all-at, some-at}
+use Rattle.partial.proofs.SupplyLaws.{chunkFor, supply, supplier-good, supplier-covers}
+use Rattle.partial.proofs.DescribedLaws.{InOrder}
+use Rattle.partial.proofs.ListingLaws.{listing}
+use Rattle.partial.proofs.ServingLaws.{in-chunk, same-chunk, some-served, no-longer, served-part, served-long, served-told, missing, beyond}
+
+-- a present chunk that is not empty lies wholly in one `pdat` body
+unfoldable pub lies : Heading → Chunk → Bool
+lies h c = not (present (c .state) && ltb 0 (c .size)) || mayLie h (c .place) (c .size)
+
+-- what may lie in a file's data lies in a box of a number
+in-box : (h : Heading) (place size : ℕ) → mayLie h place size ≡ true
+    → (k : ℕ)
+    × (k < length (h .boxes))
+    × (is pdat (boxAt k (h .boxes)) ≡ true)
+    × (boxAt k (h .boxes) .body ≤ place)
+    × (place + size ≤ boxAt k (h .boxes) .end)
+unfolding mayLie boxAt
+in-box h place size may =
+    let (k, less, there) = some-at _ (record { kind = 0; at = 0; body = 0; end = 0 }) (h .boxes) may in
+    let b = boxAt k (h .boxes) in
+    let (front, ends) = both (is pdat b && leb (b .body) place) (leb (place + size) (b .end)) there in
+    let (kind, starts) = both (is pdat b) (leb (b .body) place) front in
+    (k, less, kind, leb-true _ _ starts, leb-true _ _ ends)
+
+-- what reading has to give of an accepted file: sizes agree, chunks follow each other and lie in data boxes, and boxes lie in the file
+pub record Accepted (f : List ℕ) (h : Heading) (ss : List Segment) : Type 0 where
+  pub agreed : agree ss ≡ true
+  pub order : InOrder ss
+  pub lie : allOf (lies h) (chunksOf ss) ≡ true
+  pub inside : (k : ℕ) → k < length (h .boxes) → boxAt k (h .boxes) .end ≤ length f
+
+module _ (f : List ℕ) (h : Heading) (ss : List Segment) (ok : Accepted f h ss) where
+  may-lie : (p : ℕ) → supplied ss p ≡ true → mayLie h (chunkFor ss p .place) (chunkFor ss p .size) ≡ true
+  unfolding supplied lies present
+  may-lie p e =
+      let room = in-chunk ss p e 0 (some-served ss p e (ok .agreed) (ok .order)) in
+      rw (supplier-good ss p e, lt-ltb 0 (chunkFor ss p .size) (omega arith)) at
+      (all-at (lies h) noChunk (chunksOf ss) (ok .lie) (supplier (chunksOf ss) p) (ltb-true _ _ e))
+
+  serving : (p : ℕ) → supplied ss p ≡ true → Serving f h ss p
+  serving p e =
+      let held = in-box h (chunkFor ss p .place) (chunkFor ss p .size) (may-lie p e) in
+      let whole = ok .inside (held .0) (held .1) in
+      record {
+        isGood = supplier-good ss p e;
+        covered = rw (supplier-covers ss p e) tt;
+        earliest = supply (chunksOf ss) p .before;
+        inData = held;
+        part = served-part ss p e f;
+        long = served-long ss p e (ok .agreed) (ok .order) f (omega arith);
+        sameChunk = same-chunk ss p e;
+        noLonger = no-longer ss p e (ok .agreed) (ok .order);
+        notEmpty = some-served ss p e (ok .agreed) (ok .order);
+        told = served-told ss p e (ok .agreed) (ok .order);
+      }
+
+  pub mapped : Mapped f h ss
+  mapped =
+      record {
+        listing = listing ss (ok .agreed) (ok .order);
+        serving = λ p e. serving p (passes _ e);
+        missing = missing f ss;
+        beyond = beyond ss;
+      }
+
+  -- a served byte stands in the file
+  pub place-inside : (p : ℕ) → supplied ss p ≡ true → placeOfByte ss p < length f
+  unfolding placeOfByte
+  place-inside p e =
+      let s = serving p e in
+      let whole = ok .inside (s .inData .0) (s .inData .1) in
+      let room = in-chunk ss p e 0 (s .notEmpty) in
+      omega arith

@@ -1,0 +1,83 @@
+-- Laws of a test's two values, of `within`, and of what is said of a list: some or all pass a test, the largest.
+use Prim.Native.Nat.{ℕ, zero, suc, _+_, _≤_, _<_}
+use mathlib.Core.Bool.{Bool, true, false, _&&_, _||_, and-false, and-assoc, or-assoc, false≢true}
+use mathlib.Core.List.{List, [], _∷_, _++_, map}
+use mathlib.Core.Logic.{_⊎_, inl, inr}
+use mathlib.Core.Path.{_≡_, refl, sym, ap, _∙_}
+use native.Mathlib.Omega.{arith}
+use borrow.Author.Tests.{le-leb, lt-ltb, le-ltb, leb-true, ltb-true}
+use lib.Dec.{T}
+use lib.ListN.{length, getD}
+use Rattle.partial.specs.Sequences.{someOf, allOf, largest, within}
+
+-- a test passes or fails
+pub which : (b : Bool) → (b ≡ true) ⊎ (b ≡ false)
+which true = inl refl
+which false = inr refl
+
+-- both of two tests pass where the one and the other does
+pub both : (a b : Bool) → (a && b) ≡ true → (a ≡ true) × (b ≡ true)
+both true b h = (refl, h)
+both false b h = (h, absurd (false≢true h))
+
+-- a test as a type
+pub passes : (b : Bool) → T b → b ≡ true
+passes true h = refl
+passes false h = absurd h
+
+-- what the tests of `within` decide
+module _ (first many n : ℕ) where
+  pub inside : first ≤ n → n < first + many → within first many n ≡ true
+  unfolding within
+  inside from to = simp (le-leb first n from, lt-ltb n (first + many) to)
+
+  pub past : first + many ≤ n → within first many n ≡ false
+  unfolding within
+  past h = simp (le-ltb n (first + many) h, and-false)
+
+  pub within-true : within first many n ≡ true → (first ≤ n) × (n < first + many)
+  unfolding within
+  within-true h = let (from, to) = both _ _ h in (leb-true _ _ from, ltb-true _ _ to)
+
+module _ {A : Type 0} where
+  pub some-append : (test : A → Bool) (xs ys : List A) → someOf test (xs ++ ys) ≡ (someOf test xs || someOf test ys)
+  unfolding someOf
+  some-append test [] ys = refl
+  some-append test (x ∷ xs) ys = ap (λ b. test x || b) (some-append test xs ys) ∙ sym (or-assoc (test x) (someOf test xs) (someOf test ys))
+
+  pub all-append : (test : A → Bool) (xs ys : List A) → allOf test (xs ++ ys) ≡ (allOf test xs && allOf test ys)
+  unfolding allOf
+  all-append test [] ys = refl
+  all-append test (x ∷ xs) ys = ap (λ b. test x && b) (all-append test xs ys) ∙ sym (and-assoc (test x) (allOf test xs) (allOf test ys))
+
+  -- by number
+  pub some-at : (test : A → Bool) (d : A) (xs : List A) → someOf test xs ≡ true → (k : ℕ) × (k < length xs) × (test (getD xs k d) ≡ true)
+  unfolding someOf
+  some-at test d [] h = absurd (false≢true h)
+  some-at test d (x ∷ xs) h =
+      elim (which (test x)) [
+        | inl e ↦ (0, omega arith, e)
+        | inr e ↦
+            let (k, less, there) = some-at test d xs (rw e at h) in
+            (suc k, omega arith, there)
+      ]
+
+  pub all-at : (test : A → Bool) (d : A) (xs : List A) → allOf test xs ≡ true → (k : ℕ) → k < length xs → test (getD xs k d) ≡ true
+  unfolding allOf
+  all-at test d [] h k l = absurd (omega arith)
+  all-at test d (x ∷ xs) h zero l = both _ _ h .0
+  all-at test d (x ∷ xs) h (suc k) l = all-at test d xs (both (test x) _ h .1) k (omega arith)
+
+  -- the largest is at most n where each is, and no smaller of a longer list
+  pub largest-most : (of : A → ℕ) (test : A → Bool) (n : ℕ) → ((x : A) → test x ≡ true → of x ≤ n) → (xs : List A) → allOf test xs ≡ true
+      → largest (map of xs) ≤ n
+  unfolding allOf largest
+  largest-most of test n each [] h = omega arith
+  largest-most of test n each (x ∷ xs) h =
+      let (here, there) = both (test x) (allOf test xs) h in
+      omega (arith, each x here, largest-most of test n each xs there)
+
+  pub largest-append : (of : A → ℕ) (xs ys : List A) → largest (map of xs) ≤ largest (map of (xs ++ ys))
+  unfolding largest
+  largest-append of [] ys = omega arith
+  largest-append of (x ∷ xs) ys = omega (arith, largest-append of xs ys)
