@@ -1,11 +1,13 @@
 pub mod DescribedLaws
 pub mod Determined
 pub mod GrownLaws
+pub mod HeadingAppendLaws
 pub mod ListingLaws
 pub mod MappedLaws
 pub mod RangeLaws
 pub mod RunLaws
 pub mod SequenceLaws
 pub mod ServingLaws
+pub mod StandsLaws
 pub mod StretchLaws
 pub mod SupplyLaws

@@ -1,0 +1,232 @@
+-- What is put behind a file changes nothing in its heading but the list of the file's boxes, which the new boxes follow.
+use Prim.Native.Nat.{ℕ, zero, suc, _+_, _-_, _*_, _/_, _%_, _≤_, _<_}
+use mathlib.Core.Bool.{Bool, true, false, not, _&&_}
+use mathlib.Core.List.{List, [], _∷_, _++_, map, append-nil}
+use mathlib.Core.Path.{_≡_, refl, sym, ap, ap₂, subst, _∙_}
+use native.Mathlib.Decide.{decLe}
+use native.Mathlib.Omega.{arith}
+use borrow.Author.Tests.{le-leb, leb-true, eqb-true}
+use lib.Dec.{leb, eqb, lit<}
+use lib.ListN.{length, getD, length-append, List·getD-append, List·getD-eq-default}
+use Rattle.boxes.specs.Answer.{Answer, refused, given, _>>=_, hold}
+use Rattle.boxes.specs.Numbers.{number}
+use Rattle.boxes.specs.Framing.{Box, boxesIn, boxesFrom, boxLimit}
+use Rattle.boxes.specs.Kinds.{ftyp, pfil, pfhd, surl, is, right, those, keeps}
+use Rattle.boxes.specs.declared.kinds.Kind.{Kind}
+use Rattle.boxes.proofs.AnswerLaws.{both-given, held, given-same}
+use Rattle.boxes.proofs.HeaderLaws.{header-inside, moved}
+use Rattle.boxes.proofs.ContainerLaws.{Filled, full, next, fills, boxes-kept, boxes-appended}
+use Rattle.boxes.proofs.KindLaws.{those-append}
+use Rattle.boxes.proofs.NumberLaws.{number-append}
+use Rattle.partial.specs.Limits.{fileLimit}
+use Rattle.partial.specs.Sequences.{someOf, allOf, stretch}
+use Rattle.partial.specs.Heading.{Part, boxAt, firstOf, ftypRight, brandsFrom, brands, brandRight, pfilRight, pfhdFormed, pfhdRight, text, url, mime, surlFormed, surlRight, Heading, heading}
+use Rattle.partial.proofs.SequenceLaws.{both}
+
+-- whether a box lies before a place
+abbrev pub lies : ℕ → Box → Bool
+lies end b = leb (b .body) (b .end) && leb (b .end) end
+
+pub lies-ends : (end : ℕ) (b : Box) → lies end b ≡ true → b .end ≤ end
+lies-ends end b h = leb-true (b .end) end (both (leb (b .body) (b .end)) (leb (b .end) end) h .1)
+
+-- the boxes of a container lie before its end
+filled-lie : {s : List ℕ} {end at : ℕ} {bs : List Box} → Filled s end at bs → allOf (lies end) bs ≡ true
+unfolding allOf
+filled-lie (full e) = refl
+filled-lie {s} {end} (next {at = at} {b = b} {bs = bs} short read rest) =
+    let box = header-inside s at end read in
+    rw (le-leb (b .body) (b .end) (box .whole), le-leb (b .end) end (box .ends)) (filled-lie rest)
+
+pub boxes-lie : (s : List ℕ) (start end : ℕ) (bs : List Box) → boxesIn s start end ≡ given bs → allOf (lies end) bs ≡ true
+unfolding boxesIn
+boxes-lie s start end bs h = filled-lie (fills s end boxLimit start h .boxes)
+
+-- so do those of a kind
+pub those-all : (k : Kind) (test : Box → Bool) (bs : List Box) → allOf test bs ≡ true → allOf test (those k bs) ≡ true
+unfolding those allOf
+those-all k test [] h = refl
+those-all k test (b ∷ bs) h = go (is k b) (both (test b) (allOf test bs) h .0) (those-all k test bs (both (test b) (allOf test bs) h .1))
+  where
+    go : (t : Bool) → test b ≡ true → allOf test (those k bs) ≡ true → allOf test (elim t [ true ↦ b ∷ those k bs | false ↦ those k bs ]) ≡ true
+    go true e r = rw e r
+    go false e r = r
+
+-- the box of a number that there is
+pub all-boxAt : (test : Box → Bool) (bs : List Box) (n : ℕ) → n < length bs → allOf test bs ≡ true → test (boxAt n bs) ≡ true
+unfolding boxAt allOf
+all-boxAt test [] n h all = absurd (omega arith)
+all-boxAt test (b ∷ bs) zero h all = both (test b) (allOf test bs) all .0
+all-boxAt test (b ∷ bs) (suc n) h all = all-boxAt test bs n (omega arith) (both (test b) (allOf test bs) all .1)
+
+-- a box of a kind is there
+pub is-there : (k : Kind) → 0 < k .code → (n : ℕ) (bs : List Box) → is k (boxAt n bs) ≡ true → n < length bs
+unfolding is boxAt
+is-there k some n bs h =
+    elim (decLe (length bs) n) [
+      | no there ↦ omega arith
+      | yes past ↦
+          let none : Box = record { kind = 0; at = 0; body = 0; end = 0 } in
+          let zero-kind : 0 ≡ k .code = eqb-true 0 (k .code) (rw (List·getD-eq-default bs none past) at h) in
+          absurd (omega arith)
+    ]
+
+pub boxAt-append : (bs cs : List Box) (n : ℕ) → n < length bs → boxAt n (bs ++ cs) ≡ boxAt n bs
+unfolding boxAt
+boxAt-append bs cs n h = List·getD-append bs cs (record { kind = 0; at = 0; body = 0; end = 0 }) n h
+
+-- a test that passes wherever another does and the box lies there
+pub all-kept : {A : Type 0} (t u v : A → Bool) → ((x : A) → t x ≡ true → u x ≡ true → v x ≡ true) → (xs : List A) → allOf t xs ≡ true → allOf u xs ≡ true → allOf v xs ≡ true
+unfolding allOf
+all-kept t u v each [] h l = refl
+all-kept t u v each (x ∷ xs) h l =
+    let (here, there) = both (t x) (allOf t xs) h in
+    let (lies-here, lies-there) = both (u x) (allOf u xs) l in
+    rw (each x here lies-here) (all-kept t u v each xs there lies-there)
+
+stretch-same : (t u : ℕ → Bool) (more at : ℕ) → ((i : ℕ) → at ≤ i → i < at + more → t i ≡ u i) → stretch t more at ≡ stretch u more at
+unfolding stretch
+stretch-same t u zero at same = refl
+stretch-same t u (suc more) at same =
+    ap₂ (λ (b : Bool) (n : ℕ). elim b as (λ _. ℕ) [ true ↦ suc n | false ↦ 0 ]) (same at (omega arith) (omega arith))
+    (stretch-same t u more (suc at) (λ i low high. same i (omega arith) (omega arith)))
+
+module _ (f g : List ℕ) where
+  text-kept : (at end : ℕ) → end ≤ length f → text (f ++ g) at end ≡ text f at end
+  unfolding text
+  text-kept at end h =
+      ap (λ (n : ℕ). record { place = at; size = n })
+      (stretch-same (λ i. not (eqb (getD (f ++ g) i 0) 0)) (λ i. not (eqb (getD f i 0) 0)) (end - at) at
+      (λ i low high. ap (λ (d : ℕ). not (eqb d 0)) (List·getD-append f g 0 i (omega arith))))
+
+  pub url-kept : (b : Box) → b .end ≤ length f → url (f ++ g) b ≡ url f b
+  unfolding url
+  url-kept b h = text-kept (b .body + 4) (b .end) h
+
+  pub mime-kept : (b : Box) → b .end ≤ length f → mime (f ++ g) b ≡ mime f b
+  unfolding mime
+  mime-kept b h = rw (url-kept b h) (text-kept (url f b .place + url f b .size + 1) (b .end) h)
+
+  surl-kept : (b : Box) → surlFormed f b ≡ true → lies (length f) b ≡ true → surlFormed (f ++ g) b ≡ true
+  unfolding surlFormed
+  surl-kept b h l =
+      let front = both (leb (b .body + 4) (b .end) && eqb (number f (b .body) 4) 0) _ h .0 in
+      let within : b .body + 4 ≤ b .end = leb-true (b .body + 4) (b .end) (both (leb (b .body + 4) (b .end)) (eqb (number f (b .body) 4) 0) front .0) in
+      let ends = lies-ends (length f) b l in
+      rw (number-append f g (b .body) 4 (omega arith), mime-kept b ends) h
+
+  pfhd-kept : (b : Box) → pfhdFormed f b ≡ true → lies (length f) b ≡ true → pfhdFormed (f ++ g) b ≡ true
+  unfolding pfhdFormed
+  pfhd-kept b h l =
+      let whole : b .body + 4 ≡ b .end = eqb-true _ _ (both (eqb (b .body + 4) (b .end)) _ h .0) in
+      let ends = lies-ends (length f) b l in
+      rw (number-append f g (b .body) 1 (omega arith)) h
+
+  brands-kept : (n at : ℕ) → at + 4 * n ≤ length f → brandsFrom (f ++ g) n at ≡ brandsFrom f n at
+  unfolding brandsFrom
+  brands-kept zero at h = refl
+  brands-kept (suc n) at h = ap₂ (λ (m : ℕ) (ms : List ℕ). m ∷ ms) (number-append f g at 4 (omega arith)) (brands-kept n (at + 4) (omega arith))
+
+module _ (f g : List ℕ) where
+  -- of `ftyp`: its brands
+  pub brand-kept : (b : Box) → b .body + 8 ≤ b .end → b .end ≤ length f → brands (f ++ g) b ≡ brands f b
+  unfolding brands
+  brand-kept b room ends = brands-kept f g ((b .end - b .body - 8) / 4) (b .body + 8) (omega arith)
+
+  -- of `pfil`: its boxes, which lie in it
+  pub pfhdRight-kept : (bs : List Box) → pfhdRight f bs ≡ true → allOf (lies (length f)) bs ≡ true → pfhdRight (f ++ g) bs ≡ true
+  unfolding pfhdRight right keeps firstOf
+  pfhdRight-kept bs h l =
+      let (one, formed) = both (right pfhd bs) (pfhdFormed f (firstOf pfhd bs)) h in
+      let single : length (those pfhd bs) ≡ 1 = eqb-true (length (those pfhd bs)) 1 one in
+      rw (one, pfhd-kept f g (firstOf pfhd bs) formed (all-boxAt (lies (length f)) (those pfhd bs) 0 (omega arith) (those-all pfhd (lies (length f)) bs l)))
+
+  pub surlRight-kept : (bs : List Box) → surlRight f bs ≡ true → allOf (lies (length f)) bs ≡ true → surlRight (f ++ g) bs ≡ true
+  unfolding surlRight
+  surlRight-kept bs h l =
+      let (some, formed) = both (right surl bs) (allOf (surlFormed f) (those surl bs)) h in
+      rw (some, all-kept (surlFormed f) (lies (length f)) (surlFormed (f ++ g)) (surl-kept f g) (those surl bs) formed (those-all surl (lies (length f)) bs l))
+
+-- more boxes, none of them of a kind, keep its rule
+pub right-kept : (k : Kind) (bs cs : List Box) → those k cs ≡ [] → right k (bs ++ cs) ≡ right k bs
+unfolding right
+right-kept k bs cs none = rw (those-append, none, append-nil)
+
+pub further-lie : (m n : ℕ) → m ≤ n → (bs : List Box) → allOf (lies m) bs ≡ true → allOf (lies n) bs ≡ true
+further-lie m n h bs l =
+    all-kept (lies m) (lies m) (lies n)
+    (λ b one two. rw (both (leb (b .body) (b .end)) (leb (b .end) m) one .0, le-leb (b .end) n (omega (arith, lies-ends m b one)))) bs l l
+
+-- what stages 1 to 11 test, of the heading that they give
+pub record Headed (f : List ℕ) (h : Heading) : Type 0 where
+  pub small : leb (length f) fileLimit ≡ true
+  pub boxes : boxesIn f 0 (length f) ≡ given (h .boxes)
+  pub ftyp : ftypRight (h .boxes) ≡ true
+  pub brand : brandRight f (h .boxes) ≡ true
+  pub pfil : pfilRight (h .boxes) ≡ true
+  pub inner : boxesIn f (boxAt 1 (h .boxes) .body) (boxAt 1 (h .boxes) .end) ≡ given (h .inner)
+  pub pfhd : pfhdRight f (h .inner) ≡ true
+  pub surl : surlRight f (h .inner) ≡ true
+
+module _ (f : List ℕ) (h : Heading) where
+  pub headed : heading f ≡ given h → Headed f h
+  unfolding heading
+  headed e =
+      let (small, e1) = held 1 (leb (length f) fileLimit) _ e in
+      let (bs, boxes, e2) = both-given (boxesIn f 0 (length f)) _ e1 in
+      let (ftyp, e7) = held 7 (ftypRight bs) _ e2 in
+      let (brand, e8) = held 8 (brandRight f bs) _ e7 in
+      let (pfil, e9) = held 9 (pfilRight bs) _ e8 in
+      let (is, inner, e6) = both-given (boxesIn f (boxAt 1 bs .body) (boxAt 1 bs .end)) _ e9 in
+      let (pfhd, e10) = held 10 (pfhdRight f is) _ e6 in
+      let (surl, e11) = held 11 (surlRight f is) _ e10 in
+      subst (Headed f) (given-same e11)
+      (record { small = small; boxes = boxes; ftyp = ftyp; brand = brand; pfil = pfil; inner = inner; pfhd = pfhd; surl = surl })
+
+  pub heading-of : Headed f h → heading f ≡ given h
+  unfolding heading
+  heading-of t = rw (t .small, t .boxes, t .ftyp, t .brand, t .pfil, t .inner, t .pfhd, t .surl)
+
+-- stages 1 to 11 of a file with more behind it
+module _ (f g : List ℕ) (h : Heading) (cs : List Box) where
+  abbrev pub longer : Heading
+  longer = record { boxes = h .boxes ++ map (moved (length f)) cs; inner = h .inner }
+
+  ftyp-first : Headed f h → (0 < length (h .boxes)) × (boxAt 0 (h .boxes) .body + 8 ≤ boxAt 0 (h .boxes) .end)
+  unfolding ftypRight
+  ftyp-first t =
+      let b = boxAt 0 (h .boxes) in
+      let (three, one) = both (is ftyp b && leb (b .body + 8) (b .end) && eqb ((b .end - b .body) % 4) 0) (right ftyp (h .boxes)) (t .ftyp) in
+      let (two, fours) = both (is ftyp b && leb (b .body + 8) (b .end)) (eqb ((b .end - b .body) % 4) 0) three in
+      let (kind, room) = both (is ftyp b) (leb (b .body + 8) (b .end)) two in
+      (is-there ftyp (lit< tt) 0 (h .boxes) kind, leb-true (b .body + 8) (b .end) room)
+
+  pfil-second : Headed f h → 1 < length (h .boxes)
+  unfolding pfilRight
+  pfil-second t = is-there pfil (lit< tt) 1 (h .boxes) (both (is pfil (boxAt 1 (h .boxes))) (right pfil (h .boxes)) (t .pfil) .0)
+
+  pub headed-appended : Headed f h → length (f ++ g) ≤ fileLimit
+      → boxesFrom g (length g) (boxLimit - length (h .boxes)) 0 ≡ given cs
+      → those ftyp (map (moved (length f)) cs) ≡ []
+      → those pfil (map (moved (length f)) cs) ≡ []
+      → Headed (f ++ g) longer
+  unfolding ftypRight brandRight pfilRight
+  headed-appended t fits new no-ftyp no-pfil =
+      let bs = h .boxes in
+      let ds = map (moved (length f)) cs in
+      let (first, room) = ftyp-first t in
+      let second = pfil-second t in
+      let lie = boxes-lie f 0 (length f) bs (t .boxes) in
+      let end-first = lies-ends (length f) (boxAt 0 bs) (all-boxAt (lies (length f)) bs 0 first lie) in
+      let end-second = lies-ends (length f) (boxAt 1 bs) (all-boxAt (lies (length f)) bs 1 second lie) in
+      let inner-lie = further-lie (boxAt 1 bs .end) (length f) end-second (h .inner) (boxes-lie f (boxAt 1 bs .body) (boxAt 1 bs .end) (h .inner) (t .inner)) in
+      record {
+        small = le-leb (length (f ++ g)) fileLimit fits;
+        boxes = boxes-appended f g (t .boxes) ∙ rw new;
+        ftyp = rw (boxAt-append bs ds 0 first, right-kept ftyp bs ds no-ftyp) (t .ftyp);
+        brand = rw (boxAt-append bs ds 0 first, brand-kept f g (boxAt 0 bs) room end-first) (t .brand);
+        pfil = rw (boxAt-append bs ds 1 second, right-kept pfil bs ds no-pfil) (t .pfil);
+        inner = rw (boxAt-append bs ds 1 second) (boxes-kept f g (boxAt 1 bs .end) end-second (boxAt 1 bs .body) ∙ t .inner);
+        pfhd = pfhdRight-kept f g (h .inner) (t .pfhd) inner-lie;
+        surl = surlRight-kept f g (h .inner) (t .surl) inner-lie;
+      }
