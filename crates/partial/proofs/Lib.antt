@@ -2,6 +2,7 @@ pub mod DescribedLaws
 pub mod Determined
 pub mod GrownLaws
 pub mod HeadingAppendLaws
+pub mod KeptLaws
 pub mod ListingLaws
 pub mod MappedLaws
 pub mod RangeLaws

@@ -1,0 +1,205 @@
+-- What is put behind a file changes no segment that was read from it: a segment is read from the bytes of its own box, and where a chunk
+-- may lie there it may lie in the longer file.
+use Prim.Native.Nat.{ℕ, zero, suc, _+_, _-_, _/_, _%_, _≤_, _<_}
+use mathlib.Core.Bool.{Bool, true, false, _&&_, _||_}
+use mathlib.Core.List.{List, [], _∷_, _++_}
+use mathlib.Core.Option.{Option, none, some}
+use mathlib.Core.Path.{_≡_, refl, sym, ap, subst, _∙_}
+use native.Mathlib.Omega.{arith}
+use borrow.Author.Tests.{leb-true, ltb-true, eqb-true}
+use lib.Dec.{leb, ltb, eqb, lit<}
+use lib.ListN.{length, getD, List·getD-append}
+use Rattle.boxes.specs.Answer.{Answer, refused, given, _>>=_, hold}
+use Rattle.boxes.specs.Numbers.{number, signed}
+use Rattle.boxes.specs.Framing.{Box, boxesIn}
+use Rattle.boxes.specs.Kinds.{pshd, ploc, surl, is, right, those, keeps}
+use Rattle.boxes.specs.declared.kinds.Kind.{Kind}
+use Rattle.boxes.proofs.AnswerLaws.{both-given, held, given-same}
+use Rattle.boxes.proofs.ContainerLaws.{boxes-kept}
+use Rattle.boxes.proofs.NumberLaws.{number-append}
+use Rattle.partial.specs.Limits.{chunkLimit}
+use Rattle.partial.specs.Sequences.{allOf}
+use Rattle.partial.specs.Segments.{Chunk, Segment, present, chunksOf}
+use Rattle.partial.specs.Heading.{Heading, boxAt, firstOf}
+use Rattle.partial.specs.Entries.{Ploc, Entry, plocHead, stateOf, entry, mayLie, moved, placeOf, chunksFrom}
+use Rattle.partial.specs.Reading.{Pshd, offsetWidth, pshdFields, pshdRight, segment, segmentsFrom}
+use Rattle.partial.proofs.SequenceLaws.{both}
+use Rattle.partial.proofs.HeadingAppendLaws.{lies, lies-ends, boxes-lie, those-all, all-boxAt, is-there, further-lie}
+
+-- the first box, if it is of a kind, is the first of that kind
+pub first-is : (k : Kind) → 0 < k .code → (bs : List Box) → is k (boxAt 0 bs) ≡ true → firstOf k bs ≡ boxAt 0 bs
+unfolding firstOf those boxAt
+first-is k coded [] h = refl
+first-is k coded (b ∷ bs) h = rw (h, those)
+
+-- what the step tests, of the boxes, the `ploc` and the chunks that it finds
+pub record Stepped (limit : ℕ) (f : List ℕ) (h : Heading) (before : List Segment) (b : Box) (inner : List Box) (l : Ploc) (cs : List Chunk) : Type 0 where
+  pub boxes : boxesIn f (b .body) (b .end) ≡ given inner
+  pub header : pshdRight f inner ≡ true
+  pub single : right ploc inner ≡ true
+  pub sourceless : eqb (length (those surl inner)) 0 ≡ true
+  pub head : plocHead f (firstOf ploc inner) ≡ given l
+  pub few : leb (length (chunksOf before) + l .count) chunkLimit ≡ true
+  pub low : leb (pshdFields f (firstOf pshd inner) .sourceOffset) limit ≡ true
+  pub chunks : chunksFrom limit f h (b .at) l (l .count) (l .first) (pshdFields f (firstOf pshd inner) .sourceOffset) ≡ given cs
+
+-- the segment that it then gives
+abbrev pub found : List ℕ → Box → List Box → List Chunk → Segment
+found f b inner cs =
+    record {
+      place = b .at;
+      sourceOffset = pshdFields f (firstOf pshd inner) .sourceOffset;
+      flags = pshdFields f (firstOf pshd inner) .flags;
+      repairTime = pshdFields f (firstOf pshd inner) .repairTime;
+      headerPlace = firstOf pshd inner .body;
+      headerLength = firstOf pshd inner .end - firstOf pshd inner .body;
+      chunks = cs;
+    }
+
+module _ (limit : ℕ) (f : List ℕ) (h : Heading) (before : List Segment) (b : Box) where
+  pub segment-of : {inner : List Box} {l : Ploc} {cs : List Chunk} → Stepped limit f h before b inner l cs → segment limit f h before b ≡ given (found f b inner cs)
+  unfolding segment
+  segment-of t = rw (t .boxes, t .header, t .single, t .sourceless, t .head, t .few, t .low, t .chunks)
+
+  pub stepped : {s : Segment} → segment limit f h before b ≡ given s
+      → (inner : List Box) × (l : Ploc) × (cs : List Chunk) × Stepped limit f h before b inner l cs × (found f b inner cs ≡ s)
+  unfolding segment
+  stepped e =
+      let (inner, boxes, e1) = both-given (boxesIn f (b .body) (b .end)) _ e in
+      let (header, e2) = held 14 (pshdRight f inner) _ e1 in
+      let (single, e3) = held 15 (right ploc inner) _ e2 in
+      let (sourceless, e4) = held 16 (eqb (length (those surl inner)) 0) _ e3 in
+      let (l, head, e5) = both-given (plocHead f (firstOf ploc inner)) _ e4 in
+      let (few, e6) = held 22 (leb (length (chunksOf before) + l .count) chunkLimit) _ e5 in
+      let start = pshdFields f (firstOf pshd inner) .sourceOffset in
+      let (low, e7) = held 23 (leb start limit) _ e6 in
+      let (cs, chunks, e8) = both-given (chunksFrom limit f h (b .at) l (l .count) (l .first) start) _ e7 in
+      (inner, l, cs, record { boxes = boxes; header = header; single = single; sourceless = sourceless; head = head; few = few; low = low; chunks = chunks }, given-same {a = found f b inner cs} e8)
+
+module _ (f g : List ℕ) where
+  -- the fields of a `pshd`
+  pub pshd-kept : (b : Box) → pshdFields f b .end ≤ length f → pshdFields (f ++ g) b ≡ pshdFields f b
+  unfolding pshdFields
+  pshd-kept b room =
+      let width = offsetWidth (number f (b .body) 1) in
+      rw (
+        number-append f g (b .body) 1 (omega arith),
+        number-append f g (b .body + 1) 3 (omega arith),
+        number-append f g (b .body + 4) width (omega arith),
+        number-append f g (b .body + 4 + width) 8 (omega arith),
+      )
+
+  pshdRight-kept : (bs : List Box) → allOf (lies (length f)) bs ≡ true → pshdRight f bs ≡ true
+      → (firstOf pshd bs ≡ boxAt 0 bs) × (pshdFields (f ++ g) (boxAt 0 bs) ≡ pshdFields f (boxAt 0 bs)) × (pshdRight (f ++ g) bs ≡ true)
+  unfolding pshdRight
+  pshdRight-kept bs l e =
+      let b = boxAt 0 bs in
+      let (two, whole) = both (is pshd b && right pshd bs) (eqb (pshdFields f b .end) (b .end)) e in
+      let (kind, single) = both (is pshd b) (right pshd bs) two in
+      let there = is-there pshd (lit< tt) 0 bs kind in
+      let end-inside = lies-ends (length f) b (all-boxAt (lies (length f)) bs 0 there l) in
+      let ends : pshdFields f b .end ≡ b .end = eqb-true (pshdFields f b .end) (b .end) whole in
+      let same = pshd-kept b (omega arith) in
+      (first-is pshd (lit< tt) bs kind, same, rw same e)
+
+  -- the head of a `ploc`
+  pub ploc-kept : (b : Box) (l : Ploc) → b .end ≤ length f → plocHead f b ≡ given l → (plocHead (f ++ g) b ≡ given l) × (l .end ≡ b .end)
+  unfolding plocHead
+  ploc-kept b l ends e =
+      let (head, e1) = held 17 (leb (b .body + 9) (b .end) && eqb (number f (b .body) 4) 0) _ e in
+      let room : b .body + 9 ≤ b .end = leb-true (b .body + 9) (b .end) (both (leb (b .body + 9) (b .end)) (eqb (number f (b .body) 4) 0) head .0) in
+      let widths = number f (b .body + 4) 1 in
+      let (known, e2) = held 18 (leb (widths / 16) 8 && leb (widths % 16) 8) _ e1 in
+      let (own, e3) = held 19 (eqb (number f (b .body + 5) 2) 0) _ e2 in (
+        rw (
+          number-append f g (b .body) 4 (omega arith),
+          number-append f g (b .body + 4) 1 (omega arith),
+          number-append f g (b .body + 5) 2 (omega arith),
+          number-append f g (b .body + 7) 2 (omega arith),
+        ) e,
+        ap (λ (p : Ploc). p .end) (sym (given-same e3)),
+      )
+
+  entry-kept : (l : Ploc) (at : ℕ) (x : Entry) → l .end ≤ length f → entry f l at ≡ given x → entry (f ++ g) l at ≡ given x
+  unfolding entry
+  entry-kept l at x ends e =
+      let (more, e1) = held 17 (ltb at (l .end)) _ e in
+      let inside = ltb-true at (l .end) more in
+      let (s, read, e2) = both-given (stateOf (getD f at 0)) _ e1 in
+      let width : ℕ = elim (present s) [ true ↦ l .offsetSize | false ↦ 0 ] in
+      let (fits, e3) = held 17 (leb (at + 1 + l .lengthSize + width) (l .end)) _ e2 in
+      let room = leb-true (at + 1 + l .lengthSize + width) (l .end) fits in
+      rw (more, List·getD-append f g 0 at (omega arith), read, fits, number-append f g (at + 1) (l .lengthSize) (omega arith), number-append f g (at + 1 + l .lengthSize) width (omega arith)) e3
+
+  -- where a chunk may lie, it may lie in the longer file
+  module _ (h k : Heading) (grows : (place size : ℕ) → mayLie h place size ≡ true → mayLie k place size ≡ true) where
+    place-kept : (pseg : ℕ) (x : Entry) (p : ℕ) → placeOf h pseg x ≡ given p → placeOf k pseg x ≡ given p
+    unfolding placeOf
+    place-kept pseg x p = by-test (present (x .state) && ltb 0 (x .size))
+      where
+        by-offset : (o : Option ℕ)
+            → _≡_ {A = Answer ℕ} (elim o [ none ↦ refused 24 | some place ↦ hold 24 (mayLie h place (x .size)) >>= λ _. given place ]) (given p)
+            → _≡_ {A = Answer ℕ} (elim o [ none ↦ refused 24 | some place ↦ hold 24 (mayLie k place (x .size)) >>= λ _. given place ]) (given p)
+        by-offset none e = e
+        by-offset (some place) e =
+            let (lies-there, e1) = held 24 (mayLie h place (x .size)) _ e in
+            rw (grows place (x .size) lies-there) e1
+
+        by-test : (t : Bool)
+            → _≡_ {A = Answer ℕ} (elim t [
+              | true ↦ elim (moved pseg (x .offset)) [ none ↦ refused 24 | some place ↦ hold 24 (mayLie h place (x .size)) >>= λ _. given place ]
+              | false ↦ given 0
+            ]) (given p)
+            → _≡_ {A = Answer ℕ} (elim t [
+              | true ↦ elim (moved pseg (x .offset)) [ none ↦ refused 24 | some place ↦ hold 24 (mayLie k place (x .size)) >>= λ _. given place ]
+              | false ↦ given 0
+            ]) (given p)
+        by-test true e = by-offset (moved pseg (x .offset)) e
+        by-test false e = e
+
+    chunks-kept : (limit pseg : ℕ) (l : Ploc) → l .end ≤ length f → (more at start : ℕ) (cs : List Chunk)
+        → chunksFrom limit f h pseg l more at start ≡ given cs
+        → chunksFrom limit (f ++ g) k pseg l more at start ≡ given cs
+    unfolding chunksFrom
+    chunks-kept limit pseg l ends zero at start cs e = e
+    chunks-kept limit pseg l ends (suc more) at start cs e =
+        let (x, read, e1) = both-given (entry f l at) _ e in
+        let (low, e2) = held 23 (leb (start + x .size) limit) _ e1 in
+        let (p, place, e3) = both-given (placeOf h pseg x) _ e2 in
+        let (rest, others, e4) = both-given (chunksFrom limit f h pseg l more (x .next) (start + x .size)) _ e3 in
+        rw (entry-kept l at x ends read, low, place-kept pseg x p place, chunks-kept limit pseg l ends more (x .next) (start + x .size) rest others) e4
+
+    pub segment-kept : (limit : ℕ) (before : List Segment) (b : Box) (s : Segment) → b .end ≤ length f
+        → segment limit f h before b ≡ given s
+        → segment limit (f ++ g) k before b ≡ given s
+    unfolding right keeps firstOf
+    segment-kept limit before b s ends e =
+        let (inner, l, cs, t, same) = stepped limit f h before b e in
+        let lie = further-lie (b .end) (length f) ends inner (boxes-lie f (b .body) (b .end) inner (t .boxes)) in
+        let (first, fields, header) = pshdRight-kept inner lie (t .header) in
+        let one : length (those ploc inner) ≡ 1 = eqb-true (length (those ploc inner)) 1 (t .single) in
+        let ploc-ends = lies-ends (length f) (firstOf ploc inner) (all-boxAt (lies (length f)) (those ploc inner) 0 (omega arith) (those-all ploc (lies (length f)) inner lie)) in
+        let (head, end-same) = ploc-kept (firstOf ploc inner) l ploc-ends (t .head) in
+        let same-fields : pshdFields (f ++ g) (firstOf pshd inner) ≡ pshdFields f (firstOf pshd inner) = rw first fields in
+        let there : Stepped limit (f ++ g) k before b inner l cs = record {
+          boxes = boxes-kept f g (b .end) ends (b .body) ∙ t .boxes;
+          header = header;
+          single = t .single;
+          sourceless = t .sourceless;
+          head = head;
+          few = t .few;
+          low = rw same-fields (t .low);
+          chunks = rw same-fields (chunks-kept limit (b .at) l (omega arith) (l .count) (l .first) (pshdFields f (firstOf pshd inner) .sourceOffset) cs (t .chunks));
+        } in
+        segment-of limit (f ++ g) k before b there ∙ rw same-fields (ap given same)
+
+    -- the segments of boxes that lie in the file
+    pub segments-kept : (limit : ℕ) (bs : List Box) (before ss : List Segment) → allOf (lies (length f)) bs ≡ true
+        → segmentsFrom limit f h before bs ≡ given ss
+        → segmentsFrom limit (f ++ g) k before bs ≡ given ss
+    unfolding segmentsFrom allOf
+    segments-kept limit [] before ss l e = e
+    segments-kept limit (b ∷ bs) before ss l e =
+        let (s, read, e1) = both-given (segment limit f h before b) _ e in
+        let (here, there) = both (lies (length f) b) (allOf (lies (length f)) bs) l in
+        rw (segment-kept limit before b s (lies-ends (length f) b here) read) (segments-kept limit bs (before ++ (s ∷ [])) ss there e1)
