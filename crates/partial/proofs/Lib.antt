@@ -1,5 +1,6 @@
 pub mod DescribedLaws
 pub mod Determined
+pub mod EntriesBackLaws
 pub mod GrownLaws
 pub mod HeadingAppendLaws
 pub mod KeptLaws
