@@ -1,6 +1,7 @@
 pub mod DescribedLaws
 pub mod Determined
 pub mod EntriesBackLaws
+pub mod FieldsBackLaws
 pub mod GrownLaws
 pub mod HeadingAppendLaws
 pub mod KeptLaws

@@ -1,0 +1,145 @@
+-- The bodies of `pshd` and `ploc` as we write them read back: the fields, and the head with the widths that hold every size and offset.
+use Prim.Native.Nat.{ℕ, zero, suc, _+_, _-_, _*_, _/_, _%_, _^_, _≤_, _<_}
+use mathlib.Core.Bool.{Bool, true, false, _&&_}
+use mathlib.Core.List.{List, [], _∷_, _++_, map}
+use mathlib.Core.Logic.{inl, inr}
+use mathlib.Core.Path.{_≡_, refl, sym, ap, _∙_}
+use native.Mathlib.Omega.{arith}
+use borrow.Author.Tests.{le-leb, lt-ltb, eq-eqb, ltb-true}
+use lib.Dec.{leb, eqb, lit<}
+use lib.ListN.{length, length-append}
+use Rattle.boxes.specs.Answer.{Answer, given, _>>=_, hold}
+use Rattle.boxes.specs.Numbers.{number, bytesOf, holds, holdsOffset, leastWidth}
+use Rattle.boxes.specs.Framing.{Box}
+use Rattle.boxes.proofs.NumberLaws.{length-bytesOf}
+use Rattle.boxes.proofs.WidthLaws.{leastWidth-within, leastWidth-passes}
+use Rattle.partial.specs.Sequences.{allOf, sum}
+use Rattle.partial.specs.Segments.{present}
+use Rattle.partial.specs.Entries.{Ploc, plocHead}
+use Rattle.partial.specs.Reading.{Pshd, offsetWidth, pshdFields}
+use Rattle.partial.specs.Writing.{versionAndFlags, Item, items, Addition, flagsFor, dataSize, offsetOf, offsets, lengthSize, offsetSize, entryBytes, plocBody, versionFor, pshdBody}
+use Rattle.partial.proofs.SequenceLaws.{which}
+use Rattle.partial.proofs.StandsLaws.{Stands, stands-byte, stands-tail, stands-left, stands-right, stands-number}
+
+-- ---- `pshd`
+
+-- the writer's version has room for the offset
+version-holds : (offset : ℕ) → offset < 2 ^ 64 → offset < 256 ^ offsetWidth (versionFor offset)
+unfolding versionFor offsetWidth holds
+version-holds offset h = go (holds 4 offset) refl
+  where
+    go : (t : Bool) → holds 4 offset ≡ t → offset < 256 ^ offsetWidth (elim t [ true ↦ 0 | false ↦ 1 ])
+    go true e = ltb-true offset (256 ^ 4) e
+    go false e = h
+
+flags-hold : (last : Bool) → flagsFor last < 256 ^ 3
+flags-hold true = lit< tt
+flags-hold false = lit< tt
+
+pub length-pshd : (a : Addition) → length (pshdBody a) ≡ 4 + offsetWidth (versionFor (a .sourceOffset)) + 8
+unfolding pshdBody
+length-pshd a = simp (length-append, length-bytesOf) (omega arith)
+
+pub fields-back : (g : List ℕ) (b : Box) (a : Addition) → Stands g (b .body) (pshdBody a) → a .sourceOffset < 2 ^ 64 → a .repairTime < 2 ^ 64
+    → pshdFields g b ≡ record { flags = flagsFor (a .last); sourceOffset = a .sourceOffset; repairTime = a .repairTime; end = b .body + length (pshdBody a) }
+unfolding pshdFields pshdBody
+fields-back g b a stands low time =
+    let version = versionFor (a .sourceOffset) in
+    let width = offsetWidth version in
+    let at = b .body in
+    let flags = bytesOf 3 (flagsFor (a .last)) in
+    let offset = bytesOf width (a .sourceOffset) in
+    let repair = bytesOf 8 (a .repairTime) in
+    let after-version : Stands g (at + 1) (flags ++ (offset ++ repair)) = stands-tail g at version (flags ++ (offset ++ repair)) stands in
+    let four : at + 1 + length flags ≡ at + 4 = rw length-bytesOf (omega arith) in
+    let after-flags : Stands g (at + 4) (offset ++ repair) = rw four at (stands-right g (at + 1) flags (offset ++ repair) after-version) in
+    let after-offset : Stands g (at + 4 + width) repair = rw (length-bytesOf width (a .sourceOffset)) at (stands-right g (at + 4) offset repair after-flags) in
+    let long = length-pshd a in
+    let end-same : at + 4 + width + 8 ≡ at + length (pshdBody a) = omega arith in
+    rw (
+      stands-byte g at version (flags ++ (offset ++ repair)) stands,
+      stands-number g (at + 1) 3 (flagsFor (a .last)) (flags-hold (a .last)) (stands-left g (at + 1) flags (offset ++ repair) after-version),
+      stands-number g (at + 4) width (a .sourceOffset) (version-holds (a .sourceOffset) low) (stands-left g (at + 4) offset repair after-flags),
+      stands-number g (at + 4 + width) 8 (a .repairTime) time after-offset,
+      end-same,
+    )
+
+-- ---- `ploc`
+
+-- what is read from the head of a `ploc` with such a body
+abbrev pub plocOf : Box → List Item → Ploc
+plocOf b is = record { lengthSize = lengthSize is; offsetSize = offsetSize is; count = length is; first = b .body + 9; end = b .end }
+
+length-ploc : (is : List Item) → length (plocBody is) ≡ 9 + length (entryBytes (lengthSize is) (offsetSize is) is)
+unfolding plocBody
+length-ploc is = simp (length-append, length-bytesOf) (omega arith)
+
+width-length : (is : List Item) → lengthSize is ≤ 8
+unfolding lengthSize
+width-length is = leastWidth-within (λ w. allOf (λ i. holds w (i .size)) is)
+
+width-offset : (is : List Item) → offsetSize is ≤ 8
+unfolding offsetSize
+width-offset is = leastWidth-within (λ w. allOf (holdsOffset w) (offsets is))
+
+pub head-back : (g : List ℕ) (b : Box) (is : List Item) → Stands g (b .body) (plocBody is) → b .body + length (plocBody is) ≡ b .end → length is < 2 ^ 16
+    → (plocHead g b ≡ given (plocOf b is))
+    × Stands g (b .body + 9) (entryBytes (lengthSize is) (offsetSize is) is)
+    × (b .body + 9 + length (entryBytes (lengthSize is) (offsetSize is) is) ≡ b .end)
+unfolding plocHead plocBody
+head-back g b is stands ends few =
+    let l = lengthSize is in
+    let o = offsetSize is in
+    let at = b .body in
+    let widths : ℕ = l * 16 + o in
+    let entries = entryBytes l o is in
+    let count = bytesOf 2 (length is) in
+    let index = bytesOf 2 0 in
+    let long = length-ploc is in
+    let wide-length = width-length is in
+    let wide-offset = width-offset is in
+    let high : widths / 16 ≡ l = omega arith in
+    let lower : widths % 16 ≡ o = omega arith in
+    let after-flags : Stands g (at + 4) (widths ∷ (index ++ (count ++ entries))) = rw length-bytesOf at (stands-right g at versionAndFlags (widths ∷ (index ++ (count ++ entries))) stands) in
+    let five : at + 4 + 1 ≡ at + 5 = omega arith in
+    let after-widths : Stands g (at + 5) (index ++ (count ++ entries)) = rw five at (stands-tail g (at + 4) widths (index ++ (count ++ entries)) after-flags) in
+    let seven : at + 5 + length index ≡ at + 7 = rw length-bytesOf (omega arith) in
+    let after-index : Stands g (at + 7) (count ++ entries) = rw seven at (stands-right g (at + 5) index (count ++ entries) after-widths) in
+    let nine : at + 7 + length count ≡ at + 9 = rw length-bytesOf (omega arith) in (
+      rw (
+        le-leb (at + 9) (b .end) (omega arith),
+        stands-number g at 4 0 (lit< tt) (stands-left g at versionAndFlags (widths ∷ (index ++ (count ++ entries))) stands),
+        stands-byte g (at + 4) widths (index ++ (count ++ entries)) after-flags,
+        high,
+        lower,
+        le-leb l 8 wide-length,
+        le-leb o 8 wide-offset,
+        stands-number g (at + 5) 2 0 (lit< tt) (stands-left g (at + 5) index (count ++ entries) after-widths),
+        stands-number g (at + 7) 2 (length is) few (stands-left g (at + 7) count entries after-index),
+      ),
+      rw nine at (stands-right g (at + 7) count entries after-index),
+      omega arith,
+    )
+
+-- eight bytes hold every size that has its end below 2 to the 64, and every offset of a file's data
+sizes-eight : (is : List Item) → sum (map (λ i. i .size) is) < 2 ^ 64 → allOf (λ i. holds 8 (i .size)) is ≡ true
+unfolding allOf sum holds
+sizes-eight [] h = refl
+sizes-eight (i ∷ is) h = rw (lt-ltb (i .size) (256 ^ 8) (omega arith)) (sizes-eight is (omega arith))
+
+offsets-eight : (is : List Item) → dataSize is < 2 ^ 63 → allOf (holdsOffset 8) (offsets is) ≡ true
+unfolding allOf offsets holdsOffset offsetOf dataSize sum
+offsets-eight [] h = refl
+offsets-eight (i ∷ is) h =
+    elim (which (present (i .state))) [
+      | inl e ↦ rw (offsets, e, allOf, le-leb (2 * dataSize (i ∷ is)) (256 ^ 8) (omega arith)) (offsets-eight is (omega arith))
+      | inr e ↦ rw (offsets, e) (offsets-eight is (omega arith))
+    ]
+
+pub sizes-held : (is : List Item) → sum (map (λ i. i .size) is) < 2 ^ 64 → allOf (λ i. holds (lengthSize is) (i .size)) is ≡ true
+unfolding lengthSize
+sizes-held is h = leastWidth-passes (λ w. allOf (λ i. holds w (i .size)) is) (sizes-eight is h)
+
+pub offsets-held : (is : List Item) → dataSize is < 2 ^ 63 → allOf (holdsOffset (offsetSize is)) (offsets is) ≡ true
+unfolding offsetSize
+offsets-held is h = leastWidth-passes (λ w. allOf (holdsOffset w) (offsets is)) (offsets-eight is h)
