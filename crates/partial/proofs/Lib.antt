@@ -1,3 +1,4 @@
+pub mod AddedBoxesLaws
 pub mod DescribedLaws
 pub mod Determined
 pub mod EntriesBackLaws
@@ -7,6 +8,7 @@ pub mod HeadingAppendLaws
 pub mod KeptLaws
 pub mod ListingLaws
 pub mod MappedLaws
+pub mod NewSegmentLaws
 pub mod RangeLaws
 pub mod RunLaws
 pub mod SequenceLaws

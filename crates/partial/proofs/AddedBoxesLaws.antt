@@ -1,0 +1,132 @@
+-- The boxes that append adds: which they are in the longer file, of which kinds, and that the new data may lie in the new `pdat`.
+use Prim.Native.Nat.{ℕ, zero, suc, _+_, _-_, _^_, _≤_, _<_}
+use mathlib.Core.Bool.{Bool, true, false, _&&_, _||_, or-true, true≢false}
+use mathlib.Core.List.{List, [], _∷_, _++_, map}
+use mathlib.Core.Logic.{inl, inr}
+use mathlib.Core.Path.{_≡_, refl, sym, ap, ap₂, _∙_}
+use native.Mathlib.Nat.{add-zero, add-assoc}
+use native.Mathlib.Omega.{arith}
+use borrow.Author.Tests.{le-leb, eqb-true}
+use lib.Dec.{leb, eqb, lit<}
+use lib.ListN.{length, length-append}
+use Rattle.boxes.specs.Answer.{Answer, given, _>>=_}
+use Rattle.boxes.specs.Framing.{Box, frontSize, boxed, boxesFrom}
+use Rattle.boxes.specs.Kinds.{ftyp, pfil, pseg, pshd, ploc, pdat, is, those}
+use Rattle.boxes.specs.declared.kinds.Kind.{Kind}
+use Rattle.boxes.proofs.HeaderLaws.{moved}
+use Rattle.boxes.proofs.BoxedLaws.{written, length-boxed, boxed-alone, boxed-then}
+use Rattle.partial.specs.Sequences.{someOf, sum}
+use Rattle.partial.specs.Segments.{present}
+use Rattle.partial.specs.Heading.{Heading}
+use Rattle.partial.specs.Entries.{mayLie}
+use Rattle.partial.specs.Writing.{Item, items, Addition, dataSize, dataRight, anyPresent, dataBox, addedBoxes, pshdBody, plocBody, added}
+use Rattle.partial.proofs.SequenceLaws.{which, some-append}
+
+-- the body of the new `pseg`
+abbrev pub segBody : Addition → List ℕ
+segBody a = boxed (pshd .code) (pshdBody a) ++ boxed (ploc .code) (plocBody (items (a .list)))
+
+-- a box as we write it, so many bytes further on
+pub moved-written : (n at kind len : ℕ) → moved n (written at kind len) ≡ written (n + at) kind len
+moved-written n at kind len = simp add-assoc
+
+-- the box with the data, at a place, if there is one
+abbrev dataBoxes : Bool → ℕ → ℕ → List Box
+dataBoxes there at len = elim there [ true ↦ written at (pdat .code) len ∷ [] | false ↦ [] ]
+
+module _ (bytes body : List ℕ) where
+  abbrev dataPart : Bool → List ℕ
+  dataPart there = elim there [ true ↦ boxed (pdat .code) bytes | false ↦ [] ]
+
+  boxes-part : (there : Bool) (left : ℕ) → (elim there [ true ↦ 2 | false ↦ 1 ]) ≤ left → length (dataPart there ++ boxed (pseg .code) body) < 2 ^ 32
+      → boxesFrom (dataPart there ++ boxed (pseg .code) body) (length (dataPart there ++ boxed (pseg .code) body)) left 0
+      ≡ given (dataBoxes there 0 (length bytes) ++ (written (length (dataPart there)) (pseg .code) (length body) ∷ []))
+  boxes-part true zero room fits = absurd (omega arith)
+  boxes-part true (suc zero) room fits = absurd (omega arith)
+  boxes-part true (suc (suc more)) room fits =
+      let size = simp (length-append, length-boxed) at fits in
+      boxed-then (pdat .code) bytes (lit< tt) (omega arith) (boxed (pseg .code) body) (suc more)
+      ∙ rw (boxed-alone (pseg .code) body (lit< tt) (omega arith) more) (rw (moved-written (frontSize + length bytes) 0 (pseg .code) (length body), add-zero, length-boxed))
+  boxes-part false zero room fits = absurd (omega arith)
+  boxes-part false (suc more) room fits =
+      let size = rw length-boxed at fits in
+      boxed-alone (pseg .code) body (lit< tt) size more
+
+-- the boxes that append adds to a file of n bytes
+abbrev pub newBoxes : ℕ → Addition → List Box
+newBoxes n a = dataBoxes (anyPresent a) n (length (a .bytes)) ++ (written (n + length (dataBox a)) (pseg .code) (length (segBody a)) ∷ [])
+
+module _ (a : Addition) where
+  abbrev pub addedList : List Box
+  addedList = dataBoxes (anyPresent a) 0 (length (a .bytes)) ++ (written (length (dataBox a)) (pseg .code) (length (segBody a)) ∷ [])
+
+  pub boxes-added : (left : ℕ) → addedBoxes a ≤ left → length (added a) < 2 ^ 32
+      → boxesFrom (added a) (length (added a)) left 0 ≡ given addedList
+  unfolding added dataBox addedBoxes
+  boxes-added left room fits = boxes-part (a .bytes) (segBody a) (anyPresent a) left room fits
+
+  pub added-moved : (n : ℕ) → map (moved n) addedList ≡ newBoxes n a
+  added-moved n = go (anyPresent a)
+    where
+      last-moved : moved n (written (length (dataBox a)) (pseg .code) (length (segBody a))) ≡ written (n + length (dataBox a)) (pseg .code) (length (segBody a))
+      last-moved = moved-written n (length (dataBox a)) (pseg .code) (length (segBody a))
+
+      first-moved : moved n (written 0 (pdat .code) (length (a .bytes))) ≡ written n (pdat .code) (length (a .bytes))
+      first-moved = moved-written n 0 (pdat .code) (length (a .bytes)) ∙ rw add-zero
+
+      go : (there : Bool) → map (moved n) (dataBoxes there 0 (length (a .bytes)) ++ (written (length (dataBox a)) (pseg .code) (length (segBody a)) ∷ []))
+          ≡ dataBoxes there n (length (a .bytes)) ++ (written (n + length (dataBox a)) (pseg .code) (length (segBody a)) ∷ [])
+      go true = ap₂ (λ (b c : Box). b ∷ c ∷ []) first-moved last-moved
+      go false = ap (λ (c : Box). c ∷ []) last-moved
+
+  -- of the kinds but `pdat` there is at most the `pseg`
+  pub those-new : (n : ℕ) (k : Kind) → eqb (pdat .code) (k .code) ≡ false
+      → those k (newBoxes n a) ≡ those k (written (n + length (dataBox a)) (pseg .code) (length (segBody a)) ∷ [])
+  unfolding those is
+  those-new n k other = go (anyPresent a)
+    where
+      go : (there : Bool) → those k (dataBoxes there n (length (a .bytes)) ++ (written (n + length (dataBox a)) (pseg .code) (length (segBody a)) ∷ []))
+          ≡ those k (written (n + length (dataBox a)) (pseg .code) (length (segBody a)) ∷ [])
+      go true = rw (those, other)
+      go false = refl
+
+-- where no item is present there is no data
+no-data : (is : List Item) → someOf (λ i. present (i .state)) is ≡ false → dataSize is ≡ 0
+unfolding someOf dataSize sum
+no-data [] h = refl
+no-data (i ∷ is) h =
+    elim (which (present (i .state))) [
+      | inl e ↦ absurd (true≢false (rw e at h))
+      | inr e ↦ rw e (omega (arith, no-data is (rw e at h)))
+    ]
+
+-- where a chunk may lie among the boxes before, it may with more boxes
+pub lie-longer : (h : Heading) (more : List Box) (place size : ℕ) → mayLie h place size ≡ true → mayLie (record { boxes = h .boxes ++ more; inner = h .inner }) place size ≡ true
+unfolding mayLie
+lie-longer h more place size lies = rw (some-append, lies)
+
+-- the data is no longer than the box that holds it
+pub data-low : (a : Addition) → dataRight a ≡ true → dataSize (items (a .list)) ≤ length (dataBox a)
+unfolding dataRight dataBox anyPresent
+data-low a right =
+    let bytes : length (a .bytes) ≡ dataSize (items (a .list)) = eqb-true (length (a .bytes)) (dataSize (items (a .list))) right in
+    elim (which (anyPresent a)) [
+      | inl e ↦
+          let long : length (dataBox a) ≡ frontSize + length (a .bytes) = rw (dataBox, e) (length-boxed (pdat .code) (a .bytes)) in
+          omega arith
+      | inr e ↦ omega (arith, no-data (items (a .list)) e)
+    ]
+
+-- the data of a new segment may lie in the new `pdat`
+module _ (h : Heading) (n : ℕ) (a : Addition) (right : dataRight a ≡ true) where
+  pub lie-new : (place size : ℕ) → 0 < size → n + length (dataBox a) ≤ place + dataSize (items (a .list)) → place + size ≤ n + length (dataBox a)
+      → mayLie (record { boxes = h .boxes ++ newBoxes n a; inner = h .inner }) place size ≡ true
+  unfolding mayLie someOf dataRight anyPresent is dataBox frontSize
+  lie-new place size some-size from to =
+      let bytes : length (a .bytes) ≡ dataSize (items (a .list)) = eqb-true (length (a .bytes)) (dataSize (items (a .list))) right in
+      elim (which (anyPresent a)) [
+        | inl e ↦
+            let long : length (dataBox a) ≡ frontSize + length (a .bytes) = rw (dataBox, e) (length-boxed (pdat .code) (a .bytes)) in
+            rw (e, some-append, le-leb (n + frontSize) place (omega arith), le-leb (place + size) (n + (frontSize + length (a .bytes))) (omega arith), or-true)
+        | inr e ↦ absurd (omega (arith, no-data (items (a .list)) e))
+      ]
