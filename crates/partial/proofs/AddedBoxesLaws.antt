@@ -52,6 +52,10 @@ module _ (bytes body : List ℕ) where
       let size = rw length-boxed at fits in
       boxed-alone (pseg .code) body (lit< tt) size more
 
+pub length-added : (a : Addition) → length (added a) ≡ length (dataBox a) + (frontSize + length (segBody a))
+unfolding added
+length-added a = rw (length-append (dataBox a) (boxed (pseg .code) (segBody a)), length-boxed (pseg .code) (segBody a))
+
 -- the boxes that append adds to a file of n bytes
 abbrev pub newBoxes : ℕ → Addition → List Box
 newBoxes n a = dataBoxes (anyPresent a) n (length (a .bytes)) ++ (written (n + length (dataBox a)) (pseg .code) (length (segBody a)) ∷ [])

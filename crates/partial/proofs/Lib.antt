@@ -10,6 +10,7 @@ pub mod ListingLaws
 pub mod MappedLaws
 pub mod NewSegmentLaws
 pub mod RangeLaws
+pub mod ReadsBackLaws
 pub mod RunLaws
 pub mod SequenceLaws
 pub mod ServingLaws

@@ -1,0 +1,156 @@
+-- A segment that append adds reads back: the longer file has the segments of the file before and then the new one.
+use Prim.Native.Nat.{ℕ, zero, suc, _+_, _-_, _%_, _^_, _≤_, _<_}
+use mathlib.Core.Bool.{Bool, true, false, _&&_}
+use mathlib.Core.List.{List, [], _∷_, _++_, map}
+use mathlib.Core.Path.{_≡_, refl, sym, ap, subst, _∙_}
+use native.Mathlib.Nat.{add-zero}
+use native.Mathlib.Omega.{arith}
+use borrow.Author.Tests.{le-leb, leb-true, eqb-true}
+use lib.Dec.{leb, eqb}
+use lib.ListN.{length, take, drop, length-append}
+use lib.Seq.{length-take-le, take-at}
+use Rattle.boxes.specs.Answer.{Answer, refused, given, _>>=_, hold}
+use Rattle.boxes.specs.Framing.{Box, boxesIn, boxesFrom, boxLimit, boxed, frontSize}
+use Rattle.boxes.specs.Kinds.{ftyp, pfil, pseg, is, right, those, keeps}
+use Rattle.boxes.proofs.AnswerLaws.{both-given, held, given-same, then-then}
+use Rattle.boxes.proofs.HeaderLaws.{moved}
+use Rattle.boxes.proofs.KindLaws.{those-append}
+use Rattle.boxes.proofs.BoxedLaws.{written, length-boxed}
+use Rattle.partial.specs.Limits.{fileLimit, segmentLimit, chunkLimit}
+use Rattle.partial.specs.Sequences.{allOf, sum}
+use Rattle.partial.specs.Segments.{Segment, endOf, chunksOf}
+use Rattle.partial.specs.Heading.{Heading, heading}
+use Rattle.partial.specs.Entries.{mayLie}
+use Rattle.partial.specs.Meaning.{agree}
+use Rattle.partial.specs.Reading.{segment, segmentsFrom, segments, reading, earlierSegments}
+use Rattle.partial.specs.Tables.{filled}
+use Rattle.partial.specs.Writing.{items, Addition, listRight, dataRight, dataSize, dataBox, addedBoxes, added, newSegment, appended, result}
+use Rattle.partial.specs.Runs.{Lent, lent, fileIn, sizeAfter, append}
+use Rattle.partial.proofs.SequenceLaws.{both}
+use Rattle.partial.proofs.HeadingAppendLaws.{Headed, headed, heading-of, headed-appended, longer, lies, boxes-lie, those-all}
+use Rattle.partial.proofs.KeptLaws.{segments-kept}
+use Rattle.partial.proofs.EntriesBackLaws.{formed}
+use Rattle.partial.proofs.AddedBoxesLaws.{segBody, newBoxes, addedList, boxes-added, added-moved, those-new, data-low, length-added, lie-longer, lie-new}
+use Rattle.partial.proofs.NewSegmentLaws.{Fitting, length-new, sizes-new, new-segment}
+
+-- segments are read box by box
+module _ (limit : ℕ) (f : List ℕ) (h : Heading) where
+  segments-on : (bs cs : List Box) (before : List Segment) {ss : List Segment} → segmentsFrom limit f h before bs ≡ given ss
+      → segmentsFrom limit f h before (bs ++ cs) ≡ segmentsFrom limit f h ss cs
+  unfolding segmentsFrom
+  segments-on [] cs before e = ap (λ (ss : List Segment). segmentsFrom limit f h ss cs) (given-same e)
+  segments-on (b ∷ bs) cs before e =
+      let (s, read, e1) = both-given (segment limit f h before b) _ e in
+      rw read (segments-on bs cs (before ++ (s ∷ [])) e1)
+
+  segments-many : (bs : List Box) (before : List Segment) {ss : List Segment} → segmentsFrom limit f h before bs ≡ given ss → length ss ≡ length before + length bs
+  unfolding segmentsFrom
+  segments-many [] before e = rw (given-same e) (sym (add-zero _))
+  segments-many (b ∷ bs) before e =
+      let (s, read, e1) = both-given (segment limit f h before b) _ e in
+      let rest = segments-many bs (before ++ (s ∷ [])) e1 in
+      omega (arith, length-append before (s ∷ []))
+
+-- what append's tests say of an addition to a file with these segments
+pub record Taken (limit : ℕ) (f : List ℕ) (h : Heading) (ss : List Segment) (a : Addition) : Type 0 where
+  pub headed : heading f ≡ given h
+  pub before : segments limit f h ≡ given ss
+  pub list : listRight (a .list) ≡ true
+  pub carried : dataRight a ≡ true
+  pub small : length f + length (added a) ≤ fileLimit
+  pub boxes : length (h .boxes) + addedBoxes a ≤ boxLimit
+  pub few : length ss + 1 ≤ segmentLimit
+  pub chunks : length (chunksOf ss) + length (newSegment (length f) a .chunks) ≤ chunkLimit
+  pub low : endOf (newSegment (length f) a) ≤ limit
+  pub agreed : agree (ss ++ (newSegment (length f) a ∷ [])) ≡ true
+
+pub taken : (limit : ℕ) (buffer : List ℕ) (n : ℕ) (a : Addition) (size : ℕ) (ss : List Segment) → earlierSegments limit (take n buffer) ≡ given ss
+    → appended limit buffer n a ≡ given size
+    → (h : Heading) × Taken limit (take n buffer) h ss a × (n ≡ length (take n buffer)) × (size ≡ n + length (added a))
+unfolding appended earlierSegments
+taken limit buffer n a size ss before e =
+    let f : List ℕ = take n buffer in
+    let new : Segment = newSegment n a in
+    let (lent-enough, e1) = held 30 (leb n (length buffer)) _ e in
+    let (h, head, e2) = both-given (heading f) _ e1 in
+    let (ts, earlier, e3) = both-given (segments limit f h) _ e2 in
+    let again : segments limit f h ≡ given ss = rw head at before in
+    let same : ts ≡ ss = given-same (sym earlier ∙ again) in
+    let (list, e4) = held 31 (listRight (a .list)) _ e3 in
+    let (carried, e5) = held 32 (dataRight a) _ e4 in
+    let (small, e6) = held 1 (leb (n + length (added a)) fileLimit) _ e5 in
+    let (boxes, e7) = held 6 (leb (length (h .boxes) + addedBoxes a) boxLimit) _ e6 in
+    let (few, e8) = held 13 (leb (length ts + 1) segmentLimit) _ e7 in
+    let (chunks, e9) = held 22 (leb (length (chunksOf ts) + length (new .chunks)) chunkLimit) _ e8 in
+    let (low, e10) = held 23 (leb (endOf new) limit) _ e9 in
+    let (agreed, e11) = held 25 (agree (ts ++ (new ∷ []))) _ e10 in
+    let (room, e12) = held 33 (leb (n + length (added a)) (length buffer)) _ e11 in
+    let long : length f ≡ n = length-take-le n buffer (leb-true n (length buffer) lent-enough) in (
+      h,
+      record {
+        headed = head;
+        before = again;
+        list = list;
+        carried = carried;
+        small = rw long (leb-true (n + length (added a)) fileLimit small);
+        boxes = leb-true (length (h .boxes) + addedBoxes a) boxLimit boxes;
+        few = rw (← same) (leb-true (length ts + 1) segmentLimit few);
+        chunks = rw (long, ← same) (leb-true (length (chunksOf ts) + length (new .chunks)) chunkLimit chunks);
+        low = rw long (leb-true (endOf new) limit low);
+        agreed = rw (long, ← same) agreed;
+      },
+      sym long,
+      sym (given-same e12),
+    )
+
+module _ (limit : ℕ) (f : List ℕ) (h : Heading) (ss : List Segment) (a : Addition) (t : Taken limit f h ss a) where
+  -- the heading of the longer file
+  abbrev pub grownHeading : Heading
+  grownHeading = record { boxes = h .boxes ++ newBoxes (length f) a; inner = h .inner }
+
+  pub heading-added : heading (f ++ added a) ≡ given grownHeading
+  unfolding those is
+  heading-added =
+      let boxes = boxes-added a (boxLimit - length (h .boxes)) (omega arith) (omega arith) in
+      let moved-there = added-moved a (length f) in
+      heading-of (f ++ added a) grownHeading
+      (rw moved-there at (headed-appended f (added a) h (addedList a) (headed f h (t .headed)) (rw length-append (t .small)) boxes
+      (rw moved-there (those-new a (length f) ftyp refl)) (rw moved-there (those-new a (length f) pfil refl))))
+
+  fitting : limit < 2 ^ 64 → a .repairTime < 2 ^ 64 → Fitting limit a
+  unfolding listRight endOf newSegment
+  fitting below time =
+      let list = items (a .list) in
+      let at : ℕ = length f + length (dataBox a) in
+      let size = length-added a in
+      record {
+        below = below;
+        time = time;
+        listed = both (eqb (length (a .list) % 2) 0) (allOf formed list) (t .list) .1;
+        low = rw (sizes-new at (a .sourceOffset) list) at (t .low);
+        few = omega (arith, rw (length-new at (a .sourceOffset) list) at (t .chunks));
+        small = omega arith;
+      }
+
+  pub reading-added : limit < 2 ^ 64 → a .repairTime < 2 ^ 64 → reading limit (f ++ added a) ≡ given (ss ++ (newSegment (length f) a ∷ []))
+  unfolding reading segments right keeps segmentsFrom those is newSegment
+  reading-added below time =
+      let n = length f in
+      let list = items (a .list) in
+      let old : List Box = those pseg (h .boxes) in
+      let box = written (n + length (dataBox a)) (pseg .code) (length (segBody a)) in
+      let fit = fitting below time in
+      let (enough, e1) = held 13 (leb (length old) segmentLimit) _ (t .before) in
+      let (us, read, e2) = both-given (segmentsFrom limit f h [] old) _ e1 in
+      let (agreed, e3) = held 25 (agree us) _ e2 in
+      let before : segmentsFrom limit f h [] old ≡ given ss = read ∙ e3 in
+      let lie = those-all pseg (lies n) (h .boxes) (boxes-lie f 0 n (h .boxes) (headed f h (t .headed) .boxes)) in
+      let kept = segments-kept f (added a) h grownHeading (lie-longer h (newBoxes n a)) limit old [] ss lie before in
+      let psegs : those pseg (grownHeading .boxes) ≡ old ++ (box ∷ []) = those-append pseg (h .boxes) (newBoxes n a) ∙ ap (λ (bs : List Box). old ++ bs) (those-new a n pseg refl) in
+      let many = segments-many limit f h old [] before in
+      let long = length-append old (box ∷ []) in
+      let data-size : dataSize list < 2 ^ 63 = omega (arith, data-low a (t .carried), length-added a) in
+      let new : segment limit (f ++ added a) grownHeading ss box ≡ given (newSegment n a) = new-segment limit f grownHeading ss a fit (t .carried) data-size
+      (rw (length-new (n + length (dataBox a)) (a .sourceOffset) list) at (t .chunks)) (lie-new h n a (t .carried)) in
+      let all : segmentsFrom limit (f ++ added a) grownHeading [] (old ++ (box ∷ [])) ≡ given (ss ++ (newSegment n a ∷ [])) = segments-on limit (f ++ added a) grownHeading old (box ∷ []) [] kept ∙ rw new in
+      rw (heading-added, psegs, le-leb 1 (length (old ++ (box ∷ []))) (omega arith), le-leb (length (old ++ (box ∷ []))) segmentLimit (omega arith), all, t .agreed)
