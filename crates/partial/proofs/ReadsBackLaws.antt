@@ -24,6 +24,7 @@ use Rattle.partial.specs.Entries.{mayLie}
 use Rattle.partial.specs.Meaning.{agree}
 use Rattle.partial.specs.Reading.{segment, segmentsFrom, segments, reading, earlierSegments}
 use Rattle.partial.specs.Tables.{filled}
+use Rattle.partial.specs.Writing
 use Rattle.partial.specs.Writing.{items, Addition, listRight, dataRight, dataSize, dataBox, addedBoxes, added, newSegment, appended, result}
 use Rattle.partial.specs.Runs.{Lent, lent, fileIn, sizeAfter, append}
 use Rattle.partial.proofs.SequenceLaws.{both}
@@ -154,3 +155,24 @@ module _ (limit : ℕ) (f : List ℕ) (h : Heading) (ss : List Segment) (a : Add
       (rw (length-new (n + length (dataBox a)) (a .sourceOffset) list) at (t .chunks)) (lie-new h n a (t .carried)) in
       let all : segmentsFrom limit (f ++ added a) grownHeading [] (old ++ (box ∷ [])) ≡ given (ss ++ (newSegment n a ∷ [])) = segments-on limit (f ++ added a) grownHeading old (box ∷ []) [] kept ∙ rw new in
       rw (heading-added, psegs, le-leb 1 (length (old ++ (box ∷ []))) (omega arith), le-leb (length (old ++ (box ∷ []))) segmentLimit (omega arith), all, t .agreed)
+
+-- the file that an accepted addition leaves
+pub file-after : (limit : ℕ) (buffer : List ℕ) (n : ℕ) (a : Addition) (size : ℕ) → appended limit buffer n a ≡ given size → n ≡ length (take n buffer)
+    → size ≡ n + length (added a)
+    → fileIn (append limit (lent buffer n) a) ≡ take n buffer ++ added a
+unfolding append fileIn sizeAfter Writing.written result filled
+file-after limit buffer n a size e long total =
+    let whole : length (take n buffer ++ added a) ≡ size = rw (length-append, total) (ap (λ (m : ℕ). m + length (added a)) (sym long)) in
+    rw e (take-at (take n buffer ++ added a) (drop (length (take n buffer ++ added a)) buffer) size whole)
+
+-- a segment that our writer adds reads back with its fields and chunks
+pub reads-back : (limit : ℕ) → limit < 2 ^ 64 → (buffer : List ℕ) (n : ℕ) (a : Addition) (size : ℕ) (ss : List Segment)
+    → a .repairTime < 2 ^ 64
+    → earlierSegments limit (fileIn (lent buffer n)) ≡ given ss
+    → appended limit buffer n a ≡ given size
+    → reading limit (fileIn (append limit (lent buffer n) a)) ≡ given (ss ++ (newSegment n a ∷ []))
+unfolding fileIn
+reads-back limit below buffer n a size ss time before e =
+    let (h, t, long, total) = taken limit buffer n a size ss before e in
+    rw (file-after limit buffer n a size e long total)
+    (reading-added limit (take n buffer) h ss a t below time ∙ ap (λ (m : ℕ). given (ss ++ (newSegment m a ∷ []))) (sym long))
