@@ -1,8 +1,10 @@
+pub mod AnswerLaws
 pub mod DescribedLaws
 pub mod GrownLaws
 pub mod ListingLaws
 pub mod MappedLaws
 pub mod RangeLaws
+pub mod ReadingLaws
 pub mod RunLaws
 pub mod SequenceLaws
 pub mod ServingLaws

@@ -1,0 +1,23 @@
+-- Laws of answers: what is known of a call's parts where the whole of it gave a value.
+use Prim.Native.Nat.{ℕ}
+use mathlib.Core.Bool.{Bool, true, false}
+use mathlib.Core.Path.{_≡_, refl}
+use native.Mathlib.Omega.{arith}
+use Rattle.boxes.specs.Answer.{Answer, refused, given, _>>=_, hold}
+
+pub not-both : {A : Type 0} {n : ℕ} {a : A} → refused n ≡ given a → ⊥
+not-both h = let z : _≡_ {A = ℕ} 0 1 = cc in omega arith
+
+pub given-same : {A : Type 0} {a b : A} → given a ≡ given b → a ≡ b
+given-same h = cc
+
+-- a value at the end comes from a value on the way
+pub both-given : {A B : Type 0} (x : Answer A) (next : A → Answer B) {b : B} → (x >>= next) ≡ given b
+    → (a : A) × (x ≡ given a) × (next a ≡ given b)
+both-given (refused n) next h = absurd (not-both h)
+both-given (given a) next h = (a, refl, h)
+
+-- a value after a test comes where the test holds
+pub held : {A : Type 0} (n : ℕ) (t : Bool) (next : Unit {0} → Answer A) {a : A} → (hold n t >>= next) ≡ given a → (t ≡ true) × (next tt ≡ given a)
+held n true next h = (refl, h)
+held n false next h = absurd (not-both h)
