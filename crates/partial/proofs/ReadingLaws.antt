@@ -85,14 +85,16 @@ module _ (limit : ℕ) (f : List ℕ) (h : Heading) where
         lie = rw (chunks-append ss (s ∷ []), append-nil, all-append, all .lie) (one .lie);
       }
 
-  segments-told : (before : List Segment) (bs : List Box) {ss : List Segment} → AllTold h before → segmentsFrom limit f h before bs ≡ given ss → AllTold h ss
+  segments-told : (before : List Segment) (bs : List Box) {ss : List Segment} → AllTold h before → segmentsFrom limit f h before bs ≡ given ss
+      → AllTold h ss
   unfolding segmentsFrom
   segments-told before [] all g = subst (AllTold h) (given-same g) all
   segments-told before (b ∷ bs) all g =
       let (s, read, g) = both-given (segment limit f h before b) _ g in
       segments-told (before ++ (s ∷ [])) bs (one-more before s all (segment-told before b read)) g
 
-  pub accepted : {ss : List Segment} → ((k : ℕ) → k < length (h .boxes) → boxAt k (h .boxes) .end ≤ length f) → segments limit f h ≡ given ss → Accepted f h ss
+  pub accepted : {ss : List Segment} → ((k : ℕ) → k < length (h .boxes) → boxAt k (h .boxes) .end ≤ length f) → segments limit f h ≡ given ss
+      → Accepted f h ss
   unfolding segments allOf chunksOf
   accepted inside g =
       let (_, g) = held 13 (leb (length (those pseg (h .boxes))) segmentLimit) _ g in
