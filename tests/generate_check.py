@@ -7,20 +7,10 @@ import sys
 import generate
 import model
 from boxes import head
+from expecting import close, expect
 from spoiling import boxes_in
 
 KNOWN = [b"ftyp", b"pfil", b"pfhd", b"surl", b"pseg", b"pshd", b"ploc", b"pdat"]
-
-passed = failed = 0
-
-
-def expect(name, found, wanted=True):
-    global passed, failed
-    if found == wanted:
-        passed += 1
-    else:
-        failed += 1
-        print(f"FAILED {name}: found {found!r}, wanted {wanted!r}")
 
 
 def accepted(file):
@@ -227,8 +217,7 @@ def main(seed):
     check_additions(rng, good[:40] + 10 * [head()])
     check_mixed_additions(rng, good[:1200])
     check_beginnings(rng, 100)
-    print(f"{passed} passed, {failed} failed")
-    return 1 if failed else 0
+    return close()
 
 
 if __name__ == "__main__":

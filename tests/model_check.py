@@ -4,21 +4,11 @@ import random
 
 import model
 from boxes import box, entry, ftyp, full, head, lost_segment, open_segment, pfhd, ploc, pshd, surl
+from expecting import close, expect
 
 LIMIT = 4_294_967_295
 P1 = bytes.fromhex("00 00 00 14 70 6c 6f 63 00 00 00 00 11 00 00 00 01 40 05 fb")
 P2 = bytes.fromhex("00 00 00 14 70 6c 6f 63 00 00 00 00 20 00 00 00 01 80 01 2c")
-
-passed = failed = 0
-
-
-def expect(name, found, wanted):
-    global passed, failed
-    if found == wanted:
-        passed += 1
-    else:
-        failed += 1
-        print(f"FAILED {name}: found {found!r}, wanted {wanted!r}")
 
 
 def refused(number):
@@ -337,5 +327,4 @@ if __name__ == "__main__":
     check_append_order()
     check_lowered_file_limit()
     check_random_runs(random.Random(1), 300)
-    print(f"{passed} passed, {failed} failed")
-    raise SystemExit(1 if failed else 0)
+    raise SystemExit(close())

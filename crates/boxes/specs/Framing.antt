@@ -1,11 +1,13 @@
 -- Document 01, "Framing" and refusals 2 to 6: a box header, and the boxes of one container or its first fault.
 use Prim.Native.Nat.{ℕ, zero, suc, _+_}
 use mathlib.Core.Bool.{Bool, true, false, not}
+use mathlib.Core.Path.{_≡_}
 use mathlib.Core.List.{List, [], _∷_, _++_}
 use lib.ListN.{length}
 use lib.Dec.{leb, eqb}
 use Rattle.boxes.specs.Answer.{Answer, refused, given, _>>=_, hold}
-use Rattle.boxes.specs.Numbers.{number, bytesOf}
+use Rattle.boxes.specs.Numbers.{number, bytesOf, holds}
+use Rattle.boxes.specs.Stored.{roomFor, stored}
 use Rattle.boxes.specs.declared.framing.Framed.{Framed}
 use Rattle.boxes.specs.declared.framing.Header.{Header}
 use Rattle.boxes.specs.declared.framing.Header.the-variants.{Found, Refused}
@@ -19,17 +21,23 @@ pub record Box : Type 0 where
 
 -- the box at a place whose header has that many bytes and states that size
 unfoldable pub sized : List ℕ → ℕ → ℕ → ℕ → ℕ → Answer Box
-sized s at end header size = do
-  _ ← hold 4 (leb header size)
+sized s at end front size = do
+  _ ← hold 4 (leb front size)
   _ ← hold 5 (leb (at + size) end)
-  given (record { kind = number s (at + 4) 4; at = at; body = at + header; end = at + size })
+  given (record { kind = number s (at + 4) 4; at = at; body = at + front; end = at + size })
 
--- a 32-bit size, then the type; size 1 means that a 64-bit size follows
+-- the box at a place whose 64-bit size follows its type
+unfoldable pub large : List ℕ → ℕ → ℕ → Answer Box
+large s at end = do
+  _ ← hold 2 (leb (at + 16) end)
+  sized s at end 16 (number s (at + 8) 8)
+
+-- a 32-bit size, then the type; size 1 means that a 64-bit size follows. For `uuid` the sixteen extra bytes count as body
 unfoldable pub header : List ℕ → ℕ → ℕ → Answer Box
 header s at end = do
   _ ← hold 2 (leb (at + 8) end)
   _ ← hold 3 (not (eqb (number s at 4) 0))
-  elim (eqb (number s at 4) 1) [ true ↦ hold 2 (leb (at + 16) end) >>= λ _. sized s at end 16 (number s (at + 8) 8) | false ↦ sized s at end 8 (number s at 4) ]
+  elim (eqb (number s at 4) 1) [ true ↦ large s at end | false ↦ sized s at end 8 (number s at 4) ]
 
 -- the boxes from a place to the end of their container, of which so many more are allowed
 unfoldable pub boxesFrom : List ℕ → ℕ → ℕ → ℕ → Answer (List Box)
@@ -57,6 +65,19 @@ unfoldable pub headerAnswer : Header → Answer Box
 headerAnswer (Found b) = given (boxOf b)
 headerAnswer (Refused n) = refused n
 
--- a box as we write it: the 32-bit form, its size, its type and its body
+-- a header as we write it, in the 32-bit form, has 8 bytes
+unfoldable pub frontSize : ℕ
+frontSize = 8
+
+-- the header of a box with a body of n bytes, as we write it: its size, then its type
+unfoldable pub front : ℕ → ℕ → List ℕ
+front kind n = bytesOf 4 (frontSize + n) ++ bytesOf 4 kind
+
+-- a box as we write it
 unfoldable pub boxed : ℕ → List ℕ → List ℕ
-boxed kind body = bytesOf 4 (8 + length body) ++ (bytesOf 4 kind ++ body)
+boxed kind body = front kind (length body) ++ body
+
+-- what a call that writes a header answers, and how it leaves the buffer: nothing is written of a size that 4 bytes do not hold
+pub record StoresHeader (s : List ℕ) (at kind n : ℕ) (answer : Bool) (after : List ℕ) : Type 0 where
+  pub room : answer ≡ elim (holds 4 (frontSize + n)) [ true ↦ roomFor s at (front kind n) | false ↦ false ]
+  pub left : after ≡ elim (holds 4 (frontSize + n)) [ true ↦ stored s at (front kind n) | false ↦ s ]

@@ -1,5 +1,5 @@
 -- Document 01, "Framing": the types the base knows, with their container and how many of each, in one table.
-use Prim.Native.Nat.{ℕ, zero, suc}
+use Prim.Native.Nat.{ℕ}
 use mathlib.Core.Bool.{Bool, true, false}
 use mathlib.Core.List.{List, [], _∷_}
 use lib.ListN.{length}

@@ -1,4 +1,7 @@
 pub mod Answer
 pub mod Numbers
+pub mod Stored
 pub mod Framing
 pub mod Kinds
+pub mod Walk
+pub mod Rules

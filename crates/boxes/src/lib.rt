@@ -1,5 +1,9 @@
 // The box layer: numbers of any width, box headers, the walk over one container, and the table of the eight kinds.
 pub mod framing;
 pub mod kinds;
+pub mod limits;
 pub mod numbers;
 pub mod place;
+pub mod refusals;
+pub mod rules;
+pub mod walk;

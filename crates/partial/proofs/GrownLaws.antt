@@ -12,8 +12,7 @@ use borrow.Author.Tests.{eqb-true, le-leb}
 use lib.Dec.{eqb}
 use lib.ListN.{length, getD, drop, length-append, drop-of-length-le, List·getD-append}
 use lib.Seq.{getD-drop, getD-append-add}
-use Rattle.boxes.specs.Numbers.{bytesOf}
-use Rattle.boxes.specs.Framing.{boxed}
+use Rattle.boxes.specs.Framing.{front, boxed}
 use Rattle.boxes.specs.Kinds.{pdat}
 use Rattle.partial.specs.Sequences.{someOf, sum, within}
 use Rattle.partial.specs.Segments.{Segment, good, present, chunksOf}
@@ -84,12 +83,11 @@ module _ (a : Addition) (right : dataRight a ≡ true) where
   unfolding dataRight
   data-length = eqb-true _ _ right
 
-  data-last : (front : List ℕ) × (dataBox a ≡ front ++ a .bytes)
+  data-last : (head : List ℕ) × (dataBox a ≡ head ++ a .bytes)
   unfolding dataBox anyPresent boxed
   data-last =
-      let size : ℕ = length (a .bytes) in
       elim (which (anyPresent a)) [
-        | inl e ↦ (bytesOf 4 (8 + size) ++ bytesOf 4 (pdat .code), rw (dataBox, e) (sym (append-assoc (bytesOf 4 (8 + size)) (bytesOf 4 (pdat .code)) (a .bytes))))
+        | inl e ↦ (front (pdat .code) (length (a .bytes)), rw (dataBox, e))
         | inr e ↦ ([], rw (dataBox, e) (sym (drop-of-length-le (a .bytes) {i = 0} (omega (arith, data-length, no-data (items (a .list)) e)))))
       ]
 
@@ -98,14 +96,14 @@ module _ (a : Addition) (right : dataRight a ≡ true) where
   unfolding chunksOf newSegment carried
   new-served f rest p =
       let size = data-length in
-      let (front, box) = data-last in
-      let long : length (dataBox a) ≡ length front + length (a .bytes) = ap length box ∙ length-append front (a .bytes) in
+      let (head, box) = data-last in
+      let long : length (dataBox a) ≡ length head + length (a .bytes) = ap length box ∙ length-append head (a .bytes) in
       served-from _ _ p
       ∙ rw append-nil
       (carried-byte _ _ p (a .sourceOffset) (items (a .list)) (a .bytes) (omega arith)
       (λ j h.
-      let place : length f + length (dataBox a) - dataSize (items (a .list)) + j ≡ length f + (length front + j) = omega arith in
-      rw (place, getD-append-add f, box, append-assoc, getD-append-add front) (List·getD-append (a .bytes) rest 0 j (omega arith))))
+      let place : length f + length (dataBox a) - dataSize (items (a .list)) + j ≡ length f + (length head + j) = omega arith in
+      rw (place, getD-append-add f, box, append-assoc, getD-append-add head) (List·getD-append (a .bytes) rest 0 j (omega arith))))
 
 -- what is appended to a file changes no byte that was served out of it
 served-kept : (f more : List ℕ) (ss : List Segment) (p : ℕ) → (supplied ss p ≡ true → placeOfByte ss p < length f) → served (f ++ more) ss p ≡ served f ss p

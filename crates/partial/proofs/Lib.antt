@@ -1,5 +1,6 @@
 pub mod AnswerLaws
 pub mod DescribedLaws
+pub mod Determined
 pub mod GrownLaws
 pub mod ListingLaws
 pub mod MappedLaws

@@ -200,5 +200,5 @@ table = P1 ∷ P2 ∷ P3 ∷ P4 ∷ P5 ∷ P6 ∷ P7 ∷ P8 ∷ P9 ∷ P10 ∷ P
 
 -- at every row the definitions say what the paper says
 pub as-the-paper-says : map (λ e. e .defined) table ≡ map (λ e. e .paper) table
-unfolding table Rattle.boxes.specs.Framing.sized Rattle.boxes.specs.Framing.header Rattle.boxes.specs.Framing.boxesFrom Rattle.boxes.specs.Framing.boxLimit Rattle.boxes.specs.Framing.boxesIn Rattle.boxes.specs.Framing.boxOf Rattle.boxes.specs.Framing.headerAnswer Rattle.boxes.specs.Framing.boxed Rattle.boxes.specs.Kinds.kinds Rattle.boxes.specs.Kinds.is Rattle.boxes.specs.Kinds.those Rattle.boxes.specs.Kinds.keeps Rattle.boxes.specs.Kinds.right Rattle.boxes.specs.Numbers.number Rattle.boxes.specs.Numbers.bytesOf Rattle.boxes.specs.Numbers.valueOf Rattle.boxes.specs.Numbers.signed Rattle.boxes.specs.Numbers.unsigned Rattle.boxes.specs.Numbers.holds Rattle.boxes.specs.Numbers.holdsOffset Rattle.boxes.specs.Numbers.least Rattle.boxes.specs.Numbers.leastWidth Rattle.partial.specs.Entries.plocHead Rattle.partial.specs.Entries.state Rattle.partial.specs.Entries.stateOf Rattle.partial.specs.Entries.entry Rattle.partial.specs.Entries.mayLie Rattle.partial.specs.Entries.moved Rattle.partial.specs.Entries.placeOf Rattle.partial.specs.Entries.chunksFrom Rattle.partial.specs.Heading.boxAt Rattle.partial.specs.Heading.firstOf Rattle.partial.specs.Heading.ftypRight Rattle.partial.specs.Heading.brandsFrom Rattle.partial.specs.Heading.brands Rattle.partial.specs.Heading.brandRight Rattle.partial.specs.Heading.pfilRight Rattle.partial.specs.Heading.pfhdFormed Rattle.partial.specs.Heading.pfhdRight Rattle.partial.specs.Heading.text Rattle.partial.specs.Heading.url Rattle.partial.specs.Heading.mime Rattle.partial.specs.Heading.surlFormed Rattle.partial.specs.Heading.surlRight Rattle.partial.specs.Heading.heading Rattle.partial.specs.Map.ascii Rattle.partial.specs.Map.decimal Rattle.partial.specs.Map.line Rattle.partial.specs.Map.refusedLine Rattle.partial.specs.Map.rangeLine Rattle.partial.specs.Map.rangeLines Rattle.partial.specs.Map.sourceLine Rattle.partial.specs.Map.totalLine Rattle.partial.specs.Map.mapOf Rattle.partial.specs.Map.mapText Rattle.partial.specs.Meaning.givesSize Rattle.partial.specs.Meaning.knownSize Rattle.partial.specs.Meaning.describedLength Rattle.partial.specs.Meaning.isClosed Rattle.partial.specs.Meaning.agree Rattle.partial.specs.Meaning.covers Rattle.partial.specs.Meaning.supplier Rattle.partial.specs.Meaning.supplied Rattle.partial.specs.Meaning.placeOfByte Rattle.partial.specs.Meaning.served Rattle.partial.specs.Meaning.onward Rattle.partial.specs.Meaning.servedRun Rattle.partial.specs.Meaning.missingRun Rattle.partial.specs.Meaning.reply Rattle.partial.specs.Ranges.joined Rattle.partial.specs.Ranges.ranges Rattle.partial.specs.Ranges.classOf Rattle.partial.specs.Ranges.rangesOf Rattle.partial.specs.Ranges.ofClass Rattle.partial.specs.Ranges.hadList Rattle.partial.specs.Ranges.missingList Rattle.partial.specs.Ranges.total Rattle.partial.specs.Reading.offsetWidth Rattle.partial.specs.Reading.pshdFields Rattle.partial.specs.Reading.pshdRight Rattle.partial.specs.Reading.segment Rattle.partial.specs.Reading.segmentsFrom Rattle.partial.specs.Reading.segments Rattle.partial.specs.Reading.reading Rattle.partial.specs.Reading.earlierSegments Rattle.partial.specs.Runs.fileIn Rattle.partial.specs.Runs.sizeAfter Rattle.partial.specs.Runs.begin Rattle.partial.specs.Runs.append Rattle.partial.specs.Runs.appendAll Rattle.partial.specs.Segments.isState Rattle.partial.specs.Segments.present Rattle.partial.specs.Segments.corrupted Rattle.partial.specs.Segments.isOpen Rattle.partial.specs.Segments.isLast Rattle.partial.specs.Segments.endOf Rattle.partial.specs.Segments.chunksOf Rattle.partial.specs.Sequences.someOf Rattle.partial.specs.Sequences.allOf Rattle.partial.specs.Sequences.sum Rattle.partial.specs.Sequences.largest Rattle.partial.specs.Sequences.within Rattle.partial.specs.Sequences.stretch Rattle.partial.specs.Tables.segmentRow Rattle.partial.specs.Tables.segmentRows Rattle.partial.specs.Tables.chunkRow Rattle.partial.specs.Tables.chunkRowsOf Rattle.partial.specs.Tables.chunkRowsFrom Rattle.partial.specs.Tables.chunkRows Rattle.partial.specs.Tables.rangeRows Rattle.partial.specs.Tables.hadRows Rattle.partial.specs.Tables.missingRows Rattle.partial.specs.Tables.fits Rattle.partial.specs.Tables.filled Rattle.partial.specs.Tables.tabled Rattle.partial.specs.Tables.listed Rattle.partial.specs.Tables.after Rattle.partial.specs.Tables.summary Rattle.partial.specs.Tables.totals Rattle.partial.specs.Tables.bytesIn Rattle.partial.specs.Tables.nowhere Rattle.partial.specs.Tables.servedPart Rattle.partial.specs.Tables.asked Rattle.partial.specs.Tables.textOf Rattle.partial.specs.Writing.beginning Rattle.partial.specs.Writing.isText Rattle.partial.specs.Writing.begun Rattle.partial.specs.Writing.written Rattle.partial.specs.Writing.items Rattle.partial.specs.Writing.asks Rattle.partial.specs.Writing.listRight Rattle.partial.specs.Writing.dataSize Rattle.partial.specs.Writing.dataRight Rattle.partial.specs.Writing.anyPresent Rattle.partial.specs.Writing.dataBox Rattle.partial.specs.Writing.addedBoxes Rattle.partial.specs.Writing.offsetOf Rattle.partial.specs.Writing.offsets Rattle.partial.specs.Writing.lengthSize Rattle.partial.specs.Writing.offsetSize Rattle.partial.specs.Writing.flagByte Rattle.partial.specs.Writing.entryBytes Rattle.partial.specs.Writing.plocBody Rattle.partial.specs.Writing.versionFor Rattle.partial.specs.Writing.pshdBody Rattle.partial.specs.Writing.added Rattle.partial.specs.Writing.newChunks Rattle.partial.specs.Writing.newSegment Rattle.partial.specs.Writing.appended Rattle.partial.specs.Writing.result
+unfolding table Rattle.boxes.specs.Framing.sized Rattle.boxes.specs.Framing.large Rattle.boxes.specs.Framing.header Rattle.boxes.specs.Framing.boxesFrom Rattle.boxes.specs.Framing.boxLimit Rattle.boxes.specs.Framing.boxesIn Rattle.boxes.specs.Framing.boxOf Rattle.boxes.specs.Framing.headerAnswer Rattle.boxes.specs.Framing.frontSize Rattle.boxes.specs.Framing.front Rattle.boxes.specs.Framing.boxed Rattle.boxes.specs.Kinds.kinds Rattle.boxes.specs.Kinds.is Rattle.boxes.specs.Kinds.those Rattle.boxes.specs.Kinds.keeps Rattle.boxes.specs.Kinds.right Rattle.boxes.specs.Numbers.number Rattle.boxes.specs.Numbers.bytesOf Rattle.boxes.specs.Numbers.valueOf Rattle.boxes.specs.Numbers.signed Rattle.boxes.specs.Numbers.unsigned Rattle.boxes.specs.Numbers.holds Rattle.boxes.specs.Numbers.holdsOffset Rattle.boxes.specs.Numbers.least Rattle.boxes.specs.Numbers.leastWidth Rattle.partial.specs.Entries.plocHead Rattle.partial.specs.Entries.state Rattle.partial.specs.Entries.stateOf Rattle.partial.specs.Entries.entry Rattle.partial.specs.Entries.mayLie Rattle.partial.specs.Entries.moved Rattle.partial.specs.Entries.placeOf Rattle.partial.specs.Entries.chunksFrom Rattle.partial.specs.Heading.boxAt Rattle.partial.specs.Heading.firstOf Rattle.partial.specs.Heading.ftypRight Rattle.partial.specs.Heading.brandsFrom Rattle.partial.specs.Heading.brands Rattle.partial.specs.Heading.brandRight Rattle.partial.specs.Heading.pfilRight Rattle.partial.specs.Heading.pfhdFormed Rattle.partial.specs.Heading.pfhdRight Rattle.partial.specs.Heading.text Rattle.partial.specs.Heading.url Rattle.partial.specs.Heading.mime Rattle.partial.specs.Heading.surlFormed Rattle.partial.specs.Heading.surlRight Rattle.partial.specs.Heading.heading Rattle.partial.specs.Map.ascii Rattle.partial.specs.Map.decimal Rattle.partial.specs.Map.line Rattle.partial.specs.Map.refusedLine Rattle.partial.specs.Map.rangeLine Rattle.partial.specs.Map.rangeLines Rattle.partial.specs.Map.sourceLine Rattle.partial.specs.Map.totalLine Rattle.partial.specs.Map.mapOf Rattle.partial.specs.Map.mapText Rattle.partial.specs.Meaning.givesSize Rattle.partial.specs.Meaning.knownSize Rattle.partial.specs.Meaning.describedLength Rattle.partial.specs.Meaning.isClosed Rattle.partial.specs.Meaning.agree Rattle.partial.specs.Meaning.covers Rattle.partial.specs.Meaning.supplier Rattle.partial.specs.Meaning.supplied Rattle.partial.specs.Meaning.placeOfByte Rattle.partial.specs.Meaning.served Rattle.partial.specs.Meaning.onward Rattle.partial.specs.Meaning.servedRun Rattle.partial.specs.Meaning.missingRun Rattle.partial.specs.Meaning.reply Rattle.partial.specs.Ranges.joined Rattle.partial.specs.Ranges.ranges Rattle.partial.specs.Ranges.classOf Rattle.partial.specs.Ranges.rangesOf Rattle.partial.specs.Ranges.ofClass Rattle.partial.specs.Ranges.hadList Rattle.partial.specs.Ranges.missingList Rattle.partial.specs.Ranges.total Rattle.partial.specs.Reading.offsetWidth Rattle.partial.specs.Reading.pshdFields Rattle.partial.specs.Reading.pshdRight Rattle.partial.specs.Reading.segment Rattle.partial.specs.Reading.segmentsFrom Rattle.partial.specs.Reading.segments Rattle.partial.specs.Reading.reading Rattle.partial.specs.Reading.earlierSegments Rattle.partial.specs.Runs.fileIn Rattle.partial.specs.Runs.sizeAfter Rattle.partial.specs.Runs.begin Rattle.partial.specs.Runs.append Rattle.partial.specs.Runs.appendAll Rattle.partial.specs.Segments.isState Rattle.partial.specs.Segments.present Rattle.partial.specs.Segments.corrupted Rattle.partial.specs.Segments.isOpen Rattle.partial.specs.Segments.isLast Rattle.partial.specs.Segments.endOf Rattle.partial.specs.Segments.chunksOf Rattle.partial.specs.Sequences.someOf Rattle.partial.specs.Sequences.allOf Rattle.partial.specs.Sequences.sum Rattle.partial.specs.Sequences.largest Rattle.partial.specs.Sequences.within Rattle.partial.specs.Sequences.stretch Rattle.partial.specs.Tables.segmentRow Rattle.partial.specs.Tables.segmentRows Rattle.partial.specs.Tables.chunkRow Rattle.partial.specs.Tables.chunkRowsOf Rattle.partial.specs.Tables.chunkRowsFrom Rattle.partial.specs.Tables.chunkRows Rattle.partial.specs.Tables.rangeRows Rattle.partial.specs.Tables.hadRows Rattle.partial.specs.Tables.missingRows Rattle.partial.specs.Tables.fits Rattle.partial.specs.Tables.filled Rattle.partial.specs.Tables.tabled Rattle.partial.specs.Tables.listed Rattle.partial.specs.Tables.after Rattle.partial.specs.Tables.summary Rattle.partial.specs.Tables.totals Rattle.partial.specs.Tables.bytesIn Rattle.partial.specs.Tables.nowhere Rattle.partial.specs.Tables.servedPart Rattle.partial.specs.Tables.asked Rattle.partial.specs.Tables.textOf Rattle.partial.specs.Writing.beginning Rattle.partial.specs.Writing.isText Rattle.partial.specs.Writing.begun Rattle.partial.specs.Writing.written Rattle.partial.specs.Writing.items Rattle.partial.specs.Writing.asks Rattle.partial.specs.Writing.listRight Rattle.partial.specs.Writing.dataSize Rattle.partial.specs.Writing.dataRight Rattle.partial.specs.Writing.anyPresent Rattle.partial.specs.Writing.dataBox Rattle.partial.specs.Writing.addedBoxes Rattle.partial.specs.Writing.offsetOf Rattle.partial.specs.Writing.offsets Rattle.partial.specs.Writing.lengthSize Rattle.partial.specs.Writing.offsetSize Rattle.partial.specs.Writing.flagByte Rattle.partial.specs.Writing.entryBytes Rattle.partial.specs.Writing.plocBody Rattle.partial.specs.Writing.versionFor Rattle.partial.specs.Writing.pshdBody Rattle.partial.specs.Writing.added Rattle.partial.specs.Writing.newChunks Rattle.partial.specs.Writing.newSegment Rattle.partial.specs.Writing.appended Rattle.partial.specs.Writing.result
 as-the-paper-says = refl

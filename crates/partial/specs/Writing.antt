@@ -7,11 +7,12 @@ use lib.ListN.{length, take}
 use lib.Dec.{leb, eqb}
 use Rattle.boxes.specs.Answer.{Answer, refused, given, _>>=_, hold}
 use Rattle.boxes.specs.Numbers.{bytesOf, unsigned, holds, holdsOffset, leastWidth}
-use Rattle.boxes.specs.Framing.{boxed, boxLimit}
+use Rattle.boxes.specs.Framing.{frontSize, boxed, boxLimit}
 use Rattle.boxes.specs.Kinds.{ftyp, pfil, pfhd, surl, pseg, pshd, ploc, pdat}
 use Rattle.boxes.specs.declared.numbers.Offset.{Offset}
 use Rattle.boxes.specs.declared.numbers.Offset.the-variants.{Back}
 use Rattle.partial.specs.declared.header.SegmentHeader.{SegmentHeader}
+use Rattle.partial.specs.declared.position.Position.{Position}
 use Rattle.partial.specs.Limits.{fileLimit, segmentLimit, chunkLimit}
 use Rattle.partial.specs.Sequences.{someOf, allOf, sum}
 use Rattle.partial.specs.Segments.{Chunk, Segment, isState, present, corrupted, isLast, endOf, chunksOf}
@@ -68,6 +69,15 @@ pub record Addition : Type 0 where
   pub last : Bool
   pub list : List ℕ
   pub bytes : List ℕ
+
+-- last_segment, and no other flag
+abbrev pub flagsFor : Bool → ℕ
+flagsFor true = 1
+flagsFor false = 0
+
+-- a header that may be written: the fields given, last_segment or no flag at all
+abbrev pub writable : Position → ℕ → Bool → SegmentHeader
+writable offset repair last = record { offset = offset; repair = repair; flags = flagsFor last }
 
 -- what a header, a chunk list and data ask of append; of the header's flags it takes last_segment and no other
 unfoldable pub asks : SegmentHeader → List ℕ → List ℕ → Addition
@@ -134,11 +144,6 @@ plocBody is =
     let o = offsetSize is in
     versionAndFlags ++ ((l * 16 + o) ∷ (bytesOf 2 0 ++ (bytesOf 2 (length is) ++ entryBytes l o is)))
 
--- last_segment, and no other flag
-abbrev pub flagsFor : Bool → ℕ
-flagsFor true = 1
-flagsFor false = 0
-
 -- the writer's form of `pshd`: version 0 where 32 bits hold the offset, else version 1
 unfoldable pub versionFor : ℕ → ℕ
 versionFor offset = elim (holds 4 offset) [ true ↦ 0 | false ↦ 1 ]
@@ -165,7 +170,7 @@ newChunks at start (i ∷ is) =
     }
     ∷ newChunks at (start + i .size) is
 
--- the segment that an addition makes in a file of n bytes
+-- the segment that an addition makes in a file of n bytes; the body of its `pshd` stands after two headers
 unfoldable pub newSegment : ℕ → Addition → Segment
 newSegment n a =
     let at = n + length (dataBox a) in
@@ -174,7 +179,7 @@ newSegment n a =
       sourceOffset = a .sourceOffset;
       flags = flagsFor (a .last);
       repairTime = a .repairTime;
-      headerPlace = at + length (boxed (pseg .code) []) + length (boxed (pshd .code) []);
+      headerPlace = at + frontSize + frontSize;
       headerLength = length (pshdBody a);
       chunks = newChunks at (a .sourceOffset) (items (a .list));
     }

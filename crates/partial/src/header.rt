@@ -1,7 +1,7 @@
 // The header of a segment, as the writer takes it.
 use crate::position::Position;
 ghost use mathlib.Core.Path.{_≡_};
-ghost use Rattle.partial.specs.Writing.{flagsFor};
+ghost use Rattle.partial.specs.Writing.{writable};
 
 // The fields of `pshd` that a segment is written with.
 pub struct SegmentHeader {
@@ -18,7 +18,7 @@ impl SegmentHeader {
 
     // A header that may be written: it sets last_segment or no flag at all.
     pub fn writable(offset: Position, repair: u64, last: bool) -> Self
-        ensures { λ r. ⌜ (r .offset ≡ offset) × (r .repair ≡ repair) × (r .flags ≡ flagsFor last) ⌝ }
+        ensures { λ r. ⌜ r ≡ writable offset repair last ⌝ }
     {
         let flags = if last {
             SegmentHeader::LAST_SEGMENT

@@ -1,0 +1,30 @@
+-- `boxes::rules::keeps_rule` meets its contract: each arm is a case of the definition.
+use borrow.Author.Needs.{needs}
+use Rattle.boxes.specs.Kinds.{keeps}
+use Rattle.boxes.proofs.rules.keeps_rule.Statement.{statement}
+use Rattle.boxes.proofs.rules.keeps_rule.Tie as tie
+
+enum-told : tie.Need-enum-told
+enum-told c = search needs
+
+enum-told-2 : tie.Need-enum-told-2
+enum-told-2 c = search needs
+
+enum-told-3 : tie.Need-enum-told-3
+enum-told-3 c = search needs
+
+returns : tie.Need-returns
+unfolding keeps
+returns c = rw (c .enum-told .given .1)
+
+returns-2 : tie.Need-returns-2
+unfolding keeps
+returns-2 c = rw (c .enum-told2 .given .1)
+
+returns-3 : tie.Need-returns-3
+unfolding keeps
+returns-3 c = rw (c .enum-told3 .given .1)
+
+pub keeps-rule-spec : {M : Type 1} → statement M
+keeps-rule-spec =
+    tie.close (tie.spec enum-told enum-told-2 enum-told-3 returns returns-2 returns-3)

@@ -1,0 +1,4 @@
+// The sizes that the box layer holds to.
+
+// The most boxes in one container.
+pub const BOX_LIMIT: u64 = 512;
