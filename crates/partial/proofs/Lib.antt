@@ -1,4 +1,3 @@
-pub mod AnswerLaws
 pub mod DescribedLaws
 pub mod Determined
 pub mod GrownLaws

@@ -5,23 +5,48 @@ use mathlib.Core.List.{List, [], _∷_, _++_, append-nil}
 use mathlib.Core.Logic.{inl, inr}
 use mathlib.Core.Option.{Option, none, some}
 use mathlib.Core.Path.{_≡_, refl, subst}
+use native.Mathlib.Omega.{arith}
 use lib.Dec.{leb, ltb, eqb}
 use lib.ListN.{length}
 use Rattle.boxes.specs.Answer.{refused, given, _>>=_, hold}
-use Rattle.boxes.specs.Framing.{Box, boxesIn}
+use Rattle.boxes.specs.Framing.{Box, boxLimit, boxesIn}
 use Rattle.boxes.specs.Kinds.{pseg, pshd, ploc, surl, right, those}
-use Rattle.partial.specs.Limits.{segmentLimit, chunkLimit}
+use Rattle.boxes.proofs.AnswerLaws.{not-both, given-same, both-given, held}
+use Rattle.boxes.proofs.ContainerLaws.{Filled, full, next, fills}
+use Rattle.boxes.proofs.HeaderLaws.{header-inside}
+use Rattle.partial.specs.Limits.{fileLimit, segmentLimit, chunkLimit}
 use Rattle.partial.specs.Sequences.{allOf}
 use Rattle.partial.specs.Segments.{Chunk, Segment, present, chunksOf}
-use Rattle.partial.specs.Heading.{Heading, heading, boxAt, firstOf}
+use Rattle.partial.specs.Heading.{Heading, heading, boxAt, firstOf, ftypRight, brandRight, pfilRight, pfhdRight, surlRight}
 use Rattle.partial.specs.Entries.{Ploc, plocHead, Entry, entry, mayLie, moved, placeOf, chunksFrom}
 use Rattle.partial.specs.Reading.{pshdFields, pshdRight, segment, segmentsFrom, segments, reading, earlierSegments}
 use Rattle.partial.specs.Meaning.{agree}
-use Rattle.partial.proofs.AnswerLaws.{not-both, given-same, both-given, held}
+use Rattle.partial.specs.Demands.{Mapped}
 use Rattle.partial.proofs.SequenceLaws.{which, all-append}
 use Rattle.partial.proofs.SupplyLaws.{chunks-append}
 use Rattle.partial.proofs.DescribedLaws.{Follow, InOrder, in-order-append}
-use Rattle.partial.proofs.MappedLaws.{lies, Accepted}
+use Rattle.partial.proofs.MappedLaws.{lies, Accepted, mapped}
+
+-- the boxes of a file end in it
+boxes-inside : {s : List ℕ} {end at : ℕ} {bs : List Box} → Filled s end at bs → (k : ℕ) → k < length bs → boxAt k bs .end ≤ end
+unfolding boxAt
+boxes-inside (full e) k h = absurd (omega arith)
+boxes-inside (next short read rest) zero h = header-inside _ _ _ read .ends
+boxes-inside (next short read rest) (suc k) h = boxes-inside rest k (omega arith)
+
+heading-inside : (f : List ℕ) {h : Heading} → heading f ≡ given h → (k : ℕ) → k < length (h .boxes) → boxAt k (h .boxes) .end ≤ length f
+unfolding heading boxesIn
+heading-inside f g =
+    let (_, g) = held 1 (leb (length f) fileLimit) _ g in
+    let (boxes, read, g) = both-given (boxesIn f 0 (length f)) _ g in
+    let (_, g) = held 7 (ftypRight boxes) _ g in
+    let (_, g) = held 8 (brandRight f boxes) _ g in
+    let (_, g) = held 9 (pfilRight boxes) _ g in
+    let (inner, _, g) = both-given (boxesIn f (boxAt 1 boxes .body) (boxAt 1 boxes .end)) _ g in
+    let (_, g) = held 10 (pfhdRight f inner) _ g in
+    let (_, g) = held 11 (surlRight f inner) _ g in
+    subst (λ (h : Heading). (k : ℕ) → k < length (h .boxes) → boxAt k (h .boxes) .end ≤ length f) (given-same g)
+    (boxes-inside (fills f (length f) boxLimit 0 read .boxes))
 
 -- the place of an entry's chunk
 module _ (h : Heading) (from : ℕ) (e : Entry) {place : ℕ} where
@@ -93,15 +118,15 @@ module _ (limit : ℕ) (f : List ℕ) (h : Heading) where
       let (s, read, g) = both-given (segment limit f h before b) _ g in
       segments-told (before ++ (s ∷ [])) bs (one-more before s all (segment-told before b read)) g
 
-  pub accepted : {ss : List Segment} → ((k : ℕ) → k < length (h .boxes) → boxAt k (h .boxes) .end ≤ length f) → segments limit f h ≡ given ss
-      → Accepted f h ss
+  -- the segments that reading and appending go by
+  pub accepted : {ss : List Segment} → heading f ≡ given h → segments limit f h ≡ given ss → Accepted f h ss
   unfolding segments allOf chunksOf
-  accepted inside g =
+  accepted head g =
       let (_, g) = held 13 (leb (length (those pseg (h .boxes))) segmentLimit) _ g in
       let (ss, read, g) = both-given (segmentsFrom limit f h [] (those pseg (h .boxes))) _ g in
       let (agreed, g) = held 25 (agree ss) _ g in
       let all = segments-told [] (those pseg (h .boxes)) (record { order = tt; lie = refl }) read in
-      subst (Accepted f h) (given-same g) (record { agreed = agreed; order = all .order; lie = all .lie; inside = inside })
+      subst (Accepted f h) (given-same g) (record { agreed = agreed; order = all .order; lie = all .lie; inside = heading-inside f head })
 
 -- an accepted file's segments, and those that append takes, are those of its heading
 module _ (limit : ℕ) (f : List ℕ) {h : Heading} {ss : List Segment} (head : heading f ≡ given h) where
@@ -112,3 +137,7 @@ module _ (limit : ℕ) (f : List ℕ) {h : Heading} {ss : List Segment} (head : 
   pub earlier-segments : earlierSegments limit f ≡ given ss → segments limit f h ≡ given ss
   unfolding earlierSegments
   earlier-segments g = rw (earlierSegments, head) at g
+
+  -- each source byte of an accepted file is served or listed missing
+  pub read-mapped : reading limit f ≡ given ss → Mapped f h ss
+  read-mapped g = mapped f h ss (accepted limit f h head (reading-segments g))
