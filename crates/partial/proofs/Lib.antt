@@ -5,6 +5,7 @@ pub mod ListingLaws
 pub mod MappedLaws
 pub mod RangeLaws
 pub mod ReadingLaws
+pub mod RefusalLaws
 pub mod RunLaws
 pub mod SequenceLaws
 pub mod ServingLaws
