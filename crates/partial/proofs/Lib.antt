@@ -5,6 +5,7 @@ pub mod ListingLaws
 pub mod MappedLaws
 pub mod RangeLaws
 pub mod ReadingLaws
+pub mod ReasonLaws
 pub mod RefusalLaws
 pub mod RunLaws
 pub mod SequenceLaws
