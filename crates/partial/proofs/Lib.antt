@@ -1,3 +1,4 @@
+pub mod AgainLaws
 pub mod DescribedLaws
 pub mod Determined
 pub mod GrownLaws
