@@ -26,6 +26,10 @@ abbrev pub InOrder : List Segment → Type 0
 InOrder [] = Unit {0}
 InOrder (s ∷ ss) = Follow (s .sourceOffset) (s .chunks) × InOrder ss
 
+pub in-order-append : (ss ts : List Segment) → InOrder ss → InOrder ts → InOrder (ss ++ ts)
+in-order-append [] ts o q = q
+in-order-append (s ∷ ss) ts o q = (o .0, in-order-append ss ts (o .1) q)
+
 -- no segment ends above the described length
 pub ends-most : (ss : List Segment) → agree ss ≡ true → largest (map endOf ss) ≤ describedLength ss
 unfolding agree describedLength

@@ -26,7 +26,7 @@ use Rattle.partial.proofs.SupplyLaws.{byteFrom, served-from, served-app
 use Rattle.partial.proofs.DescribedLaws.{never-shorter}
 use Rattle.partial.proofs.MappedLaws.{Accepted, place-inside}
 
-data-cons : (i : Item) (is : List Item) → dataSize (i ∷ is) ≡ dataSize (i ∷ []) + dataSize is
+pub data-cons : (i : Item) (is : List Item) → dataSize (i ∷ is) ≡ dataSize (i ∷ []) + dataSize is
 unfolding dataSize sum
 data-cons i is = omega arith
 
@@ -38,11 +38,11 @@ data-good : (i : Item) → i .state ≡ good → dataSize (i ∷ []) ≡ i .size
 unfolding dataSize sum
 data-good i e = rw (good-present e) (add-zero (i .size))
 
--- where the data of a good item starts
-place-good : (at : ℕ) (i : Item) (is : List Item) → i .state ≡ good → dataSize (i ∷ is) ≤ at
+-- where the data of a present item starts
+pub place-present : (at : ℕ) (i : Item) (is : List Item) → present (i .state) ≡ true → dataSize (i ∷ is) ≤ at
     → (elim (present (i .state)) [ true ↦ Option·getD (moved at (offsetOf (i ∷ is))) 0 | false ↦ 0 ]) ≡ at - dataSize (i ∷ is)
 unfolding moved offsetOf
-place-good at i is e low = rw (good-present e) (rw (moved, le-leb (dataSize (i ∷ is)) at low))
+place-present at i is e low = rw e (rw (moved, le-leb (dataSize (i ∷ is)) at low))
 
 module _ (g : List ℕ) (at p : ℕ) where
   -- where the data of the items stands before `at`, their chunks supply what they carry
@@ -59,7 +59,7 @@ module _ (g : List ℕ) (at p : ℕ) where
             let (is-good, covered) = both (eqb (i .state) good) (within start (i .size) p) e in
             let state = eqb-true _ _ is-good in
             let (from, to) = within-true _ _ _ covered in
-            rw (byteFrom, carriedBy, e) (rw (place-good at i is state low) (ap some (stand (p - start) (omega (arith, data-good i state)))))
+            rw (byteFrom, carriedBy, e) (rw (place-present at i is (good-present state) low) (ap some (stand (p - start) (omega (arith, data-good i state)))))
         | inr e ↦
             rw (byteFrom, carriedBy, e)
             (carried-byte (start + i .size) is (drop first bytes) (omega arith)
@@ -79,11 +79,11 @@ no-data (i ∷ is) h =
     ]
 
 module _ (a : Addition) (right : dataRight a ≡ true) where
-  data-length : length (a .bytes) ≡ dataSize (items (a .list))
+  pub data-length : length (a .bytes) ≡ dataSize (items (a .list))
   unfolding dataRight
   data-length = eqb-true _ _ right
 
-  data-last : (head : List ℕ) × (dataBox a ≡ head ++ a .bytes)
+  pub data-last : (head : List ℕ) × (dataBox a ≡ head ++ a .bytes)
   unfolding dataBox anyPresent boxed
   data-last =
       elim (which (anyPresent a)) [

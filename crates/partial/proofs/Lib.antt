@@ -1,4 +1,5 @@
 pub mod AddedBoxesLaws
+pub mod AgainLaws
 pub mod DescribedLaws
 pub mod Determined
 pub mod EntriesBackLaws
@@ -10,7 +11,10 @@ pub mod ListingLaws
 pub mod MappedLaws
 pub mod NewSegmentLaws
 pub mod RangeLaws
+pub mod ReadingLaws
 pub mod ReadsBackLaws
+pub mod ReasonLaws
+pub mod RefusalLaws
 pub mod RunLaws
 pub mod SequenceLaws
 pub mod ServingLaws

@@ -49,7 +49,10 @@ module _ (class : ℕ → ℕ) where
         | yes e ↦
             let long : q - p ≡ suc (q - suc p) = omega arith in
             rw (joins, ← long)
-            (next {p = p} {q = q} (omega arith) (λ i from to. ⊎-elim (λ here. ap class (sym here)) (λ on. same i on to ∙ sym e) (eq-or-lt-of-le from)) (λ short f. differs short (f ∙ e)) rest)
+            (next {p = p} {q = q} (omega arith)
+            (λ i from to. ⊎-elim (λ here. ap class (sym here)) (λ on. same i on to ∙ sym e) (eq-or-lt-of-le from))
+            (λ short f. differs short (f ∙ e))
+            rest)
         | no d ↦ rw parts (alone (λ h e. d (sym e)) (next some same differs rest))
       ]
 
@@ -79,7 +82,9 @@ module _ (class : ℕ → ℕ) where
         | yes from ↦
             elim (decLe q i) [
               | yes past ↦ simp (le-leb p i from, le-leb q i past, le-ltb i (p + (q - p)) (omega arith), and-false, more)
-              | no here ↦ simp (le-leb p i from, lt-leb q i (omega arith), lt-ltb i (p + (q - p)) (omega arith), lt-ltb i end (omega arith), and-true, or-false, more, same i from (omega arith))
+              | no here ↦
+                  let one-class = same i from (omega arith) in
+                  simp (le-leb p i from, lt-leb q i (omega arith), lt-ltb i (p + (q - p)) (omega arith), lt-ltb i end (omega arith), and-true, or-false, more, one-class)
             ]
       ]
 
@@ -120,7 +125,8 @@ among-class c i [] = refl
 among-class c i (r ∷ rs) =
     let test : Range → Bool = λ r. within (r .first) (r .length) i in
     let more = among-class c i rs in
-    elim (eqb (r .class) c) as (λ b. someOf test (elim b [ true ↦ r ∷ ofClass c rs | false ↦ ofClass c rs ]) ≡ (b && test r || someOf (λ r. eqb (r .class) c && test r) rs)) [
+    let rest : Bool = someOf (λ r. eqb (r .class) c && test r) rs in
+    elim (eqb (r .class) c) as (λ b. someOf test (elim b [ true ↦ r ∷ ofClass c rs | false ↦ ofClass c rs ]) ≡ (b && test r || rest)) [
       | true ↦ ap (λ b. test r || b) more
       | false ↦ more
     ]
@@ -148,13 +154,25 @@ module _ (class : ℕ → ℕ) where
       rw (suc-add (suc l) m, run l m (suc p) q (omega arith) (λ i from to. same i (omega arith) to ∙ sym second) (λ some e. differs some (e ∙ second)))
       (joins (class p) p (record { class = class (suc p); first = suc p; length = suc l }) (ranges class m q) (sym second))
 
-  -- what code uses: the first l of k positions have one class, and the next, if there is one, another
+  -- the step by which code makes ranges, by positions: those from p to q have one class, and q, if it is before the end, another
+  pub range-to : (end p q : ℕ) → p < q → q ≤ end → ((i : ℕ) → p ≤ i → i < q → class i ≡ class p) → (q < end → class q ≡ class p → ⊥)
+      → ranges class (end - p) p ≡ record { class = class p; first = p; length = q - p } ∷ ranges class (end - q) q
+  range-to end p q some most same differs =
+      let long : suc (q - suc p) ≡ q - p = omega arith in
+      let all : q - p + (end - q) ≡ end - p = omega arith in
+      rw (long, all) at (run (q - suc p) (end - q) p q (omega arith) same (λ more. differs (omega arith)))
+
+  -- and by counts: the first l of k positions have one class, and the next, if there is one, another
   pub first-range : (k l p : ℕ) → 0 < l → l ≤ k → ((i : ℕ) → i < l → class (p + i) ≡ class p) → (l < k → class (p + l) ≡ class p → ⊥)
       → ranges class k p ≡ record { class = class p; first = p; length = l } ∷ ranges class (k - l) (p + l)
-  first-range k zero p some most same differs = absurd (omega arith)
-  first-range k (suc l) p some most same differs =
-      rw (add-sub-of-le most) at
-      (run l (k - suc l) p (p + suc l) refl (λ i from to. rw (add-sub-of-le from) at (same (i - p) (omega arith))) (λ more. differs (omega arith)))
+  first-range k l p some most same differs =
+      let all : p + k - p ≡ k = omega arith in
+      let long : p + l - p ≡ l = omega arith in
+      let left : p + k - (p + l) ≡ k - l = omega arith in
+      rw (all, long, left) at
+      (range-to (p + k) p (p + l) (omega arith) (omega arith)
+      (λ i from to. rw (add-sub-of-le from) at (same (i - p) (omega arith)))
+      (λ more. differs (omega arith)))
 
   -- the positions that the ranges of one class hold
   pub among-ranges : (c k p i : ℕ) → among i (ofClass c (ranges class k p)) ≡ (within p k i && eqb (class i) c)

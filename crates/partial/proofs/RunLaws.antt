@@ -12,6 +12,7 @@ use lib.Dec.{ltb, eqb}
 use lib.ListN.{length}
 use Rattle.partial.specs.Segments.{Chunk, Segment, good, chunksOf}
 use Rattle.partial.specs.Meaning.{covers, supplier, supplied, describedLength, onward, servedRun, missingRun}
+use Rattle.partial.specs.Ranges.{classOf}
 use Rattle.partial.proofs.SequenceLaws.{which, both, inside, within-true}
 use Rattle.partial.proofs.StretchLaws.{first-one, stretch-first}
 use Rattle.partial.proofs.SupplyLaws.{supplies, supplier-here, supplier-on, supply}
@@ -84,14 +85,14 @@ module _ (c : Chunk) (cs : List Chunk) (p end : ℕ) where
         most = omega arith;
         same = λ q a b. supplier-here c cs q (does-supply c q state (omega arith) (omega arith)) ∙ sym (supplier-here c cs p e);
         differs = λ short f.
-            let end = min end (c .start + c .size) in
-            let z = sym (supplier-on c cs end (not-supply c end (λ _ _ to. omega arith))) ∙ f ∙ supplier-here c cs p e in
+            let last = min end (c .start + c .size) in
+            let z = sym (supplier-on c cs last (not-supply c last (λ _ _ to. omega arith))) ∙ f ∙ supplier-here c cs p e in
             omega arith;
       }
 
   -- the chunk supplies no position from p up to a bound, and that bound unless it is the end
-  later : (bound : ℕ) → bound ≤ end → ((q : ℕ) → p ≤ q → q < bound → supplies q c ≡ false) → (bound < end → supplies bound c ≡ true) → {e : ℕ} → Run cs p bound e
-      → Run (c ∷ cs) p end e
+  later : (bound : ℕ) → bound ≤ end → ((q : ℕ) → p ≤ q → q < bound → supplies q c ≡ false) → (bound < end → supplies bound c ≡ true)
+      → {e : ℕ} → Run cs p bound e → Run (c ∷ cs) p end e
   later bound low misses meets {e} r =
       let first = r .after in
       let last = r .most in
@@ -160,3 +161,8 @@ module _ (ss : List Segment) (p : ℕ) where
         | yes a ↦ ap not (le-ltb m n a) ∙ sym (eq-eqb m _ (omega arith))
         | no b ↦ ap not (lt-ltb m n (omega arith)) ∙ sym (ne-eqb m _ (λ f. omega arith))
       ])
+
+  -- a run is of one class
+  pub run-class : {end e : ℕ} → Run (chunksOf ss) p end e → (q : ℕ) → p ≤ q → q < e → classOf ss q ≡ classOf ss p
+  unfolding classOf supplied
+  run-class r q from to = rw (classOf, r .same q from to)

@@ -93,7 +93,7 @@ some-supplies (c ∷ cs) p =
       | false ↦ leb·suc-suc (suc (supplier cs p)) (length cs) ∙ some-supplies cs p
     ]
 
-chunks-append : (ss ts : List Segment) → chunksOf (ss ++ ts) ≡ chunksOf ss ++ chunksOf ts
+pub chunks-append : (ss ts : List Segment) → chunksOf (ss ++ ts) ≡ chunksOf ss ++ chunksOf ts
 unfolding chunksOf
 chunks-append [] ts = refl
 chunks-append (s ∷ ss) ts = ap (λ cs. s .chunks ++ cs) (chunks-append ss ts) ∙ sym (append-assoc (s .chunks) (chunksOf ss) (chunksOf ts))

@@ -1,0 +1,143 @@
+-- What reading gives of an accepted file: its chunks follow each other and lie in data boxes, and its sizes agree.
+use Prim.Native.Nat.{ℕ, zero, suc, _+_, _≤_, _<_}
+use mathlib.Core.Bool.{true, not, _&&_, _||_}
+use mathlib.Core.List.{List, [], _∷_, _++_, append-nil}
+use mathlib.Core.Logic.{inl, inr}
+use mathlib.Core.Option.{Option, none, some}
+use mathlib.Core.Path.{_≡_, refl, subst}
+use native.Mathlib.Omega.{arith}
+use lib.Dec.{leb, ltb, eqb}
+use lib.ListN.{length}
+use Rattle.boxes.specs.Answer.{refused, given, _>>=_, hold}
+use Rattle.boxes.specs.Framing.{Box, boxLimit, boxesIn}
+use Rattle.boxes.specs.Kinds.{pseg, pshd, ploc, surl, right, those}
+use Rattle.boxes.proofs.AnswerLaws.{not-both, given-same, both-given, held}
+use Rattle.boxes.proofs.ContainerLaws.{Filled, full, next, fills}
+use Rattle.boxes.proofs.HeaderLaws.{header-inside}
+use Rattle.partial.specs.Limits.{fileLimit, segmentLimit, chunkLimit}
+use Rattle.partial.specs.Sequences.{allOf}
+use Rattle.partial.specs.Segments.{Chunk, Segment, present, chunksOf}
+use Rattle.partial.specs.Heading.{Heading, heading, boxAt, firstOf, ftypRight, brandRight, pfilRight, pfhdRight, surlRight}
+use Rattle.partial.specs.Entries.{Ploc, plocHead, Entry, entry, mayLie, moved, placeOf, chunksFrom}
+use Rattle.partial.specs.Reading.{pshdFields, pshdRight, segment, segmentsFrom, segments, reading, earlierSegments}
+use Rattle.partial.specs.Meaning.{agree}
+use Rattle.partial.specs.Demands.{Mapped}
+use Rattle.partial.proofs.SequenceLaws.{which, all-append}
+use Rattle.partial.proofs.SupplyLaws.{chunks-append}
+use Rattle.partial.proofs.DescribedLaws.{Follow, InOrder, in-order-append}
+use Rattle.partial.proofs.MappedLaws.{lies, Accepted, mapped}
+
+-- the boxes of a file end in it
+boxes-inside : {s : List ℕ} {end at : ℕ} {bs : List Box} → Filled s end at bs → (k : ℕ) → k < length bs → boxAt k bs .end ≤ end
+unfolding boxAt
+boxes-inside (full e) k h = absurd (omega arith)
+boxes-inside (next short read rest) zero h = header-inside _ _ _ read .ends
+boxes-inside (next short read rest) (suc k) h = boxes-inside rest k (omega arith)
+
+heading-inside : (f : List ℕ) {h : Heading} → heading f ≡ given h → (k : ℕ) → k < length (h .boxes) → boxAt k (h .boxes) .end ≤ length f
+unfolding heading boxesIn
+heading-inside f g =
+    let (_, g) = held 1 (leb (length f) fileLimit) _ g in
+    let (boxes, read, g) = both-given (boxesIn f 0 (length f)) _ g in
+    let (_, g) = held 7 (ftypRight boxes) _ g in
+    let (_, g) = held 8 (brandRight f boxes) _ g in
+    let (_, g) = held 9 (pfilRight boxes) _ g in
+    let (inner, _, g) = both-given (boxesIn f (boxAt 1 boxes .body) (boxAt 1 boxes .end)) _ g in
+    let (_, g) = held 10 (pfhdRight f inner) _ g in
+    let (_, g) = held 11 (surlRight f inner) _ g in
+    subst (λ (h : Heading). (k : ℕ) → k < length (h .boxes) → boxAt k (h .boxes) .end ≤ length f) (given-same g)
+    (boxes-inside (fills f (length f) boxLimit 0 read .boxes))
+
+-- the place of an entry's chunk
+module _ (h : Heading) (from : ℕ) (e : Entry) {place : ℕ} where
+  in-data : (to : Option ℕ) → (elim to [ none ↦ refused 24 | some at ↦ hold 24 (mayLie h at (e .size)) >>= λ _. given at ]) ≡ given place
+      → mayLie h place (e .size) ≡ true
+  in-data none g = absurd (not-both g)
+  in-data (some at) g =
+      let (lie, same) = held 24 (mayLie h at (e .size)) _ g in
+      rw (given-same same) at lie
+
+  place-lies : placeOf h from e ≡ given place → (not (present (e .state) && ltb 0 (e .size)) || mayLie h place (e .size)) ≡ true
+  unfolding placeOf
+  place-lies g =
+      elim (which (present (e .state) && ltb 0 (e .size))) [
+        | inl b ↦ rw b (in-data (moved from (e .offset)) (rw (placeOf, b) at g))
+        | inr b ↦ rw b
+      ]
+
+-- the chunks of a `ploc`
+pub record Told (h : Heading) (start : ℕ) (cs : List Chunk) : Type 0 where
+  pub follow : Follow start cs
+  pub lie : allOf (lies h) cs ≡ true
+
+module _ (limit : ℕ) (f : List ℕ) (h : Heading) (from : ℕ) (l : Ploc) where
+  chunks-told : (n at start : ℕ) {cs : List Chunk} → chunksFrom limit f h from l n at start ≡ given cs → Told h start cs
+  unfolding chunksFrom allOf lies
+  chunks-told zero at start g = subst (Told h start) (given-same (held 17 (eqb at (l .end)) _ g .1)) (record { follow = tt; lie = refl })
+  chunks-told (suc n) at start g =
+      let (e, _, g) = both-given (entry f l at) _ g in
+      let (_, g) = held 23 (leb (start + e .size) limit) _ g in
+      let (place, placed, g) = both-given (placeOf h from e) _ g in
+      let (rest, read, g) = both-given (chunksFrom limit f h from l n (e .next) (start + e .size)) _ g in
+      let r = chunks-told n (e .next) (start + e .size) read in
+      subst (Told h start) (given-same g) (record { follow = (refl, r .follow); lie = rw (place-lies h from e placed) (r .lie) })
+
+-- the chunks of segments
+pub record AllTold (h : Heading) (ss : List Segment) : Type 0 where
+  pub order : InOrder ss
+  pub lie : allOf (lies h) (chunksOf ss) ≡ true
+
+module _ (limit : ℕ) (f : List ℕ) (h : Heading) where
+  segment-told : (before : List Segment) (b : Box) {s : Segment} → segment limit f h before b ≡ given s → Told h (s .sourceOffset) (s .chunks)
+  unfolding segment
+  segment-told before b g =
+      let (inner, _, g) = both-given (boxesIn f (b .body) (b .end)) _ g in
+      let fields = pshdFields f (firstOf pshd inner) in
+      let (_, g) = held 14 (pshdRight f inner) _ g in
+      let (_, g) = held 15 (right ploc inner) _ g in
+      let (_, g) = held 16 (eqb (length (those surl inner)) 0) _ g in
+      let (l, _, g) = both-given (plocHead f (firstOf ploc inner)) _ g in
+      let (_, g) = held 22 (leb (length (chunksOf before) + l .count) chunkLimit) _ g in
+      let (_, g) = held 23 (leb (fields .sourceOffset) limit) _ g in
+      let (cs, read, g) = both-given (chunksFrom limit f h (b .at) l (l .count) (l .first) (fields .sourceOffset)) _ g in
+      subst (λ s. Told h (s .sourceOffset) (s .chunks)) (given-same g) (chunks-told limit f h (b .at) l (l .count) (l .first) _ read)
+
+  one-more : (ss : List Segment) (s : Segment) → AllTold h ss → Told h (s .sourceOffset) (s .chunks) → AllTold h (ss ++ (s ∷ []))
+  unfolding chunksOf
+  one-more ss s all one =
+      record {
+        order = in-order-append ss (s ∷ []) (all .order) (one .follow, tt);
+        lie = rw (chunks-append ss (s ∷ []), append-nil, all-append, all .lie) (one .lie);
+      }
+
+  segments-told : (before : List Segment) (bs : List Box) {ss : List Segment} → AllTold h before → segmentsFrom limit f h before bs ≡ given ss
+      → AllTold h ss
+  unfolding segmentsFrom
+  segments-told before [] all g = subst (AllTold h) (given-same g) all
+  segments-told before (b ∷ bs) all g =
+      let (s, read, g) = both-given (segment limit f h before b) _ g in
+      segments-told (before ++ (s ∷ [])) bs (one-more before s all (segment-told before b read)) g
+
+  -- the segments that reading and appending go by
+  pub accepted : {ss : List Segment} → heading f ≡ given h → segments limit f h ≡ given ss → Accepted f h ss
+  unfolding segments allOf chunksOf
+  accepted head g =
+      let (_, g) = held 13 (leb (length (those pseg (h .boxes))) segmentLimit) _ g in
+      let (ss, read, g) = both-given (segmentsFrom limit f h [] (those pseg (h .boxes))) _ g in
+      let (agreed, g) = held 25 (agree ss) _ g in
+      let all = segments-told [] (those pseg (h .boxes)) (record { order = tt; lie = refl }) read in
+      subst (Accepted f h) (given-same g) (record { agreed = agreed; order = all .order; lie = all .lie; inside = heading-inside f head })
+
+-- an accepted file's segments, and those that append takes, are those of its heading
+module _ (limit : ℕ) (f : List ℕ) {h : Heading} {ss : List Segment} (head : heading f ≡ given h) where
+  pub reading-segments : reading limit f ≡ given ss → segments limit f h ≡ given ss
+  unfolding reading
+  reading-segments g = held 12 (right pseg (h .boxes)) _ (rw (reading, head) at g) .1
+
+  pub earlier-segments : earlierSegments limit f ≡ given ss → segments limit f h ≡ given ss
+  unfolding earlierSegments
+  earlier-segments g = rw (earlierSegments, head) at g
+
+  -- each source byte of an accepted file is served or listed missing
+  pub read-mapped : reading limit f ≡ given ss → Mapped f h ss
+  read-mapped g = mapped f h ss (accepted limit f h head (reading-segments g))

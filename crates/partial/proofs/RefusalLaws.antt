@@ -1,0 +1,268 @@
+-- Demand 1: every refusal has a number that the paper has for the call, and after it all lent memory holds what it held.
+use Prim.Native.Nat.{ℕ, zero, suc, _+_, _/_, _%_, _≤_}
+use native.Mathlib.Omega.{arith}
+use mathlib.Core.Bool.{Bool, true, false, not, _&&_}
+use mathlib.Core.List.{List, [], _∷_, _++_}
+use mathlib.Core.Logic.{_⊎_, inl, inr}
+use mathlib.Core.Option.{Option, none, some}
+use mathlib.Core.Path.{_≡_, refl, sym, subst}
+use lib.Dec.{T, leb, ltb, eqb, lit≤}
+use lib.ListN.{length, getD, take}
+use Rattle.boxes.specs.Answer.{Answer, refused, given, _>>=_, hold}
+use Rattle.boxes.specs.Numbers.{number}
+use Rattle.boxes.specs.Framing.{Box, sized, large, header, boxesFrom, boxesIn, boxLimit}
+use Rattle.boxes.specs.Kinds.{pseg, pshd, ploc, surl, right, those}
+use Rattle.boxes.proofs.AnswerLaws.{not-both}
+use Rattle.partial.specs.Limits.{fileLimit, segmentLimit, chunkLimit}
+use Rattle.partial.specs.Sequences.{someOf, within}
+use Rattle.partial.specs.Segments.{Segment, present, chunksOf, endOf}
+use Rattle.partial.specs.Heading.{Heading, heading, boxAt, firstOf, ftypRight, brandRight, pfilRight, pfhdRight, surlRight}
+use Rattle.partial.specs.Entries.{Ploc, plocHead, state, stateOf, Entry, entry, mayLie, moved, placeOf, chunksFrom}
+use Rattle.partial.specs.Reading.{pshdFields, pshdRight, segment, segmentsFrom, segments, reading}
+use Rattle.partial.specs.Meaning.{agree}
+use Rattle.partial.specs.Tables.{segmentRows, chunkRows, hadRows, missingRows, fits, tabled, listed, after}
+use Rattle.partial.specs.Writing.{beginning, isText, begun, written, Addition, listRight, dataRight, addedBoxes, newSegment, added, appended}
+use Rattle.partial.specs.Runs.{lent, sizeAfter, append}
+use Rattle.partial.specs.Demands.{Demand1}
+use Rattle.partial.proofs.SequenceLaws.{passes, inside, within-true}
+
+same-number : {A : Type 0} {m n : ℕ} → _≡_ {A = Answer A} (refused m) (refused n) → m ≡ n
+same-number e = cc
+
+module _ (P : ℕ → Type 0) where
+  -- an answer refuses only with numbers of a kind
+  abbrev Only : {A : Type 0} → Answer A → Type 0
+  Only x = (n : ℕ) → x ≡ refused n → P n
+
+  only-given : {A : Type 0} (a : A) → Only (given a)
+  only-given a n e = absurd (not-both (sym e))
+
+  only-refused : {A : Type 0} (n : ℕ) → P n → Only {A = A} (refused n)
+  only-refused n t m e = subst (λ k. P k) (same-number e) t
+
+  only-then : {A B : Type 0} (x : Answer A) (next : A → Answer B) → Only x → ((a : A) → Only (next a)) → Only (x >>= next)
+  only-then (refused n) next first rest = λ m e. first m (cc)
+  only-then (given a) next first rest = rest a
+
+  only-either : {A : Type 0} (b : Bool) {x y : Answer A} → Only x → Only y → Only {A = A} (elim b [ true ↦ x | false ↦ y ])
+  only-either true p q = p
+  only-either false p q = q
+
+  only-held : {B : Type 0} (n : ℕ) (b : Bool) (next : Unit {0} → Answer B) → P n → Only (next tt) → Only (hold n b >>= next)
+  only-held n true next t rest = rest
+  only-held n false next t rest = only-refused n t
+
+-- stages 1 to 11 and 13 to 25, by a kind that has their numbers
+module _ (P : ℕ → Type 0) (early : (n : ℕ) → T (within 1 11 n) → P n) (late : (n : ℕ) → T (within 13 13 n) → P n) where
+  sized-only : (s : List ℕ) (at end front size : ℕ) → Only P (sized s at end front size)
+  unfolding sized within
+  sized-only s at end front size =
+      only-held P 4 (leb front size) _ (early 4 tt) (only-held P 5 (leb (at + size) end) _ (early 5 tt) (only-given P _))
+
+  header-only : (s : List ℕ) (at end : ℕ) → Only P (header s at end)
+  unfolding header large within
+  header-only s at end =
+      only-held P 2 (leb (at + 8) end) _ (early 2 tt)
+      (only-held P 3 (not (eqb (number s at 4) 0)) _ (early 3 tt)
+      (only-either P (eqb (number s at 4) 1)
+      (only-held P 2 (leb (at + 16) end) _ (early 2 tt) (sized-only s at end 16 (number s (at + 8) 8)))
+      (sized-only s at end 8 (number s at 4))))
+
+  boxes-only : (s : List ℕ) (end more at : ℕ) → Only P (boxesFrom s end more at)
+  unfolding boxesFrom within
+  boxes-only s end zero at = only-either P (leb end at) (only-given P _) (only-refused P 6 (early 6 tt))
+  boxes-only s end (suc more) at =
+      only-either P (leb end at) (only-given P _)
+      (only-then P (header s at end) _ (header-only s at end)
+      (λ b. only-then P (boxesFrom s end more (b .end)) _ (boxes-only s end more (b .end)) (λ bs. only-given P _)))
+
+  heading-only : (f : List ℕ) → Only P (heading f)
+  unfolding heading boxesIn within
+  heading-only f =
+      only-held P 1 (leb (length f) fileLimit) _ (early 1 tt)
+      (only-then P (boxesIn f 0 (length f)) _ (boxes-only f (length f) boxLimit 0)
+      (λ boxes.
+      only-held P 7 (ftypRight boxes) _ (early 7 tt)
+      (only-held P 8 (brandRight f boxes) _ (early 8 tt)
+      (only-held P 9 (pfilRight boxes) _ (early 9 tt)
+      (only-then P (boxesIn f (boxAt 1 boxes .body) (boxAt 1 boxes .end)) _ (boxes-only f (boxAt 1 boxes .end) boxLimit (boxAt 1 boxes .body))
+      (λ inner.
+      only-held P 10 (pfhdRight f inner) _ (early 10 tt)
+      (only-held P 11 (surlRight f inner) _ (early 11 tt) (only-given P _))))))))
+
+  ploc-only : (f : List ℕ) (b : Box) → Only P (plocHead f b)
+  unfolding plocHead within
+  ploc-only f b =
+      only-held P 17 (leb (b .body + 9) (b .end) && eqb (number f (b .body) 4) 0) _ (late 17 tt)
+      (only-held P 18 (leb (number f (b .body + 4) 1 / 16) 8 && leb (number f (b .body + 4) 1 % 16) 8) _ (late 18 tt)
+      (only-held P 19 (eqb (number f (b .body + 5) 2) 0) _ (late 19 tt) (only-given P _)))
+
+  state-only : (c p : Bool) → Only P (state c p)
+  unfolding state within
+  state-only false true = only-given P _
+  state-only true true = only-given P _
+  state-only true false = only-given P _
+  state-only false false = only-refused P 21 (late 21 tt)
+
+  entry-only : (f : List ℕ) (l : Ploc) (at : ℕ) → Only P (entry f l at)
+  unfolding entry stateOf within
+  entry-only f l at =
+      only-held P 17 (ltb at (l .end)) _ (late 17 tt)
+      (only-then P (stateOf (getD f at 0)) _
+      (only-held P 20 (eqb (getD f at 0 % 64) 0) _ (late 20 tt) (state-only (eqb (getD f at 0 / 128) 1) (eqb (getD f at 0 / 64 % 2) 1)))
+      (λ s.
+      let width : ℕ = elim (present s) [ true ↦ l .offsetSize | false ↦ 0 ] in
+      only-held P 17 (leb (at + 1 + l .lengthSize + width) (l .end)) _ (late 17 tt) (only-given P _)))
+
+  lying-only : (h : Heading) (size : ℕ) (to : Option ℕ) → Only P {A = ℕ} (elim to [ none ↦ refused 24 | some place ↦ hold 24 (mayLie h place size) >>= λ _. given place ])
+  unfolding within
+  lying-only h size none = only-refused P 24 (late 24 tt)
+  lying-only h size (some place) = only-held P 24 (mayLie h place size) _ (late 24 tt) (only-given P place)
+
+  place-only : (h : Heading) (from : ℕ) (e : Entry) → Only P (placeOf h from e)
+  unfolding placeOf
+  place-only h from e = only-either P (present (e .state) && ltb 0 (e .size)) (lying-only h (e .size) (moved from (e .offset))) (only-given P 0)
+
+  chunks-only : (limit : ℕ) (f : List ℕ) (h : Heading) (from : ℕ) (l : Ploc) (n at start : ℕ) → Only P (chunksFrom limit f h from l n at start)
+  unfolding chunksFrom within
+  chunks-only limit f h from l zero at start = only-held P 17 (eqb at (l .end)) _ (late 17 tt) (only-given P _)
+  chunks-only limit f h from l (suc n) at start =
+      only-then P (entry f l at) _ (entry-only f l at)
+      (λ e.
+      only-held P 23 (leb (start + e .size) limit) _ (late 23 tt)
+      (only-then P (placeOf h from e) _ (place-only h from e)
+      (λ place.
+      only-then P (chunksFrom limit f h from l n (e .next) (start + e .size)) _ (chunks-only limit f h from l n (e .next) (start + e .size)) (λ rest. only-given P _))))
+
+  segment-only : (limit : ℕ) (f : List ℕ) (h : Heading) (before : List Segment) (b : Box) → Only P (segment limit f h before b)
+  unfolding segment boxesIn within
+  segment-only limit f h before b =
+      only-then P (boxesIn f (b .body) (b .end)) _ (boxes-only f (b .end) boxLimit (b .body))
+      (λ inner.
+      let offset = pshdFields f (firstOf pshd inner) .sourceOffset in
+      only-held P 14 (pshdRight f inner) _ (late 14 tt)
+      (only-held P 15 (right ploc inner) _ (late 15 tt)
+      (only-held P 16 (eqb (length (those surl inner)) 0) _ (late 16 tt)
+      (only-then P (plocHead f (firstOf ploc inner)) _ (ploc-only f (firstOf ploc inner))
+      (λ l.
+      only-held P 22 (leb (length (chunksOf before) + l .count) chunkLimit) _ (late 22 tt)
+      (only-held P 23 (leb offset limit) _ (late 23 tt)
+      (only-then P (chunksFrom limit f h (b .at) l (l .count) (l .first) offset) _
+      (chunks-only limit f h (b .at) l (l .count) (l .first) offset)
+      (λ chunks. only-given P _))))))))
+
+  segments-from-only : (limit : ℕ) (f : List ℕ) (h : Heading) (before : List Segment) (bs : List Box) → Only P (segmentsFrom limit f h before bs)
+  unfolding segmentsFrom
+  segments-from-only limit f h before [] = only-given P before
+  segments-from-only limit f h before (b ∷ bs) =
+      only-then P (segment limit f h before b) _ (segment-only limit f h before b)
+      (λ s. segments-from-only limit f h (before ++ (s ∷ [])) bs)
+
+  segments-only : (limit : ℕ) (f : List ℕ) (h : Heading) → Only P (segments limit f h)
+  unfolding segments within
+  segments-only limit f h =
+      only-held P 13 (leb (length (those pseg (h .boxes))) segmentLimit) _ (late 13 tt)
+      (only-then P (segmentsFrom limit f h [] (those pseg (h .boxes))) _ (segments-from-only limit f h [] (those pseg (h .boxes)))
+      (λ ss. only-held P 25 (agree ss) _ (late 25 tt) (only-given P ss)))
+
+-- the numbers of each call
+within-more : (a b c d n : ℕ) → c ≤ a → a + b ≤ c + d → T (within a b n) → T (within c d n)
+within-more a b c d n from to t =
+    let (low, high) = within-true a b n (passes _ t) in
+    rw (inside c d n (omega arith) (omega arith)) tt
+
+module _ (limit : ℕ) where
+  abbrev OfReading : ℕ → Type 0
+  OfReading n = T (within 1 26 n)
+
+  early-read : (n : ℕ) → T (within 1 11 n) → OfReading n
+  early-read n = within-more 1 11 1 26 n (lit≤ tt) (lit≤ tt)
+
+  late-read : (n : ℕ) → T (within 13 13 n) → OfReading n
+  late-read n = within-more 13 13 1 26 n (lit≤ tt) (lit≤ tt)
+
+  tabled-only : (f a b : List ℕ) → Only OfReading (tabled limit f a b)
+  unfolding tabled reading within
+  tabled-only f a b =
+      only-then OfReading (reading limit f) _
+      (only-then OfReading (heading f) _ (heading-only OfReading early-read late-read f)
+      (λ h. only-held OfReading 12 (right pseg (h .boxes)) _ tt (segments-only OfReading early-read late-read limit f h)))
+      (λ ss. only-held OfReading 26 (fits (segmentRows ss) a && fits (chunkRows ss) b) _ tt (only-given OfReading ss))
+
+  listed-only : (f a b h m : List ℕ) → Only OfReading (listed limit f a b h m)
+  unfolding listed within
+  listed-only f a b h m =
+      only-then OfReading (tabled limit f a b) _ (tabled-only f a b)
+      (λ ss. only-held OfReading 26 (fits (hadRows ss) h && fits (missingRows ss) m) _ tt (only-given OfReading ss))
+
+  abbrev OfAddition : ℕ → Type 0
+  OfAddition n = (T (within 1 25 n) × (n ≡ 12 → ⊥)) ⊎ T (someOf (eqb n) (30 ∷ 31 ∷ 32 ∷ 33 ∷ []))
+
+  early-added : (n : ℕ) → T (within 1 11 n) → OfAddition n
+  early-added n t =
+      let (low, high) = within-true 1 11 n (passes _ t) in
+      inl (within-more 1 11 1 25 n (lit≤ tt) (lit≤ tt) t, λ e. omega arith)
+
+  late-added : (n : ℕ) → T (within 13 13 n) → OfAddition n
+  late-added n t =
+      let (low, high) = within-true 13 13 n (passes _ t) in
+      inl (within-more 13 13 1 25 n (lit≤ tt) (lit≤ tt) t, λ e. omega arith)
+
+  appended-only : (buffer : List ℕ) (n : ℕ) (a : Addition) → Only OfAddition (appended limit buffer n a)
+  unfolding appended within someOf
+  appended-only buffer n a =
+      let f = take n buffer in
+      let new = newSegment n a in
+      let size = n + length (added a) in
+      only-held OfAddition 30 (leb n (length buffer)) _ (inr tt)
+      (only-then OfAddition (heading f) _ (heading-only OfAddition early-added late-added f)
+      (λ h.
+      only-then OfAddition (segments limit f h) _ (segments-only OfAddition early-added late-added limit f h)
+      (λ ss.
+      only-held OfAddition 31 (listRight (a .list)) _ (inr tt)
+      (only-held OfAddition 32 (dataRight a) _ (inr tt)
+      (only-held OfAddition 1 (leb size fileLimit) _ (early-added 1 tt)
+      (only-held OfAddition 6 (leb (length (h .boxes) + addedBoxes a) boxLimit) _ (early-added 6 tt)
+      (only-held OfAddition 13 (leb (length ss + 1) segmentLimit) _ (late-added 13 tt)
+      (only-held OfAddition 22 (leb (length (chunksOf ss) + length (new .chunks)) chunkLimit) _ (late-added 22 tt)
+      (only-held OfAddition 23 (leb (endOf new) limit) _ (late-added 23 tt)
+      (only-held OfAddition 25 (agree (ss ++ (new ∷ []))) _ (late-added 25 tt)
+      (only-held OfAddition 33 (leb size (length buffer)) _ (inr tt) (only-given OfAddition size))))))))))))
+
+abbrev OfBegin : ℕ → Type 0
+OfBegin n = T (someOf (eqb n) (34 ∷ 1 ∷ 33 ∷ []))
+
+begun-only : (buffer u m : List ℕ) → Only OfBegin (begun buffer u m)
+unfolding begun someOf
+begun-only buffer u m =
+    let n = length (beginning u m) in
+    only-held OfBegin 34 (isText u && isText m) _ tt
+    (only-held OfBegin 1 (leb n fileLimit) _ tt (only-held OfBegin 33 (leb n (length buffer)) _ tt (only-given OfBegin n)))
+
+-- after a refusal all lent memory holds what it held
+table-kept : (rows : List Segment → List ℕ) (r : Answer (List Segment)) (table : List ℕ) (n : ℕ) → r ≡ refused n → after rows r table ≡ table
+unfolding after
+table-kept rows (refused m) table n e = refl
+table-kept rows (given ss) table n e = absurd (not-both (sym e))
+
+buffer-kept : (file : List ℕ) (r : Answer ℕ) (buffer : List ℕ) (n : ℕ) → r ≡ refused n → written file r buffer ≡ buffer
+unfolding written
+buffer-kept file (refused m) buffer n e = refl
+buffer-kept file (given m) buffer n e = absurd (not-both (sym e))
+
+append-kept : (limit : ℕ) (buffer : List ℕ) (n : ℕ) (a : Addition) (k : ℕ) → appended limit buffer n a ≡ refused k → append limit (lent buffer n) a ≡ lent buffer n
+unfolding append written sizeAfter
+append-kept limit buffer n a k e = rw e
+
+pub demand1 : (limit : ℕ) → Demand1 limit
+demand1 limit =
+    record {
+      readNumbers = tabled-only limit;
+      listNumbers = listed-only limit;
+      beginNumbers = begun-only;
+      appendNumbers = appended-only limit;
+      tablesKept = λ rows f a b table n. table-kept rows (tabled limit f a b) table n;
+      listsKept = λ rows f a b h m table n. table-kept rows (listed limit f a b h m) table n;
+      beginKept = λ buffer u m n. buffer-kept (beginning u m) (begun buffer u m) buffer n;
+      appendKept = append-kept limit;
+    }
