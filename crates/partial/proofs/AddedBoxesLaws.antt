@@ -1,26 +1,26 @@
 -- The boxes that append adds: which they are in the longer file, of which kinds, and that the new data may lie in the new `pdat`.
-use Prim.Native.Nat.{ℕ, zero, suc, _+_, _-_, _^_, _≤_, _<_}
-use mathlib.Core.Bool.{Bool, true, false, _&&_, _||_, or-true, true≢false}
+use Prim.Native.Nat.{ℕ, zero, suc, _+_, _^_, _≤_, _<_}
+use mathlib.Core.Bool.{Bool, true, false, or-true}
 use mathlib.Core.List.{List, [], _∷_, _++_, map}
 use mathlib.Core.Logic.{inl, inr}
-use mathlib.Core.Path.{_≡_, refl, sym, ap, ap₂, _∙_}
+use mathlib.Core.Path.{_≡_, refl, ap, ap₂, _∙_}
 use native.Mathlib.Nat.{add-zero, add-assoc}
 use native.Mathlib.Omega.{arith}
-use borrow.Author.Tests.{le-leb, eqb-true}
-use lib.Dec.{leb, eqb, lit<}
+use borrow.Author.Tests.{le-leb}
+use lib.Dec.{eqb, lit<}
 use lib.ListN.{length, length-append}
-use Rattle.boxes.specs.Answer.{Answer, given, _>>=_}
+use Rattle.boxes.specs.Answer.{given}
 use Rattle.boxes.specs.Framing.{Box, frontSize, boxed, boxesFrom}
-use Rattle.boxes.specs.Kinds.{ftyp, pfil, pseg, pshd, ploc, pdat, is, those}
+use Rattle.boxes.specs.Kinds.{pseg, pshd, ploc, pdat, is, those}
 use Rattle.boxes.specs.declared.kinds.Kind.{Kind}
 use Rattle.boxes.proofs.HeaderLaws.{moved}
 use Rattle.boxes.proofs.BoxedLaws.{written, length-boxed, boxed-alone, boxed-then}
-use Rattle.partial.specs.Sequences.{someOf, sum}
-use Rattle.partial.specs.Segments.{present}
+use Rattle.partial.specs.Sequences.{someOf}
 use Rattle.partial.specs.Heading.{Heading}
 use Rattle.partial.specs.Entries.{mayLie}
-use Rattle.partial.specs.Writing.{Item, items, Addition, dataSize, dataRight, anyPresent, dataBox, addedBoxes, pshdBody, plocBody, added}
+use Rattle.partial.specs.Writing.{items, Addition, dataSize, dataRight, anyPresent, dataBox, addedBoxes, pshdBody, plocBody, added}
 use Rattle.partial.proofs.SequenceLaws.{which, some-append}
+use Rattle.partial.proofs.GrownLaws.{data-length, data-last}
 
 -- the body of the new `pseg`
 abbrev pub segBody : Addition → List ℕ
@@ -94,16 +94,6 @@ module _ (a : Addition) where
       go true = rw (those, other)
       go false = refl
 
--- where no item is present there is no data
-no-data : (is : List Item) → someOf (λ i. present (i .state)) is ≡ false → dataSize is ≡ 0
-unfolding someOf dataSize sum
-no-data [] h = refl
-no-data (i ∷ is) h =
-    elim (which (present (i .state))) [
-      | inl e ↦ absurd (true≢false (rw e at h))
-      | inr e ↦ rw e (omega (arith, no-data is (rw e at h)))
-    ]
-
 -- where a chunk may lie among the boxes before, it may with more boxes
 pub lie-longer : (h : Heading) (more : List Box) (place size : ℕ) → mayLie h place size ≡ true → mayLie (record { boxes = h .boxes ++ more; inner = h .inner }) place size ≡ true
 unfolding mayLie
@@ -111,26 +101,22 @@ lie-longer h more place size lies = rw (some-append, lies)
 
 -- the data is no longer than the box that holds it
 pub data-low : (a : Addition) → dataRight a ≡ true → dataSize (items (a .list)) ≤ length (dataBox a)
-unfolding dataRight dataBox anyPresent
 data-low a right =
-    let bytes : length (a .bytes) ≡ dataSize (items (a .list)) = eqb-true (length (a .bytes)) (dataSize (items (a .list))) right in
-    elim (which (anyPresent a)) [
-      | inl e ↦
-          let long : length (dataBox a) ≡ frontSize + length (a .bytes) = rw (dataBox, e) (length-boxed (pdat .code) (a .bytes)) in
-          omega arith
-      | inr e ↦ omega (arith, no-data (items (a .list)) e)
-    ]
+    let (head, box) = data-last a right in
+    omega (arith, data-length a right, ap length box ∙ length-append head (a .bytes))
 
 -- the data of a new segment may lie in the new `pdat`
 module _ (h : Heading) (n : ℕ) (a : Addition) (right : dataRight a ≡ true) where
   pub lie-new : (place size : ℕ) → 0 < size → n + length (dataBox a) ≤ place + dataSize (items (a .list)) → place + size ≤ n + length (dataBox a)
       → mayLie (record { boxes = h .boxes ++ newBoxes n a; inner = h .inner }) place size ≡ true
-  unfolding mayLie someOf dataRight anyPresent is dataBox frontSize
+  unfolding mayLie someOf is dataBox
   lie-new place size some-size from to =
-      let bytes : length (a .bytes) ≡ dataSize (items (a .list)) = eqb-true (length (a .bytes)) (dataSize (items (a .list))) right in
+      let bytes = data-length a right in
       elim (which (anyPresent a)) [
         | inl e ↦
             let long : length (dataBox a) ≡ frontSize + length (a .bytes) = rw (dataBox, e) (length-boxed (pdat .code) (a .bytes)) in
             rw (e, some-append, le-leb (n + frontSize) place (omega arith), le-leb (place + size) (n + (frontSize + length (a .bytes))) (omega arith), or-true)
-        | inr e ↦ absurd (omega (arith, no-data (items (a .list)) e))
+        | inr e ↦
+            let none : length (dataBox a) ≡ 0 = rw (dataBox, e) in
+            absurd (omega (arith, data-low a right))
       ]

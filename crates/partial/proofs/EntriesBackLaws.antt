@@ -1,15 +1,15 @@
 -- Entries as we write them read back: wherever their bytes stand, the chunks that they tell of are those of the items.
-use Prim.Native.Nat.{ℕ, zero, suc, _+_, _-_, _*_, _/_, _%_, _^_, _≤_, _<_}
-use mathlib.Core.Bool.{Bool, true, false, not, _&&_, _||_, false≢true}
+use Prim.Native.Nat.{ℕ, _+_, _-_, _^_, _≤_, _<_}
+use mathlib.Core.Bool.{Bool, true, false, not, _&&_, false≢true}
 use mathlib.Core.List.{List, [], _∷_, _++_, map}
-use mathlib.Core.Logic.{_⊎_, inl, inr}
-use mathlib.Core.Option.{Option, none, some, Option·getD}
-use mathlib.Core.Path.{_≡_, refl, sym, ap, subst, _∙_}
-use native.Mathlib.Nat.{add-zero, add-assoc}
+use mathlib.Core.Logic.{inl, inr}
+use mathlib.Core.Option.{none, some, Option·getD}
+use mathlib.Core.Path.{_≡_, refl}
+use native.Mathlib.Nat.{add-zero}
 use native.Mathlib.Omega.{arith}
 use borrow.Author.Tests.{le-leb, lt-ltb, eq-eqb, ltb-true, eqb-true, eqb-false, not-true}
-use lib.Dec.{leb, ltb, eqb}
-use lib.ListN.{length, getD, length-append}
+use lib.Dec.{ltb, eqb}
+use lib.ListN.{length, length-append}
 use Rattle.boxes.specs.Answer.{Answer, refused, given, _>>=_, hold}
 use Rattle.boxes.specs.Numbers.{number, bytesOf, signed, unsigned, holds, holdsOffset}
 use Rattle.boxes.specs.declared.numbers.Offset.{Offset}
@@ -17,7 +17,7 @@ use Rattle.boxes.specs.declared.numbers.Offset.the-variants.{Ahead, Back}
 use Rattle.boxes.proofs.NumberLaws.{length-bytesOf}
 use Rattle.boxes.proofs.OffsetLaws.{signed-unsigned, unsigned-below}
 use Rattle.partial.specs.Sequences.{allOf, sum}
-use Rattle.partial.specs.Segments.{Chunk, good, damaged, lost, isState, present, corrupted}
+use Rattle.partial.specs.Segments.{good, damaged, lost, isState, present, corrupted}
 use Rattle.partial.specs.Heading.{Heading}
 use Rattle.partial.specs.Entries.{Ploc, Entry, state, stateOf, entry, mayLie, moved, placeOf, chunksFrom}
 use Rattle.partial.specs.Writing.{Item, dataSize, offsetOf, offsets, flagByte, entryBytes, newChunks}

@@ -1,23 +1,23 @@
 -- The bodies of `pshd` and `ploc` as we write them read back: the fields, and the head with the widths that hold every size and offset.
-use Prim.Native.Nat.{ℕ, zero, suc, _+_, _-_, _*_, _/_, _%_, _^_, _≤_, _<_}
-use mathlib.Core.Bool.{Bool, true, false, _&&_}
+use Prim.Native.Nat.{ℕ, _+_, _*_, _/_, _%_, _^_, _≤_, _<_}
+use mathlib.Core.Bool.{Bool, true, false}
 use mathlib.Core.List.{List, [], _∷_, _++_, map}
 use mathlib.Core.Logic.{inl, inr}
-use mathlib.Core.Path.{_≡_, refl, sym, ap, _∙_}
+use mathlib.Core.Path.{_≡_, refl}
 use native.Mathlib.Omega.{arith}
-use borrow.Author.Tests.{le-leb, lt-ltb, eq-eqb, ltb-true}
-use lib.Dec.{leb, eqb, lit<}
+use borrow.Author.Tests.{le-leb, lt-ltb, ltb-true}
+use lib.Dec.{lit<}
 use lib.ListN.{length, length-append}
-use Rattle.boxes.specs.Answer.{Answer, given, _>>=_, hold}
-use Rattle.boxes.specs.Numbers.{number, bytesOf, holds, holdsOffset, leastWidth}
+use Rattle.boxes.specs.Answer.{given}
+use Rattle.boxes.specs.Numbers.{bytesOf, holds, holdsOffset}
 use Rattle.boxes.specs.Framing.{Box}
 use Rattle.boxes.proofs.NumberLaws.{length-bytesOf}
 use Rattle.boxes.proofs.WidthLaws.{leastWidth-within, leastWidth-passes}
 use Rattle.partial.specs.Sequences.{allOf, sum}
 use Rattle.partial.specs.Segments.{present}
 use Rattle.partial.specs.Entries.{Ploc, plocHead}
-use Rattle.partial.specs.Reading.{Pshd, offsetWidth, pshdFields}
-use Rattle.partial.specs.Writing.{versionAndFlags, Item, items, Addition, flagsFor, dataSize, offsetOf, offsets, lengthSize, offsetSize, entryBytes, plocBody, versionFor, pshdBody}
+use Rattle.partial.specs.Reading.{offsetWidth, pshdFields}
+use Rattle.partial.specs.Writing.{versionAndFlags, Item, Addition, flagsFor, dataSize, offsetOf, offsets, lengthSize, offsetSize, entryBytes, plocBody, versionFor, pshdBody}
 use Rattle.partial.proofs.SequenceLaws.{which}
 use Rattle.partial.proofs.StandsLaws.{Stands, stands-byte, stands-tail, stands-left, stands-right, stands-number}
 

@@ -2,13 +2,13 @@
 use Prim.Native.Nat.{ℕ, zero, suc, _+_, _-_, _*_, _/_, _%_, _≤_, _<_}
 use mathlib.Core.Bool.{Bool, true, false, not, _&&_}
 use mathlib.Core.List.{List, [], _∷_, _++_, map, append-nil}
-use mathlib.Core.Path.{_≡_, refl, sym, ap, ap₂, subst, _∙_}
+use mathlib.Core.Path.{_≡_, refl, ap, ap₂, subst, _∙_}
 use native.Mathlib.Decide.{decLe}
 use native.Mathlib.Omega.{arith}
 use borrow.Author.Tests.{le-leb, leb-true, eqb-true}
 use lib.Dec.{leb, eqb, lit<}
-use lib.ListN.{length, getD, length-append, List·getD-append, List·getD-eq-default}
-use Rattle.boxes.specs.Answer.{Answer, refused, given, _>>=_, hold}
+use lib.ListN.{length, getD, List·getD-append, List·getD-eq-default}
+use Rattle.boxes.specs.Answer.{given}
 use Rattle.boxes.specs.Numbers.{number}
 use Rattle.boxes.specs.Framing.{Box, boxesIn, boxesFrom, boxLimit}
 use Rattle.boxes.specs.Kinds.{ftyp, pfil, pfhd, surl, is, right, those, keeps}
@@ -19,8 +19,8 @@ use Rattle.boxes.proofs.ContainerLaws.{Filled, full, next, fills, boxes-kept, b
 use Rattle.boxes.proofs.KindLaws.{those-append}
 use Rattle.boxes.proofs.NumberLaws.{number-append}
 use Rattle.partial.specs.Limits.{fileLimit}
-use Rattle.partial.specs.Sequences.{someOf, allOf, stretch}
-use Rattle.partial.specs.Heading.{Part, boxAt, firstOf, ftypRight, brandsFrom, brands, brandRight, pfilRight, pfhdFormed, pfhdRight, text, url, mime, surlFormed, surlRight, Heading, heading}
+use Rattle.partial.specs.Sequences.{allOf, stretch}
+use Rattle.partial.specs.Heading.{boxAt, firstOf, ftypRight, brandsFrom, brands, brandRight, pfilRight, pfhdFormed, pfhdRight, text, url, mime, surlFormed, surlRight, Heading, heading}
 use Rattle.partial.proofs.SequenceLaws.{both}
 
 -- whether a box lies before a place

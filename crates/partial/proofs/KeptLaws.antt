@@ -1,16 +1,16 @@
 -- What is put behind a file changes no segment that was read from it: a segment is read from the bytes of its own box, and where a chunk
 -- may lie there it may lie in the longer file.
 use Prim.Native.Nat.{ℕ, zero, suc, _+_, _-_, _/_, _%_, _≤_, _<_}
-use mathlib.Core.Bool.{Bool, true, false, _&&_, _||_}
+use mathlib.Core.Bool.{Bool, true, false, _&&_}
 use mathlib.Core.List.{List, [], _∷_, _++_}
 use mathlib.Core.Option.{Option, none, some}
-use mathlib.Core.Path.{_≡_, refl, sym, ap, subst, _∙_}
+use mathlib.Core.Path.{_≡_, refl, sym, ap, _∙_}
 use native.Mathlib.Omega.{arith}
 use borrow.Author.Tests.{leb-true, ltb-true, eqb-true}
 use lib.Dec.{leb, ltb, eqb, lit<}
 use lib.ListN.{length, getD, List·getD-append}
 use Rattle.boxes.specs.Answer.{Answer, refused, given, _>>=_, hold}
-use Rattle.boxes.specs.Numbers.{number, signed}
+use Rattle.boxes.specs.Numbers.{number}
 use Rattle.boxes.specs.Framing.{Box, boxesIn}
 use Rattle.boxes.specs.Kinds.{pshd, ploc, surl, is, right, those, keeps}
 use Rattle.boxes.specs.declared.kinds.Kind.{Kind}
@@ -22,7 +22,7 @@ use Rattle.partial.specs.Sequences.{allOf}
 use Rattle.partial.specs.Segments.{Chunk, Segment, present, chunksOf}
 use Rattle.partial.specs.Heading.{Heading, boxAt, firstOf}
 use Rattle.partial.specs.Entries.{Ploc, Entry, plocHead, stateOf, entry, mayLie, moved, placeOf, chunksFrom}
-use Rattle.partial.specs.Reading.{Pshd, offsetWidth, pshdFields, pshdRight, segment, segmentsFrom}
+use Rattle.partial.specs.Reading.{offsetWidth, pshdFields, pshdRight, segment, segmentsFrom}
 use Rattle.partial.proofs.SequenceLaws.{both}
 use Rattle.partial.proofs.HeadingAppendLaws.{lies, lies-ends, boxes-lie, those-all, all-boxAt, is-there, further-lie}
 

@@ -1,32 +1,31 @@
 -- The segment that append adds is read from its box in the longer file, as what was added.
-use Prim.Native.Nat.{ℕ, zero, suc, _+_, _-_, _^_, _≤_, _<_}
-use mathlib.Core.Bool.{Bool, true, false, _&&_}
+use Prim.Native.Nat.{ℕ, suc, _+_, _-_, _^_, _≤_, _<_}
+use mathlib.Core.Bool.{true}
 use mathlib.Core.List.{List, [], _∷_, _++_, map}
-use mathlib.Core.Path.{_≡_, refl, sym, ap, ap₂, _∙_}
+use mathlib.Core.Path.{_≡_, refl, ap, ap₂, _∙_}
 use native.Mathlib.Nat.{add-zero, add-assoc}
 use native.Mathlib.Omega.{arith}
-use borrow.Author.Tests.{le-leb, eq-eqb, eqb-true}
-use lib.Dec.{leb, eqb, lit<}
+use borrow.Author.Tests.{le-leb, eq-eqb}
+use lib.Dec.{lit<}
 use lib.ListN.{length, length-append}
-use Rattle.boxes.specs.Answer.{Answer, given, _>>=_}
-use Rattle.boxes.specs.Framing.{Box, frontSize, front, boxed, boxesFrom, boxesIn, boxLimit}
-use Rattle.boxes.specs.Kinds.{pseg, pshd, ploc, surl, is, right, those, keeps}
+use Rattle.boxes.specs.Answer.{given}
+use Rattle.boxes.specs.Framing.{Box, frontSize, front, boxed, boxesIn, boxLimit}
+use Rattle.boxes.specs.Kinds.{pseg, pshd, ploc, is, right, those, keeps}
 use Rattle.boxes.proofs.HeaderLaws.{moved}
 use Rattle.boxes.proofs.ContainerLaws.{boxes-moved}
 use Rattle.boxes.proofs.BoxedLaws.{written, length-front, length-boxed, boxed-alone, boxed-then}
-use Rattle.partial.specs.Limits.{fileLimit, chunkLimit}
+use Rattle.partial.specs.Limits.{chunkLimit}
 use Rattle.partial.specs.Sequences.{allOf, sum}
-use Rattle.partial.specs.Segments.{Chunk, Segment, endOf, chunksOf}
+use Rattle.partial.specs.Segments.{Segment, chunksOf}
 use Rattle.partial.specs.Heading.{Heading, boxAt, firstOf}
-use Rattle.partial.specs.Entries.{Ploc, mayLie}
+use Rattle.partial.specs.Entries.{mayLie}
 use Rattle.partial.specs.Reading.{pshdFields, pshdRight, segment}
-use Rattle.partial.specs.Writing.{Item, items, Addition, flagsFor, listRight, dataSize, dataRight, dataBox, lengthSize, offsetSize, entryBytes, plocBody, pshdBody, added, newChunks, newSegment}
-use Rattle.partial.proofs.SequenceLaws.{both}
+use Rattle.partial.specs.Writing.{Item, items, Addition, flagsFor, dataSize, dataRight, dataBox, plocBody, pshdBody, added, newChunks, newSegment}
 use Rattle.partial.proofs.StandsLaws.{Stands, stands-behind, stands-left, stands-right}
 use Rattle.partial.proofs.EntriesBackLaws.{formed, chunks-back}
 use Rattle.partial.proofs.FieldsBackLaws.{fields-back, plocOf, head-back, sizes-held, offsets-held}
 use Rattle.partial.proofs.AddedBoxesLaws.{segBody, moved-written, data-low}
-use Rattle.partial.proofs.KeptLaws.{Stepped, found, segment-of}
+use Rattle.partial.proofs.KeptLaws.{Stepped, segment-of}
 
 -- the new chunks are as many as the items, and as long
 pub length-new : (at start : ℕ) (is : List Item) → length (newChunks at start is) ≡ length is

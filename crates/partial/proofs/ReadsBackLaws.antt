@@ -1,34 +1,32 @@
 -- A segment that append adds reads back: the longer file has the segments of the file before and then the new one.
-use Prim.Native.Nat.{ℕ, zero, suc, _+_, _-_, _%_, _^_, _≤_, _<_}
-use mathlib.Core.Bool.{Bool, true, false, _&&_}
-use mathlib.Core.List.{List, [], _∷_, _++_, map}
-use mathlib.Core.Path.{_≡_, refl, sym, ap, subst, _∙_}
+use Prim.Native.Nat.{ℕ, _+_, _-_, _%_, _^_, _≤_, _<_}
+use mathlib.Core.Bool.{true}
+use mathlib.Core.List.{List, [], _∷_, _++_}
+use mathlib.Core.Path.{_≡_, refl, sym, ap, _∙_}
 use native.Mathlib.Nat.{add-zero}
 use native.Mathlib.Omega.{arith}
-use borrow.Author.Tests.{le-leb, leb-true, eqb-true}
+use borrow.Author.Tests.{le-leb, leb-true}
 use lib.Dec.{leb, eqb}
 use lib.ListN.{length, take, drop, length-append}
 use lib.Seq.{length-take-le, take-at}
-use Rattle.boxes.specs.Answer.{Answer, refused, given, _>>=_, hold}
-use Rattle.boxes.specs.Framing.{Box, boxesIn, boxesFrom, boxLimit, boxed, frontSize}
+use Rattle.boxes.specs.Answer.{given}
+use Rattle.boxes.specs.Framing.{Box, boxLimit}
 use Rattle.boxes.specs.Kinds.{ftyp, pfil, pseg, is, right, those, keeps}
-use Rattle.boxes.proofs.AnswerLaws.{both-given, held, given-same, then-then}
-use Rattle.boxes.proofs.HeaderLaws.{moved}
+use Rattle.boxes.proofs.AnswerLaws.{both-given, held, given-same}
 use Rattle.boxes.proofs.KindLaws.{those-append}
-use Rattle.boxes.proofs.BoxedLaws.{written, length-boxed}
+use Rattle.boxes.proofs.BoxedLaws.{written}
 use Rattle.partial.specs.Limits.{fileLimit, segmentLimit, chunkLimit}
-use Rattle.partial.specs.Sequences.{allOf, sum}
+use Rattle.partial.specs.Sequences.{allOf}
 use Rattle.partial.specs.Segments.{Segment, endOf, chunksOf}
 use Rattle.partial.specs.Heading.{Heading, heading}
-use Rattle.partial.specs.Entries.{mayLie}
 use Rattle.partial.specs.Meaning.{agree}
 use Rattle.partial.specs.Reading.{segment, segmentsFrom, segments, reading, earlierSegments}
 use Rattle.partial.specs.Tables.{filled}
 use Rattle.partial.specs.Writing
 use Rattle.partial.specs.Writing.{items, Addition, listRight, dataRight, dataSize, dataBox, addedBoxes, added, newSegment, appended, result}
-use Rattle.partial.specs.Runs.{Lent, lent, fileIn, sizeAfter, append}
+use Rattle.partial.specs.Runs.{lent, fileIn, sizeAfter, append}
 use Rattle.partial.proofs.SequenceLaws.{both}
-use Rattle.partial.proofs.HeadingAppendLaws.{Headed, headed, heading-of, headed-appended, longer, lies, boxes-lie, those-all}
+use Rattle.partial.proofs.HeadingAppendLaws.{headed, heading-of, headed-appended, longer, lies, boxes-lie, those-all}
 use Rattle.partial.proofs.KeptLaws.{segments-kept}
 use Rattle.partial.proofs.EntriesBackLaws.{formed}
 use Rattle.partial.proofs.AddedBoxesLaws.{segBody, newBoxes, addedList, boxes-added, added-moved, those-new, data-low, length-added, lie-longer, lie-new}
