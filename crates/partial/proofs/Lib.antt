@@ -1,3 +1,4 @@
+pub mod AcceptedLaws
 pub mod AddedBoxesLaws
 pub mod AgainLaws
 pub mod DescribedLaws
