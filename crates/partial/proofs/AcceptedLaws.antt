@@ -9,18 +9,20 @@ use mathlib.Core.Path.{_≡_, refl, ap, ap₂, _∙_}
 use native.Mathlib.Nat.{mod-lt}
 use lib.Dec.{leb, eqb, lit<}
 use lib.ListN.{length, take}
-use Rattle.boxes.specs.Answer.{given}
+use Rattle.boxes.specs.Answer.{Answer, refused, given, _>>=_}
 use Rattle.boxes.specs.Numbers.{bytesOf}
 use Rattle.boxes.specs.Framing.{boxed}
-use Rattle.boxes.specs.Kinds.{pseg, pshd, ploc}
+use Rattle.boxes.specs.Kinds.{pseg, pshd, ploc, right}
+use Rattle.boxes.proofs.AnswerLaws.{both-given, held}
 use Rattle.boxes.proofs.NumberLaws.{bytesOf-mod}
 use Rattle.partial.specs.Sequences.{allOf}
 use Rattle.partial.specs.Segments.{Segment, isOpen, endOf}
-use Rattle.partial.specs.Heading.{Heading}
+use Rattle.partial.specs.Heading.{Heading, heading}
 use Rattle.partial.specs.Meaning.{givesSize, knownSize, agree}
 use Rattle.partial.specs.Reading.{offsetWidth, reading, earlierSegments}
+use Rattle.partial.specs.Writing
 use Rattle.partial.specs.Writing.{items, Addition, flagsFor, dataRight, anyPresent, dataBox, addedBoxes, plocBody, versionFor, pshdBody, added, newSegment, appended}
-use Rattle.partial.specs.Runs.{lent, fileIn, append}
+use Rattle.partial.specs.Runs.{Lent, lent, fileIn, sizeAfter, append, appendAll}
 use Rattle.partial.specs.Demands.{carried, Grown}
 use Rattle.partial.proofs.SequenceLaws.{which, all-append}
 use Rattle.partial.proofs.ReadingLaws.{accepted}
@@ -98,3 +100,32 @@ unfolding fileIn
 after-addition limit below buffer n a size ss before e =
     let (h, t, long, total) = taken limit buffer n a size ss before e in
     rw (file-after limit buffer n a size e long total) (grown-taken limit (take n buffer) h ss a t below)
+
+-- a file that is read is one that append takes
+pub reads-taken : (limit : ℕ) (f : List ℕ) (ss : List Segment) → reading limit f ≡ given ss → earlierSegments limit f ≡ given ss
+unfolding reading earlierSegments
+reads-taken limit f ss e =
+    let (h, head, e1) = both-given (heading f) _ e in
+    let (some-pseg, e2) = held 12 (right pseg (h .boxes)) _ e1 in
+    rw (earlierSegments, head) e2
+
+-- a run of additions leaves a file that append takes
+module _ (limit : ℕ) (below : limit < 2 ^ 64) where
+  stands-one : (l : Lent) (a : Addition) (ss : List Segment) → earlierSegments limit (fileIn l) ≡ given ss
+      → (ts : List Segment) × (earlierSegments limit (fileIn (append limit l a)) ≡ given ts)
+  unfolding fileIn append Writing.written sizeAfter
+  stands-one (lent buffer n) a ss before = go (appended limit buffer n a) refl
+    where
+      go : (answer : Answer ℕ) → appended limit buffer n a ≡ answer → (ts : List Segment) × (earlierSegments limit (fileIn (append limit (lent buffer n) a)) ≡ given ts)
+      go (refused k) e = (ss, rw e before)
+      go (given size) e =
+          let (ts, read, grew) = after-addition limit below buffer n a size ss before e in
+          (ts, reads-taken limit (fileIn (append limit (lent buffer n) a)) ts read)
+
+  pub stands : (l : Lent) (additions : List Addition) (ss : List Segment) → earlierSegments limit (fileIn l) ≡ given ss
+      → (ts : List Segment) × (earlierSegments limit (fileIn (appendAll limit l additions)) ≡ given ts)
+  unfolding appendAll
+  stands l [] ss before = (ss, before)
+  stands l (a ∷ more) ss before =
+      let (ts, after) = stands-one l a ss before in
+      stands (append limit l a) more ts after
