@@ -9,7 +9,7 @@ use mathlib.Core.Path.{_≡_, refl, ap, ap₂, _∙_}
 use native.Mathlib.Nat.{mod-lt}
 use lib.Dec.{leb, eqb, lit<}
 use lib.ListN.{length, take}
-use Rattle.boxes.specs.Answer.{Answer, refused, given, _>>=_}
+use Rattle.boxes.specs.Answer.{Answer, refused, given}
 use Rattle.boxes.specs.Numbers.{bytesOf}
 use Rattle.boxes.specs.Framing.{boxed}
 use Rattle.boxes.specs.Kinds.{pseg, pshd, ploc, right}

@@ -4,7 +4,7 @@ use mathlib.Core.Bool.{Bool, true, false, or-true}
 use mathlib.Core.List.{List, [], _∷_, _++_, map}
 use mathlib.Core.Logic.{inl, inr}
 use mathlib.Core.Path.{_≡_, refl, ap, ap₂, _∙_}
-use native.Mathlib.Nat.{add-zero, add-assoc}
+use native.Mathlib.Nat.{add-zero}
 use native.Mathlib.Omega.{arith}
 use borrow.Author.Tests.{le-leb}
 use lib.Dec.{eqb, lit<}
@@ -21,14 +21,11 @@ use Rattle.partial.specs.Entries.{mayLie}
 use Rattle.partial.specs.Writing.{items, Addition, dataSize, dataRight, anyPresent, dataBox, addedBoxes, pshdBody, plocBody, added}
 use Rattle.partial.proofs.SequenceLaws.{which, some-append}
 use Rattle.partial.proofs.GrownLaws.{data-length, data-last}
+use Rattle.partial.proofs.BoxesStandLaws.{moved-written}
 
 -- the body of the new `pseg`
 abbrev pub segBody : Addition → List ℕ
 segBody a = boxed (pshd .code) (pshdBody a) ++ boxed (ploc .code) (plocBody (items (a .list)))
-
--- a box as we write it, so many bytes further on
-pub moved-written : (n at kind len : ℕ) → moved n (written at kind len) ≡ written (n + at) kind len
-moved-written n at kind len = simp add-assoc
 
 -- the box with the data, at a place, if there is one
 abbrev dataBoxes : Bool → ℕ → ℕ → List Box

@@ -1,6 +1,8 @@
 pub mod AcceptedLaws
 pub mod AddedBoxesLaws
 pub mod AgainLaws
+pub mod BegunLaws
+pub mod BoxesStandLaws
 pub mod DescribedLaws
 pub mod Determined
 pub mod EntriesBackLaws

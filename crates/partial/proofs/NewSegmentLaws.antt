@@ -2,18 +2,16 @@
 use Prim.Native.Nat.{ℕ, suc, _+_, _-_, _^_, _≤_, _<_}
 use mathlib.Core.Bool.{true}
 use mathlib.Core.List.{List, [], _∷_, _++_, map}
-use mathlib.Core.Path.{_≡_, refl, ap, ap₂, _∙_}
-use native.Mathlib.Nat.{add-zero, add-assoc}
+use mathlib.Core.Path.{_≡_, refl, ap, _∙_}
+use native.Mathlib.Nat.{add-assoc}
 use native.Mathlib.Omega.{arith}
 use borrow.Author.Tests.{le-leb, eq-eqb}
 use lib.Dec.{lit<}
-use lib.ListN.{length, length-append}
+use lib.ListN.{length}
 use Rattle.boxes.specs.Answer.{given}
-use Rattle.boxes.specs.Framing.{Box, frontSize, front, boxed, boxesIn, boxLimit}
+use Rattle.boxes.specs.Framing.{Box, frontSize, boxed}
 use Rattle.boxes.specs.Kinds.{pseg, pshd, ploc, is, right, those, keeps}
-use Rattle.boxes.proofs.HeaderLaws.{moved}
-use Rattle.boxes.proofs.ContainerLaws.{boxes-moved}
-use Rattle.boxes.proofs.BoxedLaws.{written, length-front, length-boxed, boxed-alone, boxed-then}
+use Rattle.boxes.proofs.BoxedLaws.{written}
 use Rattle.partial.specs.Limits.{chunkLimit}
 use Rattle.partial.specs.Sequences.{allOf, sum}
 use Rattle.partial.specs.Segments.{Segment, chunksOf}
@@ -21,10 +19,11 @@ use Rattle.partial.specs.Heading.{Heading, boxAt, firstOf}
 use Rattle.partial.specs.Entries.{mayLie}
 use Rattle.partial.specs.Reading.{pshdFields, pshdRight, segment}
 use Rattle.partial.specs.Writing.{Item, items, Addition, flagsFor, dataSize, dataRight, dataBox, plocBody, pshdBody, added, newChunks, newSegment}
-use Rattle.partial.proofs.StandsLaws.{Stands, stands-behind, stands-left, stands-right}
+use Rattle.partial.proofs.StandsLaws.{Stands, stands-behind, stands-right}
 use Rattle.partial.proofs.EntriesBackLaws.{formed, chunks-back}
 use Rattle.partial.proofs.FieldsBackLaws.{fields-back, plocOf, head-back, sizes-held, offsets-held}
-use Rattle.partial.proofs.AddedBoxesLaws.{segBody, moved-written, data-low}
+use Rattle.partial.proofs.AddedBoxesLaws.{segBody, data-low}
+use Rattle.partial.proofs.BoxesStandLaws.{stands-body, twoBoxes, two-back, stands-two}
 use Rattle.partial.proofs.KeptLaws.{Stepped, segment-of}
 
 -- the new chunks are as many as the items, and as long
@@ -37,38 +36,6 @@ pub sizes-new : (at start : ℕ) (is : List Item) → map (λ c. c .size) (newCh
 unfolding newChunks
 sizes-new at start [] = refl
 sizes-new at start (i ∷ is) = ap (λ (ns : List ℕ). i .size ∷ ns) (sizes-new at (start + i .size) is)
-
--- a box that stands somewhere has its body after its header
-stands-body : (g : List ℕ) (at kind : ℕ) (body : List ℕ) → Stands g at (boxed kind body) → Stands g (at + frontSize) body
-unfolding boxed
-stands-body g at kind body stands = rw (length-front kind (length body)) at (stands-right g at (front kind (length body)) body stands)
-
--- the boxes of the new `pseg`, whose body stands at a place
-abbrev innerBoxes : ℕ → ℕ → ℕ → List Box
-innerBoxes at first second = written at (pshd .code) first ∷ written (at + (frontSize + first)) (ploc .code) second ∷ []
-
-module _ (g : List ℕ) (at : ℕ) (one two : List ℕ) where
-  abbrev pair : List ℕ
-  pair = boxed (pshd .code) one ++ boxed (ploc .code) two
-
-  inner-back : Stands g at pair → length pair < 2 ^ 32 → boxesIn g at (at + length pair) ≡ given (innerBoxes at (length one) (length two))
-  unfolding boxesIn boxLimit
-  inner-back stands fits =
-      let size = simp (length-append, length-boxed) at fits in
-      simp add-zero at (boxes-moved pair g at (length pair) stands boxLimit 0)
-      ∙ rw (
-        boxed-then (pshd .code) one (lit< tt) (omega arith) (boxed (ploc .code) two) 511,
-        boxed-alone (ploc .code) two (lit< tt) (omega arith) 510,
-      ) (ap given (ap₂ (λ (b c : Box). b ∷ c ∷ []) first second))
-    where
-      first : moved at (written 0 (pshd .code) (length one)) ≡ written at (pshd .code) (length one)
-      first = moved-written at 0 (pshd .code) (length one) ∙ rw add-zero
-
-      second : moved at (moved (frontSize + length one) (written 0 (ploc .code) (length two))) ≡ written (at + (frontSize + length one)) (ploc .code) (length two)
-      second =
-          ap (moved at) (moved-written (frontSize + length one) 0 (ploc .code) (length two))
-          ∙ moved-written at (frontSize + length one + 0) (ploc .code) (length two)
-          ∙ rw add-zero
 
 -- what an addition is that append accepts, but for where it comes to stand
 pub record Fitting (limit : ℕ) (a : Addition) : Type 0 where
@@ -85,7 +52,7 @@ module _ (limit : ℕ) (g : List ℕ) (h : Heading) (before : List Segment) (a :
   newBox = written at (pseg .code) (length (segBody a))
 
   abbrev inners : List Box
-  inners = innerBoxes (at + frontSize) (length (pshdBody a)) (length (plocBody (items (a .list))))
+  inners = twoBoxes g (at + frontSize) (pshd .code) (ploc .code) (pshdBody a) (plocBody (items (a .list)))
 
   pub new-stepped : Fitting limit a
       → Stands g (at + frontSize) (segBody a)
@@ -99,18 +66,14 @@ module _ (limit : ℕ) (g : List ℕ) (h : Heading) (before : List Segment) (a :
   new-stepped fit stands data-low data-small few lie =
       let list = items (a .list) in
       let here : ℕ = at + frontSize in
-      let one = boxed (pshd .code) (pshdBody a) in
-      let two = boxed (ploc .code) (plocBody list) in
       let second : ℕ = here + (frontSize + length (pshdBody a)) in
-      let stands-two : Stands g second two = rw (length-boxed (pshd .code) (pshdBody a)) at (stands-right g here one two stands) in
-      let stands-fields = stands-body g here (pshd .code) (pshdBody a) (stands-left g here one two stands) in
-      let stands-ploc = stands-body g second (ploc .code) (plocBody list) stands-two in
+      let (stands-fields, stands-ploc) = stands-two g here (pshd .code) (ploc .code) (pshdBody a) (plocBody list) stands in
       let fields = fields-back g (boxAt 0 inners) a stands-fields (omega arith) (fit .time) in
       let (head, stands-entries, ends) = head-back g (boxAt 1 inners) list stands-ploc (add-assoc second frontSize (length (plocBody list))) (omega arith) in
       let whole : at + frontSize + frontSize + length (pshdBody a) ≡ at + frontSize + (frontSize + length (pshdBody a)) = omega arith in
       let same-end : at + frontSize + length (segBody a) ≡ at + (frontSize + length (segBody a)) = omega arith in (
         record {
-          boxes = rw same-end at (inner-back g here (pshdBody a) (plocBody list) stands (fit .small));
+          boxes = rw same-end at (two-back g here (pshd .code) (ploc .code) (pshdBody a) (plocBody list) (lit< tt) (lit< tt) stands (fit .small));
           header = rw (fields, eq-eqb _ _ whole);
           single = refl;
           sourceless = refl;
