@@ -27,7 +27,7 @@ use Rattle.partial.specs.Demands.{carried, Grown}
 use Rattle.partial.proofs.SequenceLaws.{which, all-append}
 use Rattle.partial.proofs.ReadingLaws.{accepted}
 use Rattle.partial.proofs.GrownLaws.{grown}
-use Rattle.partial.proofs.ReadsBackLaws.{Taken, taken, reading-added, file-after}
+use Rattle.partial.proofs.ReadsBackLaws.{Taken, taken, taken-sayable, reading-added, file-after}
 
 -- what is tested of each segment where a size is known
 abbrev fits : ℕ → Segment → Bool
@@ -69,10 +69,7 @@ module _ (limit : ℕ) (f : List ℕ) (h : Heading) (ss : List Segment) (a : Add
   unfolding dataRight addedBoxes newSegment endOf givesSize isOpen dataBox anyPresent
   taken-cut =
       record {
-        headed = t .headed;
-        before = t .before;
-        list = t .list;
-        carried = t .carried;
+        offered = record { headed = t .offered .headed; before = t .offered .before; list = t .offered .list; carried = t .offered .carried };
         small = rw added-cut (t .small);
         boxes = t .boxes;
         few = t .few;
@@ -86,8 +83,8 @@ module _ (limit : ℕ) (f : List ℕ) (h : Heading) (ss : List Segment) (a : Add
   grown-taken below =
       let new : List Segment = newSegment (length f) (cut a) ∷ [] in
       let same = added-cut a in
-      let read : reading limit (f ++ added a) ≡ given (ss ++ new) = rw same at (reading-added limit f h ss (cut a) taken-cut below (mod-lt (a .repairTime) (lit< tt))) in
-      let grew : Grown f (f ++ added a) ss (ss ++ new) (cut a) = rw same at (grown f h ss (cut a) (accepted limit f h (t .headed) (t .before)) (taken-cut .carried) (taken-cut .agreed)) in
+      let read : reading limit (f ++ added a) ≡ given (ss ++ new) = rw same at (reading-added limit f h ss (cut a) taken-cut (taken-sayable limit f h ss (cut a) taken-cut below (mod-lt (a .repairTime) (lit< tt)))) in
+      let grew : Grown f (f ++ added a) ss (ss ++ new) (cut a) = rw same at (grown f h ss (cut a) (accepted limit f h (t .offered .headed) (t .offered .before)) (taken-cut .offered .carried) (taken-cut .agreed)) in
       (ss ++ new, read, record { kept = grew .kept; noShorter = grew .noShorter })
 
 -- after each accepted addition
