@@ -18,6 +18,8 @@ pub mod ReadingLaws
 pub mod ReadsBackLaws
 pub mod ReasonLaws
 pub mod RefusalLaws
+pub mod RepairTimeLaws
+pub mod ResultLaws
 pub mod RunLaws
 pub mod SequenceLaws
 pub mod ServingLaws
