@@ -1,5 +1,6 @@
 pub mod AcceptedLaws
 pub mod AddedBoxesLaws
+pub mod AdditionLaws
 pub mod AgainLaws
 pub mod BegunLaws
 pub mod BoxesStandLaws
