@@ -150,7 +150,7 @@ offsets-first o i is = go (present (i .state))
     go false h = ((λ e. absurd (false≢true e)), h)
 
 -- the data of a list of items, from its first
-data-on : (i : Item) (is : List Item) → (dataSize is ≤ dataSize (i ∷ is)) × (present (i .state) ≡ true → dataSize (i ∷ is) ≡ i .size + dataSize is)
+pub data-on : (i : Item) (is : List Item) → (dataSize is ≤ dataSize (i ∷ is)) × (present (i .state) ≡ true → dataSize (i ∷ is) ≡ i .size + dataSize is)
 unfolding dataSize sum
 data-on i is = (omega arith, λ e. rw e)
 

@@ -21,6 +21,7 @@ pub mod ReasonLaws
 pub mod RefusalLaws
 pub mod RepairTimeLaws
 pub mod ResultLaws
+pub mod RunAgainLaws
 pub mod RunLaws
 pub mod SequenceLaws
 pub mod ServingLaws

@@ -61,7 +61,7 @@ last-test false t6 t13 t22 t23 t25 t33 x size = refl
 
 module _ (limit : ℕ) (f : List ℕ) (h : Heading) (ss : List Segment) where
   -- the segments of a file that append takes are those of its heading
-  earlier-of : heading f ≡ given h → segments limit f h ≡ given ss → earlierSegments limit f ≡ given ss
+  pub earlier-of : heading f ≡ given h → segments limit f h ≡ given ss → earlierSegments limit f ≡ given ss
   unfolding earlierSegments
   earlier-of head read = rw (earlierSegments, head) read
 
