@@ -28,3 +28,4 @@ pub mod ServingLaws
 pub mod StandsLaws
 pub mod StretchLaws
 pub mod SupplyLaws
+pub mod WrittenAgainLaws

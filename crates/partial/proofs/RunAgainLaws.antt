@@ -86,11 +86,11 @@ module _ (limit : ℕ) (f : List ℕ) (h : Heading) (ss : List Segment) (a : Add
   append-of = rw (appended-of, same, length-append f (added a))
 
 -- a longer file in a buffer, and the rest of the buffer
-filled-take : (g buffer : List ℕ) → take (length g) (filled g buffer) ≡ g
+pub filled-take : (g buffer : List ℕ) → take (length g) (filled g buffer) ≡ g
 unfolding filled
 filled-take g buffer = take-at g (drop (length g) buffer) (length g) refl
 
-filled-long : (g buffer : List ℕ) → length g ≤ length buffer → length (filled g buffer) ≡ length buffer
+pub filled-long : (g buffer : List ℕ) → length g ≤ length buffer → length (filled g buffer) ≡ length buffer
 unfolding filled
 filled-long g buffer h = simp (length-append, length-drop) (omega arith)
 
