@@ -28,4 +28,5 @@ pub mod ServingLaws
 pub mod StandsLaws
 pub mod StretchLaws
 pub mod SupplyLaws
+pub mod WriterLaws
 pub mod WrittenAgainLaws

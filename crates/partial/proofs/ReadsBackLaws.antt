@@ -111,6 +111,24 @@ taken limit buffer n a size ss before e =
       sym (given-same e12),
     )
 
+-- the segments of a file that append takes are those of its heading
+pub earlier-of : (limit : ℕ) (f : List ℕ) (h : Heading) (ss : List Segment) → heading f ≡ given h → segments limit f h ≡ given ss
+    → earlierSegments limit f ≡ given ss
+unfolding earlierSegments
+earlier-of limit f h ss head read = rw (earlierSegments, head) read
+
+-- an accepted addition is one to a file that append takes
+pub taken-any : (limit : ℕ) (buffer : List ℕ) (n : ℕ) (a : Addition) (size : ℕ) → appended limit buffer n a ≡ given size
+    → (h : Heading) × (ss : List Segment) × Taken limit (take n buffer) h ss a × (n ≡ length (take n buffer)) × (size ≡ n + length (added a))
+unfolding appended
+taken-any limit buffer n a size e =
+    let f : List ℕ = take n buffer in
+    let (lent-enough, e1) = held 30 (leb n (length buffer)) _ e in
+    let (h, head, e2) = both-given (heading f) _ e1 in
+    let (ss, before, e3) = both-given (segments limit f h) _ e2 in
+    let (k, t, long, total) = taken limit buffer n a size ss (earlier-of limit f h ss head before) e in
+    (k, ss, t, long, total)
+
 module _ (limit : ℕ) (f : List ℕ) (h : Heading) (ss : List Segment) (a : Addition) where
   -- the heading of the longer file
   abbrev pub grownHeading : Heading

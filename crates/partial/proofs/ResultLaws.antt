@@ -12,18 +12,18 @@ use lib.Seq.{length-take-le}
 use Rattle.boxes.specs.Answer.{Answer, refused, given, _>>=_, hold}
 use Rattle.boxes.specs.Numbers.{holds}
 use Rattle.boxes.specs.Framing.{boxLimit}
-use Rattle.boxes.proofs.AnswerLaws.{both-given, held}
+use Rattle.boxes.proofs.AnswerLaws.{both-given}
 use Rattle.partial.specs.Limits.{fileLimit, segmentLimit, chunkLimit}
 use Rattle.partial.specs.Sequences.{allOf}
 use Rattle.partial.specs.Segments.{Segment, endOf, chunksOf}
 use Rattle.partial.specs.Heading.{Heading, heading}
 use Rattle.partial.specs.Meaning.{agree}
-use Rattle.partial.specs.Reading.{segments, reading, earlierSegments}
+use Rattle.partial.specs.Reading.{reading, earlierSegments}
 use Rattle.partial.specs.Writing.{items, Addition, listRight, dataRight, addedBoxes, added, newSegment, appended, result}
 use Rattle.partial.specs.Runs.{lent, fileIn}
 use Rattle.partial.proofs.SequenceLaws.{both, passes}
 use Rattle.partial.proofs.NewSegmentLaws.{Sayable, length-new}
-use Rattle.partial.proofs.ReadsBackLaws.{Offered, Taken, reading-result, taken}
+use Rattle.partial.proofs.ReadsBackLaws.{Offered, Taken, reading-result, taken-any}
 use Rattle.partial.proofs.RepairTimeLaws.{cut, added-cut, boxes-cut, chunks-cut, ends-cut, agree-cut, offered-cut}
 
 -- the sizes of a list whose numbers 64 bits hold
@@ -60,11 +60,6 @@ last-test true false t13 t22 t23 t25 t33 x size = refl
 last-test false t6 t13 t22 t23 t25 t33 x size = refl
 
 module _ (limit : ℕ) (f : List ℕ) (h : Heading) (ss : List Segment) where
-  -- the segments of a file that append takes are those of its heading
-  pub earlier-of : heading f ≡ given h → segments limit f h ≡ given ss → earlierSegments limit f ≡ given ss
-  unfolding earlierSegments
-  earlier-of head read = rw (earlierSegments, head) read
-
   -- an accepted addition has no more chunks than a file may have
   few-taken : (a : Addition) → Taken limit f h ss a → length (items (a .list)) ≤ chunkLimit
   unfolding newSegment
@@ -112,15 +107,10 @@ module _ (limit : ℕ) (buffer : List ℕ) (n : ℕ) (a : Addition) where
 
   -- with more chunks than `chunk_count` can say it is never accepted
   pub too-many : 2 ^ 16 ≤ length (items (a .list)) → (k : ℕ) × (appended limit buffer n a ≡ refused k)
-  unfolding appended
   too-many many = go (appended limit buffer n a) refl
     where
       go : (answer : Answer ℕ) → appended limit buffer n a ≡ answer → (k : ℕ) × (appended limit buffer n a ≡ refused k)
       go (refused k) e = (k, e)
       go (given size) e =
-          let f : List ℕ = take n buffer in
-          let (lent-enough, e1) = held 30 (leb n (length buffer)) _ e in
-          let (h, head, e2) = both-given (heading f) _ e1 in
-          let (ss, before, e3) = both-given (segments limit f h) _ e2 in
-          let (h′, t, long, total) = taken limit buffer n a size ss (earlier-of limit f h ss head before) e in
-          absurd (omega (arith, few-taken limit f h′ ss a t))
+          let (h, ss, t, long, total) = taken-any limit buffer n a size e in
+          absurd (omega (arith, few-taken limit (take n buffer) h ss a t))

@@ -29,8 +29,7 @@ use Rattle.partial.proofs.AgainLaws.{same-again}
 use Rattle.partial.proofs.EntriesBackLaws.{data-on}
 use Rattle.partial.proofs.AddedBoxesLaws.{data-low, length-added}
 use Rattle.partial.proofs.RepairTimeLaws.{cut, added-cut, taken-cut}
-use Rattle.partial.proofs.ReadsBackLaws.{Taken, taken, taken-sayable, grownHeading, heading-added, reading-added, file-after}
-use Rattle.partial.proofs.ResultLaws.{earlier-of}
+use Rattle.partial.proofs.ReadsBackLaws.{Taken, earlier-of, taken, taken-sayable, grownHeading, heading-added, reading-added, file-after}
 
 -- ---- each segment says its addition in the whole file
 

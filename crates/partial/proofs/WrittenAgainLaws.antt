@@ -1,27 +1,26 @@
 -- Demand 2: writing again what was read from our writer's file gives that file.
 use Prim.Native.Nat.{ℕ, _+_, _^_, _≤_, _<_, zero-le}
 use mathlib.Core.Bool.{true}
-use mathlib.Core.List.{List, [], _∷_, _++_, map, append-assoc}
+use mathlib.Core.List.{List, [], _∷_, _++_, append-assoc}
 use mathlib.Core.Path.{_≡_, refl, sym, ap, subst, _∙_}
 use native.Mathlib.Omega.{arith}
 use borrow.Author.Tests.{le-leb}
-use lib.Dec.{leb}
 use lib.ListN.{length, take, drop, length-append}
 use lib.Seq.{drop-drop, drop-at, take-append-seam}
-use Rattle.boxes.specs.Answer.{Answer, refused, given, _>>=_}
+use Rattle.boxes.specs.Answer.{Answer, refused, given}
 use Rattle.boxes.specs.Numbers.{bytesOf}
 use Rattle.boxes.specs.Framing.{Box, frontSize, front, boxed, boxesIn, boxesFrom, boxLimit}
-use Rattle.boxes.specs.Kinds.{ftyp, pfil, pfhd, surl, is, those}
+use Rattle.boxes.specs.Kinds.{surl, is, those}
 use Rattle.boxes.proofs.AnswerLaws.{not-both, given-same}
 use Rattle.partial.specs.Limits.{fileLimit}
 use Rattle.partial.specs.Segments.{Segment}
-use Rattle.partial.specs.Heading.{Part, Heading, heading, boxAt, firstOf, ftypRight, paff, url, mime}
-use Rattle.partial.specs.Reading.{segments, reading}
+use Rattle.partial.specs.Heading.{Part, Heading, heading, boxAt, firstOf, ftypRight, url, mime}
+use Rattle.partial.specs.Reading.{reading}
 use Rattle.partial.specs.Tables.{filled, bytesIn, textOf}
 use Rattle.partial.specs.Writing
-use Rattle.partial.specs.Writing.{versionAndFlags, beginning, isText, begun, Addition, appended}
+use Rattle.partial.specs.Writing.{beginning, isText, begun, Addition, appended}
 use Rattle.partial.specs.Runs.{Lent, lent, fileIn, sizeAfter, begin, append, appendAll}
-use Rattle.partial.specs.Demands.{again, writeAgain}
+use Rattle.partial.specs.Demands.{writeAgain}
 use Rattle.partial.proofs.ReadingLaws.{reading-segments}
 use Rattle.partial.proofs.HeadingAppendLaws.{heading-of, url-kept, mime-kept}
 use Rattle.partial.proofs.BegunLaws.{begunHeading, sourceBox, begun-url, begun-mime, begun-headed, begun-segments, begin-given, begin-fits}
