@@ -1,93 +1,35 @@
 -- After each accepted addition: the file reads, every byte served before keeps its value, one that was not is served exactly if the addition
--- carries it as good, and the described length never shrinks. Of a repair time as many bits are written as `pshd` has, and no answer reads it.
-use Prim.Native.Nat.{ℕ, _%_, _^_, _<_}
-use mathlib.Core.Bool.{Bool, true, false, not, _&&_, _||_}
+-- carries it as good, and the described length never shrinks.
+use Prim.Native.Nat.{ℕ, _^_, _<_}
 use mathlib.Core.List.{List, [], _∷_, _++_}
-use mathlib.Core.Logic.{inl, inr}
-use mathlib.Core.Option.{Option, none, some}
-use mathlib.Core.Path.{_≡_, refl, ap, ap₂, _∙_}
+use mathlib.Core.Path.{_≡_, refl}
 use native.Mathlib.Nat.{mod-lt}
-use lib.Dec.{leb, eqb, lit<}
+use lib.Dec.{lit<}
 use lib.ListN.{length, take}
 use Rattle.boxes.specs.Answer.{Answer, refused, given}
-use Rattle.boxes.specs.Numbers.{bytesOf}
-use Rattle.boxes.specs.Framing.{boxed}
-use Rattle.boxes.specs.Kinds.{pseg, pshd, ploc, right}
+use Rattle.boxes.specs.Kinds.{pseg, right}
 use Rattle.boxes.proofs.AnswerLaws.{both-given, held}
-use Rattle.boxes.proofs.NumberLaws.{bytesOf-mod}
-use Rattle.partial.specs.Sequences.{allOf}
-use Rattle.partial.specs.Segments.{Segment, isOpen, endOf}
+use Rattle.partial.specs.Segments.{Segment}
 use Rattle.partial.specs.Heading.{Heading, heading}
-use Rattle.partial.specs.Meaning.{givesSize, knownSize, agree}
-use Rattle.partial.specs.Reading.{offsetWidth, reading, earlierSegments}
+use Rattle.partial.specs.Reading.{reading, earlierSegments}
 use Rattle.partial.specs.Writing
-use Rattle.partial.specs.Writing.{items, Addition, flagsFor, dataRight, anyPresent, dataBox, addedBoxes, plocBody, versionFor, pshdBody, added, newSegment, appended}
+use Rattle.partial.specs.Writing.{Addition, added, newSegment, appended}
 use Rattle.partial.specs.Runs.{Lent, lent, fileIn, sizeAfter, append, appendAll}
 use Rattle.partial.specs.Demands.{carried, Grown}
-use Rattle.partial.proofs.SequenceLaws.{which, all-append}
 use Rattle.partial.proofs.ReadingLaws.{accepted}
 use Rattle.partial.proofs.GrownLaws.{grown}
-use Rattle.partial.proofs.ReadsBackLaws.{Taken, taken, reading-added, file-after}
-
--- what is tested of each segment where a size is known
-abbrev fits : ℕ → Segment → Bool
-fits n s = leb (endOf s) n && (not (givesSize s) || eqb (endOf s) n)
-
--- sizes agree by what a last segment ends at and whether it gives a size
-module _ (s t : Segment) (ends : endOf s ≡ endOf t) (gives : givesSize s ≡ givesSize t) where
-  known-same : (ss : List Segment) → knownSize (ss ++ (s ∷ [])) ≡ knownSize (ss ++ (t ∷ []))
-  unfolding knownSize
-  known-same [] = ap₂ (λ (given-there : Bool) (end : ℕ). elim given-there as (λ _. Option ℕ) [ true ↦ some end | false ↦ none ]) gives ends
-  known-same (x ∷ ss) =
-      elim (which (givesSize x)) [
-        | inl e ↦ rw (knownSize, e)
-        | inr e ↦ rw (knownSize, e) (known-same ss)
-      ]
-
-  agree-same : (ss : List Segment) → agree (ss ++ (s ∷ [])) ≡ agree (ss ++ (t ∷ []))
-  unfolding agree allOf
-  agree-same ss = rw (agree, known-same ss) (go (knownSize (ss ++ (t ∷ []))))
-    where
-      go : (known : Option ℕ)
-          → _≡_ {A = Bool} (elim known [ some n ↦ allOf (fits n) (ss ++ (s ∷ [])) | none ↦ true ]) (elim known [ some n ↦ allOf (fits n) (ss ++ (t ∷ [])) | none ↦ true ])
-      go none = refl
-      go (some n) = rw (all-append (fits n) ss (s ∷ []), all-append (fits n) ss (t ∷ []), ends, gives)
-
--- an addition with as much of its repair time as is written
-abbrev cut : Addition → Addition
-cut a = record { sourceOffset = a .sourceOffset; repairTime = a .repairTime % 2 ^ 64; last = a .last; list = a .list; bytes = a .bytes }
-
-added-cut : (a : Addition) → added (cut a) ≡ added a
-unfolding added pshdBody dataBox anyPresent
-added-cut a =
-    ap (λ (time : List ℕ). dataBox a ++ boxed (pseg .code)
-    (boxed (pshd .code) (versionFor (a .sourceOffset) ∷ (bytesOf 3 (flagsFor (a .last)) ++ (bytesOf (offsetWidth (versionFor (a .sourceOffset))) (a .sourceOffset) ++ time)))
-    ++ boxed (ploc .code) (plocBody (items (a .list))))) (bytesOf-mod 8 (a .repairTime))
+use Rattle.partial.proofs.RepairTimeLaws.{cut, added-cut, taken-cut}
+use Rattle.partial.proofs.ReadsBackLaws.{Taken, taken, taken-sayable, reading-added, file-after}
 
 module _ (limit : ℕ) (f : List ℕ) (h : Heading) (ss : List Segment) (a : Addition) (t : Taken limit f h ss a) where
-  taken-cut : Taken limit f h ss (cut a)
-  unfolding dataRight addedBoxes newSegment endOf givesSize isOpen dataBox anyPresent
-  taken-cut =
-      record {
-        headed = t .headed;
-        before = t .before;
-        list = t .list;
-        carried = t .carried;
-        small = rw added-cut (t .small);
-        boxes = t .boxes;
-        few = t .few;
-        chunks = t .chunks;
-        low = t .low;
-        agreed = agree-same (newSegment (length f) (cut a)) (newSegment (length f) a) refl refl ss ∙ t .agreed;
-      }
-
   grown-taken : limit < 2 ^ 64 → (ts : List Segment) × (reading limit (f ++ added a) ≡ given ts) × Grown f (f ++ added a) ss ts a
   unfolding carried
   grown-taken below =
       let new : List Segment = newSegment (length f) (cut a) ∷ [] in
       let same = added-cut a in
-      let read : reading limit (f ++ added a) ≡ given (ss ++ new) = rw same at (reading-added limit f h ss (cut a) taken-cut below (mod-lt (a .repairTime) (lit< tt))) in
-      let grew : Grown f (f ++ added a) ss (ss ++ new) (cut a) = rw same at (grown f h ss (cut a) (accepted limit f h (t .headed) (t .before)) (taken-cut .carried) (taken-cut .agreed)) in
+      let cut-taken = taken-cut limit f h ss a t in
+      let read : reading limit (f ++ added a) ≡ given (ss ++ new) = rw same at (reading-added limit f h ss (cut a) cut-taken (taken-sayable limit f h ss (cut a) cut-taken below (mod-lt (a .repairTime) (lit< tt)))) in
+      let grew : Grown f (f ++ added a) ss (ss ++ new) (cut a) = rw same at (grown f h ss (cut a) (accepted limit f h (t .offered .headed) (t .offered .before)) (cut-taken .offered .carried) (cut-taken .agreed)) in
       (ss ++ new, read, record { kept = grew .kept; noShorter = grew .noShorter })
 
 -- after each accepted addition

@@ -9,11 +9,12 @@ use native.Mathlib.Omega.{arith}
 use borrow.Author.Tests.{le-leb}
 use lib.Dec.{eqb, lit<}
 use lib.ListN.{length, length-append}
-use Rattle.boxes.specs.Answer.{given}
+use Rattle.boxes.specs.Answer.{refused, given}
 use Rattle.boxes.specs.Framing.{Box, frontSize, boxed, boxesFrom}
 use Rattle.boxes.specs.Kinds.{pseg, pshd, ploc, pdat, is, those}
 use Rattle.boxes.specs.declared.kinds.Kind.{Kind}
 use Rattle.boxes.proofs.HeaderLaws.{moved}
+use Rattle.boxes.proofs.ContainerLaws.{boxes-over}
 use Rattle.boxes.proofs.BoxedLaws.{written, length-boxed, boxed-alone, boxed-then}
 use Rattle.partial.specs.Sequences.{someOf}
 use Rattle.partial.specs.Heading.{Heading}
@@ -48,6 +49,24 @@ module _ (bytes body : List ℕ) where
   boxes-part false (suc more) room fits =
       let size = rw length-boxed at fits in
       boxed-alone (pseg .code) body (lit< tt) size more
+
+-- where fewer are allowed it is 6
+module _ (bytes body : List ℕ) where
+  over-part : (there : Bool) (left : ℕ) → left < (elim there [ true ↦ 2 | false ↦ 1 ]) → length (dataPart bytes body there ++ boxed (pseg .code) body) < 2 ^ 32
+      → boxesFrom (dataPart bytes body there ++ boxed (pseg .code) body) (length (dataPart bytes body there ++ boxed (pseg .code) body)) left 0 ≡ refused 6
+  unfolding frontSize
+  over-part true zero few fits = boxes-over (boxed (pdat .code) bytes ++ boxed (pseg .code) body) _ 0 (simp (length-append, length-boxed) (omega arith))
+  over-part true (suc zero) few fits =
+      let size = simp (length-append, length-boxed) at fits in
+      boxed-then (pdat .code) bytes (lit< tt) (omega arith) (boxed (pseg .code) body) 0
+      ∙ rw (boxes-over (boxed (pseg .code) body) (length (boxed (pseg .code) body)) 0 (rw length-boxed (omega arith)))
+  over-part true (suc (suc more)) few fits = absurd (omega arith)
+  over-part false zero few fits = boxes-over (boxed (pseg .code) body) (length (boxed (pseg .code) body)) 0 (rw length-boxed (omega arith))
+  over-part false (suc more) few fits = absurd (omega arith)
+
+pub boxes-crowded : (a : Addition) (left : ℕ) → left < addedBoxes a → length (added a) < 2 ^ 32 → boxesFrom (added a) (length (added a)) left 0 ≡ refused 6
+unfolding added dataBox addedBoxes
+boxes-crowded a left few fits = over-part (a .bytes) (segBody a) (anyPresent a) left few fits
 
 pub length-added : (a : Addition) → length (added a) ≡ length (dataBox a) + (frontSize + length (segBody a))
 unfolding added

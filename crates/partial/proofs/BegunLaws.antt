@@ -25,7 +25,7 @@ use Rattle.partial.specs.Reading.{segmentsFrom, segments, earlierSegment
 use Rattle.partial.specs.Tables.{filled}
 use Rattle.partial.specs.Writing
 use Rattle.partial.specs.Writing.{versionAndFlags, beginning, isText, begun}
-use Rattle.partial.specs.Runs.{fileIn, sizeAfter, begin}
+use Rattle.partial.specs.Runs.{lent, fileIn, sizeAfter, begin}
 use Rattle.partial.proofs.SequenceLaws.{both}
 use Rattle.partial.proofs.StandsLaws.{Stands, stands-behind, stands-head, stands-tail, stands-left, stands-right, stands-number}
 use Rattle.partial.proofs.BoxesStandLaws.{twoBoxes, two-back, stands-two}
@@ -50,22 +50,35 @@ module _ (u m : List ℕ) where
   source-long : length sourceBody ≡ 4 + (length u + (1 + (length m + 1)))
   source-long = simp (length-append, length-bytesOf) (omega arith)
 
-  surl-back : (f : List ℕ) (b : Box) → Stands f (b .body) sourceBody → b .body + length sourceBody ≡ b .end → isText u ≡ true → isText m ≡ true
-      → surlFormed f b ≡ true
-  unfolding surlFormed mime url text
-  surl-back f b stands ends plain-url plain-mime =
-      let long = source-long in
-      let at : ℕ = b .body + 4 in
-      let second : ℕ = at + length u + 1 in
-      let after : Stands f at (u ++ (0 ∷ (m ++ (0 ∷ [])))) = rw (length-bytesOf 4 0) at (stands-right f (b .body) versionAndFlags (u ++ (0 ∷ (m ++ (0 ∷ [])))) stands) in
-      let after-url : Stands f (at + length u) (0 ∷ (m ++ (0 ∷ []))) = stands-right f at u (0 ∷ (m ++ (0 ∷ []))) after in
-      let after-zero : Stands f second (m ++ (0 ∷ [])) = stands-tail f (at + length u) 0 (m ++ (0 ∷ [])) after-url in
-      rw (
-        le-leb at (b .end) (omega arith),
-        stands-number f (b .body) 4 0 (lit< tt) (stands-left f (b .body) versionAndFlags (u ++ (0 ∷ (m ++ (0 ∷ [])))) stands),
-        text-back f u (m ++ (0 ∷ [])) at (b .end - at) after plain-url (omega arith),
-        text-back f m [] second (b .end - second) after-zero plain-mime (omega arith),
-      ) (eq-eqb (second + length m + 1) (b .end) (omega arith))
+  module _ (f : List ℕ) (b : Box) (stands : Stands f (b .body) sourceBody) (ends : b .body + length sourceBody ≡ b .end)
+      (plain-url : isText u ≡ true) (plain-mime : isText m ≡ true) where
+    after-front : Stands f (b .body + 4) (u ++ (0 ∷ (m ++ (0 ∷ []))))
+    after-front = rw (length-bytesOf 4 0) at (stands-right f (b .body) versionAndFlags (u ++ (0 ∷ (m ++ (0 ∷ [])))) stands)
+
+    pub url-back : url f b ≡ record { place = b .body + 4; size = length u }
+    unfolding url text
+    url-back =
+        let long = source-long in
+        rw (text-back f u (m ++ (0 ∷ [])) (b .body + 4) (b .end - (b .body + 4)) after-front plain-url (omega arith))
+
+    pub mime-back : mime f b ≡ record { place = b .body + 4 + length u + 1; size = length m }
+    unfolding mime text
+    mime-back =
+        let long = source-long in
+        let at : ℕ = b .body + 4 in
+        let second : ℕ = at + length u + 1 in
+        let after : Stands f second (m ++ (0 ∷ [])) = stands-tail f (at + length u) 0 (m ++ (0 ∷ [])) (stands-right f at u (0 ∷ (m ++ (0 ∷ []))) after-front) in
+        rw (url-back, text-back f m [] second (b .end - second) after plain-mime (omega arith))
+
+    surl-back : surlFormed f b ≡ true
+    unfolding surlFormed
+    surl-back =
+        let long = source-long in
+        rw (
+          le-leb (b .body + 4) (b .end) (omega arith),
+          stands-number f (b .body) 4 0 (lit< tt) (stands-left f (b .body) versionAndFlags (u ++ (0 ∷ (m ++ (0 ∷ [])))) stands),
+          mime-back,
+        ) (eq-eqb (b .body + 4 + length u + 1 + length m + 1) (b .end) (omega arith))
 
 -- the heading of a file just begun
 module _ (u m : List ℕ) where
@@ -78,7 +91,7 @@ module _ (u m : List ℕ) where
   abbrev filePlace : ℕ
   filePlace = 0 + (frontSize + length brandBody) + frontSize
 
-  abbrev begunHeading : Heading
+  abbrev pub begunHeading : Heading
   begunHeading =
       record {
         boxes = twoBoxes (beginning u m) 0 (ftyp .code) (pfil .code) brandBody fileBody;
@@ -105,15 +118,29 @@ module _ (u m : List ℕ) where
       rw (add-assoc (0 + (frontSize + length brandBody)) frontSize (length fileBody)) at
       (two-back (beginning u m) filePlace (pfhd .code) (surl .code) versionAndFlags (sourceBody u m) (lit< tt) (lit< tt) stands-file (omega arith))
 
+  -- its `surl`
+  abbrev pub sourceBox : Box
+  sourceBox = written (filePlace + (frontSize + length versionAndFlags)) (surl .code) (length (sourceBody u m))
+
+  source-stands : Stands (beginning u m) (sourceBox .body) (sourceBody u m)
+  source-stands = stands-two (beginning u m) filePlace (pfhd .code) (surl .code) versionAndFlags (sourceBody u m) stands-file .1
+
+  source-ends : sourceBox .body + length (sourceBody u m) ≡ sourceBox .end
+  source-ends = add-assoc (filePlace + (frontSize + length versionAndFlags)) frontSize (length (sourceBody u m))
+
   begun-surl : isText u ≡ true → isText m ≡ true → surlRight (beginning u m) (begunHeading .inner) ≡ true
   unfolding surlRight right keeps those is allOf
-  begun-surl plain-url plain-mime =
-      let f = beginning u m in
-      let second : ℕ = filePlace + (frontSize + length versionAndFlags) in
-      let stands = stands-two f filePlace (pfhd .code) (surl .code) versionAndFlags (sourceBody u m) stands-file .1 in
-      rw (surl-back u m f (written second (surl .code) (length (sourceBody u m))) stands (add-assoc second frontSize (length (sourceBody u m))) plain-url plain-mime)
+  begun-surl plain-url plain-mime = rw (surl-back u m (beginning u m) sourceBox source-stands source-ends plain-url plain-mime)
 
-  begun-headed : length (beginning u m) ≤ fileLimit → isText u ≡ true → isText m ≡ true → Headed (beginning u m) begunHeading
+  pub begun-url : isText u ≡ true → isText m ≡ true → url (beginning u m) sourceBox ≡ record { place = 52; size = length u }
+  unfolding frontSize bytesOf
+  begun-url plain-url plain-mime = url-back u m (beginning u m) sourceBox source-stands source-ends plain-url plain-mime
+
+  pub begun-mime : isText u ≡ true → isText m ≡ true → mime (beginning u m) sourceBox ≡ record { place = 52 + length u + 1; size = length m }
+  unfolding frontSize bytesOf
+  begun-mime plain-url plain-mime = mime-back u m (beginning u m) sourceBox source-stands source-ends plain-url plain-mime
+
+  pub begun-headed : length (beginning u m) ≤ fileLimit → isText u ≡ true → isText m ≡ true → Headed (beginning u m) begunHeading
   unfolding beginning boxed front frontSize bytesOf ftypRight brandRight brands brandsFrom number someOf pfilRight pfhdRight pfhdFormed firstOf boxAt those is right keeps
   begun-headed small plain-url plain-mime =
       record {
@@ -128,17 +155,36 @@ module _ (u m : List ℕ) where
       }
 
   -- and no segment
+  pub begun-segments : (limit : ℕ) → segments limit (beginning u m) begunHeading ≡ given []
+  unfolding segments segmentsFrom those is agree knownSize
+  begun-segments limit = refl
+
   begun-taken : (limit : ℕ) → length (beginning u m) ≤ fileLimit → isText u ≡ true → isText m ≡ true → earlierSegments limit (beginning u m) ≡ given []
-  unfolding earlierSegments segments segmentsFrom those is agree knownSize
-  begun-taken limit small plain-url plain-mime = rw (heading-of (beginning u m) begunHeading (begun-headed small plain-url plain-mime))
+  unfolding earlierSegments
+  begun-taken limit small plain-url plain-mime = rw (heading-of (beginning u m) begunHeading (begun-headed small plain-url plain-mime)) (begun-segments limit)
+
+-- what begin accepts, and the file that it leaves
+module _ (buffer u m : List ℕ) where
+  pub begin-given : (n : ℕ) → begun buffer u m ≡ given n
+      → (isText u ≡ true) × (isText m ≡ true) × (length (beginning u m) ≤ fileLimit) × (fileIn (begin buffer u m) ≡ beginning u m)
+  unfolding begun begin fileIn sizeAfter Writing.written filled
+  begin-given n e =
+      let whole : ℕ = length (beginning u m) in
+      let (plain, e1) = held 34 (isText u && isText m) _ e in
+      let (small, e2) = held 1 (leb whole fileLimit) _ e1 in
+      let (room, e3) = held 33 (leb whole (length buffer)) _ e2 in
+      let (plain-url, plain-mime) = both (isText u) (isText m) plain in
+      (plain-url, plain-mime, leb-true whole fileLimit small, rw (e, take-at (beginning u m) (drop whole buffer) n (given-same e3)))
+
+  pub begin-fits : isText u ≡ true → isText m ≡ true → length (beginning u m) ≤ fileLimit → length (beginning u m) ≤ length buffer
+      → begin buffer u m ≡ lent (filled (beginning u m) buffer) (length (beginning u m))
+  unfolding begun begin sizeAfter Writing.written
+  begin-fits plain-url plain-mime small room =
+      let whole : ℕ = length (beginning u m) in
+      rw (plain-url, plain-mime, le-leb whole fileLimit small, le-leb whole (length buffer) room)
 
 -- one just begun serves nothing and has described length 0
 pub just-begun : (limit : ℕ) (buffer u m : List ℕ) (n : ℕ) → begun buffer u m ≡ given n → earlierSegments limit (fileIn (begin buffer u m)) ≡ given []
-unfolding begun begin fileIn sizeAfter Writing.written filled
 just-begun limit buffer u m n e =
-    let whole : ℕ = length (beginning u m) in
-    let (plain, e1) = held 34 (isText u && isText m) _ e in
-    let (small, e2) = held 1 (leb whole fileLimit) _ e1 in
-    let (room, e3) = held 33 (leb whole (length buffer)) _ e2 in
-    let (plain-url, plain-mime) = both (isText u) (isText m) plain in
-    rw (e, take-at (beginning u m) (drop whole buffer) n (given-same e3)) (begun-taken u m limit (leb-true whole fileLimit small) plain-url plain-mime)
+    let (plain-url, plain-mime, small, file) = begin-given buffer u m n e in
+    rw file (begun-taken u m limit small plain-url plain-mime)

@@ -5,15 +5,17 @@ use mathlib.Core.List.{List, [], _∷_, _++_, map}
 use mathlib.Core.Logic.{inl, inr}
 use mathlib.Core.Option.{none, some, Option·getD}
 use mathlib.Core.Path.{_≡_, refl}
-use native.Mathlib.Nat.{add-zero}
+use native.Mathlib.Decide.{decLe}
+use native.Mathlib.Nat.{add-zero, add-assoc}
 use native.Mathlib.Omega.{arith}
-use borrow.Author.Tests.{le-leb, lt-ltb, eq-eqb, ltb-true, eqb-true, eqb-false, not-true}
-use lib.Dec.{ltb, eqb}
+use borrow.Author.Tests.{le-leb, lt-leb, lt-ltb, eq-eqb, ltb-true, eqb-true, eqb-false, not-true}
+use lib.Dec.{leb, ltb, eqb}
 use lib.ListN.{length, length-append}
 use Rattle.boxes.specs.Answer.{Answer, refused, given, _>>=_, hold}
 use Rattle.boxes.specs.Numbers.{number, bytesOf, signed, unsigned, holds, holdsOffset}
 use Rattle.boxes.specs.declared.numbers.Offset.{Offset}
 use Rattle.boxes.specs.declared.numbers.Offset.the-variants.{Ahead, Back}
+use Rattle.boxes.proofs.AnswerLaws.{then-then}
 use Rattle.boxes.proofs.NumberLaws.{length-bytesOf}
 use Rattle.boxes.proofs.OffsetLaws.{signed-unsigned, unsigned-below}
 use Rattle.partial.specs.Sequences.{allOf, sum}
@@ -148,23 +150,25 @@ offsets-first o i is = go (present (i .state))
     go false h = ((λ e. absurd (false≢true e)), h)
 
 -- the data of a list of items, from its first
-data-on : (i : Item) (is : List Item) → (dataSize is ≤ dataSize (i ∷ is)) × (present (i .state) ≡ true → dataSize (i ∷ is) ≡ i .size + dataSize is)
+pub data-on : (i : Item) (is : List Item) → (dataSize is ≤ dataSize (i ∷ is)) × (present (i .state) ≡ true → dataSize (i ∷ is) ≡ i .size + dataSize is)
 unfolding dataSize sum
 data-on i is = (omega arith, λ e. rw e)
 
--- so many items, at a place
+-- so many items, at a place: their chunks, or 23 where they end above the limit
 module _ (limit : ℕ) (g : List ℕ) (h : Heading) (pseg : ℕ) (p : Ploc) where
   pub chunks-back : (is : List Item) (at start : ℕ) → Stands g at (entryBytes (p .lengthSize) (p .offsetSize) is)
       → at + length (entryBytes (p .lengthSize) (p .offsetSize) is) ≡ p .end
       → allOf formed is ≡ true
       → allOf (λ i. holds (p .lengthSize) (i .size)) is ≡ true
       → allOf (holdsOffset (p .offsetSize)) (offsets is) ≡ true
-      → start + sum (map (λ i. i .size) is) ≤ limit
+      → start ≤ limit
       → dataSize is ≤ pseg
       → ((place size : ℕ) → 0 < size → pseg ≤ place + dataSize is → place + size ≤ pseg → mayLie h place size ≡ true)
-      → chunksFrom limit g h pseg p (length is) at start ≡ given (newChunks pseg start is)
+      → chunksFrom limit g h pseg p (length is) at start
+      ≡ (hold 23 (leb (start + sum (map (λ i. i .size) is)) limit) >>= λ _. given (newChunks pseg start is))
   unfolding chunksFrom newChunks allOf sum entryBytes
-  chunks-back [] at start stands ends right sizes places low data-low lie = rw (eq-eqb at (p .end) (rw add-zero at ends))
+  chunks-back [] at start stands ends right sizes places low data-low lie =
+      rw (eq-eqb at (p .end) (rw add-zero at ends), le-leb (start + 0) limit (omega arith))
   chunks-back (i ∷ is) at start stands ends right sizes places low data-low lie =
       let (right-first, right-rest) = both (formed i) (allOf formed is) right in
       let (fits-size, sizes-rest) = both (holds (p .lengthSize) (i .size)) (allOf (λ i. holds (p .lengthSize) (i .size)) is) sizes in
@@ -174,10 +178,15 @@ module _ (limit : ℕ) (g : List ℕ) (h : Heading) (pseg : ℕ) (p : Ploc) wher
       let (read, stands-rest) = entry-back g p i is at stands (omega arith) right-first fits-size fits-offset in
       let place = place-back g p i is h pseg at some-size data-low (λ e. lie (pseg - dataSize (i ∷ is)) (i .size) some-size (omega arith) (omega (arith, more e))) in
       let long = entry-long g p i is in
-      rw (
-        read,
-        le-leb (start + i .size) limit (omega arith),
-        place,
-        chunks-back is (at + 1 + p .lengthSize + wide g p i is) (start + i .size) stands-rest (omega arith) right-rest sizes-rest places-rest (omega arith) (omega arith)
-            (λ place size some from to. lie place size some (omega arith) to),
-      )
+      let rest : ℕ = sum (map (λ i. i .size) is) in
+      elim (decLe (start + i .size) limit) [
+        | yes fits ↦
+            rw (
+              read,
+              le-leb (start + i .size) limit fits,
+              place,
+              chunks-back is (at + 1 + p .lengthSize + wide g p i is) (start + i .size) stands-rest (omega arith) right-rest sizes-rest places-rest fits (omega arith) (λ place size some from to. lie place size some (omega arith) to),
+              add-assoc start (i .size) rest,
+            ) (then-then (hold 23 (leb (start + (i .size + rest)) limit)) (λ _. given (newChunks pseg (start + i .size) is)) (λ cs. given (_ ∷ cs)))
+        | no over ↦ rw (read, lt-leb (start + i .size) limit (omega arith), lt-leb (start + (i .size + rest)) limit (omega arith))
+      ]

@@ -122,7 +122,7 @@ head-back g b is stands ends few =
     )
 
 -- eight bytes hold every size that has its end below 2 to the 64, and every offset of a file's data
-sizes-eight : (is : List Item) → sum (map (λ i. i .size) is) < 2 ^ 64 → allOf (λ i. holds 8 (i .size)) is ≡ true
+pub sizes-eight : (is : List Item) → sum (map (λ i. i .size) is) < 2 ^ 64 → allOf (λ i. holds 8 (i .size)) is ≡ true
 unfolding allOf sum holds
 sizes-eight [] h = refl
 sizes-eight (i ∷ is) h = rw (lt-ltb (i .size) (256 ^ 8) (omega arith)) (sizes-eight is (omega arith))
@@ -136,9 +136,9 @@ offsets-eight (i ∷ is) h =
       | inr e ↦ rw (offsets, e) (offsets-eight is (omega arith))
     ]
 
-pub sizes-held : (is : List Item) → sum (map (λ i. i .size) is) < 2 ^ 64 → allOf (λ i. holds (lengthSize is) (i .size)) is ≡ true
+pub sizes-held : (is : List Item) → allOf (λ i. holds 8 (i .size)) is ≡ true → allOf (λ i. holds (lengthSize is) (i .size)) is ≡ true
 unfolding lengthSize
-sizes-held is h = leastWidth-passes (λ w. allOf (λ i. holds w (i .size)) is) (sizes-eight is h)
+sizes-held is h = leastWidth-passes (λ w. allOf (λ i. holds w (i .size)) is) h
 
 pub offsets-held : (is : List Item) → dataSize is < 2 ^ 63 → allOf (holdsOffset (offsetSize is)) (offsets is) ≡ true
 unfolding offsetSize

@@ -1,5 +1,6 @@
 pub mod AcceptedLaws
 pub mod AddedBoxesLaws
+pub mod AdditionLaws
 pub mod AgainLaws
 pub mod BegunLaws
 pub mod BoxesStandLaws
@@ -18,9 +19,14 @@ pub mod ReadingLaws
 pub mod ReadsBackLaws
 pub mod ReasonLaws
 pub mod RefusalLaws
+pub mod RepairTimeLaws
+pub mod ResultLaws
+pub mod RunAgainLaws
 pub mod RunLaws
 pub mod SequenceLaws
 pub mod ServingLaws
 pub mod StandsLaws
 pub mod StretchLaws
 pub mod SupplyLaws
+pub mod WriterLaws
+pub mod WrittenAgainLaws

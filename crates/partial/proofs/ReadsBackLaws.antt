@@ -1,18 +1,20 @@
 -- A segment that append adds reads back: the longer file has the segments of the file before and then the new one.
 use Prim.Native.Nat.{ℕ, _+_, _-_, _%_, _^_, _≤_, _<_}
-use mathlib.Core.Bool.{true}
+use mathlib.Core.Bool.{Bool, true, false}
 use mathlib.Core.List.{List, [], _∷_, _++_}
 use mathlib.Core.Path.{_≡_, refl, sym, ap, _∙_}
 use native.Mathlib.Nat.{add-zero}
+use native.Mathlib.Decide.{decLe}
 use native.Mathlib.Omega.{arith}
-use borrow.Author.Tests.{le-leb, leb-true}
+use borrow.Author.Tests.{le-leb, lt-leb, leb-true}
 use lib.Dec.{leb, eqb}
 use lib.ListN.{length, take, drop, length-append}
 use lib.Seq.{length-take-le, take-at}
-use Rattle.boxes.specs.Answer.{given}
-use Rattle.boxes.specs.Framing.{Box, boxLimit}
+use Rattle.boxes.specs.Answer.{refused, given, _>>=_, hold}
+use Rattle.boxes.specs.Framing.{Box, boxLimit, boxesIn}
 use Rattle.boxes.specs.Kinds.{ftyp, pfil, pseg, is, right, those, keeps}
 use Rattle.boxes.proofs.AnswerLaws.{both-given, held, given-same}
+use Rattle.boxes.proofs.ContainerLaws.{fills, boxes-appended}
 use Rattle.boxes.proofs.KindLaws.{those-append}
 use Rattle.boxes.proofs.BoxedLaws.{written}
 use Rattle.partial.specs.Limits.{fileLimit, segmentLimit, chunkLimit}
@@ -23,14 +25,20 @@ use Rattle.partial.specs.Meaning.{agree}
 use Rattle.partial.specs.Reading.{segment, segmentsFrom, segments, reading, earlierSegments}
 use Rattle.partial.specs.Tables.{filled}
 use Rattle.partial.specs.Writing
-use Rattle.partial.specs.Writing.{items, Addition, listRight, dataRight, dataSize, dataBox, addedBoxes, added, newSegment, appended, result}
+use Rattle.partial.specs.Writing.{items, Addition, listRight, dataRight, dataBox, addedBoxes, added, newSegment, appended, result}
 use Rattle.partial.specs.Runs.{lent, fileIn, sizeAfter, append}
 use Rattle.partial.proofs.SequenceLaws.{both}
 use Rattle.partial.proofs.HeadingAppendLaws.{headed, heading-of, headed-appended, longer, lies, boxes-lie, those-all}
 use Rattle.partial.proofs.KeptLaws.{segments-kept}
 use Rattle.partial.proofs.EntriesBackLaws.{formed}
-use Rattle.partial.proofs.AddedBoxesLaws.{segBody, newBoxes, addedList, boxes-added, added-moved, those-new, data-low, length-added, lie-longer, lie-new}
-use Rattle.partial.proofs.NewSegmentLaws.{Fitting, length-new, sizes-new, new-segment}
+use Rattle.partial.proofs.FieldsBackLaws.{sizes-eight}
+use Rattle.partial.proofs.AddedBoxesLaws.{segBody, newBoxes, addedList, boxes-added, boxes-crowded, added-moved, those-new, data-low, length-added, lie-longer, lie-new}
+use Rattle.partial.proofs.NewSegmentLaws.{Sayable, length-new, sizes-new, new-segment}
+
+-- a container has no more boxes than are allowed
+fills-within : (f : List ℕ) (bs : List Box) → boxesIn f 0 (length f) ≡ given bs → length bs ≤ boxLimit
+unfolding boxesIn
+fills-within f bs e = fills f (length f) boxLimit 0 e .within
 
 -- segments are read box by box
 module _ (limit : ℕ) (f : List ℕ) (h : Heading) where
@@ -50,12 +58,16 @@ module _ (limit : ℕ) (f : List ℕ) (h : Heading) where
       let rest = segments-many bs (before ++ (s ∷ [])) e1 in
       omega (arith, length-append before (s ∷ []))
 
--- what append's tests say of an addition to a file with these segments
-pub record Taken (limit : ℕ) (f : List ℕ) (h : Heading) (ss : List Segment) (a : Addition) : Type 0 where
+-- an addition, right in itself, to a file that append takes
+pub record Offered (limit : ℕ) (f : List ℕ) (h : Heading) (ss : List Segment) (a : Addition) : Type 0 where
   pub headed : heading f ≡ given h
   pub before : segments limit f h ≡ given ss
   pub list : listRight (a .list) ≡ true
   pub carried : dataRight a ≡ true
+
+-- what append's other tests say of an addition that it accepts
+pub record Taken (limit : ℕ) (f : List ℕ) (h : Heading) (ss : List Segment) (a : Addition) : Type 0 where
+  pub offered : Offered limit f h ss a
   pub small : length f + length (added a) ≤ fileLimit
   pub boxes : length (h .boxes) + addedBoxes a ≤ boxLimit
   pub few : length ss + 1 ≤ segmentLimit
@@ -87,10 +99,7 @@ taken limit buffer n a size ss before e =
     let long : length f ≡ n = length-take-le n buffer (leb-true n (length buffer) lent-enough) in (
       h,
       record {
-        headed = head;
-        before = again;
-        list = list;
-        carried = carried;
+        offered = record { headed = head; before = again; list = list; carried = carried };
         small = rw long (leb-true (n + length (added a)) fileLimit small);
         boxes = leb-true (length (h .boxes) + addedBoxes a) boxLimit boxes;
         few = rw (← same) (leb-true (length ts + 1) segmentLimit few);
@@ -102,57 +111,140 @@ taken limit buffer n a size ss before e =
       sym (given-same e12),
     )
 
-module _ (limit : ℕ) (f : List ℕ) (h : Heading) (ss : List Segment) (a : Addition) (t : Taken limit f h ss a) where
+-- the segments of a file that append takes are those of its heading
+pub earlier-of : (limit : ℕ) (f : List ℕ) (h : Heading) (ss : List Segment) → heading f ≡ given h → segments limit f h ≡ given ss
+    → earlierSegments limit f ≡ given ss
+unfolding earlierSegments
+earlier-of limit f h ss head read = rw (earlierSegments, head) read
+
+-- an accepted addition is one to a file that append takes
+pub taken-any : (limit : ℕ) (buffer : List ℕ) (n : ℕ) (a : Addition) (size : ℕ) → appended limit buffer n a ≡ given size
+    → (h : Heading) × (ss : List Segment) × Taken limit (take n buffer) h ss a × (n ≡ length (take n buffer)) × (size ≡ n + length (added a))
+unfolding appended
+taken-any limit buffer n a size e =
+    let f : List ℕ = take n buffer in
+    let (lent-enough, e1) = held 30 (leb n (length buffer)) _ e in
+    let (h, head, e2) = both-given (heading f) _ e1 in
+    let (ss, before, e3) = both-given (segments limit f h) _ e2 in
+    let (k, t, long, total) = taken limit buffer n a size ss (earlier-of limit f h ss head before) e in
+    (k, ss, t, long, total)
+
+module _ (limit : ℕ) (f : List ℕ) (h : Heading) (ss : List Segment) (a : Addition) where
   -- the heading of the longer file
   abbrev pub grownHeading : Heading
   grownHeading = record { boxes = h .boxes ++ newBoxes (length f) a; inner = h .inner }
 
-  pub heading-added : heading (f ++ added a) ≡ given grownHeading
+  abbrev newBox : Box
+  newBox = written (length f + length (dataBox a)) (pseg .code) (length (segBody a))
+
+  psegs-added : those pseg (grownHeading .boxes) ≡ those pseg (h .boxes) ++ (newBox ∷ [])
   unfolding those is
-  heading-added =
-      let boxes = boxes-added a (boxLimit - length (h .boxes)) (omega arith) (omega arith) in
-      let moved-there = added-moved a (length f) in
-      heading-of (f ++ added a) grownHeading
-      (rw moved-there at (headed-appended f (added a) h (addedList a) (headed f h (t .headed)) (rw length-append (t .small)) boxes
-      (rw moved-there (those-new a (length f) ftyp refl)) (rw moved-there (those-new a (length f) pfil refl))))
+  psegs-added = those-append pseg (h .boxes) (newBoxes (length f) a) ∙ ap (λ (bs : List Box). those pseg (h .boxes) ++ bs) (those-new a (length f) pseg refl)
 
-  fitting : limit < 2 ^ 64 → a .repairTime < 2 ^ 64 → Fitting limit a
-  unfolding listRight endOf newSegment
-  fitting below time =
-      let list = items (a .list) in
-      let at : ℕ = length f + length (dataBox a) in
-      let size = length-added a in
-      record {
-        below = below;
-        time = time;
-        listed = both (eqb (length (a .list) % 2) 0) (allOf formed list) (t .list) .1;
-        low = rw (sizes-new at (a .sourceOffset) list) at (t .low);
-        few = omega (arith, rw (length-new at (a .sourceOffset) list) at (t .chunks));
-        small = omega arith;
-      }
+  pseg-there : right pseg (grownHeading .boxes) ≡ true
+  unfolding right keeps
+  pseg-there =
+      let long = length-append (those pseg (h .boxes)) (newBox ∷ []) in
+      rw psegs-added (le-leb 1 (length (those pseg (h .boxes) ++ (newBox ∷ []))) (omega arith))
 
-  pub reading-added : limit < 2 ^ 64 → a .repairTime < 2 ^ 64 → reading limit (f ++ added a) ≡ given (ss ++ (newSegment (length f) a ∷ []))
-  unfolding reading segments right keeps segmentsFrom those is newSegment
-  reading-added below time =
-      let n = length f in
-      let list = items (a .list) in
-      let old : List Box = those pseg (h .boxes) in
-      let box = written (n + length (dataBox a)) (pseg .code) (length (segBody a)) in
-      let fit = fitting below time in
-      let (enough, e1) = held 13 (leb (length old) segmentLimit) _ (t .before) in
-      let (us, read, e2) = both-given (segmentsFrom limit f h [] old) _ e1 in
-      let (agreed, e3) = held 25 (agree us) _ e2 in
-      let before : segmentsFrom limit f h [] old ≡ given ss = read ∙ e3 in
-      let lie = those-all pseg (lies n) (h .boxes) (boxes-lie f 0 n (h .boxes) (headed f h (t .headed) .boxes)) in
-      let kept = segments-kept f (added a) h grownHeading (lie-longer h (newBoxes n a)) limit old [] ss lie before in
-      let psegs : those pseg (grownHeading .boxes) ≡ old ++ (box ∷ []) = those-append pseg (h .boxes) (newBoxes n a) ∙ ap (λ (bs : List Box). old ++ bs) (those-new a n pseg refl) in
-      let many = segments-many limit f h old [] before in
-      let long = length-append old (box ∷ []) in
-      let data-size : dataSize list < 2 ^ 63 = omega (arith, data-low a (t .carried), length-added a) in
-      let new : segment limit (f ++ added a) grownHeading ss box ≡ given (newSegment n a) = new-segment limit f grownHeading ss a fit (t .carried) data-size
-      (rw (length-new (n + length (dataBox a)) (a .sourceOffset) list) at (t .chunks)) (lie-new h n a (t .carried)) in
-      let all : segmentsFrom limit (f ++ added a) grownHeading [] (old ++ (box ∷ [])) ≡ given (ss ++ (newSegment n a ∷ [])) = segments-on limit (f ++ added a) grownHeading old (box ∷ []) [] kept ∙ rw new in
-      rw (heading-added, psegs, le-leb 1 (length (old ++ (box ∷ []))) (omega arith), le-leb (length (old ++ (box ∷ []))) segmentLimit (omega arith), all, t .agreed)
+  module _ (t : Offered limit f h ss a) where
+    heading-large : fileLimit < length f + length (added a) → heading (f ++ added a) ≡ refused 1
+    unfolding heading
+    heading-large over = rw (lt-leb (length (f ++ added a)) fileLimit (rw length-append over))
+
+    module _ (small : length f + length (added a) ≤ fileLimit) where
+      heading-crowded : boxLimit < length (h .boxes) + addedBoxes a → heading (f ++ added a) ≡ refused 6
+      unfolding heading
+      heading-crowded over =
+          let head = headed f h (t .headed) in
+          let boxes = boxes-crowded a (boxLimit - length (h .boxes)) (omega (arith, fills-within f (h .boxes) (head .boxes))) (omega arith) in
+          rw (le-leb (length (f ++ added a)) fileLimit (rw length-append small), boxes-appended f (added a) (head .boxes), boxes)
+
+      pub heading-added : length (h .boxes) + addedBoxes a ≤ boxLimit → heading (f ++ added a) ≡ given grownHeading
+      unfolding those is
+      heading-added room =
+          let boxes = boxes-added a (boxLimit - length (h .boxes)) (omega arith) (omega arith) in
+          let moved-there = added-moved a (length f) in
+          heading-of (f ++ added a) grownHeading
+          (rw moved-there at
+          (headed-appended f (added a) h (addedList a) (headed f h (t .headed)) (rw length-append small) boxes
+          (rw moved-there (those-new a (length f) ftyp refl)) (rw moved-there (those-new a (length f) pfil refl))))
+
+      segments-added : Sayable a
+          → segments limit (f ++ added a) grownHeading
+          ≡ (hold 13 (leb (length ss + 1) segmentLimit) >>= λ _. hold 22 (leb (length (chunksOf ss) + length (newSegment (length f) a .chunks)) chunkLimit)
+          >>= λ _. hold 23 (leb (endOf (newSegment (length f) a)) limit) >>= λ _. hold 25 (agree (ss ++ (newSegment (length f) a ∷ [])))
+          >>= λ _. given (ss ++ (newSegment (length f) a ∷ [])))
+      unfolding segments segmentsFrom listRight
+      segments-added says =
+          let n = length f in
+          let list = items (a .list) in
+          let old : List Box = those pseg (h .boxes) in
+          let (enough, e1) = held 13 (leb (length old) segmentLimit) _ (t .before) in
+          let (us, read, e2) = both-given (segmentsFrom limit f h [] old) _ e1 in
+          let (agreed, e3) = held 25 (agree us) _ e2 in
+          let before : segmentsFrom limit f h [] old ≡ given ss = read ∙ e3 in
+          let lie = those-all pseg (lies n) (h .boxes) (boxes-lie f 0 n (h .boxes) (headed f h (t .headed) .boxes)) in
+          let kept = segments-kept f (added a) h grownHeading (lie-longer h (newBoxes n a)) limit old [] ss lie before in
+          let many = segments-many limit f h old [] before in
+          let long : length (old ++ (newBox ∷ [])) ≡ length ss + 1 = length-append old (newBox ∷ []) ∙ omega arith in
+          let size = length-added a in
+          let listed = both (eqb (length (a .list) % 2) 0) (allOf formed list) (t .list) .1 in
+          let new = new-segment limit f grownHeading ss a says listed (omega arith) (t .carried) (omega (arith, data-low a (t .carried))) (lie-new h n a (t .carried)) in
+          rw (psegs-added, long, segments-on limit (f ++ added a) grownHeading old (newBox ∷ []) [] kept, new)
+          (go (leb (length ss + 1) segmentLimit) (leb (length (chunksOf ss) + length (newSegment n a .chunks)) chunkLimit) (leb (endOf (newSegment n a)) limit))
+        where
+          go : (few chunks low : Bool)
+              → (hold 13 few
+              >>= λ _. (hold 22 chunks >>= λ _. hold 23 low >>= λ _. given (newSegment (length f) a)) >>= (λ s. given (ss ++ (s ∷ []))) >>= λ ts. hold 25 (agree ts) >>= λ _. given ts)
+              ≡ (hold 13 few >>= λ _. hold 22 chunks >>= λ _. hold 23 low >>= λ _. hold 25 (agree (ss ++ (newSegment (length f) a ∷ []))) >>= λ _. given (ss ++ (newSegment (length f) a ∷ [])))
+          go true true true = refl
+          go true true false = refl
+          go true false low = refl
+          go false chunks low = refl
+
+    -- reading the longer file: the refusals that the result would have, in their order, or its segments
+    pub reading-result : Sayable a
+        → reading limit (f ++ added a)
+        ≡ (hold 1 (leb (length f + length (added a)) fileLimit) >>= λ _. hold 6 (leb (length (h .boxes) + addedBoxes a) boxLimit)
+        >>= λ _. hold 13 (leb (length ss + 1) segmentLimit) >>= λ _. hold 22 (leb (length (chunksOf ss) + length (newSegment (length f) a .chunks)) chunkLimit)
+        >>= λ _. hold 23 (leb (endOf (newSegment (length f) a)) limit) >>= λ _. hold 25 (agree (ss ++ (newSegment (length f) a ∷ [])))
+        >>= λ _. given (ss ++ (newSegment (length f) a ∷ [])))
+    unfolding reading
+    reading-result says =
+        let size : ℕ = length f + length (added a) in
+        let many : ℕ = length (h .boxes) + addedBoxes a in
+        elim (decLe size fileLimit) [
+          | no over ↦ rw (heading-large (omega arith), lt-leb size fileLimit (omega arith))
+          | yes small ↦
+              elim (decLe many boxLimit) [
+                | no over ↦ rw (heading-crowded small (omega arith), le-leb size fileLimit small, lt-leb many boxLimit (omega arith))
+                | yes room ↦ rw (heading-added small room, le-leb size fileLimit small, le-leb many boxLimit room, pseg-there) (segments-added small says)
+              ]
+        ]
+
+-- an accepted addition can be said
+pub taken-sayable : (limit : ℕ) (f : List ℕ) (h : Heading) (ss : List Segment) (a : Addition) → Taken limit f h ss a → limit < 2 ^ 64 → a .repairTime < 2 ^ 64 → Sayable a
+unfolding endOf newSegment
+taken-sayable limit f h ss a t below time =
+    let list = items (a .list) in
+    let at : ℕ = length f + length (dataBox a) in
+    let low = rw (sizes-new at (a .sourceOffset) list) at (t .low) in
+    let few = rw (length-new at (a .sourceOffset) list) at (t .chunks) in
+    record { offset = omega arith; time = time; sizes = sizes-eight list (omega arith); count = omega arith }
+
+pub reading-added : (limit : ℕ) (f : List ℕ) (h : Heading) (ss : List Segment) (a : Addition) → Taken limit f h ss a → Sayable a
+    → reading limit (f ++ added a) ≡ given (ss ++ (newSegment (length f) a ∷ []))
+reading-added limit f h ss a t says =
+    reading-result limit f h ss a (t .offered) says
+    ∙ rw (
+      le-leb (length f + length (added a)) fileLimit (t .small),
+      le-leb (length (h .boxes) + addedBoxes a) boxLimit (t .boxes),
+      le-leb (length ss + 1) segmentLimit (t .few),
+      le-leb (length (chunksOf ss) + length (newSegment (length f) a .chunks)) chunkLimit (t .chunks),
+      le-leb (endOf (newSegment (length f) a)) limit (t .low),
+      t .agreed,
+    )
 
 -- the file that an accepted addition leaves
 pub file-after : (limit : ℕ) (buffer : List ℕ) (n : ℕ) (a : Addition) (size : ℕ) → appended limit buffer n a ≡ given size → n ≡ length (take n buffer)
@@ -173,4 +265,4 @@ unfolding fileIn
 reads-back limit below buffer n a size ss time before e =
     let (h, t, long, total) = taken limit buffer n a size ss before e in
     rw (file-after limit buffer n a size e long total)
-    (reading-added limit (take n buffer) h ss a t below time ∙ ap (λ (m : ℕ). given (ss ++ (newSegment m a ∷ []))) (sym long))
+    (reading-added limit (take n buffer) h ss a t (taken-sayable limit (take n buffer) h ss a t below time) ∙ ap (λ (m : ℕ). given (ss ++ (newSegment m a ∷ []))) (sym long))

@@ -1,0 +1,34 @@
+-- Demand 3, over the definitions, at any source limit that 64 bits hold.
+use Prim.Native.Nat.{ℕ, _^_, _<_}
+use mathlib.Core.List.{List}
+use Rattle.partial.specs.Writing.{Addition}
+use Rattle.partial.specs.Runs.{fileIn}
+use Rattle.partial.specs.Demands.{Reasons, Demand3}
+use Rattle.partial.proofs.RefusalLaws.{demand1}
+use Rattle.partial.proofs.ReasonLaws.{length-over, file-refused, list-wrong, data-wrong}
+use Rattle.partial.proofs.ResultLaws.{by-result, too-many}
+use Rattle.partial.proofs.BegunLaws.{just-begun}
+use Rattle.partial.proofs.AcceptedLaws.{after-addition, stands}
+
+-- an addition is refused exactly where a numbered reason for additions holds, in their order
+pub reasons : (limit : ℕ) (buffer : List ℕ) (n : ℕ) (a : Addition) → Reasons limit buffer n a
+unfolding fileIn
+reasons limit buffer n a =
+    record {
+      lengthOver = length-over limit buffer n a;
+      fileRefused = λ k fits e. file-refused limit buffer n a fits e;
+      listWrong = λ ss fits e list. list-wrong limit buffer n a fits e list;
+      dataWrong = λ ss fits e list carried. data-wrong limit buffer n a fits e list carried;
+      byResult = by-result limit buffer n a;
+      tooMany = too-many limit buffer n a;
+    }
+
+pub demand3 : (limit : ℕ) → limit < 2 ^ 64 → Demand3 limit
+demand3 limit below =
+    record {
+      justBegun = just-begun limit;
+      stands = stands limit below;
+      accepted = after-addition limit below;
+      refusedExactly = reasons limit;
+      unchanged = demand1 limit .appendKept;
+    }
