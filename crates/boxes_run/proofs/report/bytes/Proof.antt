@@ -1,7 +1,6 @@
 -- `boxes_run::report::bytes` keeps to its slice and ends.
 use Prim.Native.Nat.{_-_}
 use borrow.Author.Needs.{needs}
-use native.Mathlib.Omega.{arith}
 use lib.ListN.{length}
 use Rattle.boxes_run.proofs.report.bytes.Statement.{statement}
 use Rattle.boxes_run.proofs.report.bytes.Tie as tie

@@ -18,8 +18,8 @@ use Rattle.partial.specs.Segments.{present}
 use Rattle.partial.specs.Entries.{Ploc, plocHead}
 use Rattle.partial.specs.Reading.{offsetWidth, pshdFields}
 use Rattle.partial.specs.Writing.{versionAndFlags, Item, Addition, flagsFor, dataSize, offsetOf, offsets, lengthSize, offsetSize, entryBytes, plocBody, versionFor, pshdBody}
-use Rattle.partial.proofs.SequenceLaws.{which}
-use Rattle.partial.proofs.StandsLaws.{Stands, stands-byte, stands-tail, stands-left, stands-right, stands-number}
+use Rattle.partial.proofs.Meaning.SequenceLaws.{which}
+use Rattle.partial.proofs.Writing.StandsLaws.{Stands, stands-byte, stands-tail, stands-left, stands-right, stands-number}
 
 -- ---- `pshd`
 

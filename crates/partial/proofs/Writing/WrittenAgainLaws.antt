@@ -21,10 +21,10 @@ use Rattle.partial.specs.Writing
 use Rattle.partial.specs.Writing.{beginning, isText, begun, Addition, appended}
 use Rattle.partial.specs.Runs.{Lent, lent, fileIn, sizeAfter, begin, append, appendAll}
 use Rattle.partial.specs.Demands.{writeAgain}
-use Rattle.partial.proofs.ReadingLaws.{reading-segments}
-use Rattle.partial.proofs.HeadingAppendLaws.{heading-of, url-kept, mime-kept}
-use Rattle.partial.proofs.BegunLaws.{begunHeading, sourceBox, begun-url, begun-mime, begun-headed, begun-segments, begin-given, begin-fits}
-use Rattle.partial.proofs.RunAgainLaws.{Rewrites, rewrites, filled-take, filled-long}
+use Rattle.partial.proofs.Reading.ReadingLaws.{reading-segments}
+use Rattle.partial.proofs.Reading.HeadingAppendLaws.{heading-of, url-kept, mime-kept}
+use Rattle.partial.proofs.Writing.BegunLaws.{begunHeading, sourceBox, begun-url, begun-mime, begun-headed, begun-segments, begin-given, begin-fits}
+use Rattle.partial.proofs.Writing.RunAgainLaws.{Rewrites, rewrites, filled-take, filled-long}
 
 -- ---- the two texts stand in the file
 

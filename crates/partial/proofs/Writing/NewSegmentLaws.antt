@@ -21,11 +21,11 @@ use Rattle.partial.specs.Heading.{Heading, boxAt, firstOf}
 use Rattle.partial.specs.Entries.{mayLie}
 use Rattle.partial.specs.Reading.{pshdRight, segment}
 use Rattle.partial.specs.Writing.{Item, items, Addition, flagsFor, dataSize, dataRight, dataBox, plocBody, pshdBody, added, newChunks, newSegment}
-use Rattle.partial.proofs.StandsLaws.{Stands, stands-behind, stands-right}
-use Rattle.partial.proofs.EntriesBackLaws.{formed, chunks-back}
-use Rattle.partial.proofs.FieldsBackLaws.{fields-back, plocOf, head-back, sizes-held, offsets-held}
-use Rattle.partial.proofs.AddedBoxesLaws.{segBody, data-low}
-use Rattle.partial.proofs.BoxesStandLaws.{stands-body, twoBoxes, two-back, stands-two}
+use Rattle.partial.proofs.Writing.StandsLaws.{Stands, stands-behind, stands-right}
+use Rattle.partial.proofs.Writing.EntriesBackLaws.{formed, chunks-back}
+use Rattle.partial.proofs.Writing.FieldsBackLaws.{fields-back, plocOf, head-back, sizes-held, offsets-held}
+use Rattle.partial.proofs.Writing.AddedBoxesLaws.{segBody, data-low}
+use Rattle.partial.proofs.Writing.BoxesStandLaws.{stands-body, twoBoxes, two-back, stands-two}
 
 -- the new chunks are as many as the items, and as long
 pub length-new : (at start : ℕ) (is : List Item) → length (newChunks at start is) ≡ length is

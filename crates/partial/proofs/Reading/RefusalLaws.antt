@@ -24,7 +24,7 @@ use Rattle.partial.specs.Tables.{segmentRows, chunkRows, hadRows, missin
 use Rattle.partial.specs.Writing.{beginning, isText, begun, written, Addition, listRight, dataRight, addedBoxes, newSegment, added, appended}
 use Rattle.partial.specs.Runs.{lent, sizeAfter, append}
 use Rattle.partial.specs.Demands.{Demand1}
-use Rattle.partial.proofs.SequenceLaws.{passes, inside, within-true}
+use Rattle.partial.proofs.Meaning.SequenceLaws.{passes, inside, within-true}
 
 same-number : {A : Type 0} {m n : ℕ} → _≡_ {A = Answer A} (refused m) (refused n) → m ≡ n
 same-number e = cc

@@ -20,9 +20,9 @@ use Rattle.partial.specs.Sequences.{someOf}
 use Rattle.partial.specs.Heading.{Heading}
 use Rattle.partial.specs.Entries.{mayLie}
 use Rattle.partial.specs.Writing.{items, Addition, dataSize, dataRight, anyPresent, dataBox, addedBoxes, pshdBody, plocBody, added}
-use Rattle.partial.proofs.SequenceLaws.{which, some-append}
-use Rattle.partial.proofs.GrownLaws.{data-length, data-last}
-use Rattle.partial.proofs.BoxesStandLaws.{moved-written}
+use Rattle.partial.proofs.Meaning.SequenceLaws.{which, some-append}
+use Rattle.partial.proofs.Writing.GrownLaws.{data-length, data-last}
+use Rattle.partial.proofs.Writing.BoxesStandLaws.{moved-written}
 
 -- the body of the new `pseg`
 abbrev pub segBody : Addition → List ℕ

@@ -19,8 +19,8 @@ use Rattle.partial.specs.Reading.{offsetWidth}
 use Rattle.partial.specs.Writing
 use Rattle.partial.specs.Writing.{items, Addition, flagsFor, dataRight, anyPresent, dataBox, addedBoxes, plocBody, versionFor, pshdBody, added, newSegment}
 use Rattle.partial.specs.Demands.{carried}
-use Rattle.partial.proofs.SequenceLaws.{which, all-append}
-use Rattle.partial.proofs.ReadsBackLaws.{Offered, Taken}
+use Rattle.partial.proofs.Meaning.SequenceLaws.{which, all-append}
+use Rattle.partial.proofs.Writing.ReadsBackLaws.{Offered, Taken}
 
 -- what is tested of each segment where a size is known
 abbrev fits : ℕ → Segment → Bool

@@ -22,10 +22,10 @@ use Rattle.partial.specs.Entries.{Ploc, plocHead, Entry, entry, mayLie, 
 use Rattle.partial.specs.Reading.{pshdFields, pshdRight, segment, segmentsFrom, segments, reading, earlierSegments}
 use Rattle.partial.specs.Meaning.{agree}
 use Rattle.partial.specs.Demands.{Mapped}
-use Rattle.partial.proofs.SequenceLaws.{which, all-append}
-use Rattle.partial.proofs.SupplyLaws.{chunks-append}
-use Rattle.partial.proofs.DescribedLaws.{Follow, InOrder, in-order-append}
-use Rattle.partial.proofs.MappedLaws.{lies, Accepted, mapped}
+use Rattle.partial.proofs.Meaning.SequenceLaws.{which, all-append}
+use Rattle.partial.proofs.Meaning.SupplyLaws.{chunks-append}
+use Rattle.partial.proofs.Meaning.DescribedLaws.{Follow, InOrder, in-order-append}
+use Rattle.partial.proofs.Meaning.MappedLaws.{lies, Accepted, mapped}
 
 -- the boxes of a file end in it
 boxes-inside : {s : List ℕ} {end at : ℕ} {bs : List Box} → Filled s end at bs → (k : ℕ) → k < length bs → boxAt k bs .end ≤ end

@@ -15,8 +15,8 @@ use Rattle.partial.specs.Entries.{moved}
 use Rattle.partial.specs.Tables.{bytesIn}
 use Rattle.partial.specs.Writing.{Item, items, Addition, flagsFor, listRight, dataSize, dataRight, dataBox, offsetOf, newChunks, newSegment, added}
 use Rattle.partial.specs.Demands.{dataOf, listFor, again}
-use Rattle.partial.proofs.SequenceLaws.{which, both}
-use Rattle.partial.proofs.GrownLaws.{data-cons, place-present, data-length, data-last}
+use Rattle.partial.proofs.Meaning.SequenceLaws.{which, both}
+use Rattle.partial.proofs.Writing.GrownLaws.{data-cons, place-present, data-length, data-last}
 
 -- the flag that is written for last_segment is read as it
 last-again : (last : Bool) → isLast (flagsFor last) ≡ last

@@ -21,10 +21,10 @@ use Rattle.partial.specs.Meaning.{agree}
 use Rattle.partial.specs.Reading.{reading, earlierSegments}
 use Rattle.partial.specs.Writing.{items, Addition, listRight, dataRight, addedBoxes, added, newSegment, appended, result}
 use Rattle.partial.specs.Runs.{lent, fileIn}
-use Rattle.partial.proofs.SequenceLaws.{both, passes}
-use Rattle.partial.proofs.NewSegmentLaws.{Sayable, length-new}
-use Rattle.partial.proofs.ReadsBackLaws.{Offered, Taken, reading-result, taken-any}
-use Rattle.partial.proofs.RepairTimeLaws.{cut, added-cut, boxes-cut, chunks-cut, ends-cut, agree-cut, offered-cut}
+use Rattle.partial.proofs.Meaning.SequenceLaws.{both, passes}
+use Rattle.partial.proofs.Writing.NewSegmentLaws.{Sayable, length-new}
+use Rattle.partial.proofs.Writing.ReadsBackLaws.{Offered, Taken, reading-result, taken-any}
+use Rattle.partial.proofs.Writing.RepairTimeLaws.{cut, added-cut, boxes-cut, chunks-cut, ends-cut, agree-cut, offered-cut}
 
 -- the sizes of a list whose numbers 64 bits hold
 sizes-said : (list : List ℕ) → allOf (λ n. ltb n (2 ^ 64)) list ≡ true → allOf (λ i. holds 8 (i .size)) (items list) ≡ true

@@ -17,10 +17,10 @@ use Rattle.partial.specs.Segments.{Segment, chunksOf}
 use Rattle.partial.specs.Meaning.{agree, describedLength, covers, supplier, supplied, onward, servedRun, missingRun, reply, servedFor, notBelow, placeOfByte, served}
 use Rattle.partial.specs.Tables.{bytesIn, nowhere, servedPart}
 use Rattle.partial.specs.Demands.{Missing}
-use Rattle.partial.proofs.SequenceLaws.{within-true}
-use Rattle.partial.proofs.StretchLaws.{First, stretch-first}
-use Rattle.partial.proofs.SupplyLaws.{chunkFor, supplier-covers}
-use Rattle.partial.proofs.DescribedLaws.{InOrder, none-supplied}
+use Rattle.partial.proofs.Meaning.SequenceLaws.{within-true}
+use Rattle.partial.proofs.Meaning.StretchLaws.{First, stretch-first}
+use Rattle.partial.proofs.Meaning.SupplyLaws.{chunkFor, supplier-covers}
+use Rattle.partial.proofs.Meaning.DescribedLaws.{InOrder, none-supplied}
 
 -- a run ends at the first position that fails, or at the described length
 module _ (ss : List Segment) (test : ℕ → Bool) (p : ℕ) where

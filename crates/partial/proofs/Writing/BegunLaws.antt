@@ -26,10 +26,10 @@ use Rattle.partial.specs.Tables.{filled}
 use Rattle.partial.specs.Writing
 use Rattle.partial.specs.Writing.{versionAndFlags, beginning, isText, begun}
 use Rattle.partial.specs.Runs.{lent, fileIn, sizeAfter, begin}
-use Rattle.partial.proofs.SequenceLaws.{both}
-use Rattle.partial.proofs.StandsLaws.{Stands, stands-behind, stands-head, stands-tail, stands-left, stands-right, stands-number}
-use Rattle.partial.proofs.BoxesStandLaws.{twoBoxes, two-back, stands-two}
-use Rattle.partial.proofs.HeadingAppendLaws.{Headed, heading-of}
+use Rattle.partial.proofs.Meaning.SequenceLaws.{both}
+use Rattle.partial.proofs.Writing.StandsLaws.{Stands, stands-behind, stands-head, stands-tail, stands-left, stands-right, stands-number}
+use Rattle.partial.proofs.Writing.BoxesStandLaws.{twoBoxes, two-back, stands-two}
+use Rattle.partial.proofs.Reading.HeadingAppendLaws.{Headed, heading-of}
 
 -- a text with no zero byte ends where the first zero byte stands
 text-back : (f : List ℕ) (u rest : List ℕ) (at more : ℕ) → Stands f at (u ++ (0 ∷ rest)) → isText u ≡ true → length u < more

@@ -4,11 +4,11 @@ use mathlib.Core.List.{List}
 use Rattle.partial.specs.Writing.{Addition}
 use Rattle.partial.specs.Runs.{fileIn}
 use Rattle.partial.specs.Demands.{Reasons, Demand3}
-use Rattle.partial.proofs.RefusalLaws.{demand1}
-use Rattle.partial.proofs.ReasonLaws.{length-over, file-refused, list-wrong, data-wrong}
-use Rattle.partial.proofs.ResultLaws.{by-result, too-many}
-use Rattle.partial.proofs.BegunLaws.{just-begun}
-use Rattle.partial.proofs.AcceptedLaws.{after-addition, stands}
+use Rattle.partial.proofs.Reading.RefusalLaws.{demand1}
+use Rattle.partial.proofs.Writing.ReasonLaws.{length-over, file-refused, list-wrong, data-wrong}
+use Rattle.partial.proofs.Writing.ResultLaws.{by-result, too-many}
+use Rattle.partial.proofs.Writing.BegunLaws.{just-begun}
+use Rattle.partial.proofs.Writing.AcceptedLaws.{after-addition, stands}
 
 -- an addition is refused exactly where a numbered reason for additions holds, in their order
 pub reasons : (limit : ℕ) (buffer : List ℕ) (n : ℕ) (a : Addition) → Reasons limit buffer n a

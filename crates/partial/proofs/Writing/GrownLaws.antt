@@ -21,10 +21,10 @@ use Rattle.partial.specs.Entries.{moved}
 use Rattle.partial.specs.Meaning.{agree, covers, supplied, placeOfByte, served}
 use Rattle.partial.specs.Writing.{Item, items, Addition, dataSize, dataRight, anyPresent, dataBox, offsetOf, newChunks, newSegment, added}
 use Rattle.partial.specs.Demands.{carriedBy, carried, Grown}
-use Rattle.partial.proofs.SequenceLaws.{which, both, within-true}
-use Rattle.partial.proofs.SupplyLaws.{byteFrom, served-from, served-append}
-use Rattle.partial.proofs.DescribedLaws.{never-shorter}
-use Rattle.partial.proofs.MappedLaws.{Accepted, place-inside}
+use Rattle.partial.proofs.Meaning.SequenceLaws.{which, both, within-true}
+use Rattle.partial.proofs.Meaning.SupplyLaws.{byteFrom, served-from, served-append}
+use Rattle.partial.proofs.Meaning.DescribedLaws.{never-shorter}
+use Rattle.partial.proofs.Meaning.MappedLaws.{Accepted, place-inside}
 
 pub data-cons : (i : Item) (is : List Item) → dataSize (i ∷ is) ≡ dataSize (i ∷ []) + dataSize is
 unfolding dataSize sum

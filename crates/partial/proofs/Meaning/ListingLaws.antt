@@ -11,9 +11,9 @@ use Rattle.partial.specs.Meaning.{agree, describedLength, supplied}
 use Rattle.partial.specs.Ranges.{classOf, missing, had, rangesOf, ofClass, hadList, missingList}
 use Rattle.partial.specs.Tables.{totals}
 use Rattle.partial.specs.Demands.{among, Listing}
-use Rattle.partial.proofs.SequenceLaws.{which, inside, past}
-use Rattle.partial.proofs.RangeLaws.{among-ranges, among-all, ranges-apart, ranges-totals}
-use Rattle.partial.proofs.DescribedLaws.{InOrder, none-supplied}
+use Rattle.partial.proofs.Meaning.SequenceLaws.{which, inside, past}
+use Rattle.partial.proofs.Meaning.RangeLaws.{among-ranges, among-all, ranges-apart, ranges-totals}
+use Rattle.partial.proofs.Meaning.DescribedLaws.{InOrder, none-supplied}
 
 module _ (ss : List Segment) where
   had-class : (p : ℕ) → eqb (classOf ss p) had ≡ supplied ss p

@@ -10,7 +10,7 @@ use Rattle.boxes.specs.Framing.{Box, frontSize, front, boxed, boxesIn, boxLimit
 use Rattle.boxes.proofs.HeaderLaws.{moved}
 use Rattle.boxes.proofs.ContainerLaws.{boxes-moved}
 use Rattle.boxes.proofs.BoxedLaws.{written, length-front, length-boxed, boxed-alone, boxed-then}
-use Rattle.partial.proofs.StandsLaws.{Stands, stands-left, stands-right}
+use Rattle.partial.proofs.Writing.StandsLaws.{Stands, stands-left, stands-right}
 
 -- a box as we write it, so many bytes further on
 pub moved-written : (n at kind len : ℕ) → moved n (written at kind len) ≡ written (n + at) kind len

@@ -7,10 +7,10 @@ use Rattle.boxes.specs.Answer.{given}
 use Rattle.partial.specs.Writing.{Addition, added, newSegment, appended}
 use Rattle.partial.specs.Runs.{lent, fileIn, append}
 use Rattle.partial.specs.Demands.{again, Demand2}
-use Rattle.partial.proofs.ReadingLaws.{read-mapped}
-use Rattle.partial.proofs.AgainLaws.{same-again}
-use Rattle.partial.proofs.ReadsBackLaws.{taken-any, file-after, reads-back}
-use Rattle.partial.proofs.WrittenAgainLaws.{written-again}
+use Rattle.partial.proofs.Reading.ReadingLaws.{read-mapped}
+use Rattle.partial.proofs.Writing.AgainLaws.{same-again}
+use Rattle.partial.proofs.Writing.ReadsBackLaws.{taken-any, file-after, reads-back}
+use Rattle.partial.proofs.Writing.WrittenAgainLaws.{written-again}
 
 -- a segment that our writer adds says again what was added, with the same bytes
 pub says-again : (limit : ℕ) (buffer : List ℕ) (n : ℕ) (a : Addition) (size : ℕ) → appended limit buffer n a ≡ given size

@@ -22,14 +22,14 @@ use Rattle.partial.specs.Writing
 use Rattle.partial.specs.Writing.{Item, items, Addition, dataRight, dataSize, dataBox, addedBoxes, added, newChunks, newSegment, appended, result}
 use Rattle.partial.specs.Runs.{Lent, lent, fileIn, sizeAfter, append, appendAll}
 use Rattle.partial.specs.Demands.{dataOf, again}
-use Rattle.partial.proofs.SequenceLaws.{which}
-use Rattle.partial.proofs.GrownLaws.{place-present}
-use Rattle.partial.proofs.ReadingLaws.{reading-segments}
-use Rattle.partial.proofs.AgainLaws.{same-again}
-use Rattle.partial.proofs.EntriesBackLaws.{data-on}
-use Rattle.partial.proofs.AddedBoxesLaws.{data-low, length-added}
-use Rattle.partial.proofs.RepairTimeLaws.{cut, added-cut, taken-cut}
-use Rattle.partial.proofs.ReadsBackLaws.{Taken, earlier-of, taken, taken-sayable, grownHeading, heading-added, reading-added, file-after}
+use Rattle.partial.proofs.Meaning.SequenceLaws.{which}
+use Rattle.partial.proofs.Writing.GrownLaws.{place-present}
+use Rattle.partial.proofs.Reading.ReadingLaws.{reading-segments}
+use Rattle.partial.proofs.Writing.AgainLaws.{same-again}
+use Rattle.partial.proofs.Writing.EntriesBackLaws.{data-on}
+use Rattle.partial.proofs.Writing.AddedBoxesLaws.{data-low, length-added}
+use Rattle.partial.proofs.Writing.RepairTimeLaws.{cut, added-cut, taken-cut}
+use Rattle.partial.proofs.Writing.ReadsBackLaws.{Taken, earlier-of, taken, taken-sayable, grownHeading, heading-added, reading-added, file-after}
 
 -- ---- each segment says its addition in the whole file
 

@@ -16,8 +16,8 @@ use Rattle.partial.specs.Sequences.{someOf}
 use Rattle.partial.specs.Segments.{Chunk, noChunk, Segment, good, chunksOf}
 use Rattle.partial.specs.Meaning.{covers, supplier, supplied, placeOfByte, served}
 use Rattle.partial.specs.Demands.{orElse}
-use Rattle.partial.proofs.SequenceLaws.{which, both, some-append}
-use Rattle.partial.proofs.StretchLaws.{First, first-one}
+use Rattle.partial.proofs.Meaning.SequenceLaws.{which, both, some-append}
+use Rattle.partial.proofs.Meaning.StretchLaws.{First, first-one}
 
 -- whether a chunk is good and covers a position
 abbrev pub supplies : ℕ → Chunk → Bool

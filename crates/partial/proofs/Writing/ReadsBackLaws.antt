@@ -27,13 +27,13 @@ use Rattle.partial.specs.Tables.{filled}
 use Rattle.partial.specs.Writing
 use Rattle.partial.specs.Writing.{items, Addition, listRight, dataRight, dataBox, addedBoxes, added, newSegment, appended, result}
 use Rattle.partial.specs.Runs.{lent, fileIn, sizeAfter, append}
-use Rattle.partial.proofs.SequenceLaws.{both}
-use Rattle.partial.proofs.HeadingAppendLaws.{headed, heading-of, headed-appended, longer, lies, boxes-lie, those-all}
-use Rattle.partial.proofs.KeptLaws.{segments-kept}
-use Rattle.partial.proofs.EntriesBackLaws.{formed}
-use Rattle.partial.proofs.FieldsBackLaws.{sizes-eight}
-use Rattle.partial.proofs.AddedBoxesLaws.{segBody, newBoxes, addedList, boxes-added, boxes-crowded, added-moved, those-new, data-low, length-added, lie-longer, lie-new}
-use Rattle.partial.proofs.NewSegmentLaws.{Sayable, length-new, sizes-new, new-segment}
+use Rattle.partial.proofs.Meaning.SequenceLaws.{both}
+use Rattle.partial.proofs.Reading.HeadingAppendLaws.{headed, heading-of, headed-appended, lies, boxes-lie, those-all}
+use Rattle.partial.proofs.Reading.KeptLaws.{segments-kept}
+use Rattle.partial.proofs.Writing.EntriesBackLaws.{formed}
+use Rattle.partial.proofs.Writing.FieldsBackLaws.{sizes-eight}
+use Rattle.partial.proofs.Writing.AddedBoxesLaws.{segBody, newBoxes, addedList, boxes-added, boxes-crowded, added-moved, those-new, data-low, length-added, lie-longer, lie-new}
+use Rattle.partial.proofs.Writing.NewSegmentLaws.{Sayable, length-new, sizes-new, new-segment}
 
 -- a container has no more boxes than are allowed
 fills-within : (f : List ℕ) (bs : List Box) → boxesIn f 0 (length f) ≡ given bs → length bs ≤ boxLimit

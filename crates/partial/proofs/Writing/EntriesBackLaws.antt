@@ -23,8 +23,8 @@ use Rattle.partial.specs.Segments.{good, damaged, lost, isState, present
 use Rattle.partial.specs.Heading.{Heading}
 use Rattle.partial.specs.Entries.{Ploc, Entry, state, stateOf, entry, mayLie, moved, placeOf, chunksFrom}
 use Rattle.partial.specs.Writing.{Item, dataSize, offsetOf, offsets, flagByte, entryBytes, newChunks}
-use Rattle.partial.proofs.SequenceLaws.{which, both}
-use Rattle.partial.proofs.StandsLaws.{Stands, stands-head, stands-tail, stands-left, stands-right, stands-number}
+use Rattle.partial.proofs.Meaning.SequenceLaws.{which, both}
+use Rattle.partial.proofs.Writing.StandsLaws.{Stands, stands-head, stands-tail, stands-left, stands-right, stands-number}
 
 -- a state is one of the three
 by-state : (P : ℕ → Type 0) (s : ℕ) → isState s ≡ true → P good → P damaged → P lost → P s

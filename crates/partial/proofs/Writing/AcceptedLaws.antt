@@ -16,10 +16,10 @@ use Rattle.partial.specs.Writing
 use Rattle.partial.specs.Writing.{Addition, added, newSegment, appended}
 use Rattle.partial.specs.Runs.{Lent, lent, fileIn, sizeAfter, append, appendAll}
 use Rattle.partial.specs.Demands.{carried, Grown}
-use Rattle.partial.proofs.ReadingLaws.{accepted}
-use Rattle.partial.proofs.GrownLaws.{grown}
-use Rattle.partial.proofs.RepairTimeLaws.{cut, added-cut, taken-cut}
-use Rattle.partial.proofs.ReadsBackLaws.{Taken, taken, taken-sayable, reading-added, file-after}
+use Rattle.partial.proofs.Reading.ReadingLaws.{accepted}
+use Rattle.partial.proofs.Writing.GrownLaws.{grown}
+use Rattle.partial.proofs.Writing.RepairTimeLaws.{cut, added-cut, taken-cut}
+use Rattle.partial.proofs.Writing.ReadsBackLaws.{Taken, taken, taken-sayable, reading-added, file-after}
 
 module _ (limit : ℕ) (f : List ℕ) (h : Heading) (ss : List Segment) (a : Addition) (t : Taken limit f h ss a) where
   grown-taken : limit < 2 ^ 64 → (ts : List Segment) × (reading limit (f ++ added a) ≡ given ts) × Grown f (f ++ added a) ss ts a

@@ -21,7 +21,7 @@ use Rattle.boxes.proofs.NumberLaws.{number-append}
 use Rattle.partial.specs.Limits.{fileLimit}
 use Rattle.partial.specs.Sequences.{allOf, stretch}
 use Rattle.partial.specs.Heading.{boxAt, firstOf, ftypRight, brandsFrom, brands, brandRight, pfilRight, pfhdFormed, pfhdRight, text, url, mime, surlFormed, surlRight, Heading, heading}
-use Rattle.partial.proofs.SequenceLaws.{both}
+use Rattle.partial.proofs.Meaning.SequenceLaws.{both}
 
 -- whether a box lies before a place
 abbrev pub lies : ℕ → Box → Bool

@@ -7,7 +7,7 @@ use native.Mathlib.Decide.{decLe}
 use native.Mathlib.Nat.{add-zero, add-suc, suc-add, le-antisymm}
 use native.Mathlib.Omega.{arith}
 use Rattle.partial.specs.Sequences.{stretch}
-use Rattle.partial.proofs.SequenceLaws.{which}
+use Rattle.partial.proofs.Meaning.SequenceLaws.{which}
 
 -- of k numbers from 0 on, the first at which a test has a value; k if it has it at none
 pub record First (value : Bool) (test : ℕ → Bool) (k n : ℕ) : Type 0 where

@@ -23,8 +23,8 @@ use Rattle.partial.specs.Segments.{Chunk, Segment, present, chunksOf}
 use Rattle.partial.specs.Heading.{Heading, boxAt, firstOf}
 use Rattle.partial.specs.Entries.{Ploc, Entry, plocHead, stateOf, entry, mayLie, moved, placeOf, chunksFrom}
 use Rattle.partial.specs.Reading.{offsetWidth, pshdFields, pshdRight, segment, segmentsFrom}
-use Rattle.partial.proofs.SequenceLaws.{both}
-use Rattle.partial.proofs.HeadingAppendLaws.{lies, lies-ends, boxes-lie, those-all, all-boxAt, is-there, further-lie}
+use Rattle.partial.proofs.Meaning.SequenceLaws.{both}
+use Rattle.partial.proofs.Reading.HeadingAppendLaws.{lies, lies-ends, boxes-lie, those-all, all-boxAt, is-there, further-lie}
 
 -- the first box, if it is of a kind, is the first of that kind
 pub first-is : (k : Kind) → 0 < k .code → (bs : List Box) → is k (boxAt 0 bs) ≡ true → firstOf k bs ≡ boxAt 0 bs

@@ -15,11 +15,11 @@ use Rattle.partial.specs.Heading.{Heading, boxAt}
 use Rattle.partial.specs.Entries.{mayLie}
 use Rattle.partial.specs.Meaning.{agree, supplier, supplied, placeOfByte}
 use Rattle.partial.specs.Demands.{Serving, Mapped}
-use Rattle.partial.proofs.SequenceLaws.{both, passes, all-at, some-at}
-use Rattle.partial.proofs.SupplyLaws.{chunkFor, supply, supplier-good, supplier-covers}
-use Rattle.partial.proofs.DescribedLaws.{InOrder}
-use Rattle.partial.proofs.ListingLaws.{listing}
-use Rattle.partial.proofs.ServingLaws.{in-chunk, same-chunk, some-served, no-longer, served-part, served-long, served-told, missing, beyond}
+use Rattle.partial.proofs.Meaning.SequenceLaws.{both, passes, all-at, some-at}
+use Rattle.partial.proofs.Meaning.SupplyLaws.{chunkFor, supply, supplier-good, supplier-covers}
+use Rattle.partial.proofs.Meaning.DescribedLaws.{InOrder}
+use Rattle.partial.proofs.Meaning.ListingLaws.{listing}
+use Rattle.partial.proofs.Meaning.ServingLaws.{in-chunk, same-chunk, some-served, no-longer, served-part, served-long, served-told, missing, beyond}
 
 -- a present chunk that is not empty lies wholly in one `pdat` body
 unfoldable pub lies : Heading → Chunk → Bool

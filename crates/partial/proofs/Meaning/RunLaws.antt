@@ -13,9 +13,9 @@ use lib.ListN.{length}
 use Rattle.partial.specs.Segments.{Chunk, Segment, good, chunksOf}
 use Rattle.partial.specs.Meaning.{covers, supplier, supplied, describedLength, onward, servedRun, missingRun}
 use Rattle.partial.specs.Ranges.{classOf}
-use Rattle.partial.proofs.SequenceLaws.{which, both, inside, within-true}
-use Rattle.partial.proofs.StretchLaws.{first-one, stretch-first}
-use Rattle.partial.proofs.SupplyLaws.{supplies, supplier-here, supplier-on, supply}
+use Rattle.partial.proofs.Meaning.SequenceLaws.{which, both, inside, within-true}
+use Rattle.partial.proofs.Meaning.StretchLaws.{first-one, stretch-first}
+use Rattle.partial.proofs.Meaning.SupplyLaws.{supplies, supplier-here, supplier-on, supply}
 
 -- whether a good chunk begins after a position
 abbrev pub comes : ℕ → Chunk → Bool

@@ -1,0 +1,16 @@
+-- The three demands hold of the definitions, at the product's source limit.
+use lib.Dec.{lit<}
+use Rattle.partial.specs.Limits.{sourceLimit}
+use Rattle.partial.specs.Demands.{Demand1, Demand2, Demand3}
+use Rattle.partial.proofs.Reading.RefusalLaws as RefusalLaws
+use Rattle.partial.proofs.Writing.AdditionLaws as AdditionLaws
+use Rattle.partial.proofs.Writing.WriterLaws as WriterLaws
+
+pub demand1 : Demand1 sourceLimit
+demand1 = RefusalLaws.demand1 sourceLimit
+
+pub demand2 : Demand2 sourceLimit
+demand2 = WriterLaws.demand2 sourceLimit (lit< tt)
+
+pub demand3 : Demand3 sourceLimit
+demand3 = AdditionLaws.demand3 sourceLimit (lit< tt)

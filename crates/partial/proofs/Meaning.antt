@@ -1,0 +1,10 @@
+-- Laws of a list of segments: supply, the described length, the lists, serving and asking.
+pub mod DescribedLaws
+pub mod ListingLaws
+pub mod MappedLaws
+pub mod RangeLaws
+pub mod RunLaws
+pub mod SequenceLaws
+pub mod ServingLaws
+pub mod StretchLaws
+pub mod SupplyLaws

@@ -1,0 +1,19 @@
+-- Laws of begin and append: what they write reads back, what an addition changes, and why it is refused.
+pub mod AcceptedLaws
+pub mod AddedBoxesLaws
+pub mod AdditionLaws
+pub mod AgainLaws
+pub mod BegunLaws
+pub mod BoxesStandLaws
+pub mod EntriesBackLaws
+pub mod FieldsBackLaws
+pub mod GrownLaws
+pub mod NewSegmentLaws
+pub mod ReadsBackLaws
+pub mod ReasonLaws
+pub mod RepairTimeLaws
+pub mod ResultLaws
+pub mod RunAgainLaws
+pub mod StandsLaws
+pub mod WriterLaws
+pub mod WrittenAgainLaws
