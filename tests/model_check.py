@@ -1,5 +1,6 @@
 """Checks the model on the paper's own numbers, and its writer against its reader."""
 
+import os
 import random
 
 import model
@@ -77,6 +78,14 @@ def check_p9_and_p10():
            [("served", 4), ("served", 3), ("missing", 3), ("missing", 1), ("beyond",)])
     expect("P10 map", model.map_text(p10),
            b"source\t10\tclosed\nhave\t0\t7\nmiss\t7\t3\ntotal\t7\t3\n")
+
+
+def check_sample():
+    """The sample of the repository is P10's file, with data that tell the two segments apart."""
+    first = appended(begun(), 0, [4, 2, 6, 0], bytes([11, 12, 13, 14]), last=True)
+    sample = os.path.join(os.path.dirname(os.path.abspath(__file__)), "..", "samples", "lesson.paff")
+    with open(sample, "rb") as file:
+        expect("sample", file.read(), appended(first, 2, [5, 2], bytes([21, 22, 23, 24, 25])))
 
 
 def check_p11_and_p12():
@@ -317,6 +326,7 @@ if __name__ == "__main__":
     check_p1_to_p7()
     check_p8()
     check_p9_and_p10()
+    check_sample()
     check_p11_and_p12()
     check_limits()
     check_box_counts()
