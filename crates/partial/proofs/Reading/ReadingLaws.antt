@@ -10,18 +10,20 @@ use lib.Dec.{leb, ltb, eqb}
 use lib.ListN.{length}
 use Rattle.boxes.specs.Answer.{refused, given, _>>=_, hold}
 use Rattle.boxes.specs.Framing.{Box, boxLimit, boxesIn}
-use Rattle.boxes.specs.Kinds.{pseg, pshd, ploc, surl, right, those}
+use Rattle.boxes.specs.Kinds.{pseg, right, those}
 use Rattle.boxes.proofs.AnswerLaws.{not-both, given-same, both-given, held}
 use Rattle.boxes.proofs.ContainerLaws.{Filled, full, next, fills}
 use Rattle.boxes.proofs.HeaderLaws.{header-inside}
-use Rattle.partial.specs.Limits.{fileLimit, segmentLimit, chunkLimit}
+use Rattle.partial.specs.Limits.{segmentLimit}
 use Rattle.partial.specs.Sequences.{allOf}
 use Rattle.partial.specs.Segments.{Chunk, Segment, present, chunksOf}
-use Rattle.partial.specs.Heading.{Heading, heading, boxAt, firstOf, ftypRight, brandRight, pfilRight, pfhdRight, surlRight}
-use Rattle.partial.specs.Entries.{Ploc, plocHead, Entry, entry, mayLie, moved, placeOf, chunksFrom}
-use Rattle.partial.specs.Reading.{pshdFields, pshdRight, segment, segmentsFrom, segments, reading, earlierSegments}
+use Rattle.partial.specs.Heading.{Heading, heading, boxAt}
+use Rattle.partial.specs.Entries.{Ploc, Entry, entry, mayLie, moved, placeOf, chunksFrom}
+use Rattle.partial.specs.Reading.{segment, segmentsFrom, segments, reading, earlierSegments}
 use Rattle.partial.specs.Meaning.{agree}
 use Rattle.partial.specs.Demands.{Mapped}
+use Rattle.partial.proofs.Reading.HeadingAppendLaws.{headed}
+use Rattle.partial.proofs.Reading.KeptLaws.{stepped}
 use Rattle.partial.proofs.Meaning.SequenceLaws.{which, all-append}
 use Rattle.partial.proofs.Meaning.SupplyLaws.{chunks-append}
 use Rattle.partial.proofs.Meaning.DescribedLaws.{Follow, InOrder, in-order-append}
@@ -35,18 +37,8 @@ boxes-inside (next short read rest) zero h = header-inside _ _ _ read .ends
 boxes-inside (next short read rest) (suc k) h = boxes-inside rest k (omega arith)
 
 heading-inside : (f : List ℕ) {h : Heading} → heading f ≡ given h → (k : ℕ) → k < length (h .boxes) → boxAt k (h .boxes) .end ≤ length f
-unfolding heading boxesIn
-heading-inside f g =
-    let (_, g) = held 1 (leb (length f) fileLimit) _ g in
-    let (boxes, read, g) = both-given (boxesIn f 0 (length f)) _ g in
-    let (_, g) = held 7 (ftypRight boxes) _ g in
-    let (_, g) = held 8 (brandRight f boxes) _ g in
-    let (_, g) = held 9 (pfilRight boxes) _ g in
-    let (inner, _, g) = both-given (boxesIn f (boxAt 1 boxes .body) (boxAt 1 boxes .end)) _ g in
-    let (_, g) = held 10 (pfhdRight f inner) _ g in
-    let (_, g) = held 11 (surlRight f inner) _ g in
-    subst (λ (h : Heading). (k : ℕ) → k < length (h .boxes) → boxAt k (h .boxes) .end ≤ length f) (given-same g)
-    (boxes-inside (fills f (length f) boxLimit 0 read .boxes))
+unfolding boxesIn
+heading-inside f {h} g = boxes-inside (fills f (length f) boxLimit 0 (headed f h g .boxes) .boxes)
 
 -- the place of an entry's chunk
 module _ (h : Heading) (from : ℕ) (e : Entry) {place : ℕ} where
@@ -89,18 +81,9 @@ pub record AllTold (h : Heading) (ss : List Segment) : Type 0 where
 
 module _ (limit : ℕ) (f : List ℕ) (h : Heading) where
   segment-told : (before : List Segment) (b : Box) {s : Segment} → segment limit f h before b ≡ given s → Told h (s .sourceOffset) (s .chunks)
-  unfolding segment
   segment-told before b g =
-      let (inner, _, g) = both-given (boxesIn f (b .body) (b .end)) _ g in
-      let fields = pshdFields f (firstOf pshd inner) in
-      let (_, g) = held 14 (pshdRight f inner) _ g in
-      let (_, g) = held 15 (right ploc inner) _ g in
-      let (_, g) = held 16 (eqb (length (those surl inner)) 0) _ g in
-      let (l, _, g) = both-given (plocHead f (firstOf ploc inner)) _ g in
-      let (_, g) = held 22 (leb (length (chunksOf before) + l .count) chunkLimit) _ g in
-      let (_, g) = held 23 (leb (fields .sourceOffset) limit) _ g in
-      let (cs, read, g) = both-given (chunksFrom limit f h (b .at) l (l .count) (l .first) (fields .sourceOffset)) _ g in
-      subst (λ s. Told h (s .sourceOffset) (s .chunks)) (given-same g) (chunks-told limit f h (b .at) l (l .count) (l .first) _ read)
+      let (inner, l, cs, t, same) = stepped limit f h before b g in
+      subst (λ s. Told h (s .sourceOffset) (s .chunks)) same (chunks-told limit f h (b .at) l (l .count) (l .first) _ (t .chunks))
 
   one-more : (ss : List Segment) (s : Segment) → AllTold h ss → Told h (s .sourceOffset) (s .chunks) → AllTold h (ss ++ (s ∷ []))
   unfolding chunksOf

@@ -1,5 +1,5 @@
 -- `boxes::numbers::signed` meets its contract: the number is one of its width, so the largest of that width is not below it.
-use Prim.Native.Nat.{ℕ, _^_, _≤_, min}
+use Prim.Native.Nat.{ℕ, _^_, _/_, _≤_, min}
 use mathlib.Core.Path.{_≡_}
 use native.Mathlib.Omega.{arith}
 use Rattle.boxes.proofs.NumberLaws.{number-below}
@@ -36,8 +36,9 @@ add-t11 c = search needs
 
 returns : tie.Need-returns
 returns c =
+    let low : c .before .before .before .unsigned .result ≤ c .before .largest .result / 2 = omega arith in
     rw (← c .before .before .before .unsigned .ensures, ← c .before .before .within .ensures)
-    (signed-ahead _ _ _ (c .before .largest .ensures) (c .if1 .taken))
+    (signed-ahead _ _ _ (c .before .largest .ensures) low)
 
 returns-2 : tie.Need-returns-2
 returns-2 c =

@@ -24,8 +24,9 @@ largest-requires c κs = search needs
 
 returns : tie.Need-returns Inv-loop μ-loop
 returns c =
+    let low : c .before .before .before .before .args .n ≤ c .before .largest .result = omega arith in
     leastWidth-is (λ w. holds w (c .before .before .before .before .args .n)) (c .before .before .before .loop .w) (omega arith)
-    (c .before .before .before .loop .inv .1) (λ h. holds-up-to _ _ _ (c .before .largest .ensures) (c .if1 .taken))
+    (c .before .before .before .loop .inv .1) (λ h. holds-up-to _ _ _ (c .before .largest .ensures) low)
 
 add-w : tie.Need-add-w Inv-loop μ-loop
 add-w c = search needs
