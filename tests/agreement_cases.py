@@ -170,8 +170,8 @@ def file_cases(rng, name, file):
 
 
 def mapped_case(rng, name, file, source):
-    """Demand 2 in an accepted file: three facts, then three for each position."""
-    numbers, described = [1, 1, 1], model.length(file)[1]
+    """Demand 2 in an accepted file: four facts, then three for each position."""
+    numbers, described = [1, 1, 1, 1], model.length(file)[1]
     points = [p for p in positions(rng, file) if p < described]
     for p in points:
         supplied = flag(model.ask(file, p)[0] == "served")

@@ -13,7 +13,7 @@ use mathlib.Core.List.{List, [], _∷_, _++_}
 use mathlib.Core.Path.{_≡_, refl}
 """
 
-# What is computed of a case, as numbers in a row. The names of our definitions are filled in.
+# What is computed of a case, as numbers in a row.
 COMPUTED = """-- What is computed over the definitions, as numbers in a row.
 %(lists)suse Prim.Native.Nat.{_+_}
 use mathlib.Core.Bool.{_&&_}
@@ -28,11 +28,17 @@ use Rattle.partial.specs.Heading.{url, mime}
 use Rattle.partial.specs.Reading.{reading, earlierSegments}
 use Rattle.partial.specs.Meaning.{Reply, servedFor, missingFor, notBelow, describedLength, supplied, served}
 use Rattle.partial.specs.Ranges.{hadList, missingList, total}
-use Rattle.partial.specs.Tables.{segmentRows, chunkRows, hadRows, missingRows, tabled, listed, after, summary, totals, bytesIn, servedPart, asked, textOf}
+use Rattle.partial.specs.Ranges.{among, apart, inRow, rangesOf}
+use Rattle.partial.specs.Memory.{after, written}
+use Rattle.partial.specs.Tables.{segmentRows, chunkRows, hadRows, missingRows, tabled, listed, summary, totals, bytesIn, servedPart, asked, textOf}
 use Rattle.partial.specs.Map.{mapText}
-use Rattle.partial.specs.Writing.{beginning, begun, written, Addition, appended, newSegment, result}
+use Rattle.partial.specs.Begin.{beginning, begun}
+use Rattle.partial.specs.Addition.{Addition}
+use Rattle.partial.specs.Append.{appended, psegPlace, newSegment, result}
 use Rattle.partial.specs.Runs.{lent, fileIn, append}
-use Rattle.partial.specs.Demands.{among, apart, again, writeAgain, carried, orElse}
+use Rattle.partial.specs.Again.{again, writeAgain}
+use Rattle.partial.specs.Carried.{carried, orElse}
+use Rattle.partial.proofs.Computing.{computing}
 
 answered : {A : Type 0} → (A → List ℕ) → Answer A → List ℕ
 answered values (refused n) = 0 ∷ n ∷ []
@@ -60,14 +66,14 @@ askedOf r [] = []
 askedOf r (p ∷ ps) = servedPart r p .place ∷ servedPart r p .size ∷ (answered replyOf (asked r p) ++ askedOf r ps)
 
 unfoldable pub readOf : List ℕ → List ℕ → List ℕ
-unfolding answered flag counted rowsOf replyOf askedOf %(names)s
+unfolding answered flag counted rowsOf replyOf askedOf computing
 readOf f ps =
     let r = reading sourceLimit f in
     answered rowsOf r
     ++ (counted (bytesIn f (textOf url sourceLimit f)) ++ (counted (bytesIn f (textOf mime sourceLimit f)) ++ askedOf r ps))
 
 unfoldable pub tablesOf : List ℕ → List ℕ → List ℕ → List ℕ
-unfolding answered %(names)s
+unfolding answered computing
 tablesOf f a b =
     let r = tabled sourceLimit f a b in
     answered (λ ss. []) r ++ (after segmentRows r a ++ after chunkRows r b)
@@ -75,23 +81,23 @@ tablesOf f a b =
 totalsOf : List Segment → List ℕ
 totalsOf ss =
     let t = totals ss in
-    t .had ∷ t .missing ∷ t .receivedTotal ∷ t .missingTotal ∷ []
+    t .hadRanges ∷ t .missingRanges ∷ t .receivedTotal ∷ t .missingTotal ∷ []
 
 ample : List ℕ
 ample = bytesOf 512 0
 
 unfoldable pub listsOf : List ℕ → List ℕ → List ℕ → List ℕ
-unfolding answered totalsOf ample %(names)s
+unfolding answered totalsOf ample computing
 listsOf f h m =
     let r = listed sourceLimit f ample ample h m in
     answered totalsOf r ++ (after hadRows r h ++ after missingRows r m)
 
 unfoldable pub begunOf : List ℕ → List ℕ → List ℕ → List ℕ
-unfolding answered %(names)s
+unfolding answered computing
 begunOf buffer u m = answered (λ n. n ∷ []) (begun buffer u m) ++ written (beginning u m) (begun buffer u m) buffer
 
 unfoldable pub appendedOf : List ℕ → ℕ → ℕ → ℕ → Bool → List ℕ → List ℕ → List ℕ
-unfolding answered %(names)s
+unfolding answered computing
 appendedOf buffer n offset repair last list bytes =
     let a : Addition = record { sourceOffset = offset; repairTime = repair; last = last; list = list; bytes = bytes } in
     let r = appended sourceLimit buffer n a in
@@ -123,7 +129,7 @@ keptAt f g ss ts a (p ∷ ps) = flag (sameByte (served g ts p) (orElse (served f
 
 -- demands 2 and 3 at an accepted addition, each 1 where it holds: read back, the same again, no shorter, and each position kept
 unfoldable pub demandsOf : List ℕ → ℕ → ℕ → ℕ → Bool → List ℕ → List ℕ → List ℕ → List ℕ
-unfolding flag same sameSegments sameByte sameAddition keptAt %(names)s
+unfolding flag same sameSegments sameByte sameAddition keptAt computing
 demandsOf buffer n offset repair last list bytes ps =
     let a : Addition = record { sourceOffset = offset; repairTime = repair; last = last; list = list; bytes = bytes } in
     let f = fileIn (lent buffer n) in
@@ -134,8 +140,8 @@ demandsOf buffer n offset repair last list bytes ps =
         elim (reading sourceLimit g)
         [ refused k ↦ 0 ∷ k ∷ []
         | given ts ↦
-            flag (sameSegments ts (ss ++ (newSegment n a ∷ [])))
-            ∷ flag (sameAddition (again g (newSegment n a)) a)
+            flag (sameSegments ts (ss ++ (newSegment (psegPlace n a) a ∷ [])))
+            ∷ flag (sameAddition (again g (newSegment (psegPlace n a) a)) a)
             ∷ flag (leb (describedLength ss) (describedLength ts))
             ∷ keptAt f g ss ts a ps
         ]
@@ -149,26 +155,27 @@ inLists ss (p ∷ ps) =
     ∷ flag (among p (missingList ss))
     ∷ inLists ss ps
 
--- demand 2 in an accepted file: the lists are apart, the totals make up the length, and positions are in their lists
+-- demand 2 in an accepted file: the lists are apart and merge, the totals make up the length, and positions are in their lists
 unfoldable pub mappedOf : List ℕ → List ℕ → List ℕ
-unfolding flag inLists %(names)s
+unfolding flag inLists computing
 mappedOf f ps =
     elim (reading sourceLimit f)
     [ refused k ↦ 0 ∷ k ∷ []
     | given ss ↦
         flag (apart 0 (hadList ss))
         ∷ flag (apart 0 (missingList ss))
+        ∷ flag (inRow 0 (describedLength ss) (rangesOf ss))
         ∷ flag (eqb (total (hadList ss) + total (missingList ss)) (describedLength ss))
         ∷ inLists ss ps
     ]
 
 -- demand 2: writing again what was read from our writer's file gives that file
 unfoldable pub againOf : List ℕ → List ℕ
-unfolding flag same %(names)s
+unfolding flag same computing
 againOf f = elim (reading sourceLimit f) [ refused k ↦ 0 ∷ k ∷ [] | given ss ↦ flag (same (fileIn (writeAgain sourceLimit f f ss)) f) ∷ [] ]
 
 unfoldable pub mapOfInput : List ℕ → List ℕ
-unfolding %(names)s
+unfolding computing
 mapOfInput input = mapText sourceLimit input
 """
 
@@ -182,12 +189,12 @@ TOO_LONG = """-- Refusals 1 and 27: no byte of such a file is read.
 use lib.Dec.{leb}
 use Rattle.boxes.specs.Answer.{Answer, refused}
 use Rattle.partial.specs.Limits.{fileLimit, programLimit, sourceLimit}
-use Rattle.partial.specs.Heading.{heading}
+use Rattle.partial.specs.Heading.{heading, fileBoxes}
 use Rattle.partial.specs.Reading.{reading}
 use Rattle.partial.specs.Map.{mapText, refusedLine}
 
 long-file : (f : List ℕ) → leb (length f) fileLimit ≡ false → reading sourceLimit f ≡ refused 1
-unfolding reading heading
+unfolding reading heading fileBoxes
 long-file f h = rw h
 
 zeros-file : (n : ℕ) → leb n fileLimit ≡ false → reading sourceLimit (replicate n 0) ≡ refused 1
@@ -206,22 +213,6 @@ zeros-input n h = long-input (replicate n 0) (rw length-replicate h)
 input-too-long : mapText sourceLimit (replicate 65_537 0) ≡ refusedLine 27
 input-too-long = zeros-input 65_537 refl
 """
-
-
-def shut_names(crate):
-    """The whole names of a crate's definitions that stay shut until a line names them."""
-    folder, names = os.path.join(TOP, "crates", crate, "specs"), []
-    for file in sorted(os.listdir(folder)):
-        text = open(os.path.join(folder, file), encoding="utf-8").read()
-        for name in re.findall(r"^ *unfoldable pub (\S+) :", text, re.M):
-            names.append("Rattle.%s.specs.%s.%s" % (crate, file[:-len(".antt")], name))
-    return names
-
-
-def computed():
-    """The module with what is computed of a case."""
-    names = [name for crate in OURS for name in shut_names(crate)]
-    return COMPUTED % {"lists": LISTS, "names": " ".join(names)}
 
 
 def batch(cases):
@@ -257,7 +248,7 @@ def write_all(folder, batches):
             lines.append(line.strip())
     for crate in OURS:
         shutil.copytree(os.path.join(TOP, "crates", crate), os.path.join(folder, "crates", crate))
-    write_crate(folder, "computed", {"Computed": computed(), "TooLong": TOO_LONG % {"lists": LISTS}})
+    write_crate(folder, "computed", {"Computed": COMPUTED % {"lists": LISTS}, "TooLong": TOO_LONG % {"lists": LISTS}})
     for number, cases in enumerate(batches):
         lines.append("batch%d: computed boxes partial" % number)
         write_crate(folder, "batch%d" % number, {"Batch": batch(cases)})

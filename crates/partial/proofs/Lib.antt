@@ -1,5 +1,7 @@
+pub mod Computing
 pub mod Demands
 pub mod Determined
+pub mod Examples
 pub mod Meaning
 pub mod Reading
 pub mod Writing

@@ -1,4 +1,5 @@
 -- Laws of a list of segments: supply, the described length, the lists, serving and asking.
+pub mod AgreementLaws
 pub mod DescribedLaws
 pub mod ListingLaws
 pub mod MappedLaws

@@ -9,6 +9,7 @@ pub mod EntriesBackLaws
 pub mod FieldsBackLaws
 pub mod GrownLaws
 pub mod NewSegmentLaws
+pub mod PlacedLaws
 pub mod ReadsBackLaws
 pub mod ReasonLaws
 pub mod RepairTimeLaws

@@ -1,26 +1,34 @@
 -- The three demands, as statements over the definitions at a source limit below 2 ^ 64; the product's is `sourceLimit`. Each field has the
 -- sentence that it states. That nothing is required of a call's arguments and that every call ends is in the contracts themselves:
 -- no public call has a `requires`, and a function is proved only if it returns.
-use Prim.Native.Nat.{ℕ, suc, _+_, _-_, _^_, _≤_, _<_}
-use mathlib.Core.Bool.{Bool, true, false, not, _&&_}
-use mathlib.Core.List.{List, [], _∷_, _++_, map}
+use Prim.Native.Nat.{ℕ, _+_, _-_, _^_, _≤_, _<_}
+use mathlib.Core.Bool.{Bool, true, false, not}
+use mathlib.Core.List.{List, [], _∷_, _++_, map, List·Memᴰ}
 use mathlib.Core.Logic.{_↔_, _⊎_}
-use mathlib.Core.Option.{Option, none, some}
+use mathlib.Core.Option.{some}
 use mathlib.Core.Path.{_≡_}
-use lib.ListN.{length, getD, drop}
-use lib.Dec.{T, leb, ltb, eqb}
-use Rattle.boxes.specs.Answer.{Answer, refused, given, _>>=_, hold}
+use lib.ListN.{length, getD}
+use lib.Dec.{T, leb, eqb}
+use Rattle.boxes.specs.Answer.{refused, given, _>>=_, hold}
+use Rattle.boxes.specs.Framing.{Box, boxLimit}
 use Rattle.boxes.specs.Kinds.{pdat, is}
-use Rattle.partial.specs.Limits.{chunkLimit}
-use Rattle.partial.specs.Sequences.{someOf, allOf, within}
-use Rattle.partial.specs.Segments.{Chunk, noChunk, Segment, good, present, isLast, chunksOf}
-use Rattle.partial.specs.Heading.{Part, Heading, heading, boxAt, url, mime}
-use Rattle.partial.specs.Reading.{reading, earlierSegments}
-use Rattle.partial.specs.Meaning.{describedLength, covers, supplier, supplied, served, servedRun, missingRun, reply, servedFor, missingFor, notBelow}
-use Rattle.partial.specs.Ranges.{Range, rangesOf, hadList, missingList, total}
-use Rattle.partial.specs.Tables.{tabled, listed, after, totals, bytesIn, servedPart, textOf}
-use Rattle.partial.specs.Writing.{beginning, begun, written, Item, items, Addition, listRight, dataRight, dataSize, newSegment, appended, result}
+use Rattle.partial.specs.Limits.{fileLimit, segmentLimit, chunkLimit, programLimit}
+use Rattle.partial.specs.Sequences.{someOf, sum, within}
+use Rattle.partial.specs.Segments.{Chunk, Segment, good, endOf, chunksOf}
+use Rattle.partial.specs.Heading.{Part, Heading, heading, boxAt}
+use Rattle.partial.specs.Meaning.{givesSize, describedLength, supplier, supplied, chunkNo, chunkFor, served, servedRun, missingRun}
+use Rattle.partial.specs.Meaning.{reply, servedFor, missingFor, notBelow}
+use Rattle.partial.specs.Reading.{segments, reading, earlierSegments}
+use Rattle.partial.specs.Ranges.{rangesOf, hadList, missingList, total, among, apart, inRow}
+use Rattle.partial.specs.Memory.{after, written}
+use Rattle.partial.specs.Tables.{tabled, listed, totals, bytesIn, servedPart, asked, textOf}
+use Rattle.partial.specs.Map.{refusedLine, sourceLine, rangeLines, totalLine, mapText, mapWritten}
+use Rattle.partial.specs.Begin.{beginning, isText, begun}
+use Rattle.partial.specs.Addition.{Addition, items, listRight, dataRight, sayable}
+use Rattle.partial.specs.Append.{addedBoxes, added, psegPlace, newSegment, appended, result}
 use Rattle.partial.specs.Runs.{Lent, lent, fileIn, begin, append, appendAll}
+use Rattle.partial.specs.Again.{again, writeAgain}
+use Rattle.partial.specs.Carried.{carried, orElse}
 
 -- whether a number is one of some
 abbrev oneOf : List ℕ → ℕ → Bool
@@ -29,7 +37,9 @@ oneOf numbers n = someOf (eqb n) numbers
 -- a refused addition changes nothing
 abbrev NothingChanges : ℕ → Type 0
 NothingChanges limit =
-    (buffer : List ℕ) (n : ℕ) (a : Addition) (k : ℕ) → appended limit buffer n a ≡ refused k → append limit (lent buffer n) a ≡ lent buffer n
+    (buffer : List ℕ) (n : ℕ) (a : Addition) (k : ℕ)
+    → appended limit buffer n a ≡ refused k
+    → append limit (lent buffer n) a ≡ lent buffer n
 
 -- demand 1: any bytes get either their tables or one numbered refusal; after a refusal all lent memory holds what it held
 pub record Demand1 (limit : ℕ) : Type 0 where
@@ -41,23 +51,25 @@ pub record Demand1 (limit : ℕ) : Type 0 where
       (buffer : List ℕ) (size : ℕ) (a : Addition) (n : ℕ)
       → appended limit buffer size a ≡ refused n
       → (T (within 1 25 n) × (n ≡ 12 → ⊥)) ⊎ T (oneOf (30 ∷ 31 ∷ 32 ∷ 33 ∷ []) n)
+  pub mapNumbers : (input buffer : List ℕ) (n : ℕ) → mapWritten limit input buffer ≡ refused n → n ≡ 33
+  -- asking answers that number too, and the two texts are empty
+  pub askNumbers : (f a b : List ℕ) (p n : ℕ) → tabled limit f a b ≡ refused n → asked (tabled limit f a b) p ≡ refused n
+  pub textsEmpty : (which : List ℕ → Box → Part) (f : List ℕ) (n : ℕ) → reading limit f ≡ refused n → bytesIn f (textOf which limit f) ≡ []
   -- after a refusal all lent memory holds what it held
-  pub tablesKept : (rows : List Segment → List ℕ) (f a b table : List ℕ) (n : ℕ) → tabled limit f a b ≡ refused n → after rows (tabled limit f a b) table ≡ table
+  pub tablesKept :
+      (rows : List Segment → List ℕ) (f a b table : List ℕ) (n : ℕ)
+      → tabled limit f a b ≡ refused n
+      → after rows (tabled limit f a b) table ≡ table
   pub listsKept :
       (rows : List Segment → List ℕ) (f a b h m table : List ℕ) (n : ℕ)
       → listed limit f a b h m ≡ refused n
       → after rows (listed limit f a b h m) table ≡ table
   pub beginKept : (buffer u m : List ℕ) (n : ℕ) → begun buffer u m ≡ refused n → written (beginning u m) (begun buffer u m) buffer ≡ buffer
   pub appendKept : NothingChanges limit
-
--- whether a list of ranges holds a position
-unfoldable pub among : ℕ → List Range → Bool
-among p rs = someOf (λ r. within (r .first) (r .length) p) rs
-
--- ascending, never empty, never touching one of the same list: each range ends below the start of the next
-unfoldable pub apart : ℕ → List Range → Bool
-apart from [] = true
-apart from (r ∷ rs) = leb from (r .first) && ltb 0 (r .length) && apart (suc (r .first + r .length)) rs
+  pub mapKept :
+      (input buffer : List ℕ) (n : ℕ)
+      → mapWritten limit input buffer ≡ refused n
+      → written (mapText limit input) (mapWritten limit input buffer) buffer ≡ buffer
 
 -- "Lists": of an accepted file's segments
 pub record Listing (ss : List Segment) : Type 0 where
@@ -70,28 +82,33 @@ pub record Listing (ss : List Segment) : Type 0 where
   -- both lists are maximal, ascending, never empty and never touching one of the same list
   pub hadApart : T (apart 0 (hadList ss))
   pub missingApart : T (apart 0 (missingList ss))
+  -- merged they are ascending too, one range behind the other up to the described length
+  pub merged : T (inRow 0 (describedLength ss) (rangesOf ss))
   -- the totals that listing answers are the sums of the lengths, and together they are the described length
   pub receivedTotal : totals ss .receivedTotal ≡ total (hadList ss)
   pub missingTotal : totals ss .missingTotal ≡ total (missingList ss)
   pub together : total (hadList ss) + total (missingList ss) ≡ describedLength ss
 
+-- a chunk does not cover a position: the position lies before or behind it
+abbrev Beside : ℕ → Chunk → Type 0
+Beside p c = (p < c .start) ⊎ (c .start + c .size ≤ p)
+
 -- "Serving": of a position that is supplied
 pub record Serving (f : List ℕ) (h : Heading) (ss : List Segment) (p : ℕ) : Type 0 where
   -- by the first good chunk that covers it
-  pub isGood : getD (chunksOf ss) (supplier (chunksOf ss) p) noChunk .state ≡ good
-  pub covered : T (covers p (getD (chunksOf ss) (supplier (chunksOf ss) p) noChunk))
-  pub earliest :
-      (k : ℕ)
-      → k < supplier (chunksOf ss) p
-      → (eqb (getD (chunksOf ss) k noChunk .state) good && covers p (getD (chunksOf ss) k noChunk)) ≡ false
+  pub there : supplier (chunksOf ss) p < length (chunksOf ss)
+  pub isGood : chunkFor ss p .state ≡ good
+  pub covered : (chunkFor ss p .start ≤ p) × (p < chunkFor ss p .start + chunkFor ss p .size)
+  pub earliest : (k : ℕ) → k < supplier (chunksOf ss) p → chunkNo ss k .state ≡ good → Beside p (chunkNo ss k)
   -- out of one `pdat` body
   pub inData :
-      let c = getD (chunksOf ss) (supplier (chunksOf ss) p) noChunk in
       (k : ℕ)
       × (k < length (h .boxes))
       × (is pdat (boxAt k (h .boxes)) ≡ true)
-      × (boxAt k (h .boxes) .body ≤ c .place)
-      × (c .place + c .size ≤ boxAt k (h .boxes) .end)
+      × (boxAt k (h .boxes) .body ≤ chunkFor ss p .place)
+      × (chunkFor ss p .place + chunkFor ss p .size ≤ boxAt k (h .boxes) .end)
+  -- the byte is the file's, as far behind the chunk's place as the position is behind the chunk's start
+  pub byte : served f ss p ≡ some (getD f (chunkFor ss p .place + (p - chunkFor ss p .start)) 0)
   -- the part holds p and the positions after it, as long as they are supplied by the same chunk, and no longer
   pub part : (i : ℕ) → i < servedRun ss p → served f ss (p + i) ≡ some (getD (bytesIn f (servedPart (given ss) p)) i 0)
   pub long : length (bytesIn f (servedPart (given ss) p)) ≡ servedRun ss p
@@ -103,6 +120,8 @@ pub record Serving (f : List ℕ) (h : Heading) (ss : List Segment) (p : ℕ) : 
 
 -- "Serving": of a position below the described length that is not supplied
 pub record Missing (f : List ℕ) (ss : List Segment) (p : ℕ) : Type 0 where
+  -- no good chunk covers it
+  pub uncovered : (k : ℕ) → k < length (chunksOf ss) → chunkNo ss k .state ≡ good → Beside p (chunkNo ss k)
   -- the part is empty
   pub part : bytesIn f (servedPart (given ss) p) ≡ []
   -- asking answers for how many positions it is missing, up to the next supplied one or the described length
@@ -118,48 +137,46 @@ pub record Mapped (f : List ℕ) (h : Heading) (ss : List Segment) : Type 0 wher
   pub missing : (p : ℕ) → p < describedLength ss → supplied ss p ≡ false → Missing f ss p
   pub beyond : (p : ℕ) → describedLength ss ≤ p → reply ss p ≡ notBelow
 
--- the bytes of the present chunks of a list, in their order
-unfoldable pub dataOf : List ℕ → List Chunk → List ℕ
-dataOf f [] = []
-dataOf f (c ∷ cs) = elim (present (c .state)) [ true ↦ bytesIn f (record { place = c .place; size = c .size }) | false ↦ [] ] ++ dataOf f cs
-
--- the sizes and states of chunks, by turns
-unfoldable pub listFor : List Chunk → List ℕ
-listFor [] = []
-listFor (c ∷ cs) = c .size ∷ c .state ∷ listFor cs
-
--- a segment's fields, chunks and bytes, to be written again
-unfoldable pub again : List ℕ → Segment → Addition
-again f s =
-    record {
-      sourceOffset = s .sourceOffset;
-      repairTime = s .repairTime;
-      last = isLast (s .flags);
-      list = listFor (s .chunks);
-      bytes = dataOf f (s .chunks);
-    }
-
--- writing again, into a buffer: begin with the URL and MIME read, then append each segment with its fields, chunks and bytes
-unfoldable pub writeAgain : ℕ → List ℕ → List ℕ → List Segment → Lent
-writeAgain limit buffer f ss =
-    appendAll limit (begin buffer (bytesIn f (textOf url limit f)) (bytesIn f (textOf mime limit f))) (map (again f) ss)
+-- "The map program": what it prints for its input, and what the call leaves that writes this into a lent buffer
+pub record Printed (limit : ℕ) (input : List ℕ) : Type 0 where
+  -- 27 precedes all others
+  pub overLong : programLimit < length input → mapText limit input ≡ refusedLine 27
+  -- the refusal line with the reader's number, else the lines of both lists, merged ascending, between those of source and total
+  pub refusal : (n : ℕ) → length input ≤ programLimit → reading limit input ≡ refused n → mapText limit input ≡ refusedLine n
+  pub lines :
+      (ss : List Segment)
+      → length input ≤ programLimit
+      → reading limit input ≡ given ss
+      → mapText limit input ≡ sourceLine ss ++ (rangeLines (rangesOf ss) ++ totalLine ss)
+  -- the text's length where the buffer has room for it, else 33
+  pub room :
+      (buffer : List ℕ)
+      → length (mapText limit input) ≤ length buffer
+      → mapWritten limit input buffer ≡ given (length (mapText limit input))
+  pub noRoom : (buffer : List ℕ) → length buffer < length (mapText limit input) → mapWritten limit input buffer ≡ refused 33
 
 -- demand 2: in an accepted file each source byte is served or listed missing as document 01's rules say; a segment our writer adds
 -- reads back with the same chunks and bytes; writing again what was read from our writer's file gives that file
 pub record Demand2 (limit : ℕ) : Type 0 where
   pub mapped : (f : List ℕ) (h : Heading) (ss : List Segment) → heading f ≡ given h → reading limit f ≡ given ss → Mapped f h ss
+  -- the part is empty exactly when the file is refused, a table is too short or p is not supplied
+  pub partEmpty :
+      (f a b : List ℕ) (p : ℕ)
+      → (bytesIn f (servedPart (tabled limit f a b) p) ≡ [])
+      ↔ (((n : ℕ) × (tabled limit f a b ≡ refused n)) ⊎ ((ss : List Segment) × (tabled limit f a b ≡ given ss) × (supplied ss p ≡ false)))
+  pub printed : (input : List ℕ) → Printed limit input
   -- the segment reads back with its fields and chunks
   pub readsBack :
       (buffer : List ℕ) (n : ℕ) (a : Addition) (size : ℕ) (ss : List Segment)
       → a .repairTime < 2 ^ 64
       → earlierSegments limit (fileIn (lent buffer n)) ≡ given ss
       → appended limit buffer n a ≡ given size
-      → reading limit (fileIn (append limit (lent buffer n) a)) ≡ given (ss ++ (newSegment n a ∷ []))
+      → reading limit (fileIn (append limit (lent buffer n) a)) ≡ given (ss ++ (newSegment (psegPlace n a) a ∷ []))
   -- and those say again what was added, with the same bytes
   pub sameAgain :
       (buffer : List ℕ) (n : ℕ) (a : Addition) (size : ℕ)
       → appended limit buffer n a ≡ given size
-      → again (fileIn (append limit (lent buffer n) a)) (newSegment n a) ≡ a
+      → again (fileIn (append limit (lent buffer n) a)) (newSegment (psegPlace n a) a) ≡ a
   -- of a file that begin and append alone made, written into any buffer that it fits
   pub writtenAgain :
       (buffer u m : List ℕ) (additions : List Addition) (other : List ℕ) (ss : List Segment)
@@ -167,24 +184,6 @@ pub record Demand2 (limit : ℕ) : Type 0 where
       reading limit f ≡ given ss
       → length f ≤ length other
       → fileIn (writeAgain limit other f ss) ≡ f
-
--- the byte at a position that items from a position on carry as good, with their data from there on
-unfoldable pub carriedBy : ℕ → List Item → List ℕ → ℕ → Option ℕ
-carriedBy start [] bytes p = none
-carriedBy start (i ∷ is) bytes p =
-    elim (eqb (i .state) good && within start (i .size) p) [
-      | true ↦ some (getD bytes (p - start) 0)
-      | false ↦ carriedBy (start + i .size) is (drop (dataSize (i ∷ [])) bytes) p
-    ]
-
--- the byte at a position that an addition carries as good
-unfoldable pub carried : Addition → ℕ → Option ℕ
-carried a p = carriedBy (a .sourceOffset) (items (a .list)) (a .bytes) p
-
--- the first of two that is there
-unfoldable pub orElse : Option ℕ → Option ℕ → Option ℕ
-orElse none other = other
-orElse (some b) other = some b
 
 -- after an accepted addition, seen from the files and their segments before and after
 pub record Grown (f g : List ℕ) (ss ts : List Segment) (a : Addition) : Type 0 where
@@ -194,15 +193,38 @@ pub record Grown (f g : List ℕ) (ss ts : List Segment) (a : Addition) : Type 0
   -- the described length never shrinks
   pub noShorter : describedLength ss ≤ describedLength ts
 
--- what `chunk_count` and the fields of 64 bits can say
-abbrev sayable : Addition → Bool
-sayable a = ltb (a .sourceOffset) (2 ^ 64) && allOf (λ n. ltb n (2 ^ 64)) (a .list) && ltb (length (items (a .list))) (2 ^ 16)
+-- "append takes an acceptable file, or one whose only refusal is 12, which counts as serving nothing with described length 0"
+pub record Takes (limit : ℕ) (f : List ℕ) : Type 0 where
+  pub acceptable : (ss : List Segment) → reading limit f ≡ given ss → earlierSegments limit f ≡ given ss
+  pub onlyTwelve : reading limit f ≡ refused 12 → earlierSegments limit f ≡ given []
+  -- any other refusal is the file's own
+  pub itsOwn : (k : ℕ) → reading limit f ≡ refused k → (k ≡ 12 → ⊥) → earlierSegments limit f ≡ refused k
+
+-- no segment ends above, or differs from, a size that one of them makes known
+abbrev InAgreement : List Segment → Type 0
+InAgreement ss = (s t : Segment) → List·Memᴰ s ss → List·Memᴰ t ss → T (givesSize s) → endOf t ≤ endOf s
+
+-- an addition with a right list and data, within each limit and in agreement with the segments before it
+pub record Right (limit : ℕ) (h : Heading) (ss : List Segment) (n : ℕ) (a : Addition) : Type 0 where
+  pub list : T (listRight (a .list))
+  pub bytes : T (dataRight a)
+  pub small : n + length (added a) ≤ fileLimit
+  pub boxes : length (h .boxes) + addedBoxes a ≤ boxLimit
+  pub few : length ss < segmentLimit
+  pub chunks : length (chunksOf ss) + length (items (a .list)) ≤ chunkLimit
+  pub low : a .sourceOffset + sum (map (λ i. i .size) (items (a .list))) ≤ limit
+  pub agreed : InAgreement (ss ++ (newSegment (psegPlace n a) a ∷ []))
 
 -- an addition is refused exactly where a numbered reason for additions holds, in their order
 pub record Reasons (limit : ℕ) (buffer : List ℕ) (n : ℕ) (a : Addition) : Type 0 where
   pub lengthOver : length buffer < n → appended limit buffer n a ≡ refused 30
+  -- the file's own refusal, never 12
   pub fileRefused :
-      (k : ℕ) → n ≤ length buffer → earlierSegments limit (fileIn (lent buffer n)) ≡ refused k → appended limit buffer n a ≡ refused k
+      (k : ℕ)
+      → n ≤ length buffer
+      → reading limit (fileIn (lent buffer n)) ≡ refused k
+      → (k ≡ 12 → ⊥)
+      → appended limit buffer n a ≡ refused k
   pub listWrong :
       (ss : List Segment)
       → n ≤ length buffer
@@ -226,11 +248,33 @@ pub record Reasons (limit : ℕ) (buffer : List ℕ) (n : ℕ) (a : Addition) : 
       → T (sayable a)
       → let g = result buffer n a in
       appended limit buffer n a ≡ (reading limit g >>= λ _. hold 33 (leb (length g) (length buffer)) >>= λ _. given (length g))
-  -- with more chunks than `chunk_count` can say it is never accepted
-  pub tooMany : 2 ^ 16 ≤ length (items (a .list)) → (k : ℕ) × (appended limit buffer n a ≡ refused k)
+  -- of more chunks than `chunk_count` can say it is 22, unless 1, 6 or 13 comes before
+  pub tooMany :
+      (h : Heading) (ss : List Segment)
+      → n ≤ length buffer
+      → heading (fileIn (lent buffer n)) ≡ given h
+      → segments limit (fileIn (lent buffer n)) h ≡ given ss
+      → listRight (a .list) ≡ true
+      → dataRight a ≡ true
+      → 2 ^ 16 ≤ length (items (a .list))
+      → appended limit buffer n a
+      ≡ (hold 1 (leb (n + length (added a)) fileLimit)
+      >>= λ _. hold 6 (leb (length (h .boxes) + addedBoxes a) boxLimit)
+      >>= λ _. hold 13 (leb (length ss + 1) segmentLimit)
+      >>= λ _. refused 22)
 
 -- demand 3: take any accepted file, or one just begun, and any run of additions
 pub record Demand3 (limit : ℕ) : Type 0 where
+  -- any accepted file is one that append takes, and so is one whose only refusal is 12
+  pub takes : (f : List ℕ) → Takes limit f
+  -- a beginning with two texts, within the limit and the buffer, is given its length
+  pub begins :
+      (buffer u m : List ℕ)
+      → T (isText u)
+      → T (isText m)
+      → length (beginning u m) ≤ fileLimit
+      → length (beginning u m) ≤ length buffer
+      → begun buffer u m ≡ given (length (beginning u m))
   -- one just begun serves nothing and has described length 0
   pub justBegun : (buffer u m : List ℕ) (n : ℕ) → begun buffer u m ≡ given n → earlierSegments limit (fileIn (begin buffer u m)) ≡ given []
   -- a run leaves a file that append takes
@@ -238,6 +282,15 @@ pub record Demand3 (limit : ℕ) : Type 0 where
       (l : Lent) (additions : List Addition) (ss : List Segment)
       → earlierSegments limit (fileIn l) ≡ given ss
       → (ts : List Segment) × (earlierSegments limit (fileIn (appendAll limit l additions)) ≡ given ts)
+  -- an addition with a right list and data, within each limit, in agreement and within the buffer, is given its length
+  pub accepts :
+      (buffer : List ℕ) (n : ℕ) (a : Addition) (h : Heading) (ss : List Segment)
+      → n ≤ length buffer
+      → heading (fileIn (lent buffer n)) ≡ given h
+      → segments limit (fileIn (lent buffer n)) h ≡ given ss
+      → Right limit h ss n a
+      → n + length (added a) ≤ length buffer
+      → appended limit buffer n a ≡ given (n + length (added a))
   -- after each accepted addition
   pub accepted :
       (buffer : List ℕ) (n : ℕ) (a : Addition) (size : ℕ) (ss : List Segment)

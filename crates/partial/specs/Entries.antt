@@ -11,8 +11,8 @@ use Rattle.boxes.specs.Framing.{Box}
 use Rattle.boxes.specs.Kinds.{pdat, is}
 use Rattle.boxes.specs.declared.numbers.Offset.{Offset}
 use Rattle.boxes.specs.declared.numbers.Offset.the-variants.{Ahead, Back}
-use Rattle.partial.specs.Segments.{Chunk, good, damaged, lost, present}
 use Rattle.partial.specs.Sequences.{someOf}
+use Rattle.partial.specs.Segments.{Chunk, good, damaged, lost, present, hasPlace}
 use Rattle.partial.specs.Heading.{Heading}
 
 -- the head of a `ploc`: its two widths, its `chunk_count`, and the places of its first entry and of its end
@@ -30,7 +30,14 @@ plocHead f b = do
   let widths = number f (b .body + 4) 1
   _ ← hold 18 (leb (widths / 16) 8 && leb (widths % 16) 8)
   _ ← hold 19 (eqb (number f (b .body + 5) 2) 0)
-  given (record { lengthSize = widths / 16; offsetSize = widths % 16; count = number f (b .body + 7) 2; first = b .body + 9; end = b .end })
+  given
+      (record {
+        lengthSize = widths / 16;
+        offsetSize = widths % 16;
+        count = number f (b .body + 7) 2;
+        first = b .body + 9;
+        end = b .end;
+      })
 
 -- the state of a chunk by its bits corrupted and present
 unfoldable pub state : Bool → Bool → Answer ℕ
@@ -62,35 +69,47 @@ entry f l at = do
   _ ← hold 17 (leb (rest + width) (l .end))
   given (record { state = s; size = number f (at + 1) (l .lengthSize); offset = signed width (number f rest width); next = rest + width })
 
--- where a chunk may lie: wholly in one `pdat` body
-unfoldable pub mayLie : Heading → ℕ → ℕ → Bool
-mayLie h place size = someOf (λ b. is pdat b && leb (b .body) place && leb (place + size) (b .end)) (h .boxes)
+-- where a chunk of a state may lie: wholly in one `pdat` body, whatever its state
+unfoldable pub mayLie : Heading → ℕ → ℕ → ℕ → Bool
+mayLie h state place size = someOf (λ b. is pdat b && leb (b .body) place && leb (place + size) (b .end)) (h .boxes)
 
 -- the place that an offset gives, counted from the first byte of the `pseg` box; none before the file's first byte
-unfoldable pub moved : ℕ → Offset → Option ℕ
-moved pseg (Ahead n) = some (pseg + n)
-moved pseg (Back n) = elim (leb n pseg) [ true ↦ some (pseg - n) | false ↦ none ]
+unfoldable pub offsetPlace : ℕ → Offset → Option ℕ
+offsetPlace pseg (Ahead n) = some (pseg + n)
+offsetPlace pseg (Back n) = elim (leb n pseg) [ true ↦ some (pseg - n) | false ↦ none ]
 
 -- 24, and the place of an entry's chunk: 0 if not present or empty, and then it is not checked
 unfoldable pub placeOf : Heading → ℕ → Entry → Answer ℕ
 placeOf h pseg e =
-    elim (present (e .state) && ltb 0 (e .size)) [
+    elim (hasPlace (e .state) (e .size)) [
       | true ↦
-          elim (moved pseg (e .offset)) [
+          elim (offsetPlace pseg (e .offset)) [
             | none ↦ refused 24
-            | some place ↦ hold 24 (mayLie h place (e .size)) >>= λ _. given place
+            | some place ↦ hold 24 (mayLie h (e .state) place (e .size)) >>= λ _. given place
           ]
       | false ↦ given 0
     ]
 
--- the chunks of so many entries from a place on, the first of them at a source position; no byte may be left over
-unfoldable pub chunksFrom : ℕ → List ℕ → Heading → ℕ → Ploc → ℕ → ℕ → ℕ → Answer (List Chunk)
-chunksFrom limit f h pseg l zero at start = do
-  _ ← hold 17 (eqb at (l .end))
-  given []
-chunksFrom limit f h pseg l (suc more) at start = do
-  e ← entry f l at
-  _ ← hold 23 (leb (start + e .size) limit)
+-- a cursor over entries: the place of the next one, and where its chunk starts in the source
+pub record Cursor : Type 0 where
+  pub at : ℕ
+  pub start : ℕ
+
+-- what a cursor meets: the chunk of its entry, after which it stands behind that entry, at the chunk's end in the source
+unfoldable pub chunkStep : ℕ → List ℕ → Heading → ℕ → Ploc → Cursor → Answer (Chunk × Cursor)
+chunkStep limit f h pseg l c = do
+  e ← entry f l (c .at)
+  _ ← hold 23 (leb (c .start + e .size) limit)
   place ← placeOf h pseg e
-  rest ← chunksFrom limit f h pseg l more (e .next) (start + e .size)
-  given (record { start = start; size = e .size; state = e .state; place = place } ∷ rest)
+  given
+      (record { start = c .start; size = e .size; state = e .state; place = place }, record { at = e .next; start = c .start + e .size })
+
+-- the chunks of so many entries from a cursor on; no byte may be left over
+unfoldable pub chunksFrom : ℕ → List ℕ → Heading → ℕ → Ploc → ℕ → Cursor → Answer (List Chunk)
+chunksFrom limit f h pseg l zero c = do
+  _ ← hold 17 (eqb (c .at) (l .end))
+  given []
+chunksFrom limit f h pseg l (suc more) c = do
+  step ← chunkStep limit f h pseg l c
+  rest ← chunksFrom limit f h pseg l more (step .1)
+  given (step .0 ∷ rest)

@@ -1,10 +1,10 @@
 -- Document 01, "Numbers to hold against it" and "Errors this trade makes": worked examples as one table with one statement, computed over
--- the definitions. P1 to P12 are the paper's; the others are the map of P10, and a case of each error that no P shows.
-use Prim.Native.Nat.{ℕ, _+_, _-_}
+-- the definitions. P1 to P12 are the paper's; the others are the map and the rows of P10, and a case of each error that no P shows.
+use Prim.Native.Nat.{ℕ, _-_}
 use mathlib.Core.Bool.{Bool, true, false}
 use mathlib.Core.List.{List, [], _∷_, _++_, map}
 use mathlib.Core.Option.{Option·getD}
-use mathlib.Core.Path.{_≡_, refl}
+use mathlib.Core.Path.{_≡_}
 use lib.ListN.{length, drop, replicate}
 use lib.IntN.{ℤ, pos, negsuc}
 use Rattle.boxes.specs.Answer.{Answer, refused, given, _>>=_, hold}
@@ -14,13 +14,15 @@ use Rattle.boxes.specs.Kinds.{pdat, pseg, pshd, ploc, is}
 use Rattle.boxes.specs.declared.numbers.Offset.the-variants.{Back}
 use Rattle.partial.specs.Limits.{sourceLimit}
 use Rattle.partial.specs.Entries.{plocHead, entry}
-use Rattle.partial.specs.Reading.{reading}
 use Rattle.partial.specs.Meaning.{describedLength, isClosed, served}
-use Rattle.partial.specs.Tables.{missingRows}
-use Rattle.partial.specs.Map.{ascii, mapText}
-use Rattle.partial.specs.Lesson.{begunBytes, firstBytes, secondBytes}
-use Rattle.partial.specs.Writing.{Addition, added}
+use Rattle.partial.specs.Reading.{reading}
+use Rattle.partial.specs.Memory.{after}
+use Rattle.partial.specs.Tables.{missingRows, tabled, summary, segmentRows, chunkRows}
+use Rattle.partial.specs.Map.{ascii, mapText, refusedLine}
+use Rattle.partial.specs.Addition.{Addition}
+use Rattle.partial.specs.Append.{added}
 use Rattle.partial.specs.Runs.{lent, fileIn, begin, append}
+use Rattle.partial.specs.Lesson.{begunBytes, firstBytes, secondBytes}
 
 -- what the definitions say and what the paper says, each as numbers in a row
 pub record Example : Type 0 where
@@ -48,7 +50,8 @@ P1 =
       defined =
           says
           (oneChunk
-          (0x00 ∷ 0x00 ∷ 0x00 ∷ 0x14 ∷ 0x70 ∷ 0x6c ∷ 0x6f ∷ 0x63 ∷ 0x00 ∷ 0x00 ∷ 0x00 ∷ 0x00 ∷ 0x11 ∷ 0x00 ∷ 0x00 ∷ 0x00 ∷ 0x01 ∷ 0x40 ∷ 0x05 ∷ 0xfb ∷ []));
+          (0x00 ∷ 0x00 ∷ 0x00 ∷ 0x14 ∷ 0x70 ∷ 0x6c ∷ 0x6f ∷ 0x63 ∷ 0x00 ∷ 0x00 ∷ 0x00 ∷ 0x00 ∷
+          0x11 ∷ 0x00 ∷ 0x00 ∷ 0x00 ∷ 0x01 ∷ 0x40 ∷ 0x05 ∷ 0xfb ∷ []));
       paper = pos 1 ∷ pos 2 ∷ pos 5 ∷ negsuc 4 ∷ pos 0 ∷ [];
     }
 
@@ -59,7 +62,8 @@ P2 =
       defined =
           says
           (oneChunk
-          (0x00 ∷ 0x00 ∷ 0x00 ∷ 0x14 ∷ 0x70 ∷ 0x6c ∷ 0x6f ∷ 0x63 ∷ 0x00 ∷ 0x00 ∷ 0x00 ∷ 0x00 ∷ 0x20 ∷ 0x00 ∷ 0x00 ∷ 0x00 ∷ 0x01 ∷ 0x80 ∷ 0x01 ∷ 0x2c ∷ []));
+          (0x00 ∷ 0x00 ∷ 0x00 ∷ 0x14 ∷ 0x70 ∷ 0x6c ∷ 0x6f ∷ 0x63 ∷ 0x00 ∷ 0x00 ∷ 0x00 ∷ 0x00 ∷
+          0x20 ∷ 0x00 ∷ 0x00 ∷ 0x00 ∷ 0x01 ∷ 0x80 ∷ 0x01 ∷ 0x2c ∷ []));
       paper = pos 1 ∷ pos 0 ∷ pos 300 ∷ pos 0 ∷ pos 0 ∷ [];
     }
 
@@ -109,8 +113,8 @@ abbrev segmentAt : ℕ → Bool → List ℕ → List ℕ → Addition
 segmentAt offset last list bytes = record { sourceOffset = offset; repairTime = 0; last = last; list = list; bytes = bytes }
 
 -- the file that append makes of a file
-abbrev after : List ℕ → Addition → List ℕ
-after f a = fileIn (append sourceLimit (lent (f ++ spare) (length f)) a)
+abbrev grownBy : List ℕ → Addition → List ℕ
+grownBy f a = fileIn (append sourceLimit (lent (f ++ spare) (length f)) a)
 
 abbrev missingIn : List ℕ → Answer (List ℤ)
 missingIn f = do
@@ -122,7 +126,7 @@ abbrev P9 : Example
 P9 =
     let f = begunBytes ++ firstBytes in
     record {
-      defined = map pos (after begunBytes (segmentAt 0 true (4 ∷ 2 ∷ 6 ∷ 0 ∷ []) (11 ∷ 12 ∷ 13 ∷ 14 ∷ []))) ++ says (missingIn f);
+      defined = map pos (grownBy begunBytes (segmentAt 0 true (4 ∷ 2 ∷ 6 ∷ 0 ∷ []) (11 ∷ 12 ∷ 13 ∷ 14 ∷ []))) ++ says (missingIn f);
       paper = map pos f ++ (pos 4 ∷ pos 6 ∷ []);
     }
 
@@ -138,7 +142,7 @@ P10 =
     let f = begunBytes ++ (firstBytes ++ secondBytes) in
     record {
       defined =
-          map pos (after (begunBytes ++ firstBytes) (segmentAt 2 false (5 ∷ 2 ∷ []) (21 ∷ 22 ∷ 23 ∷ 24 ∷ 25 ∷ [])))
+          map pos (grownBy (begunBytes ++ firstBytes) (segmentAt 2 false (5 ∷ 2 ∷ []) (21 ∷ 22 ∷ 23 ∷ 24 ∷ 25 ∷ [])))
           ++ (says (servedIn f) ++ says (missingIn f));
       paper = map pos f ++ (pos 13 ∷ pos 14 ∷ pos 7 ∷ pos 3 ∷ []);
     }
@@ -151,7 +155,7 @@ lengthIn f = do
 
 -- P11: one open segment at 100: described length 100, missing (0, 100), open
 abbrev P11 : Example
-P11 = record { defined = says (lengthIn (after begunBytes (segmentAt 100 false [] []))); paper = pos 100 ∷ pos 0 ∷ pos 0 ∷ pos 100 ∷ [] }
+P11 = record { defined = says (lengthIn (grownBy begunBytes (segmentAt 100 false [] []))); paper = pos 100 ∷ pos 0 ∷ pos 0 ∷ pos 100 ∷ [] }
 
 -- P12: empty input: 7
 abbrev P12 : Example
@@ -172,33 +176,100 @@ map11 =
       paper = map pos (ascii "source\t100\topen\nmiss\t0\t100\ntotal\t0\t100\n");
     }
 
--- a `pseg` as another writer makes it: source offset 2, and one good chunk of 2 bytes at an offset of one byte
-abbrev foreign : ℕ → List ℕ
-foreign offset =
+-- the rows of P10's file, in tables of that many numbers, with the number of segments, of chunks, and what is left of a table
+abbrev rowsIn : ℕ → ℕ → List ℤ
+rowsIn m n =
+    let answer = tabled sourceLimit (begunBytes ++ (firstBytes ++ secondBytes)) (replicate m 9) (replicate n 9) in
+    says (answer >>= λ ss. given (map pos (summary ss .segments ∷ summary ss .chunks ∷ [])))
+    ++ map pos (after segmentRows answer (replicate m 9) ++ after chunkRows answer (replicate n 9))
+
+-- tables just long enough, and one number longer
+abbrev rowsFit : Example
+rowsFit =
+    record {
+      defined = rowsIn 14 18 ++ rowsIn 15 19;
+      paper =
+          map pos
+          (2 ∷ 3
+          ∷ 67 ∷ 0 ∷ 1 ∷ 0 ∷ 2 ∷ 83 ∷ 16
+          ∷ 134 ∷ 2 ∷ 0 ∷ 0 ∷ 1 ∷ 150 ∷ 16
+          ∷ 0 ∷ 0 ∷ 0 ∷ 4 ∷ 2 ∷ 63
+          ∷ 0 ∷ 1 ∷ 4 ∷ 6 ∷ 0 ∷ 0
+          ∷ 1 ∷ 0 ∷ 2 ∷ 5 ∷ 2 ∷ 129
+          ∷ 2 ∷ 3
+          ∷ 67 ∷ 0 ∷ 1 ∷ 0 ∷ 2 ∷ 83 ∷ 16
+          ∷ 134 ∷ 2 ∷ 0 ∷ 0 ∷ 1 ∷ 150 ∷ 16 ∷ 9
+          ∷ 0 ∷ 0 ∷ 0 ∷ 4 ∷ 2 ∷ 63
+          ∷ 0 ∷ 1 ∷ 4 ∷ 6 ∷ 0 ∷ 0
+          ∷ 1 ∷ 0 ∷ 2 ∷ 5 ∷ 2 ∷ 129 ∷ 9 ∷ []);
+    }
+
+-- a table one number short: 26, and both as they were
+abbrev rowsShort : Example
+rowsShort =
+    record {
+      defined = rowsIn 13 18 ++ rowsIn 14 17;
+      paper = map pos (26 ∷ (replicate 31 9 ++ (26 ∷ replicate 31 9)));
+    }
+
+-- a `pseg` as another writer makes it: flags, a source offset, and one chunk of one byte's size, with what follows that
+abbrev foreign : ℕ → ℕ → ℕ → ℕ → List ℕ → List ℕ
+foreign flags start state size rest =
     boxed (pseg .code)
-    (boxed (pshd .code) (bytesOf 4 0 ++ (bytesOf 4 2 ++ bytesOf 8 0))
-    ++ boxed (ploc .code) (bytesOf 4 0 ++ (0x11 ∷ (bytesOf 2 0 ++ (bytesOf 2 1 ++ (0x40 ∷ 2 ∷ offset ∷ []))))))
+    (boxed (pshd .code) (bytesOf 4 flags ++ (bytesOf 4 start ++ bytesOf 8 0))
+    ++ boxed (ploc .code) (bytesOf 4 0 ++ (0x11 ∷ (bytesOf 2 0 ++ (bytesOf 2 1 ++ (state ∷ size ∷ rest))))))
+
+-- a file with one such segment at 2, whose chunk of 2 is good, and data behind it
+abbrev dataBehind : ℕ → List ℕ
+dataBehind offset = begunBytes ++ (foreign 0 2 0x40 2 (offset ∷ []) ++ boxed (pdat .code) (31 ∷ 32 ∷ []))
 
 -- an offset ahead is counted from the first byte of `pseg`, not from its body: the box has 52 bytes, and the header of `pdat` 8
 abbrev ahead : Example
-ahead = record { defined = says (servedIn (begunBytes ++ (foreign 60 ++ boxed (pdat .code) (31 ∷ 32 ∷ [])))); paper = pos 31 ∷ pos 32 ∷ [] }
+ahead = record { defined = says (servedIn (dataBehind 60)); paper = pos 31 ∷ pos 32 ∷ [] }
 
 -- a chunk that lies in the file but not in a `pdat` body: 24
 abbrev overHeader : Example
-overHeader = record { defined = says (missingIn (begunBytes ++ (foreign 59 ++ boxed (pdat .code) (31 ∷ 32 ∷ [])))); paper = pos 24 ∷ [] }
+overHeader = record { defined = says (missingIn (dataBehind 59)); paper = pos 24 ∷ [] }
 
 -- damaged bytes are missing, though they are present
 abbrev damagedBytes : Example
-damagedBytes = record { defined = says (missingIn (begunBytes ++ added (segmentAt 0 false (3 ∷ 1 ∷ []) (1 ∷ 2 ∷ 3 ∷ [])))); paper = pos 0 ∷ pos 3 ∷ [] }
+damagedBytes =
+    record {
+      defined = says (missingIn (begunBytes ++ added (segmentAt 0 false (3 ∷ 1 ∷ []) (1 ∷ 2 ∷ 3 ∷ []))));
+      paper = pos 0 ∷ pos 3 ∷ [];
+    }
 
 -- an open last segment is not the end of the source
 abbrev openLast : Example
-openLast = record { defined = says (lengthIn (begunBytes ++ (added (segmentAt 5 true [] []) ++ added (segmentAt 0 false (10 ∷ 0 ∷ []) [])))); paper = pos 10 ∷ pos 0 ∷ pos 0 ∷ pos 10 ∷ [] }
+openLast =
+    record {
+      defined = says (lengthIn (begunBytes ++ (added (segmentAt 5 true [] []) ++ added (segmentAt 0 false (10 ∷ 0 ∷ []) []))));
+      paper = pos 10 ∷ pos 0 ∷ pos 0 ∷ pos 10 ∷ [];
+    }
+
+-- last_segment beside other flags is last_segment, and other flags alone are not
+abbrev otherFlags : Example
+otherFlags =
+    record {
+      defined =
+          says (lengthIn (begunBytes ++ foreign 0xffffff 0 0x80 7 [])) ++ says (lengthIn (begunBytes ++ foreign 0xfffffe 0 0x80 7 []));
+      paper = pos 7 ∷ pos 1 ∷ pos 0 ∷ pos 7 ∷ pos 7 ∷ pos 0 ∷ pos 0 ∷ pos 7 ∷ [];
+    }
 
 unfoldable pub table : List Example
-table = P1 ∷ P2 ∷ P3 ∷ P4 ∷ P5 ∷ P6 ∷ P7 ∷ P8 ∷ P9 ∷ P10 ∷ P11 ∷ P12 ∷ map10 ∷ map11 ∷ ahead ∷ overHeader ∷ damagedBytes ∷ openLast ∷ []
+table =
+    P1 ∷ P2 ∷ P3 ∷ P4 ∷ P5 ∷ P6 ∷ P7 ∷ P8 ∷ P9 ∷ P10 ∷ P11 ∷ P12 ∷
+    map10 ∷ map11 ∷ rowsFit ∷ rowsShort ∷ ahead ∷ overHeader ∷ damagedBytes ∷ openLast ∷ otherFlags ∷ []
 
 -- at every row the definitions say what the paper says
-pub as-the-paper-says : map (λ e. e .defined) table ≡ map (λ e. e .paper) table
-unfolding table Rattle.boxes.specs.Framing.sized Rattle.boxes.specs.Framing.large Rattle.boxes.specs.Framing.header Rattle.boxes.specs.Framing.boxesFrom Rattle.boxes.specs.Framing.boxLimit Rattle.boxes.specs.Framing.boxesIn Rattle.boxes.specs.Framing.boxOf Rattle.boxes.specs.Framing.headerAnswer Rattle.boxes.specs.Framing.frontSize Rattle.boxes.specs.Framing.front Rattle.boxes.specs.Framing.boxed Rattle.boxes.specs.Kinds.kinds Rattle.boxes.specs.Kinds.is Rattle.boxes.specs.Kinds.those Rattle.boxes.specs.Kinds.keeps Rattle.boxes.specs.Kinds.right Rattle.boxes.specs.Numbers.number Rattle.boxes.specs.Numbers.bytesOf Rattle.boxes.specs.Numbers.valueOf Rattle.boxes.specs.Numbers.signed Rattle.boxes.specs.Numbers.unsigned Rattle.boxes.specs.Numbers.holds Rattle.boxes.specs.Numbers.holdsOffset Rattle.boxes.specs.Numbers.least Rattle.boxes.specs.Numbers.leastWidth Rattle.partial.specs.Entries.plocHead Rattle.partial.specs.Entries.state Rattle.partial.specs.Entries.stateOf Rattle.partial.specs.Entries.entry Rattle.partial.specs.Entries.mayLie Rattle.partial.specs.Entries.moved Rattle.partial.specs.Entries.placeOf Rattle.partial.specs.Entries.chunksFrom Rattle.partial.specs.Heading.boxAt Rattle.partial.specs.Heading.firstOf Rattle.partial.specs.Heading.ftypRight Rattle.partial.specs.Heading.brandsFrom Rattle.partial.specs.Heading.brands Rattle.partial.specs.Heading.brandRight Rattle.partial.specs.Heading.pfilRight Rattle.partial.specs.Heading.pfhdFormed Rattle.partial.specs.Heading.pfhdRight Rattle.partial.specs.Heading.text Rattle.partial.specs.Heading.url Rattle.partial.specs.Heading.mime Rattle.partial.specs.Heading.surlFormed Rattle.partial.specs.Heading.surlRight Rattle.partial.specs.Heading.heading Rattle.partial.specs.Map.ascii Rattle.partial.specs.Map.decimal Rattle.partial.specs.Map.line Rattle.partial.specs.Map.refusedLine Rattle.partial.specs.Map.rangeLine Rattle.partial.specs.Map.rangeLines Rattle.partial.specs.Map.sourceLine Rattle.partial.specs.Map.totalLine Rattle.partial.specs.Map.mapOf Rattle.partial.specs.Map.mapText Rattle.partial.specs.Meaning.givesSize Rattle.partial.specs.Meaning.knownSize Rattle.partial.specs.Meaning.describedLength Rattle.partial.specs.Meaning.isClosed Rattle.partial.specs.Meaning.agree Rattle.partial.specs.Meaning.covers Rattle.partial.specs.Meaning.supplier Rattle.partial.specs.Meaning.supplied Rattle.partial.specs.Meaning.placeOfByte Rattle.partial.specs.Meaning.served Rattle.partial.specs.Meaning.onward Rattle.partial.specs.Meaning.servedRun Rattle.partial.specs.Meaning.missingRun Rattle.partial.specs.Meaning.reply Rattle.partial.specs.Ranges.joined Rattle.partial.specs.Ranges.ranges Rattle.partial.specs.Ranges.classOf Rattle.partial.specs.Ranges.rangesOf Rattle.partial.specs.Ranges.ofClass Rattle.partial.specs.Ranges.hadList Rattle.partial.specs.Ranges.missingList Rattle.partial.specs.Ranges.total Rattle.partial.specs.Reading.offsetWidth Rattle.partial.specs.Reading.pshdFields Rattle.partial.specs.Reading.pshdRight Rattle.partial.specs.Reading.segment Rattle.partial.specs.Reading.segmentsFrom Rattle.partial.specs.Reading.segments Rattle.partial.specs.Reading.reading Rattle.partial.specs.Reading.earlierSegments Rattle.partial.specs.Runs.fileIn Rattle.partial.specs.Runs.sizeAfter Rattle.partial.specs.Runs.begin Rattle.partial.specs.Runs.append Rattle.partial.specs.Runs.appendAll Rattle.partial.specs.Segments.isState Rattle.partial.specs.Segments.present Rattle.partial.specs.Segments.corrupted Rattle.partial.specs.Segments.isOpen Rattle.partial.specs.Segments.isLast Rattle.partial.specs.Segments.endOf Rattle.partial.specs.Segments.chunksOf Rattle.partial.specs.Sequences.someOf Rattle.partial.specs.Sequences.allOf Rattle.partial.specs.Sequences.sum Rattle.partial.specs.Sequences.largest Rattle.partial.specs.Sequences.within Rattle.partial.specs.Sequences.stretch Rattle.partial.specs.Tables.segmentRow Rattle.partial.specs.Tables.segmentRows Rattle.partial.specs.Tables.chunkRow Rattle.partial.specs.Tables.chunkRowsOf Rattle.partial.specs.Tables.chunkRowsFrom Rattle.partial.specs.Tables.chunkRows Rattle.partial.specs.Tables.rangeRows Rattle.partial.specs.Tables.hadRows Rattle.partial.specs.Tables.missingRows Rattle.partial.specs.Tables.fits Rattle.partial.specs.Tables.filled Rattle.partial.specs.Tables.tabled Rattle.partial.specs.Tables.listed Rattle.partial.specs.Tables.after Rattle.partial.specs.Tables.summary Rattle.partial.specs.Tables.totals Rattle.partial.specs.Tables.bytesIn Rattle.partial.specs.Tables.nowhere Rattle.partial.specs.Tables.servedPart Rattle.partial.specs.Tables.asked Rattle.partial.specs.Tables.textOf Rattle.partial.specs.Writing.beginning Rattle.partial.specs.Writing.isText Rattle.partial.specs.Writing.begun Rattle.partial.specs.Writing.written Rattle.partial.specs.Writing.items Rattle.partial.specs.Writing.asks Rattle.partial.specs.Writing.listRight Rattle.partial.specs.Writing.dataSize Rattle.partial.specs.Writing.dataRight Rattle.partial.specs.Writing.anyPresent Rattle.partial.specs.Writing.dataBox Rattle.partial.specs.Writing.addedBoxes Rattle.partial.specs.Writing.offsetOf Rattle.partial.specs.Writing.offsets Rattle.partial.specs.Writing.lengthSize Rattle.partial.specs.Writing.offsetSize Rattle.partial.specs.Writing.flagByte Rattle.partial.specs.Writing.entryBytes Rattle.partial.specs.Writing.plocBody Rattle.partial.specs.Writing.versionFor Rattle.partial.specs.Writing.pshdBody Rattle.partial.specs.Writing.added Rattle.partial.specs.Writing.newChunks Rattle.partial.specs.Writing.newSegment Rattle.partial.specs.Writing.appended Rattle.partial.specs.Writing.result
-as-the-paper-says = refl
+abbrev pub AsThePaperSays : Type 0
+AsThePaperSays = map (λ e. e .defined) table ≡ map (λ e. e .paper) table
+
+-- "The map program takes at most 65,536 bytes": those are read, and one more is 27, whatever they are
+pub record AtTheProgramLimit : Type 0 where
+  pub taken :
+      (input : List ℕ) (n : ℕ)
+      → length input ≡ 65_536
+      → reading sourceLimit input ≡ refused n
+      → mapText sourceLimit input ≡ refusedLine n
+  pub over : (input : List ℕ) → length input ≡ 65_537 → mapText sourceLimit input ≡ ascii "refused\t27\n"

@@ -84,11 +84,15 @@ pub record Heading : Type 0 where
   pub boxes : List Box
   pub inner : List Box
 
--- stages 1 to 11
-unfoldable pub heading : List ℕ → Answer Heading
-heading f = do
+-- stages 1 to 6: the file's boxes
+unfoldable pub fileBoxes : List ℕ → Answer (List Box)
+fileBoxes f = do
   _ ← hold 1 (leb (length f) fileLimit)
-  boxes ← boxesIn f 0 (length f)
+  boxesIn f 0 (length f)
+
+-- stages 7 to 11 of a file with these boxes, the framing of `pfil` before 10
+unfoldable pub judged : List ℕ → List Box → Answer Heading
+judged f boxes = do
   _ ← hold 7 (ftypRight boxes)
   _ ← hold 8 (brandRight f boxes)
   _ ← hold 9 (pfilRight boxes)
@@ -96,3 +100,9 @@ heading f = do
   _ ← hold 10 (pfhdRight f inner)
   _ ← hold 11 (surlRight f inner)
   given (record { boxes = boxes; inner = inner })
+
+-- stages 1 to 11
+unfoldable pub heading : List ℕ → Answer Heading
+heading f = do
+  boxes ← fileBoxes f
+  judged f boxes

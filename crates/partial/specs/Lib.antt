@@ -6,10 +6,15 @@ pub mod Entries
 pub mod Meaning
 pub mod Reading
 pub mod Ranges
+pub mod Memory
 pub mod Tables
 pub mod Map
-pub mod Writing
+pub mod Begin
+pub mod Addition
+pub mod Append
 pub mod Runs
+pub mod Again
+pub mod Carried
 pub mod Answers
 pub mod Lesson
 pub mod Examples

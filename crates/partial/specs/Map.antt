@@ -8,12 +8,12 @@ use mathlib.Core.List.{List, [], _∷_, _++_}
 use lib.ListN.{length}
 use lib.Dec.{leb, ltb, eqb}
 use Rattle.io.specs.Digits.{digits}
-use Rattle.boxes.specs.Answer.{refused, given}
+use Rattle.boxes.specs.Answer.{Answer, refused, given, _>>=_, hold}
 use Rattle.boxes.specs.Numbers.{least}
 use Rattle.partial.specs.Limits.{programLimit}
 use Rattle.partial.specs.Segments.{Segment}
-use Rattle.partial.specs.Reading.{reading}
 use Rattle.partial.specs.Meaning.{describedLength, isClosed}
+use Rattle.partial.specs.Reading.{reading}
 use Rattle.partial.specs.Ranges.{Range, rangesOf, hadList, missingList, total, had}
 
 -- the bytes of a word
@@ -23,7 +23,7 @@ ascii (Str._∷_ c s) = code c ∷ ascii s
 
 -- a number in decimal, with the fewest digits, one at least
 unfoldable pub decimal : ℕ → List ℕ
-decimal n = digits 10 (least (λ k. ltb n (10 ^ k)) 19 1) n
+decimal n = digits 10 (least (λ k. ltb n (10 ^ k)) n 1) n
 
 -- fields parted by a tab; a line ends with a line feed
 unfoldable pub line : List ℕ → List (List ℕ) → List ℕ
@@ -63,3 +63,11 @@ mapText limit input =
       | true ↦ elim (reading limit input) [ refused n ↦ refusedLine n | given ss ↦ mapOf ss ]
       | false ↦ refusedLine 27
     ]
+
+-- what the library's call answers that writes that text into a lent buffer: its length, or 33 where the buffer is too short for it. The
+-- buffer is left as `written` says, by `mapText`
+unfoldable pub mapWritten : ℕ → List ℕ → List ℕ → Answer ℕ
+mapWritten limit input buffer = do
+  let text = mapText limit input
+  _ ← hold 33 (leb (length text) (length buffer))
+  given (length text)

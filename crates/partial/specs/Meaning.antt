@@ -46,11 +46,16 @@ supplier (c ∷ cs) p = elim (eqb (c .state) good && covers p c) [ true ↦ 0 | 
 unfoldable pub supplied : List Segment → ℕ → Bool
 supplied ss p = ltb (supplier (chunksOf ss) p) (length (chunksOf ss))
 
+-- the chunk of a number, and the one that supplies a position
+abbrev pub chunkNo : List Segment → ℕ → Chunk
+chunkNo ss k = getD (chunksOf ss) k noChunk
+
+abbrev pub chunkFor : List Segment → ℕ → Chunk
+chunkFor ss p = chunkNo ss (supplier (chunksOf ss) p)
+
 -- the place in the file of a supplied position
 unfoldable pub placeOfByte : List Segment → ℕ → ℕ
-placeOfByte ss p =
-    let c = getD (chunksOf ss) (supplier (chunksOf ss) p) noChunk in
-    c .place + (p - c .start)
+placeOfByte ss p = chunkFor ss p .place + (p - chunkFor ss p .start)
 
 -- the byte that is served for a position: the file's byte at the supplier's place
 unfoldable pub served : List ℕ → List Segment → ℕ → Option ℕ

@@ -1,9 +1,9 @@
 -- Document 01, "Lists": the maximal ranges of positions of one class, had or missing, below the described length.
-use Prim.Native.Nat.{ℕ, zero, suc}
-use mathlib.Core.Bool.{true, false}
+use Prim.Native.Nat.{ℕ, zero, suc, _+_}
+use mathlib.Core.Bool.{Bool, true, false, _&&_}
 use mathlib.Core.List.{List, [], _∷_, map}
-use lib.Dec.{eqb}
-use Rattle.partial.specs.Sequences.{sum}
+use lib.Dec.{leb, ltb, eqb}
+use Rattle.partial.specs.Sequences.{someOf, sum, within}
 use Rattle.partial.specs.Segments.{Segment}
 use Rattle.partial.specs.Meaning.{supplied, describedLength}
 
@@ -57,3 +57,17 @@ missingList ss = ofClass missing (rangesOf ss)
 -- the total of a list: the sum of the lengths
 unfoldable pub total : List Range → ℕ
 total rs = sum (map (λ r. r .length) rs)
+
+-- whether a list of ranges holds a position
+unfoldable pub among : ℕ → List Range → Bool
+among p rs = someOf (λ r. within (r .first) (r .length) p) rs
+
+-- ascending, never empty, never touching one of the same list: each range ends below the start of the next
+unfoldable pub apart : ℕ → List Range → Bool
+apart from [] = true
+apart from (r ∷ rs) = leb from (r .first) && ltb 0 (r .length) && apart (suc (r .first + r .length)) rs
+
+-- merged ascending: each range starts where the one before it ends, from one position to another
+unfoldable pub inRow : ℕ → ℕ → List Range → Bool
+inRow from to [] = eqb from to
+inRow from to (r ∷ rs) = eqb (r .first) from && ltb 0 (r .length) && inRow (r .first + r .length) to rs

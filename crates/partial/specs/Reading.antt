@@ -9,7 +9,7 @@ use Rattle.boxes.specs.Numbers.{number}
 use Rattle.boxes.specs.Framing.{Box, boxesIn}
 use Rattle.boxes.specs.Kinds.{pseg, pshd, ploc, surl, is, right, those}
 use Rattle.partial.specs.Limits.{segmentLimit, chunkLimit}
-use Rattle.partial.specs.Segments.{Segment, chunksOf}
+use Rattle.partial.specs.Segments.{Segment, chunksOf, endOf}
 use Rattle.partial.specs.Heading.{Heading, heading, boxAt, firstOf}
 use Rattle.partial.specs.Entries.{plocHead, chunksFrom}
 use Rattle.partial.specs.Meaning.{agree}
@@ -54,7 +54,7 @@ segment limit f h before b = do
   let header = firstOf pshd inner
   let fields = pshdFields f header
   _ ← hold 23 (leb (fields .sourceOffset) limit)
-  chunks ← chunksFrom limit f h (b .at) l (l .count) (l .first) (fields .sourceOffset)
+  chunks ← chunksFrom limit f h (b .at) l (l .count) (record { at = l .first; start = fields .sourceOffset })
   given
       (record {
         place = b .at;
@@ -94,3 +94,12 @@ unfoldable pub earlierSegments : ℕ → List ℕ → Answer (List Segment)
 earlierSegments limit f = do
   h ← heading f
   segments limit f h
+
+-- 13, 22, 23, 25: a segment beside those before it; the segments with it
+unfoldable pub admitted : ℕ → List Segment → Segment → Answer (List Segment)
+admitted limit before s = do
+  _ ← hold 13 (leb (length before + 1) segmentLimit)
+  _ ← hold 22 (leb (length (chunksOf before) + length (s .chunks)) chunkLimit)
+  _ ← hold 23 (leb (endOf s) limit)
+  _ ← hold 25 (agree (before ++ (s ∷ [])))
+  given (before ++ (s ∷ []))

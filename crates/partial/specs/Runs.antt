@@ -3,7 +3,10 @@ use Prim.Native.Nat.{ℕ}
 use mathlib.Core.List.{List, [], _∷_}
 use lib.ListN.{take}
 use Rattle.boxes.specs.Answer.{Answer, refused, given}
-use Rattle.partial.specs.Writing.{beginning, begun, written, Addition, appended, result}
+use Rattle.partial.specs.Memory.{written}
+use Rattle.partial.specs.Begin.{beginning, begun}
+use Rattle.partial.specs.Addition.{Addition}
+use Rattle.partial.specs.Append.{appended, result}
 
 -- a lent buffer and the length of the file in it
 pub data Lent : Type 0 where

@@ -1,8 +1,8 @@
 -- Document 01, "Meaning": what a segment and a chunk are once they are read.
 use Prim.Native.Nat.{ℕ, _+_, _%_}
-use mathlib.Core.Bool.{Bool, true, false, _||_}
+use mathlib.Core.Bool.{Bool, true, false, _&&_, _||_}
 use mathlib.Core.List.{List, [], _∷_, _++_, map}
-use lib.Dec.{eqb}
+use lib.Dec.{ltb, eqb}
 use Rattle.partial.specs.Sequences.{sum}
 
 -- the states: 2 good, 1 damaged but kept, 0 lost
@@ -25,6 +25,10 @@ present state = eqb state good || eqb state damaged
 -- the states of the bit corrupted: damaged but kept, and lost
 unfoldable pub corrupted : ℕ → Bool
 corrupted state = eqb state damaged || eqb state lost
+
+-- whether a chunk of a state and a size has a place in the file: it is present and not empty
+unfoldable pub hasPlace : ℕ → ℕ → Bool
+hasPlace state size = present state && ltb 0 size
 
 -- a chunk: where it starts in the source, its size, its state, and its place in the file (0 if not present or empty)
 pub record Chunk : Type 0 where

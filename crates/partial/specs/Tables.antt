@@ -3,15 +3,15 @@ use Prim.Native.Nat.{ℕ, suc}
 use mathlib.Core.Bool.{Bool, true, false, _&&_}
 use mathlib.Core.List.{List, [], _∷_, _++_}
 use lib.ListN.{length, take, drop}
-use lib.Dec.{leb}
 use Rattle.boxes.specs.Answer.{Answer, refused, given, _>>=_, hold}
 use Rattle.boxes.specs.Kinds.{surl}
 use Rattle.boxes.specs.Framing.{Box}
 use Rattle.partial.specs.Segments.{Chunk, Segment, chunksOf}
 use Rattle.partial.specs.Heading.{Part, heading, firstOf}
-use Rattle.partial.specs.Reading.{reading}
 use Rattle.partial.specs.Meaning.{describedLength, isClosed, supplied, placeOfByte, servedRun, Reply, reply}
+use Rattle.partial.specs.Reading.{reading}
 use Rattle.partial.specs.Ranges.{Range, hadList, missingList, total}
+use Rattle.partial.specs.Memory.{fits}
 
 -- place of the box, source offset, flags, repair time, chunk count, place and length of the `pshd` body
 unfoldable pub segmentRow : Segment → List ℕ
@@ -49,15 +49,8 @@ hadRows ss = rangeRows (hadList ss)
 unfoldable pub missingRows : List Segment → List ℕ
 missingRows ss = rangeRows (missingList ss)
 
--- whether rows fit a lent table
-unfoldable pub fits : List ℕ → List ℕ → Bool
-fits rows table = leb (length rows) (length table)
-
--- rows fill a table from the front; the rest keeps its contents
-unfoldable pub filled : List ℕ → List ℕ → List ℕ
-filled rows table = rows ++ drop (length rows) table
-
--- reading, serving and asking with the two lent tables: stages 1 to 25, then 26
+-- reading, serving and asking with the two lent tables: stages 1 to 25, then 26. A table is left as `after` says, by its rows:
+-- `segmentRows`, `chunkRows`, `hadRows` or `missingRows`
 unfoldable pub tabled : ℕ → List ℕ → List ℕ → List ℕ → Answer (List Segment)
 tabled limit f segmentTable chunkTable = do
   ss ← reading limit f
@@ -66,16 +59,10 @@ tabled limit f segmentTable chunkTable = do
 
 -- listing with the two tables and the two lent lists
 unfoldable pub listed : ℕ → List ℕ → List ℕ → List ℕ → List ℕ → List ℕ → Answer (List Segment)
-listed limit f segmentTable chunkTable had missing = do
+listed limit f segmentTable chunkTable hadTable missingTable = do
   ss ← tabled limit f segmentTable chunkTable
-  _ ← hold 26 (fits (hadRows ss) had && fits (missingRows ss) missing)
+  _ ← hold 26 (fits (hadRows ss) hadTable && fits (missingRows ss) missingTable)
   given ss
-
--- a lent table or list after a call: filled by its rows, which are `segmentRows`, `chunkRows`, `hadRows` or `missingRows`; after a
--- refusal as it was
-unfoldable pub after : (List Segment → List ℕ) → Answer (List Segment) → List ℕ → List ℕ
-after rows (refused n) table = table
-after rows (given ss) table = filled (rows ss) table
 
 -- what reading says of an accepted file: how many rows each table has, the described length, whether the size is known
 pub record Summary : Type 0 where
@@ -89,16 +76,16 @@ summary ss = record { segments = length ss; chunks = length (chunksOf ss); descr
 
 -- what listing says: how many ranges each list has, and the received and missing totals
 pub record Totals : Type 0 where
-  pub had : ℕ
-  pub missing : ℕ
+  pub hadRanges : ℕ
+  pub missingRanges : ℕ
   pub receivedTotal : ℕ
   pub missingTotal : ℕ
 
 unfoldable pub totals : List Segment → Totals
 totals ss =
     record {
-      had = length (hadList ss);
-      missing = length (missingList ss);
+      hadRanges = length (hadList ss);
+      missingRanges = length (missingList ss);
       receivedTotal = total (hadList ss);
       missingTotal = total (missingList ss);
     }

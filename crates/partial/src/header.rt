@@ -1,7 +1,7 @@
 // The header of a segment, as the writer takes it.
 use crate::position::Position;
 ghost use mathlib.Core.Path.{_≡_};
-ghost use Rattle.partial.specs.Writing.{writable};
+ghost use Rattle.partial.specs.Addition.{writable};
 
 // The fields of `pshd` that a segment is written with.
 pub struct SegmentHeader {

@@ -12,7 +12,7 @@ use lib.Dec.{leb, eqb}
 use Rattle.partial.specs.Sequences.{someOf, allOf, sum, largest}
 use Rattle.partial.specs.Segments.{Chunk, Segment, endOf, chunksOf}
 use Rattle.partial.specs.Meaning.{givesSize, knownSize, describedLength, agree, covers, supplied}
-use Rattle.partial.specs.Demands.{orElse}
+use Rattle.partial.specs.Carried.{orElse}
 use Rattle.partial.proofs.Meaning.SequenceLaws.{which, both, past, some-append, largest-most, largest-append}
 use Rattle.partial.proofs.Meaning.SupplyLaws.{supplies, supplied-some}
 

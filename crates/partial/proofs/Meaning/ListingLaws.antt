@@ -4,15 +4,16 @@ use mathlib.Core.Bool.{true, not}
 use mathlib.Core.List.{List}
 use mathlib.Core.Logic.{_⊎_, inl, inr}
 use mathlib.Core.Path.{_≡_, refl, _∙_}
+use native.Mathlib.Nat.{zero-add}
 use native.Mathlib.Omega.{arith}
 use lib.Dec.{eqb}
 use Rattle.partial.specs.Segments.{Segment}
 use Rattle.partial.specs.Meaning.{agree, describedLength, supplied}
-use Rattle.partial.specs.Ranges.{classOf, missing, had, rangesOf, ofClass, hadList, missingList}
+use Rattle.partial.specs.Ranges.{classOf, missing, had, rangesOf, ofClass, hadList, missingList, among}
 use Rattle.partial.specs.Tables.{totals}
-use Rattle.partial.specs.Demands.{among, Listing}
+use Rattle.partial.specs.Demands.{Listing}
 use Rattle.partial.proofs.Meaning.SequenceLaws.{which, inside, past}
-use Rattle.partial.proofs.Meaning.RangeLaws.{among-ranges, among-all, ranges-apart, ranges-totals}
+use Rattle.partial.proofs.Meaning.RangeLaws.{among-ranges, among-all, ranges-apart, ranges-in-row, ranges-totals}
 use Rattle.partial.proofs.Meaning.DescribedLaws.{InOrder, none-supplied}
 
 module _ (ss : List Segment) where
@@ -43,6 +44,7 @@ module _ (ss : List Segment) where
         noneSupplied = none-supplied ss h o;
         hadApart = ranges-apart (classOf ss) had (describedLength ss) 0;
         missingApart = ranges-apart (classOf ss) missing (describedLength ss) 0;
+        merged = rw zero-add at (ranges-in-row (classOf ss) (describedLength ss) 0);
         receivedTotal = refl;
         missingTotal = refl;
         together = ranges-totals (classOf ss) had missing (λ e. omega arith) one-class (describedLength ss) 0;

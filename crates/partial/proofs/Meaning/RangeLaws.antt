@@ -11,8 +11,7 @@ use native.Mathlib.Omega.{arith}
 use borrow.Author.Tests.{le-leb, lt-leb, lt-ltb, le-ltb, eq-eqb, ne-eqb}
 use lib.Dec.{T, leb, ltb, eqb}
 use Rattle.partial.specs.Sequences.{someOf, sum, within}
-use Rattle.partial.specs.Ranges.{Range, joined, ranges, ofClass, total}
-use Rattle.partial.specs.Demands.{among, apart}
+use Rattle.partial.specs.Ranges.{Range, joined, ranges, ofClass, total, among, apart, inRow}
 
 -- the positions from p to an end, cut into maximal ranges of one class, the first of them from p to q
 data Cut (class : ℕ → ℕ) (end : ℕ) : ℕ → List Range → Type 0 where
@@ -119,6 +118,14 @@ module _ (class : ℕ → ℕ) where
         | no d ↦ simp (ofClass, ne-eqb (class p) c d) (lies-apart rest c from (omega arith) (λ short e. omega arith))
       ]
 
+  -- each range starts where the one before it ends
+  stands-in-row : {end p : ℕ} {rs : List Range} → Cut class end p rs → T (inRow p end rs)
+  unfolding inRow
+  stands-in-row {end} {p} (done e) = rw (eq-eqb p end e) tt
+  stands-in-row {end} {p} (next {q = q} some same differs rest) =
+      let to : p + (q - p) ≡ q = omega arith in
+      simp (inRow, eq-eqb p p refl, lt-ltb 0 (q - p) (omega arith), to) (stands-in-row rest)
+
 among-class : (c i : ℕ) (rs : List Range) → among i (ofClass c rs) ≡ someOf (λ r. eqb (r .class) c && within (r .first) (r .length) i) rs
 unfolding among ofClass someOf
 among-class c i [] = refl
@@ -185,6 +192,9 @@ module _ (class : ℕ → ℕ) where
 
   pub ranges-apart : (c k p : ℕ) → T (apart p (ofClass c (ranges class k p)))
   ranges-apart c k p = lies-apart class (cut class k p) c p (omega arith) (λ _ _. le-refl p)
+
+  pub ranges-in-row : (k p : ℕ) → T (inRow p (p + k) (ranges class k p))
+  ranges-in-row k p = stands-in-row class (cut class k p)
 
   pub ranges-total : (k p : ℕ) → total (ranges class k p) ≡ k
   ranges-total k p = omega (arith, lengths class (cut class k p))

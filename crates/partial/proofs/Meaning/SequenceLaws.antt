@@ -39,6 +39,11 @@ module _ (first many n : ℕ) where
   unfolding within
   within-true h = let (from, to) = both _ _ h in (leb-true _ _ from, ltb-true _ _ to)
 
+-- what holds of each of a list
+abbrev pub Each : {A : Type 0} → (A → Type 0) → List A → Type 0
+Each P [] = Unit {0}
+Each P (x ∷ xs) = P x × Each P xs
+
 module _ {A : Type 0} where
   pub some-append : (test : A → Bool) (xs ys : List A) → someOf test (xs ++ ys) ≡ (someOf test xs || someOf test ys)
   unfolding someOf

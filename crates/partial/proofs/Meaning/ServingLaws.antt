@@ -14,12 +14,13 @@ use lib.ListN.{length, getD, length-take, length-drop}
 use lib.Seq.{getD-take, getD-drop}
 use Rattle.boxes.specs.Answer.{given}
 use Rattle.partial.specs.Segments.{Segment, chunksOf}
-use Rattle.partial.specs.Meaning.{agree, describedLength, covers, supplier, supplied, onward, servedRun, missingRun, reply, servedFor, notBelow, placeOfByte, served}
+use Rattle.partial.specs.Meaning.{agree, describedLength, covers, supplier, supplied, onward, servedRun, missingRun, reply}
+use Rattle.partial.specs.Meaning.{servedFor, notBelow, placeOfByte, served, chunkFor}
 use Rattle.partial.specs.Tables.{bytesIn, nowhere, servedPart}
 use Rattle.partial.specs.Demands.{Missing}
 use Rattle.partial.proofs.Meaning.SequenceLaws.{within-true}
 use Rattle.partial.proofs.Meaning.StretchLaws.{First, stretch-first}
-use Rattle.partial.proofs.Meaning.SupplyLaws.{chunkFor, supplier-covers}
+use Rattle.partial.proofs.Meaning.SupplyLaws.{supplier-covers, uncovered}
 use Rattle.partial.proofs.Meaning.DescribedLaws.{InOrder, none-supplied}
 
 -- a run ends at the first position that fails, or at the described length
@@ -45,6 +46,7 @@ module _ (f : List ℕ) (ss : List Segment) (p : ℕ) (below : p < describedLeng
   missing =
       let r = onward-first ss (λ q. not (supplied ss q)) p in
       record {
+        uncovered = uncovered ss p lacks;
         part = rw (servedPart, lacks);
         told = rw (reply, lt-ltb p (describedLength ss) below, lacks);
         notSupplied = λ i h. not-true _ (r .before i h);

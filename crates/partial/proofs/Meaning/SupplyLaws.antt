@@ -1,22 +1,22 @@
 -- Laws of supply: which chunk supplies a position, in a list of chunks and after segments are added.
 use Prim.Native.Nat.{ℕ, suc, zero, _+_, _-_, _≤_, _<_}
-use mathlib.Core.Bool.{Bool, true, false, _&&_, _||_}
+use mathlib.Core.Bool.{Bool, true, false, _&&_, _||_, false≢true}
 use mathlib.Core.List.{List, [], _∷_, _++_, append-assoc}
-use mathlib.Core.Logic.{inl, inr}
+use mathlib.Core.Logic.{_⊎_, inl, inr}
 use mathlib.Core.Option.{Option, none, some}
 use mathlib.Core.Path.{_≡_, refl, sym, ap, _∙_}
 use native.Mathlib.Decide.{decLe}
 use native.Mathlib.Nat.{add-sub-of-le}
 use native.Mathlib.Omega.{arith}
-use borrow.Author.Tests.{ltb-true, lt-ltb, eqb-true}
+use borrow.Author.Tests.{ltb-true, ltb-false, lt-ltb, eqb-true, eq-eqb}
 use lib.Dec.{ltb, eqb, leb·suc-suc}
 use lib.ListN.{length, getD, length-append, List·getD-append}
 use lib.Seq.{getD-append-add}
 use Rattle.partial.specs.Sequences.{someOf}
 use Rattle.partial.specs.Segments.{Chunk, noChunk, Segment, good, chunksOf}
-use Rattle.partial.specs.Meaning.{covers, supplier, supplied, placeOfByte, served}
-use Rattle.partial.specs.Demands.{orElse}
-use Rattle.partial.proofs.Meaning.SequenceLaws.{which, both, some-append}
+use Rattle.partial.specs.Meaning.{covers, supplier, supplied, placeOfByte, served, chunkFor, chunkNo}
+use Rattle.partial.specs.Carried.{orElse}
+use Rattle.partial.proofs.Meaning.SequenceLaws.{which, both, inside, some-append}
 use Rattle.partial.proofs.Meaning.StretchLaws.{First, first-one}
 
 -- whether a chunk is good and covers a position
@@ -36,6 +36,19 @@ module _ (c : Chunk) (cs : List Chunk) (p : ℕ) where
   pub supplier-on : supplies p c ≡ false → supplier (c ∷ cs) p ≡ suc (supplier cs p)
   unfolding supplier
   supplier-on e = rw (supplier, e)
+
+-- a good chunk that does not supply a position lies before or behind it
+pub beside : (p : ℕ) (c : Chunk) → supplies p c ≡ false → c .state ≡ good → (p < c .start) ⊎ (c .start + c .size ≤ p)
+unfolding covers
+beside p c lacks is-good =
+    elim (decLe (c .start) p) [
+      | no before ↦ inl (omega arith)
+      | yes from ↦
+          elim (decLe (c .start + c .size) p) [
+            | yes behind ↦ inr behind
+            | no to ↦ absurd (false≢true (sym lacks ∙ rw (eq-eqb (c .state) good is-good, inside (c .start) (c .size) p from (omega arith))))
+          ]
+    ]
 
 -- a number is the supplier's: that of the first chunk that supplies the position, or of all chunks where none does
 abbrev pub Supply : List Chunk → ℕ → ℕ → Type 0
@@ -138,10 +151,6 @@ served-from f ss p = byte-from f (chunksOf ss) p
 pub served-append : (f : List ℕ) (ss ts : List Segment) (p : ℕ) → served f (ss ++ ts) p ≡ orElse (served f ss p) (served f ts p)
 served-append f ss ts p = simp (served-from, chunks-append, byte-append)
 
--- the chunk that supplies a position
-abbrev pub chunkFor : List Segment → ℕ → Chunk
-chunkFor ss p = getD (chunksOf ss) (supplier (chunksOf ss) p) noChunk
-
 -- of a supplied position it is good and covers it
 module _ (ss : List Segment) (p : ℕ) (h : supplied ss p ≡ true) where
   by-supplier : supplies p (chunkFor ss p) ≡ true
@@ -153,3 +162,12 @@ module _ (ss : List Segment) (p : ℕ) (h : supplied ss p ≡ true) where
 
   pub supplier-covers : covers p (chunkFor ss p) ≡ true
   supplier-covers = both (eqb (chunkFor ss p .state) good) (covers p (chunkFor ss p)) by-supplier .1
+
+-- a position that is not supplied is covered by no good chunk
+pub uncovered : (ss : List Segment) (p : ℕ) → supplied ss p ≡ false → (k : ℕ) → k < length (chunksOf ss) → chunkNo ss k .state ≡ good
+    → (p < chunkNo ss k .start) ⊎ (chunkNo ss k .start + chunkNo ss k .size ≤ p)
+unfolding supplied
+uncovered ss p lacks k there =
+    let s = supply (chunksOf ss) p in
+    let past = ltb-false (supplier (chunksOf ss) p) (length (chunksOf ss)) lacks in
+    beside p (chunkNo ss k) (s .before k (omega arith))

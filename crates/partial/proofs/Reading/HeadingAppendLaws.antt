@@ -20,7 +20,8 @@ use Rattle.boxes.proofs.KindLaws.{those-append}
 use Rattle.boxes.proofs.NumberLaws.{number-append}
 use Rattle.partial.specs.Limits.{fileLimit}
 use Rattle.partial.specs.Sequences.{allOf, stretch}
-use Rattle.partial.specs.Heading.{boxAt, firstOf, ftypRight, brandsFrom, brands, brandRight, pfilRight, pfhdFormed, pfhdRight, text, url, mime, surlFormed, surlRight, Heading, heading}
+use Rattle.partial.specs.Heading.{boxAt, firstOf, ftypRight, brandsFrom, brands, brandRight, pfilRight, pfhdFormed, pfhdRight, text}
+use Rattle.partial.specs.Heading.{url, mime, surlFormed, surlRight, Heading, heading, fileBoxes, judged}
 use Rattle.partial.proofs.Meaning.SequenceLaws.{both}
 
 -- whether a box lies before a place
@@ -170,10 +171,10 @@ pub record Headed (f : List ℕ) (h : Heading) : Type 0 where
 
 module _ (f : List ℕ) (h : Heading) where
   pub headed : heading f ≡ given h → Headed f h
-  unfolding heading
+  unfolding heading fileBoxes judged
   headed e =
-      let (small, e1) = held 1 (leb (length f) fileLimit) _ e in
-      let (bs, boxes, e2) = both-given (boxesIn f 0 (length f)) _ e1 in
+      let (bs, framed, e2) = both-given (fileBoxes f) _ e in
+      let (small, boxes) = held 1 (leb (length f) fileLimit) _ framed in
       let (ftyp, e7) = held 7 (ftypRight bs) _ e2 in
       let (brand, e8) = held 8 (brandRight f bs) _ e7 in
       let (pfil, e9) = held 9 (pfilRight bs) _ e8 in
@@ -184,14 +185,15 @@ module _ (f : List ℕ) (h : Heading) where
       (record { small = small; boxes = boxes; ftyp = ftyp; brand = brand; pfil = pfil; inner = inner; pfhd = pfhd; surl = surl })
 
   pub heading-of : Headed f h → heading f ≡ given h
-  unfolding heading
+  unfolding heading fileBoxes judged
   heading-of t = rw (t .small, t .boxes, t .ftyp, t .brand, t .pfil, t .inner, t .pfhd, t .surl)
+
+-- a heading with more boxes behind the file's
+abbrev pub withBoxes : Heading → List Box → Heading
+withBoxes h more = record { boxes = h .boxes ++ more; inner = h .inner }
 
 -- stages 1 to 11 of a file with more behind it
 module _ (f g : List ℕ) (h : Heading) (cs : List Box) where
-  abbrev pub longer : Heading
-  longer = record { boxes = h .boxes ++ map (moved (length f)) cs; inner = h .inner }
-
   ftyp-first : Headed f h → (0 < length (h .boxes)) × (boxAt 0 (h .boxes) .body + 8 ≤ boxAt 0 (h .boxes) .end)
   unfolding ftypRight
   ftyp-first t =
@@ -209,7 +211,7 @@ module _ (f g : List ℕ) (h : Heading) (cs : List Box) where
       → boxesFrom g (length g) (boxLimit - length (h .boxes)) 0 ≡ given cs
       → those ftyp (map (moved (length f)) cs) ≡ []
       → those pfil (map (moved (length f)) cs) ≡ []
-      → Headed (f ++ g) longer
+      → Headed (f ++ g) (withBoxes h (map (moved (length f)) cs))
   unfolding ftypRight brandRight pfilRight
   headed-appended t fits new no-ftyp no-pfil =
       let bs = h .boxes in

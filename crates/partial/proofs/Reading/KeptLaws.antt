@@ -19,9 +19,9 @@ use Rattle.boxes.proofs.ContainerLaws.{boxes-kept}
 use Rattle.boxes.proofs.NumberLaws.{number-append}
 use Rattle.partial.specs.Limits.{chunkLimit}
 use Rattle.partial.specs.Sequences.{allOf}
-use Rattle.partial.specs.Segments.{Chunk, Segment, present, chunksOf}
+use Rattle.partial.specs.Segments.{Chunk, Segment, present, chunksOf, hasPlace}
 use Rattle.partial.specs.Heading.{Heading, boxAt, firstOf}
-use Rattle.partial.specs.Entries.{Ploc, Entry, plocHead, stateOf, entry, mayLie, moved, placeOf, chunksFrom}
+use Rattle.partial.specs.Entries.{Ploc, Entry, plocHead, stateOf, entry, mayLie, offsetPlace, placeOf, chunksFrom, chunkStep, Cursor}
 use Rattle.partial.specs.Reading.{offsetWidth, pshdFields, pshdRight, segment, segmentsFrom}
 use Rattle.partial.proofs.Meaning.SequenceLaws.{both}
 use Rattle.partial.proofs.Reading.HeadingAppendLaws.{lies, lies-ends, boxes-lie, those-all, all-boxAt, is-there, further-lie}
@@ -41,7 +41,7 @@ pub record Stepped (limit : ℕ) (f : List ℕ) (h : Heading) (before : List Seg
   pub head : plocHead f (firstOf ploc inner) ≡ given l
   pub few : leb (length (chunksOf before) + l .count) chunkLimit ≡ true
   pub low : leb (pshdFields f (firstOf pshd inner) .sourceOffset) limit ≡ true
-  pub chunks : chunksFrom limit f h (b .at) l (l .count) (l .first) (pshdFields f (firstOf pshd inner) .sourceOffset) ≡ given cs
+  pub chunks : chunksFrom limit f h (b .at) l (l .count) (record { at = l .first; start = pshdFields f (firstOf pshd inner) .sourceOffset }) ≡ given cs
 
 -- the segment that it then gives
 abbrev pub found : List ℕ → Box → List Box → List Chunk → Segment
@@ -73,7 +73,7 @@ module _ (limit : ℕ) (f : List ℕ) (h : Heading) (before : List Segment) (b :
       let (few, e6) = held 22 (leb (length (chunksOf before) + l .count) chunkLimit) _ e5 in
       let start = pshdFields f (firstOf pshd inner) .sourceOffset in
       let (low, e7) = held 23 (leb start limit) _ e6 in
-      let (cs, chunks, e8) = both-given (chunksFrom limit f h (b .at) l (l .count) (l .first) start) _ e7 in
+      let (cs, chunks, e8) = both-given (chunksFrom limit f h (b .at) l (l .count) (record { at = l .first; start = start })) _ e7 in
       (inner, l, cs, record { boxes = boxes; header = header; single = single; sourceless = sourceless; head = head; few = few; low = low; chunks = chunks }, given-same {a = found f b inner cs} e8)
 
 module _ (f g : List ℕ) where
@@ -132,42 +132,49 @@ module _ (f g : List ℕ) where
       rw (more, List·getD-append f g 0 at (omega arith), read, fits, number-append f g (at + 1) (l .lengthSize) (omega arith), number-append f g (at + 1 + l .lengthSize) width (omega arith)) e3
 
   -- where a chunk may lie, it may lie in the longer file
-  module _ (h k : Heading) (grows : (place size : ℕ) → mayLie h place size ≡ true → mayLie k place size ≡ true) where
+  module _ (h k : Heading) (grows : (state place size : ℕ) → mayLie h state place size ≡ true → mayLie k state place size ≡ true) where
     place-kept : (pseg : ℕ) (x : Entry) (p : ℕ) → placeOf h pseg x ≡ given p → placeOf k pseg x ≡ given p
     unfolding placeOf
-    place-kept pseg x p = by-test (present (x .state) && ltb 0 (x .size))
+    place-kept pseg x p = by-test (hasPlace (x .state) (x .size))
       where
         by-offset : (o : Option ℕ)
-            → _≡_ {A = Answer ℕ} (elim o [ none ↦ refused 24 | some place ↦ hold 24 (mayLie h place (x .size)) >>= λ _. given place ]) (given p)
-            → _≡_ {A = Answer ℕ} (elim o [ none ↦ refused 24 | some place ↦ hold 24 (mayLie k place (x .size)) >>= λ _. given place ]) (given p)
+            → _≡_ {A = Answer ℕ} (elim o [ none ↦ refused 24 | some place ↦ hold 24 (mayLie h (x .state) place (x .size)) >>= λ _. given place ]) (given p)
+            → _≡_ {A = Answer ℕ} (elim o [ none ↦ refused 24 | some place ↦ hold 24 (mayLie k (x .state) place (x .size)) >>= λ _. given place ]) (given p)
         by-offset none e = e
         by-offset (some place) e =
-            let (lies-there, e1) = held 24 (mayLie h place (x .size)) _ e in
-            rw (grows place (x .size) lies-there) e1
+            let (lies-there, e1) = held 24 (mayLie h (x .state) place (x .size)) _ e in
+            rw (grows (x .state) place (x .size) lies-there) e1
 
         by-test : (t : Bool)
             → _≡_ {A = Answer ℕ} (elim t [
-              | true ↦ elim (moved pseg (x .offset)) [ none ↦ refused 24 | some place ↦ hold 24 (mayLie h place (x .size)) >>= λ _. given place ]
+              | true ↦ elim (offsetPlace pseg (x .offset)) [ none ↦ refused 24 | some place ↦ hold 24 (mayLie h (x .state) place (x .size)) >>= λ _. given place ]
               | false ↦ given 0
             ]) (given p)
             → _≡_ {A = Answer ℕ} (elim t [
-              | true ↦ elim (moved pseg (x .offset)) [ none ↦ refused 24 | some place ↦ hold 24 (mayLie k place (x .size)) >>= λ _. given place ]
+              | true ↦ elim (offsetPlace pseg (x .offset)) [ none ↦ refused 24 | some place ↦ hold 24 (mayLie k (x .state) place (x .size)) >>= λ _. given place ]
               | false ↦ given 0
             ]) (given p)
-        by-test true e = by-offset (moved pseg (x .offset)) e
+        by-test true e = by-offset (offsetPlace pseg (x .offset)) e
         by-test false e = e
 
-    chunks-kept : (limit pseg : ℕ) (l : Ploc) → l .end ≤ length f → (more at start : ℕ) (cs : List Chunk)
-        → chunksFrom limit f h pseg l more at start ≡ given cs
-        → chunksFrom limit (f ++ g) k pseg l more at start ≡ given cs
-    unfolding chunksFrom
-    chunks-kept limit pseg l ends zero at start cs e = e
-    chunks-kept limit pseg l ends (suc more) at start cs e =
-        let (x, read, e1) = both-given (entry f l at) _ e in
-        let (low, e2) = held 23 (leb (start + x .size) limit) _ e1 in
+    step-kept : (limit pseg : ℕ) (l : Ploc) → l .end ≤ length f → (c : Cursor) (met : Chunk × Cursor) → chunkStep limit f h pseg l c ≡ given met
+        → chunkStep limit (f ++ g) k pseg l c ≡ given met
+    unfolding chunkStep
+    step-kept limit pseg l ends c met e =
+        let (x, read, e1) = both-given (entry f l (c .at)) _ e in
+        let (low, e2) = held 23 (leb (c .start + x .size) limit) _ e1 in
         let (p, place, e3) = both-given (placeOf h pseg x) _ e2 in
-        let (rest, others, e4) = both-given (chunksFrom limit f h pseg l more (x .next) (start + x .size)) _ e3 in
-        rw (entry-kept l at x ends read, low, place-kept pseg x p place, chunks-kept limit pseg l ends more (x .next) (start + x .size) rest others) e4
+        rw (entry-kept l (c .at) x ends read, low, place-kept pseg x p place) e3
+
+    chunks-kept : (limit pseg : ℕ) (l : Ploc) → l .end ≤ length f → (more : ℕ) (c : Cursor) (cs : List Chunk)
+        → chunksFrom limit f h pseg l more c ≡ given cs
+        → chunksFrom limit (f ++ g) k pseg l more c ≡ given cs
+    unfolding chunksFrom
+    chunks-kept limit pseg l ends zero c cs e = e
+    chunks-kept limit pseg l ends (suc more) c cs e =
+        let (met, read, e1) = both-given (chunkStep limit f h pseg l c) _ e in
+        let (rest, others, e2) = both-given (chunksFrom limit f h pseg l more (met .1)) _ e1 in
+        rw (step-kept limit pseg l ends c met read, chunks-kept limit pseg l ends more (met .1) rest others) e2
 
     pub segment-kept : (limit : ℕ) (before : List Segment) (b : Box) (s : Segment) → b .end ≤ length f
         → segment limit f h before b ≡ given s
@@ -189,7 +196,7 @@ module _ (f g : List ℕ) where
           head = head;
           few = t .few;
           low = rw same-fields (t .low);
-          chunks = rw same-fields (chunks-kept limit (b .at) l (omega arith) (l .count) (l .first) (pshdFields f (firstOf pshd inner) .sourceOffset) cs (t .chunks));
+          chunks = rw same-fields (chunks-kept limit (b .at) l (omega arith) (l .count) (record { at = l .first; start = pshdFields f (firstOf pshd inner) .sourceOffset }) cs (t .chunks));
         } in
         segment-of limit (f ++ g) k before b there ∙ rw same-fields (ap given same)
 

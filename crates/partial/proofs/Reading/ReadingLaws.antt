@@ -1,12 +1,12 @@
 -- What reading gives of an accepted file: its chunks follow each other and lie in data boxes, and its sizes agree.
 use Prim.Native.Nat.{ℕ, zero, suc, _+_, _≤_, _<_}
-use mathlib.Core.Bool.{true, not, _&&_, _||_}
+use mathlib.Core.Bool.{true, not, _||_}
 use mathlib.Core.List.{List, [], _∷_, _++_, append-nil}
 use mathlib.Core.Logic.{inl, inr}
 use mathlib.Core.Option.{Option, none, some}
 use mathlib.Core.Path.{_≡_, refl, subst}
 use native.Mathlib.Omega.{arith}
-use lib.Dec.{leb, ltb, eqb}
+use lib.Dec.{leb, eqb}
 use lib.ListN.{length}
 use Rattle.boxes.specs.Answer.{refused, given, _>>=_, hold}
 use Rattle.boxes.specs.Framing.{Box, boxLimit, boxesIn}
@@ -16,11 +16,11 @@ use Rattle.boxes.proofs.ContainerLaws.{Filled, full, next, fills}
 use Rattle.boxes.proofs.HeaderLaws.{header-inside}
 use Rattle.partial.specs.Limits.{segmentLimit}
 use Rattle.partial.specs.Sequences.{allOf}
-use Rattle.partial.specs.Segments.{Chunk, Segment, present, chunksOf}
+use Rattle.partial.specs.Segments.{Chunk, Segment, chunksOf, hasPlace}
 use Rattle.partial.specs.Heading.{Heading, heading, boxAt}
-use Rattle.partial.specs.Entries.{Ploc, Entry, entry, mayLie, moved, placeOf, chunksFrom}
-use Rattle.partial.specs.Reading.{segment, segmentsFrom, segments, reading, earlierSegments}
+use Rattle.partial.specs.Entries.{Ploc, Entry, entry, mayLie, offsetPlace, placeOf, chunksFrom, chunkStep, Cursor}
 use Rattle.partial.specs.Meaning.{agree}
+use Rattle.partial.specs.Reading.{segment, segmentsFrom, segments, reading, earlierSegments}
 use Rattle.partial.specs.Demands.{Mapped}
 use Rattle.partial.proofs.Reading.HeadingAppendLaws.{headed}
 use Rattle.partial.proofs.Reading.KeptLaws.{stepped}
@@ -42,18 +42,18 @@ heading-inside f {h} g = boxes-inside (fills f (length f) boxLimit 0 (headed f h
 
 -- the place of an entry's chunk
 module _ (h : Heading) (from : ℕ) (e : Entry) {place : ℕ} where
-  in-data : (to : Option ℕ) → (elim to [ none ↦ refused 24 | some at ↦ hold 24 (mayLie h at (e .size)) >>= λ _. given at ]) ≡ given place
-      → mayLie h place (e .size) ≡ true
+  in-data : (to : Option ℕ) → (elim to [ none ↦ refused 24 | some at ↦ hold 24 (mayLie h (e .state) at (e .size)) >>= λ _. given at ]) ≡ given place
+      → mayLie h (e .state) place (e .size) ≡ true
   in-data none g = absurd (not-both g)
   in-data (some at) g =
-      let (lie, same) = held 24 (mayLie h at (e .size)) _ g in
+      let (lie, same) = held 24 (mayLie h (e .state) at (e .size)) _ g in
       rw (given-same same) at lie
 
-  place-lies : placeOf h from e ≡ given place → (not (present (e .state) && ltb 0 (e .size)) || mayLie h place (e .size)) ≡ true
+  place-lies : placeOf h from e ≡ given place → (not (hasPlace (e .state) (e .size)) || mayLie h (e .state) place (e .size)) ≡ true
   unfolding placeOf
   place-lies g =
-      elim (which (present (e .state) && ltb 0 (e .size))) [
-        | inl b ↦ rw b (in-data (moved from (e .offset)) (rw (placeOf, b) at g))
+      elim (which (hasPlace (e .state) (e .size))) [
+        | inl b ↦ rw b (in-data (offsetPlace from (e .offset)) (rw (placeOf, b) at g))
         | inr b ↦ rw b
       ]
 
@@ -63,16 +63,26 @@ pub record Told (h : Heading) (start : ℕ) (cs : List Chunk) : Type 0 where
   pub lie : allOf (lies h) cs ≡ true
 
 module _ (limit : ℕ) (f : List ℕ) (h : Heading) (from : ℕ) (l : Ploc) where
-  chunks-told : (n at start : ℕ) {cs : List Chunk} → chunksFrom limit f h from l n at start ≡ given cs → Told h start cs
-  unfolding chunksFrom allOf lies
-  chunks-told zero at start g = subst (Told h start) (given-same (held 17 (eqb at (l .end)) _ g .1)) (record { follow = tt; lie = refl })
-  chunks-told (suc n) at start g =
-      let (e, _, g) = both-given (entry f l at) _ g in
-      let (_, g) = held 23 (leb (start + e .size) limit) _ g in
+  -- a step's chunk starts where the cursor stands in the source, and the cursor goes on at its end
+  step-told : (c : Cursor) {met : Chunk × Cursor} → chunkStep limit f h from l c ≡ given met
+      → (met .0 .start ≡ c .start) × (met .1 .start ≡ c .start + met .0 .size) × (lies h (met .0) ≡ true)
+  unfolding chunkStep lies
+  step-told c g =
+      let (e, _, g) = both-given (entry f l (c .at)) _ g in
+      let (_, g) = held 23 (leb (c .start + e .size) limit) _ g in
       let (place, placed, g) = both-given (placeOf h from e) _ g in
-      let (rest, read, g) = both-given (chunksFrom limit f h from l n (e .next) (start + e .size)) _ g in
-      let r = chunks-told n (e .next) (start + e .size) read in
-      subst (Told h start) (given-same g) (record { follow = (refl, r .follow); lie = rw (place-lies h from e placed) (r .lie) })
+      subst (λ met. (met .0 .start ≡ c .start) × (met .1 .start ≡ c .start + met .0 .size) × (lies h (met .0) ≡ true)) (given-same g)
+      (refl, refl, place-lies h from e placed)
+
+  chunks-told : (n : ℕ) (c : Cursor) {cs : List Chunk} → chunksFrom limit f h from l n c ≡ given cs → Told h (c .start) cs
+  unfolding chunksFrom allOf
+  chunks-told zero c g = subst (Told h (c .start)) (given-same (held 17 (eqb (c .at) (l .end)) _ g .1)) (record { follow = tt; lie = refl })
+  chunks-told (suc n) c g =
+      let (met, read, g) = both-given (chunkStep limit f h from l c) _ g in
+      let (rest, others, g) = both-given (chunksFrom limit f h from l n (met .1)) _ g in
+      let (starts, on, lie) = step-told c read in
+      let r = rw on at (chunks-told n (met .1) others) in
+      subst (Told h (c .start)) (given-same g) (record { follow = (starts, r .follow); lie = rw lie (r .lie) })
 
 -- the chunks of segments
 pub record AllTold (h : Heading) (ss : List Segment) : Type 0 where
@@ -83,7 +93,7 @@ module _ (limit : ℕ) (f : List ℕ) (h : Heading) where
   segment-told : (before : List Segment) (b : Box) {s : Segment} → segment limit f h before b ≡ given s → Told h (s .sourceOffset) (s .chunks)
   segment-told before b g =
       let (inner, l, cs, t, same) = stepped limit f h before b g in
-      subst (λ s. Told h (s .sourceOffset) (s .chunks)) same (chunks-told limit f h (b .at) l (l .count) (l .first) _ (t .chunks))
+      subst (λ s. Told h (s .sourceOffset) (s .chunks)) same (chunks-told limit f h (b .at) l (l .count) _ (t .chunks))
 
   one-more : (ss : List Segment) (s : Segment) → AllTold h ss → Told h (s .sourceOffset) (s .chunks) → AllTold h (ss ++ (s ∷ []))
   unfolding chunksOf

@@ -1,30 +1,37 @@
 -- Demand 1: every refusal has a number that the paper has for the call, and after it all lent memory holds what it held.
 use Prim.Native.Nat.{ℕ, zero, suc, _+_, _/_, _%_, _≤_}
-use native.Mathlib.Omega.{arith}
 use mathlib.Core.Bool.{Bool, true, false, not, _&&_}
 use mathlib.Core.List.{List, [], _∷_, _++_}
-use mathlib.Core.Logic.{_⊎_, inl, inr}
+use mathlib.Core.Logic.{_⊎_, inl, inr, ⊎-elim}
 use mathlib.Core.Option.{Option, none, some}
-use mathlib.Core.Path.{_≡_, refl, sym, subst}
+use mathlib.Core.Path.{_≡_, refl, sym, subst, _∙_}
+use native.Mathlib.Omega.{arith}
+use borrow.Author.Tests.{leb-false}
 use lib.Dec.{T, leb, ltb, eqb, lit≤}
-use lib.ListN.{length, getD, take}
+use lib.ListN.{length, getD, take, drop-of-length-le}
 use Rattle.boxes.specs.Answer.{Answer, refused, given, _>>=_, hold}
 use Rattle.boxes.specs.Numbers.{number}
 use Rattle.boxes.specs.Framing.{Box, sized, large, header, boxesFrom, boxesIn, boxLimit}
-use Rattle.boxes.specs.Kinds.{pseg, pshd, ploc, surl, right, those}
+use Rattle.boxes.specs.Kinds.{pseg, pshd, ploc, surl, right, those, keeps}
 use Rattle.boxes.proofs.AnswerLaws.{not-both}
 use Rattle.partial.specs.Limits.{fileLimit, segmentLimit, chunkLimit}
 use Rattle.partial.specs.Sequences.{someOf, within}
-use Rattle.partial.specs.Segments.{Segment, present, chunksOf, endOf}
+use Rattle.partial.specs.Segments.{Segment, present, chunksOf, endOf, hasPlace}
 use Rattle.partial.specs.Heading.{Heading, heading, boxAt, firstOf, ftypRight, brandRight, pfilRight, pfhdRight, surlRight}
-use Rattle.partial.specs.Entries.{Ploc, plocHead, state, stateOf, Entry, entry, mayLie, moved, placeOf, chunksFrom}
-use Rattle.partial.specs.Reading.{pshdFields, pshdRight, segment, segmentsFrom, segments, reading}
-use Rattle.partial.specs.Meaning.{agree}
-use Rattle.partial.specs.Tables.{segmentRows, chunkRows, hadRows, missingRows, fits, tabled, listed, after}
-use Rattle.partial.specs.Writing.{beginning, isText, begun, written, Addition, listRight, dataRight, addedBoxes, newSegment, added, appended}
+use Rattle.partial.specs.Heading.{fileBoxes, judged, Part}
+use Rattle.partial.specs.Entries.{Ploc, plocHead, state, stateOf, Entry, entry, mayLie, offsetPlace, placeOf, chunksFrom, chunkStep}
+use Rattle.partial.specs.Entries.{Cursor}
+use Rattle.partial.specs.Meaning.{agree, knownSize}
+use Rattle.partial.specs.Reading.{pshdFields, pshdRight, segment, segmentsFrom, segments, reading, admitted, earlierSegments}
+use Rattle.partial.specs.Memory.{fits, after}
+use Rattle.partial.specs.Tables.{segmentRows, chunkRows, hadRows, missingRows, tabled, listed, asked, textOf, bytesIn, nowhere}
+use Rattle.partial.specs.Map.{mapWritten, mapText}
+use Rattle.partial.specs.Begin.{beginning, isText, begun}
+use Rattle.partial.specs.Addition.{Addition, listRight, dataRight}
+use Rattle.partial.specs.Append.{addedBoxes, newSegment, added, appended, admission, psegPlace}
 use Rattle.partial.specs.Runs.{lent, sizeAfter, append}
-use Rattle.partial.specs.Demands.{Demand1}
-use Rattle.partial.proofs.Meaning.SequenceLaws.{passes, inside, within-true}
+use Rattle.partial.specs.Demands.{Demand1, Takes}
+use Rattle.partial.proofs.Meaning.SequenceLaws.{passes, inside, within-true, which}
 
 same-number : {A : Type 0} {m n : ℕ} → _≡_ {A = Answer A} (refused m) (refused n) → m ≡ n
 same-number e = cc
@@ -77,10 +84,10 @@ module _ (P : ℕ → Type 0) (early : (n : ℕ) → T (within 1 11 n) → P n) 
       (λ b. only-then P (boxesFrom s end more (b .end)) _ (boxes-only s end more (b .end)) (λ bs. only-given P _)))
 
   heading-only : (f : List ℕ) → Only P (heading f)
-  unfolding heading boxesIn within
+  unfolding heading fileBoxes judged boxesIn within
   heading-only f =
-      only-held P 1 (leb (length f) fileLimit) _ (early 1 tt)
-      (only-then P (boxesIn f 0 (length f)) _ (boxes-only f (length f) boxLimit 0)
+      only-then P (fileBoxes f) _
+      (only-held P 1 (leb (length f) fileLimit) _ (early 1 tt) (boxes-only f (length f) boxLimit 0))
       (λ boxes.
       only-held P 7 (ftypRight boxes) _ (early 7 tt)
       (only-held P 8 (brandRight f boxes) _ (early 8 tt)
@@ -88,7 +95,7 @@ module _ (P : ℕ → Type 0) (early : (n : ℕ) → T (within 1 11 n) → P n) 
       (only-then P (boxesIn f (boxAt 1 boxes .body) (boxAt 1 boxes .end)) _ (boxes-only f (boxAt 1 boxes .end) boxLimit (boxAt 1 boxes .body))
       (λ inner.
       only-held P 10 (pfhdRight f inner) _ (early 10 tt)
-      (only-held P 11 (surlRight f inner) _ (early 11 tt) (only-given P _))))))))
+      (only-held P 11 (surlRight f inner) _ (early 11 tt) (only-given P _)))))))
 
   ploc-only : (f : List ℕ) (b : Box) → Only P (plocHead f b)
   unfolding plocHead within
@@ -114,25 +121,30 @@ module _ (P : ℕ → Type 0) (early : (n : ℕ) → T (within 1 11 n) → P n) 
       let width : ℕ = elim (present s) [ true ↦ l .offsetSize | false ↦ 0 ] in
       only-held P 17 (leb (at + 1 + l .lengthSize + width) (l .end)) _ (late 17 tt) (only-given P _)))
 
-  lying-only : (h : Heading) (size : ℕ) (to : Option ℕ) → Only P {A = ℕ} (elim to [ none ↦ refused 24 | some place ↦ hold 24 (mayLie h place size) >>= λ _. given place ])
+  lying-only : (h : Heading) (e : Entry) (to : Option ℕ)
+      → Only P {A = ℕ} (elim to [ none ↦ refused 24 | some place ↦ hold 24 (mayLie h (e .state) place (e .size)) >>= λ _. given place ])
   unfolding within
-  lying-only h size none = only-refused P 24 (late 24 tt)
-  lying-only h size (some place) = only-held P 24 (mayLie h place size) _ (late 24 tt) (only-given P place)
+  lying-only h e none = only-refused P 24 (late 24 tt)
+  lying-only h e (some place) = only-held P 24 (mayLie h (e .state) place (e .size)) _ (late 24 tt) (only-given P place)
 
   place-only : (h : Heading) (from : ℕ) (e : Entry) → Only P (placeOf h from e)
   unfolding placeOf
-  place-only h from e = only-either P (present (e .state) && ltb 0 (e .size)) (lying-only h (e .size) (moved from (e .offset))) (only-given P 0)
+  place-only h from e = only-either P (hasPlace (e .state) (e .size)) (lying-only h e (offsetPlace from (e .offset))) (only-given P 0)
 
-  chunks-only : (limit : ℕ) (f : List ℕ) (h : Heading) (from : ℕ) (l : Ploc) (n at start : ℕ) → Only P (chunksFrom limit f h from l n at start)
-  unfolding chunksFrom within
-  chunks-only limit f h from l zero at start = only-held P 17 (eqb at (l .end)) _ (late 17 tt) (only-given P _)
-  chunks-only limit f h from l (suc n) at start =
-      only-then P (entry f l at) _ (entry-only f l at)
+  step-only : (limit : ℕ) (f : List ℕ) (h : Heading) (from : ℕ) (l : Ploc) (c : Cursor) → Only P (chunkStep limit f h from l c)
+  unfolding chunkStep within
+  step-only limit f h from l c =
+      only-then P (entry f l (c .at)) _ (entry-only f l (c .at))
       (λ e.
-      only-held P 23 (leb (start + e .size) limit) _ (late 23 tt)
-      (only-then P (placeOf h from e) _ (place-only h from e)
-      (λ place.
-      only-then P (chunksFrom limit f h from l n (e .next) (start + e .size)) _ (chunks-only limit f h from l n (e .next) (start + e .size)) (λ rest. only-given P _))))
+      only-held P 23 (leb (c .start + e .size) limit) _ (late 23 tt)
+      (only-then P (placeOf h from e) _ (place-only h from e) (λ place. only-given P _)))
+
+  chunks-only : (limit : ℕ) (f : List ℕ) (h : Heading) (from : ℕ) (l : Ploc) (n : ℕ) (c : Cursor) → Only P (chunksFrom limit f h from l n c)
+  unfolding chunksFrom within
+  chunks-only limit f h from l zero c = only-held P 17 (eqb (c .at) (l .end)) _ (late 17 tt) (only-given P _)
+  chunks-only limit f h from l (suc n) c =
+      only-then P (chunkStep limit f h from l c) _ (step-only limit f h from l c)
+      (λ met. only-then P (chunksFrom limit f h from l n (met .1)) _ (chunks-only limit f h from l n (met .1)) (λ rest. only-given P _))
 
   segment-only : (limit : ℕ) (f : List ℕ) (h : Heading) (before : List Segment) (b : Box) → Only P (segment limit f h before b)
   unfolding segment boxesIn within
@@ -147,8 +159,8 @@ module _ (P : ℕ → Type 0) (early : (n : ℕ) → T (within 1 11 n) → P n) 
       (λ l.
       only-held P 22 (leb (length (chunksOf before) + l .count) chunkLimit) _ (late 22 tt)
       (only-held P 23 (leb offset limit) _ (late 23 tt)
-      (only-then P (chunksFrom limit f h (b .at) l (l .count) (l .first) offset) _
-      (chunks-only limit f h (b .at) l (l .count) (l .first) offset)
+      (only-then P (chunksFrom limit f h (b .at) l (l .count) (record { at = l .first; start = offset })) _
+      (chunks-only limit f h (b .at) l (l .count) (record { at = l .first; start = offset }))
       (λ chunks. only-given P _))))))))
 
   segments-from-only : (limit : ℕ) (f : List ℕ) (h : Heading) (before : List Segment) (bs : List Box) → Only P (segmentsFrom limit f h before bs)
@@ -170,6 +182,56 @@ within-more : (a b c d n : ℕ) → c ≤ a → a + b ≤ c + d → T (within a 
 within-more a b c d n from to t =
     let (low, high) = within-true a b n (passes _ t) in
     rw (inside c d n (omega arith) (omega arith)) tt
+
+-- those of a file, but for 12
+abbrev OfFile : ℕ → Type 0
+OfFile n = T (within 1 25 n) × (n ≡ 12 → ⊥)
+
+early-file : (n : ℕ) → T (within 1 11 n) → OfFile n
+early-file n t =
+    let (low, high) = within-true 1 11 n (passes _ t) in
+    (within-more 1 11 1 25 n (lit≤ tt) (lit≤ tt) t, λ e. omega arith)
+
+late-file : (n : ℕ) → T (within 13 13 n) → OfFile n
+late-file n t =
+    let (low, high) = within-true 13 13 n (passes _ t) in
+    (within-more 13 13 1 25 n (lit≤ tt) (lit≤ tt) t, λ e. omega arith)
+
+-- append takes an acceptable file, or one whose only refusal is 12
+module _ (limit : ℕ) (f : List ℕ) where
+  no-segments : (h : Heading) → right pseg (h .boxes) ≡ false → segments limit f h ≡ given []
+  unfolding segments segmentsFrom right keeps agree knownSize
+  no-segments h lacks =
+      let few = leb-false 1 (length (those pseg (h .boxes))) lacks in
+      let nothing : those pseg (h .boxes) ≡ [] = drop-of-length-le (those pseg (h .boxes)) {i = 0} (omega arith) in
+      rw nothing
+
+  -- reading differs from what append goes by only in 12
+  twelve-apart : (reading limit f ≡ earlierSegments limit f) ⊎ ((reading limit f ≡ refused 12) × (earlierSegments limit f ≡ given []))
+  unfolding reading earlierSegments
+  twelve-apart = go (heading f) refl
+    where
+      go : (x : Answer Heading) → heading f ≡ x
+          → (reading limit f ≡ earlierSegments limit f) ⊎ ((reading limit f ≡ refused 12) × (earlierSegments limit f ≡ given []))
+      go (refused n) e = inl (rw e)
+      go (given h) e =
+          elim (which (right pseg (h .boxes))) [
+            | inl there ↦ inl (rw (e, there))
+            | inr lacks ↦ inr (rw (e, lacks), rw e (no-segments h lacks))
+          ]
+
+  earlier-only : Only OfFile (earlierSegments limit f)
+  unfolding earlierSegments
+  earlier-only =
+      only-then OfFile (heading f) _ (heading-only OfFile early-file late-file f) (λ h. segments-only OfFile early-file late-file limit f h)
+
+  pub takes : Takes limit f
+  takes =
+      record {
+        acceptable = λ ss e. ⊎-elim (λ same. sym same ∙ e) (λ t. absurd (not-both (sym (t .0) ∙ e))) twelve-apart;
+        onlyTwelve = λ e. ⊎-elim (λ same. absurd (earlier-only 12 (sym same ∙ e) .1 refl)) (λ t. t .1) twelve-apart;
+        itsOwn = λ k e other. ⊎-elim (λ same. sym same ∙ e) (λ t. absurd (other (same-number (sym e ∙ t .0)))) twelve-apart;
+      }
 
 module _ (limit : ℕ) where
   abbrev OfReading : ℕ → Type 0
@@ -196,23 +258,29 @@ module _ (limit : ℕ) where
       (λ ss. only-held OfReading 26 (fits (hadRows ss) h && fits (missingRows ss) m) _ tt (only-given OfReading ss))
 
   abbrev OfAddition : ℕ → Type 0
-  OfAddition n = (T (within 1 25 n) × (n ≡ 12 → ⊥)) ⊎ T (someOf (eqb n) (30 ∷ 31 ∷ 32 ∷ 33 ∷ []))
+  OfAddition n = OfFile n ⊎ T (someOf (eqb n) (30 ∷ 31 ∷ 32 ∷ 33 ∷ []))
 
   early-added : (n : ℕ) → T (within 1 11 n) → OfAddition n
-  early-added n t =
-      let (low, high) = within-true 1 11 n (passes _ t) in
-      inl (within-more 1 11 1 25 n (lit≤ tt) (lit≤ tt) t, λ e. omega arith)
+  early-added n t = inl (early-file n t)
 
   late-added : (n : ℕ) → T (within 13 13 n) → OfAddition n
-  late-added n t =
-      let (low, high) = within-true 13 13 n (passes _ t) in
-      inl (within-more 13 13 1 25 n (lit≤ tt) (lit≤ tt) t, λ e. omega arith)
+  late-added n t = inl (late-file n t)
+
+  admission-only : (h : Heading) (ss : List Segment) (n : ℕ) (a : Addition) → Only OfAddition (admission limit h ss n a)
+  unfolding admission admitted within
+  admission-only h ss n a =
+      let new = newSegment (psegPlace n a) a in
+      only-held OfAddition 1 (leb (n + length (added a)) fileLimit) _ (early-added 1 tt)
+      (only-held OfAddition 6 (leb (length (h .boxes) + addedBoxes a) boxLimit) _ (early-added 6 tt)
+      (only-held OfAddition 13 (leb (length ss + 1) segmentLimit) _ (late-added 13 tt)
+      (only-held OfAddition 22 (leb (length (chunksOf ss) + length (new .chunks)) chunkLimit) _ (late-added 22 tt)
+      (only-held OfAddition 23 (leb (endOf new) limit) _ (late-added 23 tt)
+      (only-held OfAddition 25 (agree (ss ++ (new ∷ []))) _ (late-added 25 tt) (only-given OfAddition _))))))
 
   appended-only : (buffer : List ℕ) (n : ℕ) (a : Addition) → Only OfAddition (appended limit buffer n a)
-  unfolding appended within someOf
+  unfolding appended someOf
   appended-only buffer n a =
       let f = take n buffer in
-      let new = newSegment n a in
       let size = n + length (added a) in
       only-held OfAddition 30 (leb n (length buffer)) _ (inr tt)
       (only-then OfAddition (heading f) _ (heading-only OfAddition early-added late-added f)
@@ -221,13 +289,8 @@ module _ (limit : ℕ) where
       (λ ss.
       only-held OfAddition 31 (listRight (a .list)) _ (inr tt)
       (only-held OfAddition 32 (dataRight a) _ (inr tt)
-      (only-held OfAddition 1 (leb size fileLimit) _ (early-added 1 tt)
-      (only-held OfAddition 6 (leb (length (h .boxes) + addedBoxes a) boxLimit) _ (early-added 6 tt)
-      (only-held OfAddition 13 (leb (length ss + 1) segmentLimit) _ (late-added 13 tt)
-      (only-held OfAddition 22 (leb (length (chunksOf ss) + length (new .chunks)) chunkLimit) _ (late-added 22 tt)
-      (only-held OfAddition 23 (leb (endOf new) limit) _ (late-added 23 tt)
-      (only-held OfAddition 25 (agree (ss ++ (new ∷ []))) _ (late-added 25 tt)
-      (only-held OfAddition 33 (leb size (length buffer)) _ (inr tt) (only-given OfAddition size))))))))))))
+      (only-then OfAddition (admission limit h ss n a) _ (admission-only h ss n a)
+      (λ _. only-held OfAddition 33 (leb size (length buffer)) _ (inr tt) (only-given OfAddition size)))))))
 
 abbrev OfBegin : ℕ → Type 0
 OfBegin n = T (someOf (eqb n) (34 ∷ 1 ∷ 33 ∷ []))
@@ -239,19 +302,28 @@ begun-only buffer u m =
     only-held OfBegin 34 (isText u && isText m) _ tt
     (only-held OfBegin 1 (leb n fileLimit) _ tt (only-held OfBegin 33 (leb n (length buffer)) _ tt (only-given OfBegin n)))
 
--- after a refusal all lent memory holds what it held
-table-kept : (rows : List Segment → List ℕ) (r : Answer (List Segment)) (table : List ℕ) (n : ℕ) → r ≡ refused n → after rows r table ≡ table
-unfolding after
-table-kept rows (refused m) table n e = refl
-table-kept rows (given ss) table n e = absurd (not-both (sym e))
+map-only : (limit : ℕ) (input buffer : List ℕ) → Only (λ n. n ≡ 33) (mapWritten limit input buffer)
+unfolding mapWritten
+map-only limit input buffer =
+    let text = mapText limit input in
+    only-held (λ n. n ≡ 33) 33 (leb (length text) (length buffer)) _ refl (only-given (λ n. n ≡ 33) (length text))
 
-buffer-kept : (file : List ℕ) (r : Answer ℕ) (buffer : List ℕ) (n : ℕ) → r ≡ refused n → written file r buffer ≡ buffer
-unfolding written
-buffer-kept file (refused m) buffer n e = refl
-buffer-kept file (given m) buffer n e = absurd (not-both (sym e))
+ask-refused : (r : Answer (List Segment)) (p n : ℕ) → r ≡ refused n → asked r p ≡ refused n
+unfolding asked
+ask-refused r p n e = rw e
+
+text-empty : (limit : ℕ) (which : List ℕ → Box → Part) (f : List ℕ) (n : ℕ) → reading limit f ≡ refused n → bytesIn f (textOf which limit f) ≡ []
+unfolding textOf bytesIn nowhere
+text-empty limit which f n e = rw (textOf, e)
+
+-- after a refusal all lent memory holds what it held
+memory-kept : {A : Type 0} (rows : A → List ℕ) (r : Answer A) (table : List ℕ) (n : ℕ) → r ≡ refused n → after rows r table ≡ table
+unfolding after
+memory-kept rows (refused m) table n e = refl
+memory-kept rows (given a) table n e = absurd (not-both (sym e))
 
 append-kept : (limit : ℕ) (buffer : List ℕ) (n : ℕ) (a : Addition) (k : ℕ) → appended limit buffer n a ≡ refused k → append limit (lent buffer n) a ≡ lent buffer n
-unfolding append written sizeAfter
+unfolding append after sizeAfter
 append-kept limit buffer n a k e = rw e
 
 pub demand1 : (limit : ℕ) → Demand1 limit
@@ -261,8 +333,12 @@ demand1 limit =
       listNumbers = listed-only limit;
       beginNumbers = begun-only;
       appendNumbers = appended-only limit;
-      tablesKept = λ rows f a b table n. table-kept rows (tabled limit f a b) table n;
-      listsKept = λ rows f a b h m table n. table-kept rows (listed limit f a b h m) table n;
-      beginKept = λ buffer u m n. buffer-kept (beginning u m) (begun buffer u m) buffer n;
+      mapNumbers = map-only limit;
+      askNumbers = λ f a b. ask-refused (tabled limit f a b);
+      textsEmpty = text-empty limit;
+      tablesKept = λ rows f a b. memory-kept rows (tabled limit f a b);
+      listsKept = λ rows f a b h m. memory-kept rows (listed limit f a b h m);
+      beginKept = λ buffer u m. memory-kept (λ _. beginning u m) (begun buffer u m) buffer;
       appendKept = append-kept limit;
+      mapKept = λ input buffer. memory-kept (λ _. mapText limit input) (mapWritten limit input buffer) buffer;
     }

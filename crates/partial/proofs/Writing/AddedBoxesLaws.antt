@@ -11,7 +11,7 @@ use lib.Dec.{eqb, lit<}
 use lib.ListN.{length, length-append}
 use Rattle.boxes.specs.Answer.{refused, given}
 use Rattle.boxes.specs.Framing.{Box, frontSize, boxed, boxesFrom}
-use Rattle.boxes.specs.Kinds.{pseg, pshd, ploc, pdat, is, those}
+use Rattle.boxes.specs.Kinds.{pseg, pdat, is, those}
 use Rattle.boxes.specs.declared.kinds.Kind.{Kind}
 use Rattle.boxes.proofs.HeaderLaws.{moved}
 use Rattle.boxes.proofs.ContainerLaws.{boxes-over}
@@ -19,14 +19,12 @@ use Rattle.boxes.proofs.BoxedLaws.{written, length-boxed, boxed-alone, boxed-th
 use Rattle.partial.specs.Sequences.{someOf}
 use Rattle.partial.specs.Heading.{Heading}
 use Rattle.partial.specs.Entries.{mayLie}
-use Rattle.partial.specs.Writing.{items, Addition, dataSize, dataRight, anyPresent, dataBox, addedBoxes, pshdBody, plocBody, added}
+use Rattle.partial.specs.Addition.{items, Addition, dataSize, dataRight, anyPresent}
+use Rattle.partial.specs.Append.{dataBox, addedBoxes, added, psegBody, psegPlace}
 use Rattle.partial.proofs.Meaning.SequenceLaws.{which, some-append}
 use Rattle.partial.proofs.Writing.GrownLaws.{data-length, data-last}
 use Rattle.partial.proofs.Writing.BoxesStandLaws.{moved-written}
-
--- the body of the new `pseg`
-abbrev pub segBody : Addition → List ℕ
-segBody a = boxed (pshd .code) (pshdBody a) ++ boxed (ploc .code) (plocBody (items (a .list)))
+use Rattle.partial.proofs.Reading.HeadingAppendLaws.{withBoxes}
 
 -- the box with the data, at a place, if there is one
 abbrev dataBoxes : Bool → ℕ → ℕ → List Box
@@ -66,54 +64,55 @@ module _ (bytes body : List ℕ) where
 
 pub boxes-crowded : (a : Addition) (left : ℕ) → left < addedBoxes a → length (added a) < 2 ^ 32 → boxesFrom (added a) (length (added a)) left 0 ≡ refused 6
 unfolding added dataBox addedBoxes
-boxes-crowded a left few fits = over-part (a .bytes) (segBody a) (anyPresent a) left few fits
+boxes-crowded a left few fits = over-part (a .bytes) (psegBody a) (anyPresent a) left few fits
 
-pub length-added : (a : Addition) → length (added a) ≡ length (dataBox a) + (frontSize + length (segBody a))
+pub length-added : (a : Addition) → length (added a) ≡ length (dataBox a) + (frontSize + length (psegBody a))
 unfolding added
-length-added a = rw (length-append (dataBox a) (boxed (pseg .code) (segBody a)), length-boxed (pseg .code) (segBody a))
+length-added a = rw (length-append (dataBox a) (boxed (pseg .code) (psegBody a)), length-boxed (pseg .code) (psegBody a))
 
 -- the boxes that append adds to a file of n bytes
 abbrev pub newBoxes : ℕ → Addition → List Box
-newBoxes n a = dataBoxes (anyPresent a) n (length (a .bytes)) ++ (written (n + length (dataBox a)) (pseg .code) (length (segBody a)) ∷ [])
+newBoxes n a = dataBoxes (anyPresent a) n (length (a .bytes)) ++ (written (psegPlace n a) (pseg .code) (length (psegBody a)) ∷ [])
 
 module _ (a : Addition) where
   abbrev pub addedList : List Box
-  addedList = dataBoxes (anyPresent a) 0 (length (a .bytes)) ++ (written (length (dataBox a)) (pseg .code) (length (segBody a)) ∷ [])
+  addedList = dataBoxes (anyPresent a) 0 (length (a .bytes)) ++ (written (length (dataBox a)) (pseg .code) (length (psegBody a)) ∷ [])
 
   pub boxes-added : (left : ℕ) → addedBoxes a ≤ left → length (added a) < 2 ^ 32
       → boxesFrom (added a) (length (added a)) left 0 ≡ given addedList
   unfolding added dataBox addedBoxes
-  boxes-added left room fits = boxes-part (a .bytes) (segBody a) (anyPresent a) left room fits
+  boxes-added left room fits = boxes-part (a .bytes) (psegBody a) (anyPresent a) left room fits
 
   pub added-moved : (n : ℕ) → map (moved n) addedList ≡ newBoxes n a
+  unfolding psegPlace dataBox
   added-moved n = go (anyPresent a)
     where
-      last-moved : moved n (written (length (dataBox a)) (pseg .code) (length (segBody a))) ≡ written (n + length (dataBox a)) (pseg .code) (length (segBody a))
-      last-moved = moved-written n (length (dataBox a)) (pseg .code) (length (segBody a))
+      last-moved : moved n (written (length (dataBox a)) (pseg .code) (length (psegBody a))) ≡ written (psegPlace n a) (pseg .code) (length (psegBody a))
+      last-moved = moved-written n (length (dataBox a)) (pseg .code) (length (psegBody a))
 
       first-moved : moved n (written 0 (pdat .code) (length (a .bytes))) ≡ written n (pdat .code) (length (a .bytes))
       first-moved = moved-written n 0 (pdat .code) (length (a .bytes)) ∙ rw add-zero
 
-      go : (there : Bool) → map (moved n) (dataBoxes there 0 (length (a .bytes)) ++ (written (length (dataBox a)) (pseg .code) (length (segBody a)) ∷ []))
-          ≡ dataBoxes there n (length (a .bytes)) ++ (written (n + length (dataBox a)) (pseg .code) (length (segBody a)) ∷ [])
+      go : (there : Bool) → map (moved n) (dataBoxes there 0 (length (a .bytes)) ++ (written (length (dataBox a)) (pseg .code) (length (psegBody a)) ∷ []))
+          ≡ dataBoxes there n (length (a .bytes)) ++ (written (psegPlace n a) (pseg .code) (length (psegBody a)) ∷ [])
       go true = ap₂ (λ (b c : Box). b ∷ c ∷ []) first-moved last-moved
       go false = ap (λ (c : Box). c ∷ []) last-moved
 
   -- of the kinds but `pdat` there is at most the `pseg`
   pub those-new : (n : ℕ) (k : Kind) → eqb (pdat .code) (k .code) ≡ false
-      → those k (newBoxes n a) ≡ those k (written (n + length (dataBox a)) (pseg .code) (length (segBody a)) ∷ [])
+      → those k (newBoxes n a) ≡ those k (written (psegPlace n a) (pseg .code) (length (psegBody a)) ∷ [])
   unfolding those is
   those-new n k other = go (anyPresent a)
     where
-      go : (there : Bool) → those k (dataBoxes there n (length (a .bytes)) ++ (written (n + length (dataBox a)) (pseg .code) (length (segBody a)) ∷ []))
-          ≡ those k (written (n + length (dataBox a)) (pseg .code) (length (segBody a)) ∷ [])
+      go : (there : Bool) → those k (dataBoxes there n (length (a .bytes)) ++ (written (psegPlace n a) (pseg .code) (length (psegBody a)) ∷ []))
+          ≡ those k (written (psegPlace n a) (pseg .code) (length (psegBody a)) ∷ [])
       go true = rw (those, other)
       go false = refl
 
 -- where a chunk may lie among the boxes before, it may with more boxes
-pub lie-longer : (h : Heading) (more : List Box) (place size : ℕ) → mayLie h place size ≡ true → mayLie (record { boxes = h .boxes ++ more; inner = h .inner }) place size ≡ true
+pub lie-longer : (h : Heading) (more : List Box) (state place size : ℕ) → mayLie h state place size ≡ true → mayLie (withBoxes h more) state place size ≡ true
 unfolding mayLie
-lie-longer h more place size lies = rw (some-append, lies)
+lie-longer h more state place size lies = rw (some-append, lies)
 
 -- the data is no longer than the box that holds it
 pub data-low : (a : Addition) → dataRight a ≡ true → dataSize (items (a .list)) ≤ length (dataBox a)
@@ -123,10 +122,10 @@ data-low a right =
 
 -- the data of a new segment may lie in the new `pdat`
 module _ (h : Heading) (n : ℕ) (a : Addition) (right : dataRight a ≡ true) where
-  pub lie-new : (place size : ℕ) → 0 < size → n + length (dataBox a) ≤ place + dataSize (items (a .list)) → place + size ≤ n + length (dataBox a)
-      → mayLie (record { boxes = h .boxes ++ newBoxes n a; inner = h .inner }) place size ≡ true
-  unfolding mayLie someOf is dataBox
-  lie-new place size some-size from to =
+  pub lie-new : (state place size : ℕ) → 0 < size → psegPlace n a ≤ place + dataSize (items (a .list)) → place + size ≤ psegPlace n a
+      → mayLie (withBoxes h (newBoxes n a)) state place size ≡ true
+  unfolding mayLie someOf is dataBox psegPlace
+  lie-new state place size some-size from to =
       let bytes = data-length a right in
       elim (which (anyPresent a)) [
         | inl e ↦

@@ -7,7 +7,7 @@ use native.Mathlib.Nat.{add-assoc, zero-add}
 use native.Mathlib.Numerals.{add-one}
 use native.Mathlib.Omega.{arith}
 use borrow.Author.Tests.{le-leb, leb-true, eq-eqb}
-use lib.Dec.{leb, eqb, lit<}
+use lib.Dec.{leb, eqb, lit<, T}
 use lib.ListN.{length, getD, drop, length-append}
 use lib.Seq.{take-at}
 use Rattle.boxes.specs.Answer.{given}
@@ -19,15 +19,16 @@ use Rattle.boxes.proofs.NumberLaws.{length-bytesOf}
 use Rattle.boxes.proofs.BoxedLaws.{written, length-boxed}
 use Rattle.partial.specs.Limits.{fileLimit}
 use Rattle.partial.specs.Sequences.{someOf, allOf, stretch}
-use Rattle.partial.specs.Heading.{Heading, paff, boxAt, firstOf, ftypRight, brandsFrom, brands, brandRight, pfilRight, pfhdFormed, pfhdRight, text, url, mime, surlFormed, surlRight}
+use Rattle.partial.specs.Heading.{Heading, paff, boxAt, firstOf, ftypRight, brandsFrom, brands, brandRight, pfilRight, pfhdFormed}
+use Rattle.partial.specs.Heading.{pfhdRight, text, url, mime, surlFormed, surlRight}
 use Rattle.partial.specs.Meaning.{knownSize, agree}
 use Rattle.partial.specs.Reading.{segmentsFrom, segments, earlierSegments}
-use Rattle.partial.specs.Tables.{filled}
-use Rattle.partial.specs.Writing
-use Rattle.partial.specs.Writing.{versionAndFlags, beginning, isText, begun}
+use Rattle.partial.specs.Memory.{after, filled}
+use Rattle.partial.specs.Begin.{versionAndFlags, beginning, isText, begun}
 use Rattle.partial.specs.Runs.{lent, fileIn, sizeAfter, begin}
-use Rattle.partial.proofs.Meaning.SequenceLaws.{both}
-use Rattle.partial.proofs.Writing.StandsLaws.{Stands, stands-behind, stands-head, stands-tail, stands-left, stands-right, stands-number}
+use Rattle.partial.proofs.Meaning.SequenceLaws.{both, passes}
+use Rattle.partial.proofs.Writing.StandsLaws.{Stands, stands-behind, stands-head, stands-tail, stands-left, stands-right}
+use Rattle.partial.proofs.Writing.StandsLaws.{stands-number}
 use Rattle.partial.proofs.Writing.BoxesStandLaws.{twoBoxes, two-back, stands-two}
 use Rattle.partial.proofs.Reading.HeadingAppendLaws.{Headed, heading-of}
 
@@ -167,7 +168,7 @@ module _ (u m : List ℕ) where
 module _ (buffer u m : List ℕ) where
   pub begin-given : (n : ℕ) → begun buffer u m ≡ given n
       → (isText u ≡ true) × (isText m ≡ true) × (length (beginning u m) ≤ fileLimit) × (fileIn (begin buffer u m) ≡ beginning u m)
-  unfolding begun begin fileIn sizeAfter Writing.written filled
+  unfolding begun begin fileIn sizeAfter after filled
   begin-given n e =
       let whole : ℕ = length (beginning u m) in
       let (plain, e1) = held 34 (isText u && isText m) _ e in
@@ -178,10 +179,18 @@ module _ (buffer u m : List ℕ) where
 
   pub begin-fits : isText u ≡ true → isText m ≡ true → length (beginning u m) ≤ fileLimit → length (beginning u m) ≤ length buffer
       → begin buffer u m ≡ lent (filled (beginning u m) buffer) (length (beginning u m))
-  unfolding begun begin sizeAfter Writing.written
+  unfolding begun begin sizeAfter after
   begin-fits plain-url plain-mime small room =
       let whole : ℕ = length (beginning u m) in
       rw (plain-url, plain-mime, le-leb whole fileLimit small, le-leb whole (length buffer) room)
+
+-- a beginning with two texts, within the limit and the buffer, is given its length
+pub begins : (buffer u m : List ℕ) → T (isText u) → T (isText m) → length (beginning u m) ≤ fileLimit → length (beginning u m) ≤ length buffer
+    → begun buffer u m ≡ given (length (beginning u m))
+unfolding begun
+begins buffer u m plain-url plain-mime small room =
+    let whole : ℕ = length (beginning u m) in
+    rw (passes (isText u) plain-url, passes (isText m) plain-mime, le-leb whole fileLimit small, le-leb whole (length buffer) room)
 
 -- one just begun serves nothing and has described length 0
 pub just-begun : (limit : ℕ) (buffer u m : List ℕ) (n : ℕ) → begun buffer u m ≡ given n → earlierSegments limit (fileIn (begin buffer u m)) ≡ given []

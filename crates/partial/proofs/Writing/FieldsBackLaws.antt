@@ -2,7 +2,6 @@
 use Prim.Native.Nat.{ℕ, _+_, _*_, _/_, _%_, _^_, _≤_, _<_}
 use mathlib.Core.Bool.{Bool, true, false}
 use mathlib.Core.List.{List, [], _∷_, _++_, map}
-use mathlib.Core.Logic.{inl, inr}
 use mathlib.Core.Path.{_≡_, refl}
 use native.Mathlib.Omega.{arith}
 use borrow.Author.Tests.{le-leb, lt-ltb, ltb-true}
@@ -14,11 +13,11 @@ use Rattle.boxes.specs.Framing.{Box}
 use Rattle.boxes.proofs.NumberLaws.{length-bytesOf}
 use Rattle.boxes.proofs.WidthLaws.{leastWidth-within, leastWidth-passes}
 use Rattle.partial.specs.Sequences.{allOf, sum}
-use Rattle.partial.specs.Segments.{present}
 use Rattle.partial.specs.Entries.{Ploc, plocHead}
 use Rattle.partial.specs.Reading.{offsetWidth, pshdFields}
-use Rattle.partial.specs.Writing.{versionAndFlags, Item, Addition, flagsFor, dataSize, offsetOf, offsets, lengthSize, offsetSize, entryBytes, plocBody, versionFor, pshdBody}
-use Rattle.partial.proofs.Meaning.SequenceLaws.{which}
+use Rattle.partial.specs.Begin.{versionAndFlags}
+use Rattle.partial.specs.Addition.{Addition, flagsFor}
+use Rattle.partial.specs.Append.{lengthSize, offsetSize, entryBytes, plocBody, versionFor, pshdBody, Placed}
 use Rattle.partial.proofs.Writing.StandsLaws.{Stands, stands-byte, stands-tail, stands-left, stands-right, stands-number}
 
 -- ---- `pshd`
@@ -67,37 +66,37 @@ fields-back g b a stands low time =
 -- ---- `ploc`
 
 -- what is read from the head of a `ploc` with such a body
-abbrev pub plocOf : Box → List Item → Ploc
-plocOf b is = record { lengthSize = lengthSize is; offsetSize = offsetSize is; count = length is; first = b .body + 9; end = b .end }
+abbrev pub plocOf : Box → List Placed → Ploc
+plocOf b ps = record { lengthSize = lengthSize ps; offsetSize = offsetSize ps; count = length ps; first = b .body + 9; end = b .end }
 
-length-ploc : (is : List Item) → length (plocBody is) ≡ 9 + length (entryBytes (lengthSize is) (offsetSize is) is)
+length-ploc : (ps : List Placed) → length (plocBody ps) ≡ 9 + length (entryBytes (lengthSize ps) (offsetSize ps) ps)
 unfolding plocBody
-length-ploc is = simp (length-append, length-bytesOf) (omega arith)
+length-ploc ps = simp (length-append, length-bytesOf) (omega arith)
 
-width-length : (is : List Item) → lengthSize is ≤ 8
+width-length : (ps : List Placed) → lengthSize ps ≤ 8
 unfolding lengthSize
-width-length is = leastWidth-within (λ w. allOf (λ i. holds w (i .size)) is)
+width-length ps = leastWidth-within (λ w. allOf (λ p. holds w (p .size)) ps)
 
-width-offset : (is : List Item) → offsetSize is ≤ 8
+width-offset : (ps : List Placed) → offsetSize ps ≤ 8
 unfolding offsetSize
-width-offset is = leastWidth-within (λ w. allOf (holdsOffset w) (offsets is))
+width-offset ps = leastWidth-within (λ w. allOf (λ p. holdsOffset w (p .offset)) ps)
 
-pub head-back : (g : List ℕ) (b : Box) (is : List Item) → Stands g (b .body) (plocBody is) → b .body + length (plocBody is) ≡ b .end → length is < 2 ^ 16
-    → (plocHead g b ≡ given (plocOf b is))
-    × Stands g (b .body + 9) (entryBytes (lengthSize is) (offsetSize is) is)
-    × (b .body + 9 + length (entryBytes (lengthSize is) (offsetSize is) is) ≡ b .end)
+pub head-back : (g : List ℕ) (b : Box) (ps : List Placed) → Stands g (b .body) (plocBody ps) → b .body + length (plocBody ps) ≡ b .end → length ps < 2 ^ 16
+    → (plocHead g b ≡ given (plocOf b ps))
+    × Stands g (b .body + 9) (entryBytes (lengthSize ps) (offsetSize ps) ps)
+    × (b .body + 9 + length (entryBytes (lengthSize ps) (offsetSize ps) ps) ≡ b .end)
 unfolding plocHead plocBody
-head-back g b is stands ends few =
-    let l = lengthSize is in
-    let o = offsetSize is in
+head-back g b ps stands ends few =
+    let l = lengthSize ps in
+    let o = offsetSize ps in
     let at = b .body in
     let widths : ℕ = l * 16 + o in
-    let entries = entryBytes l o is in
-    let count = bytesOf 2 (length is) in
+    let entries = entryBytes l o ps in
+    let count = bytesOf 2 (length ps) in
     let index = bytesOf 2 0 in
-    let long = length-ploc is in
-    let wide-length = width-length is in
-    let wide-offset = width-offset is in
+    let long = length-ploc ps in
+    let wide-length = width-length ps in
+    let wide-offset = width-offset ps in
     let high : widths / 16 ≡ l = omega arith in
     let lower : widths % 16 ≡ o = omega arith in
     let after-flags : Stands g (at + 4) (widths ∷ (index ++ (count ++ entries))) = rw length-bytesOf at (stands-right g at versionAndFlags (widths ∷ (index ++ (count ++ entries))) stands) in
@@ -115,31 +114,23 @@ head-back g b is stands ends few =
         le-leb l 8 wide-length,
         le-leb o 8 wide-offset,
         stands-number g (at + 5) 2 0 (lit< tt) (stands-left g (at + 5) index (count ++ entries) after-widths),
-        stands-number g (at + 7) 2 (length is) few (stands-left g (at + 7) count entries after-index),
+        stands-number g (at + 7) 2 (length ps) few (stands-left g (at + 7) count entries after-index),
       ),
       rw nine at (stands-right g (at + 7) count entries after-index),
       omega arith,
     )
 
--- eight bytes hold every size that has its end below 2 to the 64, and every offset of a file's data
-pub sizes-eight : (is : List Item) → sum (map (λ i. i .size) is) < 2 ^ 64 → allOf (λ i. holds 8 (i .size)) is ≡ true
+-- eight bytes hold every size that has its end below 2 to the 64
+pub sizes-eight : (ps : List Placed) → sum (map (λ p. p .size) ps) < 2 ^ 64 → allOf (λ p. holds 8 (p .size)) ps ≡ true
 unfolding allOf sum holds
 sizes-eight [] h = refl
-sizes-eight (i ∷ is) h = rw (lt-ltb (i .size) (256 ^ 8) (omega arith)) (sizes-eight is (omega arith))
+sizes-eight (p ∷ ps) h = rw (lt-ltb (p .size) (256 ^ 8) (omega arith)) (sizes-eight ps (omega arith))
 
-offsets-eight : (is : List Item) → dataSize is < 2 ^ 63 → allOf (holdsOffset 8) (offsets is) ≡ true
-unfolding allOf offsets holdsOffset offsetOf dataSize sum
-offsets-eight [] h = refl
-offsets-eight (i ∷ is) h =
-    elim (which (present (i .state))) [
-      | inl e ↦ rw (offsets, e, allOf, le-leb (2 * dataSize (i ∷ is)) (256 ^ 8) (omega arith)) (offsets-eight is (omega arith))
-      | inr e ↦ rw (offsets, e) (offsets-eight is (omega arith))
-    ]
-
-pub sizes-held : (is : List Item) → allOf (λ i. holds 8 (i .size)) is ≡ true → allOf (λ i. holds (lengthSize is) (i .size)) is ≡ true
+-- what eight bytes hold, the widths that are written hold
+pub sizes-held : (ps : List Placed) → allOf (λ p. holds 8 (p .size)) ps ≡ true → allOf (λ p. holds (lengthSize ps) (p .size)) ps ≡ true
 unfolding lengthSize
-sizes-held is h = leastWidth-passes (λ w. allOf (λ i. holds w (i .size)) is) h
+sizes-held ps h = leastWidth-passes (λ w. allOf (λ p. holds w (p .size)) ps) h
 
-pub offsets-held : (is : List Item) → dataSize is < 2 ^ 63 → allOf (holdsOffset (offsetSize is)) (offsets is) ≡ true
+pub offsets-held : (ps : List Placed) → allOf (λ p. holdsOffset 8 (p .offset)) ps ≡ true → allOf (λ p. holdsOffset (offsetSize ps) (p .offset)) ps ≡ true
 unfolding offsetSize
-offsets-held is h = leastWidth-passes (λ w. allOf (holdsOffset w) (offsets is)) (offsets-eight is h)
+offsets-held ps h = leastWidth-passes (λ w. allOf (λ p. holdsOffset w (p .offset)) ps) h

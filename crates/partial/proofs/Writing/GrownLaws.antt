@@ -4,11 +4,11 @@ use Prim.Native.Nat.{ℕ, _+_, _-_, _≤_, _<_}
 use mathlib.Core.Bool.{true, false, _&&_, true≢false}
 use mathlib.Core.List.{List, [], _∷_, _++_, append-assoc, append-nil}
 use mathlib.Core.Logic.{inl, inr}
-use mathlib.Core.Option.{some, Option·getD}
+use mathlib.Core.Option.{some}
 use mathlib.Core.Path.{_≡_, refl, sym, ap, _∙_}
 use native.Mathlib.Nat.{add-zero}
 use native.Mathlib.Omega.{arith}
-use borrow.Author.Tests.{eqb-true, le-leb}
+use borrow.Author.Tests.{eqb-true}
 use lib.Dec.{eqb}
 use lib.ListN.{length, getD, drop, length-append, drop-of-length-le, List·getD-append}
 use lib.Seq.{getD-drop, getD-append-add}
@@ -17,14 +17,16 @@ use Rattle.boxes.specs.Kinds.{pdat}
 use Rattle.partial.specs.Sequences.{someOf, sum, within}
 use Rattle.partial.specs.Segments.{Segment, good, present, chunksOf}
 use Rattle.partial.specs.Heading.{Heading}
-use Rattle.partial.specs.Entries.{moved}
 use Rattle.partial.specs.Meaning.{agree, covers, supplied, placeOfByte, served}
-use Rattle.partial.specs.Writing.{Item, items, Addition, dataSize, dataRight, anyPresent, dataBox, offsetOf, newChunks, newSegment, added}
-use Rattle.partial.specs.Demands.{carriedBy, carried, Grown}
+use Rattle.partial.specs.Addition.{Item, items, Addition, dataSize, dataRight, anyPresent}
+use Rattle.partial.specs.Append.{dataBox, newChunks, newSegment, added, placed, psegPlace}
+use Rattle.partial.specs.Carried.{carriedBy, carried}
+use Rattle.partial.specs.Demands.{Grown}
 use Rattle.partial.proofs.Meaning.SequenceLaws.{which, both, within-true}
 use Rattle.partial.proofs.Meaning.SupplyLaws.{byteFrom, served-from, served-append}
 use Rattle.partial.proofs.Meaning.DescribedLaws.{never-shorter}
 use Rattle.partial.proofs.Meaning.MappedLaws.{Accepted, place-inside}
+use Rattle.partial.proofs.Writing.PlacedLaws.{place-present}
 
 pub data-cons : (i : Item) (is : List Item) → dataSize (i ∷ is) ≡ dataSize (i ∷ []) + dataSize is
 unfolding dataSize sum
@@ -38,18 +40,12 @@ data-good : (i : Item) → i .state ≡ good → dataSize (i ∷ []) ≡ i .size
 unfolding dataSize sum
 data-good i e = rw (good-present e) (add-zero (i .size))
 
--- where the data of a present item starts
-pub place-present : (at : ℕ) (i : Item) (is : List Item) → present (i .state) ≡ true → dataSize (i ∷ is) ≤ at
-    → (elim (present (i .state)) [ true ↦ Option·getD (moved at (offsetOf (i ∷ is))) 0 | false ↦ 0 ]) ≡ at - dataSize (i ∷ is)
-unfolding moved offsetOf
-place-present at i is e low = rw e (rw (moved, le-leb (dataSize (i ∷ is)) at low))
-
 module _ (g : List ℕ) (at p : ℕ) where
   -- where the data of the items stands before `at`, their chunks supply what they carry
   carried-byte : (start : ℕ) (is : List Item) (bytes : List ℕ) → dataSize is ≤ at
       → ((j : ℕ) → j < dataSize is → getD g (at - dataSize is + j) 0 ≡ getD bytes j 0)
-      → byteFrom g (newChunks at start is) p ≡ carriedBy start is bytes p
-  unfolding newChunks carriedBy byteFrom covers
+      → byteFrom g (newChunks at start (placed is)) p ≡ carriedBy start is bytes p
+  unfolding newChunks placed carriedBy byteFrom covers
   carried-byte start [] bytes low stand = refl
   carried-byte start (i ∷ is) bytes low stand =
       let first : ℕ = dataSize (i ∷ []) in
@@ -59,7 +55,7 @@ module _ (g : List ℕ) (at p : ℕ) where
             let (is-good, covered) = both (eqb (i .state) good) (within start (i .size) p) e in
             let state = eqb-true _ _ is-good in
             let (from, to) = within-true _ _ _ covered in
-            rw (byteFrom, carriedBy, e) (rw (place-present at i is (good-present state) low) (ap some (stand (p - start) (omega (arith, data-good i state)))))
+            rw (byteFrom, carriedBy, e) (rw (place-present at i is (good-present state) low (omega arith)) (ap some (stand (p - start) (omega (arith, data-good i state)))))
         | inr e ↦
             rw (byteFrom, carriedBy, e)
             (carried-byte (start + i .size) is (drop first bytes) (omega arith)
@@ -92,8 +88,8 @@ module _ (a : Addition) (right : dataRight a ≡ true) where
       ]
 
   -- the new segment supplies what the addition carries
-  new-served : (f rest : List ℕ) (p : ℕ) → served (f ++ (dataBox a ++ rest)) (newSegment (length f) a ∷ []) p ≡ carried a p
-  unfolding chunksOf newSegment carried
+  new-served : (f rest : List ℕ) (p : ℕ) → served (f ++ (dataBox a ++ rest)) (newSegment (psegPlace (length f) a) a ∷ []) p ≡ carried a p
+  unfolding chunksOf newSegment psegPlace carried
   new-served f rest p =
       let size = data-length in
       let (head, box) = data-last in
@@ -116,13 +112,13 @@ served-kept f more ss p inside =
 
 -- after an addition to an accepted file
 pub grown : (f : List ℕ) (h : Heading) (ss : List Segment) (a : Addition) → Accepted f h ss → dataRight a ≡ true
-    → agree (ss ++ (newSegment (length f) a ∷ [])) ≡ true
-    → Grown f (f ++ added a) ss (ss ++ (newSegment (length f) a ∷ [])) a
+    → agree (ss ++ (newSegment (psegPlace (length f) a) a ∷ [])) ≡ true
+    → Grown f (f ++ added a) ss (ss ++ (newSegment (psegPlace (length f) a) a ∷ [])) a
 unfolding added
 grown f h ss a ok right agreed =
     record {
       kept = λ p.
-          served-append _ ss (newSegment (length f) a ∷ []) p
+          served-append _ ss (newSegment (psegPlace (length f) a) a ∷ []) p
           ∙ rw (served-kept f (added a) ss p (place-inside f h ss ok p), new-served a right f);
-      noShorter = never-shorter ss (newSegment (length f) a ∷ []) agreed;
+      noShorter = never-shorter ss (newSegment (psegPlace (length f) a) a ∷ []) agreed;
     }

@@ -2,7 +2,7 @@
 use Prim.Native.Nat.{ℕ, suc, _+_, _-_, _^_, _≤_, _<_}
 use mathlib.Core.Bool.{Bool, true, false}
 use mathlib.Core.List.{List, [], _∷_, _++_, map}
-use mathlib.Core.Path.{_≡_, refl, ap}
+use mathlib.Core.Path.{_≡_, refl, ap, _∙_}
 use native.Mathlib.Nat.{add-assoc}
 use native.Mathlib.Decide.{decLe}
 use native.Mathlib.Omega.{arith}
@@ -20,75 +20,77 @@ use Rattle.partial.specs.Segments.{Segment, endOf, chunksOf}
 use Rattle.partial.specs.Heading.{Heading, boxAt, firstOf}
 use Rattle.partial.specs.Entries.{mayLie}
 use Rattle.partial.specs.Reading.{pshdRight, segment}
-use Rattle.partial.specs.Writing.{Item, items, Addition, flagsFor, dataSize, dataRight, dataBox, plocBody, pshdBody, added, newChunks, newSegment}
+use Rattle.partial.specs.Addition.{items, Addition, flagsFor, dataSize, dataRight}
+use Rattle.partial.specs.Append.{dataBox, plocBody, pshdBody, added, newChunks, newSegment, Placed, placed, psegBody, psegPlace}
+use Rattle.partial.proofs.Writing.PlacedLaws.{formed, sizes-placed, length-placed, placed-tell, offsets-eight}
 use Rattle.partial.proofs.Writing.StandsLaws.{Stands, stands-behind, stands-right}
-use Rattle.partial.proofs.Writing.EntriesBackLaws.{formed, chunks-back}
+use Rattle.partial.proofs.Writing.EntriesBackLaws.{chunks-back}
 use Rattle.partial.proofs.Writing.FieldsBackLaws.{fields-back, plocOf, head-back, sizes-held, offsets-held}
-use Rattle.partial.proofs.Writing.AddedBoxesLaws.{segBody, data-low}
+use Rattle.partial.proofs.Writing.AddedBoxesLaws.{data-low}
 use Rattle.partial.proofs.Writing.BoxesStandLaws.{stands-body, twoBoxes, two-back, stands-two}
 
 -- the new chunks are as many as the items, and as long
-pub length-new : (at start : ℕ) (is : List Item) → length (newChunks at start is) ≡ length is
+length-chunks : (at start : ℕ) (ps : List Placed) → length (newChunks at start ps) ≡ length ps
 unfolding newChunks
-length-new at start [] = refl
-length-new at start (i ∷ is) = ap suc (length-new at (start + i .size) is)
+length-chunks at start [] = refl
+length-chunks at start (p ∷ ps) = ap suc (length-chunks at (start + p .size) ps)
 
-pub sizes-new : (at start : ℕ) (is : List Item) → map (λ c. c .size) (newChunks at start is) ≡ map (λ i. i .size) is
+sizes-chunks : (at start : ℕ) (ps : List Placed) → map (λ c. c .size) (newChunks at start ps) ≡ map (λ p. p .size) ps
 unfolding newChunks
-sizes-new at start [] = refl
-sizes-new at start (i ∷ is) = ap (λ (ns : List ℕ). i .size ∷ ns) (sizes-new at (start + i .size) is)
+sizes-chunks at start [] = refl
+sizes-chunks at start (p ∷ ps) = ap (λ (ns : List ℕ). p .size ∷ ns) (sizes-chunks at (start + p .size) ps)
+
+module _ (at : ℕ) (a : Addition) where
+  pub length-new : length (newSegment at a .chunks) ≡ length (items (a .list))
+  unfolding newSegment
+  length-new = length-chunks at (a .sourceOffset) (placed (items (a .list))) ∙ length-placed (items (a .list))
+
+  pub end-new : endOf (newSegment at a) ≡ a .sourceOffset + sum (map (λ i. i .size) (items (a .list)))
+  unfolding newSegment endOf
+  end-new = rw (sizes-chunks at (a .sourceOffset) (placed (items (a .list))), sizes-placed (items (a .list)))
 
 -- what the fields of an addition have to be for its bytes to say them
 pub record Sayable (a : Addition) : Type 0 where
   pub offset : a .sourceOffset < 2 ^ 64
   pub time : a .repairTime < 2 ^ 64
-  pub sizes : allOf (λ i. holds 8 (i .size)) (items (a .list)) ≡ true
+  pub sizes : allOf (λ p. holds 8 (p .size)) (placed (items (a .list))) ≡ true
   pub count : length (items (a .list)) < 2 ^ 16
 
 -- the segment of a `pseg` box at a place, whose body stands there and before which its data lies
 module _ (limit : ℕ) (g : List ℕ) (h : Heading) (before : List Segment) (a : Addition) (at : ℕ) where
-  abbrev newBox : Box
-  newBox = written at (pseg .code) (length (segBody a))
-
   abbrev inners : List Box
-  inners = twoBoxes g (at + frontSize) (pshd .code) (ploc .code) (pshdBody a) (plocBody (items (a .list)))
-
-  abbrev segmentAt : Segment
-  segmentAt =
-      record {
-        place = at;
-        sourceOffset = a .sourceOffset;
-        flags = flagsFor (a .last);
-        repairTime = a .repairTime;
-        headerPlace = at + frontSize + frontSize;
-        headerLength = length (pshdBody a);
-        chunks = newChunks at (a .sourceOffset) (items (a .list));
-      }
+  inners = twoBoxes g (at + frontSize) (pshd .code) (ploc .code) (pshdBody a) (plocBody (placed (items (a .list))))
 
   segment-at : Sayable a
       → allOf formed (items (a .list)) ≡ true
-      → length (segBody a) < 2 ^ 32
-      → Stands g (at + frontSize) (segBody a)
+      → length (psegBody a) < 2 ^ 32
+      → Stands g (at + frontSize) (psegBody a)
       → dataSize (items (a .list)) ≤ at
       → dataSize (items (a .list)) < 2 ^ 63
-      → ((place size : ℕ) → 0 < size → at ≤ place + dataSize (items (a .list)) → place + size ≤ at → mayLie h place size ≡ true)
-      → segment limit g h before newBox
-      ≡ (hold 22 (leb (length (chunksOf before) + length (items (a .list))) chunkLimit)
-      >>= λ _. hold 23 (leb (a .sourceOffset + sum (map (λ i. i .size) (items (a .list)))) limit) >>= λ _. given segmentAt)
-  unfolding segment pshdRight right keeps those is firstOf boxAt
+      → ((state place size : ℕ) → 0 < size → at ≤ place + dataSize (items (a .list)) → place + size ≤ at → mayLie h state place size ≡ true)
+      → segment limit g h before (written at (pseg .code) (length (psegBody a)))
+      ≡ (hold 22 (leb (length (chunksOf before) + length (newSegment at a .chunks)) chunkLimit)
+      >>= λ _. hold 23 (leb (endOf (newSegment at a)) limit) >>= λ _. given (newSegment at a))
+  unfolding segment pshdRight right keeps those is firstOf boxAt newSegment psegBody
   segment-at says listed small stands data-low data-small lie =
       let list = items (a .list) in
+      let ps = placed list in
       let here : ℕ = at + frontSize in
       let second : ℕ = here + (frontSize + length (pshdBody a)) in
-      let total : ℕ = a .sourceOffset + sum (map (λ i. i .size) list) in
-      let (stands-fields, stands-ploc) = stands-two g here (pshd .code) (ploc .code) (pshdBody a) (plocBody list) stands in
+      let total : ℕ = a .sourceOffset + sum (map (λ p. p .size) ps) in
+      let (stands-fields, stands-ploc) = stands-two g here (pshd .code) (ploc .code) (pshdBody a) (plocBody ps) stands in
       let fields = fields-back g (boxAt 0 inners) a stands-fields (says .offset) (says .time) in
-      let (head, stands-entries, ends) = head-back g (boxAt 1 inners) list stands-ploc (add-assoc second frontSize (length (plocBody list))) (says .count) in
+      let (head, stands-entries, ends) = head-back g (boxAt 1 inners) ps stands-ploc (add-assoc second frontSize (length (plocBody ps))) (rw length-placed (says .count)) in
       let whole : at + frontSize + frontSize + length (pshdBody a) ≡ at + frontSize + (frontSize + length (pshdBody a)) = omega arith in
-      let same-end : at + frontSize + length (segBody a) ≡ at + (frontSize + length (segBody a)) = omega arith in
-      let boxes = rw same-end at (two-back g here (pshd .code) (ploc .code) (pshdBody a) (plocBody list) (lit< tt) (lit< tt) stands small) in
+      let same-end : at + frontSize + length (psegBody a) ≡ at + (frontSize + length (psegBody a)) = omega arith in
+      let boxes = rw same-end at (two-back g here (pshd .code) (ploc .code) (pshdBody a) (plocBody ps) (lit< tt) (lit< tt) stands small) in
       let long : at + frontSize + (frontSize + length (pshdBody a)) - (at + frontSize + frontSize) ≡ length (pshdBody a) = omega arith in
-      elim (decLe (a .sourceOffset) limit) [
+      let many = length-new at a in
+      let end = end-new at a in
+      let sizes = sizes-placed list in
+      let count = length-placed list in
+      rw (many, end, ← sizes, ← count)
+      (elim (decLe (a .sourceOffset) limit) [
         | yes low ↦
             rw (
               boxes,
@@ -96,17 +98,17 @@ module _ (limit : ℕ) (g : List ℕ) (h : Heading) (before : List Segment) (a :
               eq-eqb _ _ whole,
               head,
               le-leb (a .sourceOffset) limit low,
-              chunks-back limit g h at (plocOf (boxAt 1 inners) list) list (second + frontSize + 9) (a .sourceOffset) stands-entries ends
-                  listed (sizes-held list (says .sizes)) (offsets-held list data-small) low data-low lie,
+              chunks-back limit g h at (plocOf (boxAt 1 inners) ps) ps (record { at = second + frontSize + 9; start = a .sourceOffset }) stands-entries ends
+                  (placed-tell h at list listed data-low lie) (sizes-held ps (says .sizes)) (offsets-held ps (offsets-eight list data-small)) low,
               long,
-            ) (both-tests (leb (length (chunksOf before) + length list) chunkLimit) (leb total limit))
+            ) (both-tests (leb (length (chunksOf before) + length ps) chunkLimit) (leb total limit))
         | no over ↦
             rw (boxes, fields, eq-eqb _ _ whole, head, lt-leb (a .sourceOffset) limit (omega arith), lt-leb total limit (omega arith))
-            (one-test (leb (length (chunksOf before) + length list) chunkLimit))
-      ]
+            (one-test (leb (length (chunksOf before) + length ps) chunkLimit))
+      ])
     where
       both-tests : (few low : Bool)
-          → (hold 22 few >>= λ _. hold 23 low >>= (λ _. given (newChunks at (a .sourceOffset) (items (a .list)))) >>= λ cs. given (record {
+          → (hold 22 few >>= λ _. hold 23 low >>= (λ _. given (newChunks at (a .sourceOffset) (placed (items (a .list))))) >>= λ cs. given (record {
             place = at;
             sourceOffset = a .sourceOffset;
             flags = flagsFor (a .last);
@@ -114,7 +116,7 @@ module _ (limit : ℕ) (g : List ℕ) (h : Heading) (before : List Segment) (a :
             headerPlace = at + frontSize + frontSize;
             headerLength = length (pshdBody a);
             chunks = cs;
-          })) ≡ (hold 22 few >>= λ _. hold 23 low >>= λ _. given segmentAt)
+          })) ≡ (hold 22 few >>= λ _. hold 23 low >>= λ _. given (newSegment at a))
       both-tests true true = refl
       both-tests true false = refl
       both-tests false low = refl
@@ -125,18 +127,21 @@ module _ (limit : ℕ) (g : List ℕ) (h : Heading) (before : List Segment) (a :
 -- the same of a file that an addition was put behind
 pub new-segment : (limit : ℕ) (f : List ℕ) (h : Heading) (before : List Segment) (a : Addition) → Sayable a
     → allOf formed (items (a .list)) ≡ true
-    → length (segBody a) < 2 ^ 32
+    → length (psegBody a) < 2 ^ 32
     → dataRight a ≡ true
     → dataSize (items (a .list)) < 2 ^ 63
-    → ((place size : ℕ) → 0 < size → length f + length (dataBox a) ≤ place + dataSize (items (a .list)) → place + size ≤ length f + length (dataBox a) → mayLie h place size ≡ true)
-    → segment limit (f ++ added a) h before (written (length f + length (dataBox a)) (pseg .code) (length (segBody a)))
-    ≡ (hold 22 (leb (length (chunksOf before) + length (newSegment (length f) a .chunks)) chunkLimit)
-    >>= λ _. hold 23 (leb (endOf (newSegment (length f) a)) limit) >>= λ _. given (newSegment (length f) a))
-unfolding added newSegment endOf
+    → ((state place size : ℕ)
+    → 0 < size
+    → psegPlace (length f) a ≤ place + dataSize (items (a .list))
+    → place + size ≤ psegPlace (length f) a
+    → mayLie h state place size ≡ true)
+    → segment limit (f ++ added a) h before (written (psegPlace (length f) a) (pseg .code) (length (psegBody a)))
+    ≡ (hold 22 (leb (length (chunksOf before) + length (newSegment (psegPlace (length f) a) a .chunks)) chunkLimit)
+    >>= λ _. hold 23 (leb (endOf (newSegment (psegPlace (length f) a) a)) limit) >>= λ _. given (newSegment (psegPlace (length f) a) a))
+unfolding added psegPlace
 new-segment limit f h before a says listed small right data-small lie =
     let at : ℕ = length f + length (dataBox a) in
     let g = f ++ added a in
-    let stands : Stands g at (boxed (pseg .code) (segBody a)) = stands-right g (length f) (dataBox a) (boxed (pseg .code) (segBody a)) (stands-behind f (added a)) in
-    let stands-seg = stands-body g at (pseg .code) (segBody a) stands in
-    rw (length-new at (a .sourceOffset) (items (a .list)), sizes-new at (a .sourceOffset) (items (a .list)))
-    (segment-at limit g h before a at says listed small stands-seg (omega (arith, data-low a right)) data-small lie)
+    let stands : Stands g at (boxed (pseg .code) (psegBody a)) = stands-right g (length f) (dataBox a) (boxed (pseg .code) (psegBody a)) (stands-behind f (added a)) in
+    let stands-seg = stands-body g at (pseg .code) (psegBody a) stands in
+    segment-at limit g h before a at says listed small stands-seg (omega (arith, data-low a right)) data-small lie

@@ -1,7 +1,7 @@
 -- A segment that append adds reads back: the longer file has the segments of the file before and then the new one.
 use Prim.Native.Nat.{ℕ, _+_, _-_, _%_, _^_, _≤_, _<_}
 use mathlib.Core.Bool.{Bool, true, false}
-use mathlib.Core.List.{List, [], _∷_, _++_}
+use mathlib.Core.List.{List, [], _∷_, _++_, map}
 use mathlib.Core.Path.{_≡_, refl, sym, ap, _∙_}
 use native.Mathlib.Nat.{add-zero}
 use native.Mathlib.Decide.{decLe}
@@ -18,22 +18,23 @@ use Rattle.boxes.proofs.ContainerLaws.{fills, boxes-appended}
 use Rattle.boxes.proofs.KindLaws.{those-append}
 use Rattle.boxes.proofs.BoxedLaws.{written}
 use Rattle.partial.specs.Limits.{fileLimit, segmentLimit, chunkLimit}
-use Rattle.partial.specs.Sequences.{allOf}
+use Rattle.partial.specs.Sequences.{allOf, sum}
 use Rattle.partial.specs.Segments.{Segment, endOf, chunksOf}
-use Rattle.partial.specs.Heading.{Heading, heading}
+use Rattle.partial.specs.Heading.{Heading, heading, fileBoxes}
 use Rattle.partial.specs.Meaning.{agree}
-use Rattle.partial.specs.Reading.{segment, segmentsFrom, segments, reading, earlierSegments}
-use Rattle.partial.specs.Tables.{filled}
-use Rattle.partial.specs.Writing
-use Rattle.partial.specs.Writing.{items, Addition, listRight, dataRight, dataBox, addedBoxes, added, newSegment, appended, result}
+use Rattle.partial.specs.Reading.{segment, segmentsFrom, segments, reading, earlierSegments, admitted}
+use Rattle.partial.specs.Memory.{after, filled}
+use Rattle.partial.specs.Addition.{items, Addition, listRight, dataRight}
+use Rattle.partial.specs.Append.{addedBoxes, added, newSegment, appended, result, admission, psegPlace, psegBody, placed}
 use Rattle.partial.specs.Runs.{lent, fileIn, sizeAfter, append}
+use Rattle.partial.proofs.Writing.PlacedLaws.{formed, sizes-placed}
 use Rattle.partial.proofs.Meaning.SequenceLaws.{both}
-use Rattle.partial.proofs.Reading.HeadingAppendLaws.{headed, heading-of, headed-appended, lies, boxes-lie, those-all}
+use Rattle.partial.proofs.Reading.HeadingAppendLaws.{headed, heading-of, headed-appended, lies, boxes-lie, those-all, withBoxes}
 use Rattle.partial.proofs.Reading.KeptLaws.{segments-kept}
-use Rattle.partial.proofs.Writing.EntriesBackLaws.{formed}
 use Rattle.partial.proofs.Writing.FieldsBackLaws.{sizes-eight}
-use Rattle.partial.proofs.Writing.AddedBoxesLaws.{segBody, newBoxes, addedList, boxes-added, boxes-crowded, added-moved, those-new, data-low, length-added, lie-longer, lie-new}
-use Rattle.partial.proofs.Writing.NewSegmentLaws.{Sayable, length-new, sizes-new, new-segment}
+use Rattle.partial.proofs.Writing.AddedBoxesLaws.{newBoxes, addedList, boxes-added, boxes-crowded, added-moved, those-new, data-low}
+use Rattle.partial.proofs.Writing.AddedBoxesLaws.{length-added, lie-longer, lie-new}
+use Rattle.partial.proofs.Writing.NewSegmentLaws.{Sayable, length-new, new-segment, end-new}
 
 -- a container has no more boxes than are allowed
 fills-within : (f : List ℕ) (bs : List Box) → boxesIn f 0 (length f) ≡ given bs → length bs ≤ boxLimit
@@ -65,15 +66,55 @@ pub record Offered (limit : ℕ) (f : List ℕ) (h : Heading) (ss : List Segment
   pub list : listRight (a .list) ≡ true
   pub carried : dataRight a ≡ true
 
--- what append's other tests say of an addition that it accepts
+-- and one that is admitted
 pub record Taken (limit : ℕ) (f : List ℕ) (h : Heading) (ss : List Segment) (a : Addition) : Type 0 where
   pub offered : Offered limit f h ss a
-  pub small : length f + length (added a) ≤ fileLimit
+  pub admits : admission limit h ss (length f) a ≡ given (ss ++ (newSegment (psegPlace (length f) a) a ∷ []))
+
+-- what admission tests
+pub record Admits (limit : ℕ) (h : Heading) (ss : List Segment) (n : ℕ) (a : Addition) : Type 0 where
+  pub small : n + length (added a) ≤ fileLimit
   pub boxes : length (h .boxes) + addedBoxes a ≤ boxLimit
   pub few : length ss + 1 ≤ segmentLimit
-  pub chunks : length (chunksOf ss) + length (newSegment (length f) a .chunks) ≤ chunkLimit
-  pub low : endOf (newSegment (length f) a) ≤ limit
-  pub agreed : agree (ss ++ (newSegment (length f) a ∷ [])) ≡ true
+  pub chunks : length (chunksOf ss) + length (items (a .list)) ≤ chunkLimit
+  pub low : a .sourceOffset + sum (map (λ i. i .size) (items (a .list))) ≤ limit
+  pub agreed : agree (ss ++ (newSegment (psegPlace n a) a ∷ [])) ≡ true
+
+module _ (limit : ℕ) (h : Heading) (ss : List Segment) (n : ℕ) (a : Addition) where
+  pub admits : {ts : List Segment} → admission limit h ss n a ≡ given ts → Admits limit h ss n a × (ts ≡ ss ++ (newSegment (psegPlace n a) a ∷ []))
+  unfolding admission admitted
+  admits e =
+      let new : Segment = newSegment (psegPlace n a) a in
+      let (small, e6) = held 1 (leb (n + length (added a)) fileLimit) _ e in
+      let (boxes, e7) = held 6 (leb (length (h .boxes) + addedBoxes a) boxLimit) _ e6 in
+      let (few, e8) = held 13 (leb (length ss + 1) segmentLimit) _ e7 in
+      let (chunks, e9) = held 22 (leb (length (chunksOf ss) + length (new .chunks)) chunkLimit) _ e8 in
+      let (low, e10) = held 23 (leb (endOf new) limit) _ e9 in
+      let (agreed, e11) = held 25 (agree (ss ++ (new ∷ []))) _ e10 in (
+        record {
+          small = leb-true (n + length (added a)) fileLimit small;
+          boxes = leb-true (length (h .boxes) + addedBoxes a) boxLimit boxes;
+          few = leb-true (length ss + 1) segmentLimit few;
+          chunks = rw (length-new (psegPlace n a) a) at (leb-true (length (chunksOf ss) + length (new .chunks)) chunkLimit chunks);
+          low = rw (end-new (psegPlace n a) a) at (leb-true (endOf new) limit low);
+          agreed = agreed;
+        },
+        sym (given-same e11),
+      )
+
+  pub admission-of : Admits limit h ss n a → admission limit h ss n a ≡ given (ss ++ (newSegment (psegPlace n a) a ∷ []))
+  unfolding admission admitted
+  admission-of t =
+      rw (
+        le-leb (n + length (added a)) fileLimit (t .small),
+        le-leb (length (h .boxes) + addedBoxes a) boxLimit (t .boxes),
+        le-leb (length ss + 1) segmentLimit (t .few),
+        length-new (psegPlace n a) a,
+        le-leb (length (chunksOf ss) + length (items (a .list))) chunkLimit (t .chunks),
+        end-new (psegPlace n a) a,
+        le-leb (a .sourceOffset + sum (map (λ i. i .size) (items (a .list)))) limit (t .low),
+        t .agreed,
+      )
 
 pub taken : (limit : ℕ) (buffer : List ℕ) (n : ℕ) (a : Addition) (size : ℕ) (ss : List Segment) → earlierSegments limit (take n buffer) ≡ given ss
     → appended limit buffer n a ≡ given size
@@ -81,7 +122,6 @@ pub taken : (limit : ℕ) (buffer : List ℕ) (n : ℕ) (a : Addition) (size : �
 unfolding appended earlierSegments
 taken limit buffer n a size ss before e =
     let f : List ℕ = take n buffer in
-    let new : Segment = newSegment n a in
     let (lent-enough, e1) = held 30 (leb n (length buffer)) _ e in
     let (h, head, e2) = both-given (heading f) _ e1 in
     let (ts, earlier, e3) = both-given (segments limit f h) _ e2 in
@@ -89,26 +129,16 @@ taken limit buffer n a size ss before e =
     let same : ts ≡ ss = given-same (sym earlier ∙ again) in
     let (list, e4) = held 31 (listRight (a .list)) _ e3 in
     let (carried, e5) = held 32 (dataRight a) _ e4 in
-    let (small, e6) = held 1 (leb (n + length (added a)) fileLimit) _ e5 in
-    let (boxes, e7) = held 6 (leb (length (h .boxes) + addedBoxes a) boxLimit) _ e6 in
-    let (few, e8) = held 13 (leb (length ts + 1) segmentLimit) _ e7 in
-    let (chunks, e9) = held 22 (leb (length (chunksOf ts) + length (new .chunks)) chunkLimit) _ e8 in
-    let (low, e10) = held 23 (leb (endOf new) limit) _ e9 in
-    let (agreed, e11) = held 25 (agree (ts ++ (new ∷ []))) _ e10 in
-    let (room, e12) = held 33 (leb (n + length (added a)) (length buffer)) _ e11 in
+    let (us, admitted-there, e6) = both-given (admission limit h ts n a) _ e5 in
+    let (room, e7) = held 33 (leb (n + length (added a)) (length buffer)) _ e6 in
     let long : length f ≡ n = length-take-le n buffer (leb-true n (length buffer) lent-enough) in (
       h,
       record {
         offered = record { headed = head; before = again; list = list; carried = carried };
-        small = rw long (leb-true (n + length (added a)) fileLimit small);
-        boxes = leb-true (length (h .boxes) + addedBoxes a) boxLimit boxes;
-        few = rw (← same) (leb-true (length ts + 1) segmentLimit few);
-        chunks = rw (long, ← same) (leb-true (length (chunksOf ts) + length (new .chunks)) chunkLimit chunks);
-        low = rw long (leb-true (endOf new) limit low);
-        agreed = rw (long, ← same) agreed;
+        admits = rw (long, ← same) (admission-of limit h ts n a (admits limit h ts n a {ts = us} admitted-there .0));
       },
       sym long,
-      sym (given-same e12),
+      sym (given-same e7),
     )
 
 -- the segments of a file that append takes are those of its heading
@@ -132,10 +162,10 @@ taken-any limit buffer n a size e =
 module _ (limit : ℕ) (f : List ℕ) (h : Heading) (ss : List Segment) (a : Addition) where
   -- the heading of the longer file
   abbrev pub grownHeading : Heading
-  grownHeading = record { boxes = h .boxes ++ newBoxes (length f) a; inner = h .inner }
+  grownHeading = withBoxes h (newBoxes (length f) a)
 
   abbrev newBox : Box
-  newBox = written (length f + length (dataBox a)) (pseg .code) (length (segBody a))
+  newBox = written (psegPlace (length f) a) (pseg .code) (length (psegBody a))
 
   psegs-added : those pseg (grownHeading .boxes) ≡ those pseg (h .boxes) ++ (newBox ∷ [])
   unfolding those is
@@ -149,12 +179,12 @@ module _ (limit : ℕ) (f : List ℕ) (h : Heading) (ss : List Segment) (a : Add
 
   module _ (t : Offered limit f h ss a) where
     heading-large : fileLimit < length f + length (added a) → heading (f ++ added a) ≡ refused 1
-    unfolding heading
+    unfolding heading fileBoxes
     heading-large over = rw (lt-leb (length (f ++ added a)) fileLimit (rw length-append over))
 
     module _ (small : length f + length (added a) ≤ fileLimit) where
       heading-crowded : boxLimit < length (h .boxes) + addedBoxes a → heading (f ++ added a) ≡ refused 6
-      unfolding heading
+      unfolding heading fileBoxes
       heading-crowded over =
           let head = headed f h (t .headed) in
           let boxes = boxes-crowded a (boxLimit - length (h .boxes)) (omega (arith, fills-within f (h .boxes) (head .boxes))) (omega arith) in
@@ -171,14 +201,12 @@ module _ (limit : ℕ) (f : List ℕ) (h : Heading) (ss : List Segment) (a : Add
           (rw moved-there (those-new a (length f) ftyp refl)) (rw moved-there (those-new a (length f) pfil refl))))
 
       segments-added : Sayable a
-          → segments limit (f ++ added a) grownHeading
-          ≡ (hold 13 (leb (length ss + 1) segmentLimit) >>= λ _. hold 22 (leb (length (chunksOf ss) + length (newSegment (length f) a .chunks)) chunkLimit)
-          >>= λ _. hold 23 (leb (endOf (newSegment (length f) a)) limit) >>= λ _. hold 25 (agree (ss ++ (newSegment (length f) a ∷ [])))
-          >>= λ _. given (ss ++ (newSegment (length f) a ∷ [])))
-      unfolding segments segmentsFrom listRight
+          → segments limit (f ++ added a) grownHeading ≡ admitted limit ss (newSegment (psegPlace (length f) a) a)
+      unfolding segments segmentsFrom listRight admitted
       segments-added says =
           let n = length f in
           let list = items (a .list) in
+          let new : Segment = newSegment (psegPlace n a) a in
           let old : List Box = those pseg (h .boxes) in
           let (enough, e1) = held 13 (leb (length old) segmentLimit) _ (t .before) in
           let (us, read, e2) = both-given (segmentsFrom limit f h [] old) _ e1 in
@@ -190,27 +218,22 @@ module _ (limit : ℕ) (f : List ℕ) (h : Heading) (ss : List Segment) (a : Add
           let long : length (old ++ (newBox ∷ [])) ≡ length ss + 1 = length-append old (newBox ∷ []) ∙ omega arith in
           let size = length-added a in
           let listed = both (eqb (length (a .list) % 2) 0) (allOf formed list) (t .list) .1 in
-          let new = new-segment limit f grownHeading ss a says listed (omega arith) (t .carried) (omega (arith, data-low a (t .carried))) (lie-new h n a (t .carried)) in
-          rw (psegs-added, long, segments-on limit (f ++ added a) grownHeading old (newBox ∷ []) [] kept, new)
-          (go (leb (length ss + 1) segmentLimit) (leb (length (chunksOf ss) + length (newSegment n a .chunks)) chunkLimit) (leb (endOf (newSegment n a)) limit))
+          let read-new = new-segment limit f grownHeading ss a says listed (omega arith) (t .carried) (omega (arith, data-low a (t .carried))) (lie-new h n a (t .carried)) in
+          rw (psegs-added, long, segments-on limit (f ++ added a) grownHeading old (newBox ∷ []) [] kept, read-new)
+          (go (leb (length ss + 1) segmentLimit) (leb (length (chunksOf ss) + length (new .chunks)) chunkLimit) (leb (endOf new) limit))
         where
           go : (few chunks low : Bool)
               → (hold 13 few
-              >>= λ _. (hold 22 chunks >>= λ _. hold 23 low >>= λ _. given (newSegment (length f) a)) >>= (λ s. given (ss ++ (s ∷ []))) >>= λ ts. hold 25 (agree ts) >>= λ _. given ts)
-              ≡ (hold 13 few >>= λ _. hold 22 chunks >>= λ _. hold 23 low >>= λ _. hold 25 (agree (ss ++ (newSegment (length f) a ∷ []))) >>= λ _. given (ss ++ (newSegment (length f) a ∷ [])))
+              >>= λ _. (hold 22 chunks >>= λ _. hold 23 low >>= λ _. given (newSegment (psegPlace (length f) a) a)) >>= (λ s. given (ss ++ (s ∷ []))) >>= λ ts. hold 25 (agree ts) >>= λ _. given ts)
+              ≡ (hold 13 few >>= λ _. hold 22 chunks >>= λ _. hold 23 low >>= λ _. hold 25 (agree (ss ++ (newSegment (psegPlace (length f) a) a ∷ []))) >>= λ _. given (ss ++ (newSegment (psegPlace (length f) a) a ∷ [])))
           go true true true = refl
           go true true false = refl
           go true false low = refl
           go false chunks low = refl
 
     -- reading the longer file: the refusals that the result would have, in their order, or its segments
-    pub reading-result : Sayable a
-        → reading limit (f ++ added a)
-        ≡ (hold 1 (leb (length f + length (added a)) fileLimit) >>= λ _. hold 6 (leb (length (h .boxes) + addedBoxes a) boxLimit)
-        >>= λ _. hold 13 (leb (length ss + 1) segmentLimit) >>= λ _. hold 22 (leb (length (chunksOf ss) + length (newSegment (length f) a .chunks)) chunkLimit)
-        >>= λ _. hold 23 (leb (endOf (newSegment (length f) a)) limit) >>= λ _. hold 25 (agree (ss ++ (newSegment (length f) a ∷ [])))
-        >>= λ _. given (ss ++ (newSegment (length f) a ∷ [])))
-    unfolding reading
+    pub reading-result : Sayable a → reading limit (f ++ added a) ≡ admission limit h ss (length f) a
+    unfolding reading admission
     reading-result says =
         let size : ℕ = length f + length (added a) in
         let many : ℕ = length (h .boxes) + addedBoxes a in
@@ -225,32 +248,20 @@ module _ (limit : ℕ) (f : List ℕ) (h : Heading) (ss : List Segment) (a : Add
 
 -- an accepted addition can be said
 pub taken-sayable : (limit : ℕ) (f : List ℕ) (h : Heading) (ss : List Segment) (a : Addition) → Taken limit f h ss a → limit < 2 ^ 64 → a .repairTime < 2 ^ 64 → Sayable a
-unfolding endOf newSegment
 taken-sayable limit f h ss a t below time =
-    let list = items (a .list) in
-    let at : ℕ = length f + length (dataBox a) in
-    let low = rw (sizes-new at (a .sourceOffset) list) at (t .low) in
-    let few = rw (length-new at (a .sourceOffset) list) at (t .chunks) in
-    record { offset = omega arith; time = time; sizes = sizes-eight list (omega arith); count = omega arith }
+    let (ok, same) = admits limit h ss (length f) a (t .admits) in
+    let sizes = sizes-placed (items (a .list)) in
+    record { offset = omega arith; time = time; sizes = sizes-eight (placed (items (a .list))) (rw sizes-placed (omega arith)); count = omega arith }
 
 pub reading-added : (limit : ℕ) (f : List ℕ) (h : Heading) (ss : List Segment) (a : Addition) → Taken limit f h ss a → Sayable a
-    → reading limit (f ++ added a) ≡ given (ss ++ (newSegment (length f) a ∷ []))
-reading-added limit f h ss a t says =
-    reading-result limit f h ss a (t .offered) says
-    ∙ rw (
-      le-leb (length f + length (added a)) fileLimit (t .small),
-      le-leb (length (h .boxes) + addedBoxes a) boxLimit (t .boxes),
-      le-leb (length ss + 1) segmentLimit (t .few),
-      le-leb (length (chunksOf ss) + length (newSegment (length f) a .chunks)) chunkLimit (t .chunks),
-      le-leb (endOf (newSegment (length f) a)) limit (t .low),
-      t .agreed,
-    )
+    → reading limit (f ++ added a) ≡ given (ss ++ (newSegment (psegPlace (length f) a) a ∷ []))
+reading-added limit f h ss a t says = reading-result limit f h ss a (t .offered) says ∙ t .admits
 
 -- the file that an accepted addition leaves
 pub file-after : (limit : ℕ) (buffer : List ℕ) (n : ℕ) (a : Addition) (size : ℕ) → appended limit buffer n a ≡ given size → n ≡ length (take n buffer)
     → size ≡ n + length (added a)
     → fileIn (append limit (lent buffer n) a) ≡ take n buffer ++ added a
-unfolding append fileIn sizeAfter Writing.written result filled
+unfolding append fileIn sizeAfter after result filled
 file-after limit buffer n a size e long total =
     let whole : length (take n buffer ++ added a) ≡ size = rw (length-append, total) (ap (λ (m : ℕ). m + length (added a)) (sym long)) in
     rw e (take-at (take n buffer ++ added a) (drop (length (take n buffer ++ added a)) buffer) size whole)
@@ -260,9 +271,9 @@ pub reads-back : (limit : ℕ) → limit < 2 ^ 64 → (buffer : List ℕ) (n : �
     → a .repairTime < 2 ^ 64
     → earlierSegments limit (fileIn (lent buffer n)) ≡ given ss
     → appended limit buffer n a ≡ given size
-    → reading limit (fileIn (append limit (lent buffer n) a)) ≡ given (ss ++ (newSegment n a ∷ []))
+    → reading limit (fileIn (append limit (lent buffer n) a)) ≡ given (ss ++ (newSegment (psegPlace n a) a ∷ []))
 unfolding fileIn
 reads-back limit below buffer n a size ss time before e =
     let (h, t, long, total) = taken limit buffer n a size ss before e in
     rw (file-after limit buffer n a size e long total)
-    (reading-added limit (take n buffer) h ss a t (taken-sayable limit (take n buffer) h ss a t below time) ∙ ap (λ (m : ℕ). given (ss ++ (newSegment m a ∷ []))) (sym long))
+    (reading-added limit (take n buffer) h ss a t (taken-sayable limit (take n buffer) h ss a t below time) ∙ ap (λ (m : ℕ). given (ss ++ (newSegment (psegPlace m a) a ∷ []))) (sym long))

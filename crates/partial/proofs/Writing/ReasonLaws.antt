@@ -10,7 +10,8 @@ use Rattle.boxes.proofs.AnswerLaws.{both-given}
 use Rattle.partial.specs.Segments.{Segment}
 use Rattle.partial.specs.Heading.{heading}
 use Rattle.partial.specs.Reading.{segments, earlierSegments}
-use Rattle.partial.specs.Writing.{Addition, listRight, dataRight, appended}
+use Rattle.partial.specs.Addition.{Addition, listRight, dataRight}
+use Rattle.partial.specs.Append.{appended}
 
 -- a refusal on the way is the refusal of the whole
 stays : {A B C : Type 0} (x : Answer A) (y : A → Answer B) (rest : A → B → Answer C) {k : ℕ} → (x >>= y) ≡ refused k → (x >>= λ a. y a >>= rest a) ≡ refused k

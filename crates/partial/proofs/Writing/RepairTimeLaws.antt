@@ -1,5 +1,5 @@
 -- Of a repair time as many bits are written as `pshd` has, and no test reads it: an addition stands for the one with that much of it.
-use Prim.Native.Nat.{ℕ, _%_, _^_}
+use Prim.Native.Nat.{ℕ, _%_, _^_, _+_}
 use mathlib.Core.Bool.{Bool, true, false, not, _&&_, _||_}
 use mathlib.Core.List.{List, [], _∷_, _++_}
 use mathlib.Core.Logic.{inl, inr}
@@ -8,19 +8,22 @@ use mathlib.Core.Path.{_≡_, refl, ap, ap₂, _∙_}
 use lib.Dec.{leb, eqb}
 use lib.ListN.{length}
 use Rattle.boxes.specs.Numbers.{bytesOf}
-use Rattle.boxes.specs.Framing.{boxed}
+use Rattle.boxes.specs.Framing.{boxed, boxLimit}
 use Rattle.boxes.specs.Kinds.{pseg, pshd, ploc}
+use Rattle.boxes.specs.Answer.{Answer, _>>=_, hold, given}
 use Rattle.boxes.proofs.NumberLaws.{bytesOf-mod}
+use Rattle.partial.specs.Limits.{fileLimit, segmentLimit, chunkLimit}
 use Rattle.partial.specs.Sequences.{allOf}
-use Rattle.partial.specs.Segments.{Segment, isOpen, endOf}
+use Rattle.partial.specs.Segments.{Segment, isOpen, endOf, chunksOf}
 use Rattle.partial.specs.Heading.{Heading}
 use Rattle.partial.specs.Meaning.{givesSize, knownSize, agree}
-use Rattle.partial.specs.Reading.{offsetWidth}
-use Rattle.partial.specs.Writing
-use Rattle.partial.specs.Writing.{items, Addition, flagsFor, dataRight, anyPresent, dataBox, addedBoxes, plocBody, versionFor, pshdBody, added, newSegment}
-use Rattle.partial.specs.Demands.{carried}
+use Rattle.partial.specs.Reading.{offsetWidth, admitted}
+use Rattle.partial.specs.Addition.{items, Addition, flagsFor, dataRight, anyPresent}
+use Rattle.partial.specs.Append.{dataBox, addedBoxes, plocBody, versionFor, pshdBody, added, newSegment, psegBody, psegPlace}
+use Rattle.partial.specs.Append.{admission, placed}
+use Rattle.partial.specs.Carried.{carried}
 use Rattle.partial.proofs.Meaning.SequenceLaws.{which, all-append}
-use Rattle.partial.proofs.Writing.ReadsBackLaws.{Offered, Taken}
+use Rattle.partial.proofs.Writing.ReadsBackLaws.{Offered, Taken, Admits, admission-of, admits}
 
 -- what is tested of each segment where a size is known
 abbrev fits : ℕ → Segment → Bool
@@ -51,29 +54,57 @@ abbrev pub cut : Addition → Addition
 cut a = record { sourceOffset = a .sourceOffset; repairTime = a .repairTime % 2 ^ 64; last = a .last; list = a .list; bytes = a .bytes }
 
 pub added-cut : (a : Addition) → added (cut a) ≡ added a
-unfolding added pshdBody dataBox anyPresent
+unfolding added psegBody pshdBody dataBox anyPresent
 added-cut a =
     ap (λ (time : List ℕ). dataBox a ++ boxed (pseg .code)
     (boxed (pshd .code) (versionFor (a .sourceOffset) ∷ (bytesOf 3 (flagsFor (a .last)) ++ (bytesOf (offsetWidth (versionFor (a .sourceOffset))) (a .sourceOffset) ++ time)))
-    ++ boxed (ploc .code) (plocBody (items (a .list))))) (bytesOf-mod 8 (a .repairTime))
+    ++ boxed (ploc .code) (plocBody (placed (items (a .list)))))) (bytesOf-mod 8 (a .repairTime))
 
 -- what append tests of an addition is the same of that one
 module _ (a : Addition) where
-  pub boxes-cut : addedBoxes (cut a) ≡ addedBoxes a
+  pub place-cut : (n : ℕ) → psegPlace n (cut a) ≡ psegPlace n a
+  unfolding psegPlace dataBox anyPresent
+  place-cut n = refl
+
+  boxes-cut : addedBoxes (cut a) ≡ addedBoxes a
   unfolding addedBoxes anyPresent
   boxes-cut = refl
 
-  pub chunks-cut : (n : ℕ) → newSegment n (cut a) .chunks ≡ newSegment n a .chunks
-  unfolding newSegment dataBox anyPresent
-  chunks-cut n = refl
+  agree-cut : (ss : List Segment) (at : ℕ) → agree (ss ++ (newSegment at (cut a) ∷ [])) ≡ agree (ss ++ (newSegment at a ∷ []))
+  unfolding newSegment endOf givesSize isOpen
+  agree-cut ss at = agree-same (newSegment at (cut a)) (newSegment at a) refl refl ss
 
-  pub ends-cut : (n : ℕ) → endOf (newSegment n (cut a)) ≡ endOf (newSegment n a)
-  unfolding newSegment endOf dataBox anyPresent
-  ends-cut n = refl
+module _ (limit : ℕ) (h : Heading) (ss : List Segment) (n : ℕ) (a : Addition) where
+  -- the same refusals, and whatever follows
+  pub admission-cut : {C : Type 0} (rest : Answer C) → (admission limit h ss n (cut a) >>= λ _. rest) ≡ (admission limit h ss n a >>= λ _. rest)
+  unfolding admission admitted newSegment endOf
+  admission-cut rest =
+      let at = psegPlace n a in
+      rw (added-cut a, boxes-cut a, place-cut a n, agree-cut a ss at)
+      (go (leb (n + length (added a)) fileLimit) (leb (length (h .boxes) + addedBoxes a) boxLimit) (leb (length ss + 1) segmentLimit)
+      (leb (length (chunksOf ss) + length (newSegment at a .chunks)) chunkLimit) (leb (endOf (newSegment at a)) limit) (agree (ss ++ (newSegment at a ∷ []))))
+    where
+      go : (t1 t6 t13 t22 t23 t25 : Bool)
+          → (hold 1 t1 >>= (λ _. hold 6 t6 >>= λ _. hold 13 t13 >>= λ _. hold 22 t22 >>= λ _. hold 23 t23 >>= λ _. hold 25 t25 >>= λ _. given (ss ++ (newSegment (psegPlace n a) (cut a) ∷ []))) >>= λ _. rest)
+          ≡ (hold 1 t1 >>= (λ _. hold 6 t6 >>= λ _. hold 13 t13 >>= λ _. hold 22 t22 >>= λ _. hold 23 t23 >>= λ _. hold 25 t25 >>= λ _. given (ss ++ (newSegment (psegPlace n a) a ∷ []))) >>= λ _. rest)
+      go true true true true true true = refl
+      go true true true true true false = refl
+      go true true true true false t25 = refl
+      go true true true false t23 t25 = refl
+      go true true false t22 t23 t25 = refl
+      go true false t13 t22 t23 t25 = refl
+      go false t6 t13 t22 t23 t25 = refl
 
-  pub agree-cut : (ss : List Segment) (n : ℕ) → agree (ss ++ (newSegment n (cut a) ∷ [])) ≡ agree (ss ++ (newSegment n a ∷ []))
-  unfolding newSegment endOf givesSize isOpen dataBox anyPresent
-  agree-cut ss n = agree-same (newSegment n (cut a)) (newSegment n a) refl refl ss
+  admits-cut : Admits limit h ss n a → Admits limit h ss n (cut a)
+  admits-cut t =
+      record {
+        small = rw added-cut (t .small);
+        boxes = rw boxes-cut (t .boxes);
+        few = t .few;
+        chunks = t .chunks;
+        low = t .low;
+        agreed = rw place-cut (agree-cut a ss (psegPlace n a) ∙ t .agreed);
+      }
 
 module _ (limit : ℕ) (f : List ℕ) (h : Heading) (ss : List Segment) (a : Addition) where
   pub offered-cut : Offered limit f h ss a → Offered limit f h ss (cut a)
@@ -84,10 +115,5 @@ module _ (limit : ℕ) (f : List ℕ) (h : Heading) (ss : List Segment) (a : Add
   taken-cut t =
       record {
         offered = offered-cut (t .offered);
-        small = rw added-cut (t .small);
-        boxes = rw boxes-cut (t .boxes);
-        few = t .few;
-        chunks = rw chunks-cut (t .chunks);
-        low = rw ends-cut (t .low);
-        agreed = agree-cut a ss (length f) ∙ t .agreed;
+        admits = admission-of limit h ss (length f) (cut a) (admits-cut limit h ss (length f) a (admits limit h ss (length f) a (t .admits) .0));
       }

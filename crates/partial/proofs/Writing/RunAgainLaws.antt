@@ -1,5 +1,5 @@
 -- Writing again what a run of additions made: each segment says its addition in the whole file, and is accepted where the whole file fits.
-use Prim.Native.Nat.{ℕ, _+_, _-_, _^_, _≤_, _<_}
+use Prim.Native.Nat.{ℕ, _+_, _-_, _^_, _≤_, _<_, _%_}
 use mathlib.Core.Bool.{true}
 use mathlib.Core.List.{List, [], _∷_, _++_, map, append-assoc, append-nil}
 use mathlib.Core.Logic.{inl, inr}
@@ -7,29 +7,30 @@ use mathlib.Core.Path.{_≡_, refl, sym, ap, subst, _∙_}
 use native.Mathlib.Nat.{mod-lt}
 use native.Mathlib.Omega.{arith}
 use borrow.Author.Tests.{le-leb}
-use lib.Dec.{lit<}
+use lib.Dec.{lit<, eqb}
 use lib.ListN.{length, take, drop, length-append, length-drop}
 use lib.Seq.{take-at, take-append-le, drop-append-le}
 use Rattle.boxes.specs.Answer.{Answer, refused, given}
-use Rattle.boxes.specs.Framing.{boxLimit}
 use Rattle.boxes.proofs.AnswerLaws.{given-same}
-use Rattle.partial.specs.Limits.{fileLimit, segmentLimit, chunkLimit}
-use Rattle.partial.specs.Segments.{Segment, endOf, chunksOf, present}
+use Rattle.partial.specs.Sequences.{allOf}
+use Rattle.partial.specs.Segments.{Segment, present}
 use Rattle.partial.specs.Heading.{Heading, heading}
 use Rattle.partial.specs.Reading.{segments}
-use Rattle.partial.specs.Tables.{filled, bytesIn}
-use Rattle.partial.specs.Writing
-use Rattle.partial.specs.Writing.{Item, items, Addition, dataRight, dataSize, dataBox, addedBoxes, added, newChunks, newSegment, appended, result}
+use Rattle.partial.specs.Memory.{after, filled}
+use Rattle.partial.specs.Tables.{bytesIn}
+use Rattle.partial.specs.Addition.{Item, items, Addition, dataRight, dataSize, listRight}
+use Rattle.partial.specs.Append.{dataBox, added, newChunks, newSegment, appended, result, placed, psegPlace}
 use Rattle.partial.specs.Runs.{Lent, lent, fileIn, sizeAfter, append, appendAll}
-use Rattle.partial.specs.Demands.{dataOf, again}
-use Rattle.partial.proofs.Meaning.SequenceLaws.{which}
-use Rattle.partial.proofs.Writing.GrownLaws.{place-present}
+use Rattle.partial.specs.Again.{dataOf, again}
+use Rattle.partial.proofs.Writing.PlacedLaws.{place-present, data-on, formed, formed-some}
+use Rattle.partial.proofs.Meaning.SequenceLaws.{which, both}
 use Rattle.partial.proofs.Reading.ReadingLaws.{reading-segments}
 use Rattle.partial.proofs.Writing.AgainLaws.{same-again}
-use Rattle.partial.proofs.Writing.EntriesBackLaws.{data-on}
 use Rattle.partial.proofs.Writing.AddedBoxesLaws.{data-low, length-added}
 use Rattle.partial.proofs.Writing.RepairTimeLaws.{cut, added-cut, taken-cut}
-use Rattle.partial.proofs.Writing.ReadsBackLaws.{Taken, earlier-of, taken, taken-sayable, grownHeading, heading-added, reading-added, file-after}
+use Rattle.partial.proofs.Writing.ReadsBackLaws.{Taken, earlier-of, taken, taken-sayable, grownHeading, heading-added}
+use Rattle.partial.proofs.Writing.ReadsBackLaws.{reading-added, file-after, admits}
+use Rattle.partial.proofs.Writing.ResultLaws.{appended-offered}
 
 -- ---- each segment says its addition in the whole file
 
@@ -38,23 +39,28 @@ part-kept : (g more : List ℕ) (place size : ℕ) → place + size ≤ length g
 part-kept g more place size h =
     rw (drop-append-le place g more (omega arith)) (take-append-le size (drop place g) more (rw length-drop (omega arith)))
 
-data-kept : (g more : List ℕ) (at start : ℕ) (is : List Item) → at ≤ length g → dataSize is ≤ at
-    → dataOf (g ++ more) (newChunks at start is) ≡ dataOf g (newChunks at start is)
-unfolding dataOf newChunks bytesIn
-data-kept g more at start [] inside low = refl
-data-kept g more at start (i ∷ is) inside low =
+data-kept : (g more : List ℕ) (at start : ℕ) (is : List Item) → allOf formed is ≡ true → at ≤ length g → dataSize is ≤ at
+    → dataOf (g ++ more) (newChunks at start (placed is)) ≡ dataOf g (newChunks at start (placed is))
+unfolding dataOf newChunks placed bytesIn allOf
+data-kept g more at start [] right inside low = refl
+data-kept g more at start (i ∷ is) right inside low =
     let (less, all) = data-on i is in
-    let rest = data-kept g more at (start + i .size) is inside (omega arith) in
+    let (first, others) = both (formed i) (allOf formed is) right in
+    let (some-size, known) = formed-some i first in
+    let rest = data-kept g more at (start + i .size) is others inside (omega arith) in
     elim (which (present (i .state))) [
-      | inl e ↦ rw (e, place-present at i is e low, rest, part-kept g more (at - dataSize (i ∷ is)) (i .size) (omega (arith, all e)))
+      | inl e ↦ rw (e, place-present at i is e low some-size, rest, part-kept g more (at - dataSize (i ∷ is)) (i .size) (omega (arith, all e)))
       | inr e ↦ rw e rest
     ]
 
-pub again-kept : (f more : List ℕ) (a : Addition) → dataRight a ≡ true → again ((f ++ added a) ++ more) (newSegment (length f) a) ≡ again (f ++ added a) (newSegment (length f) a)
-unfolding again newSegment
-again-kept f more a right =
+pub again-kept : (f more : List ℕ) (a : Addition) → listRight (a .list) ≡ true → dataRight a ≡ true
+    → let s = newSegment (psegPlace (length f) a) a in
+    again ((f ++ added a) ++ more) s ≡ again (f ++ added a) s
+unfolding again newSegment psegPlace listRight
+again-kept f more a list right =
     let size = length-added a in
-    let bytes = data-kept (f ++ added a) more (length f + length (dataBox a)) (a .sourceOffset) (items (a .list)) (rw length-append (omega arith)) (omega (arith, data-low a right)) in
+    let listed = both (eqb (length (a .list) % 2) 0) (allOf formed (items (a .list))) list .1 in
+    let bytes = data-kept (f ++ added a) more (length f + length (dataBox a)) (a .sourceOffset) (items (a .list)) listed (rw length-append (omega arith)) (omega (arith, data-low a right)) in
     rw bytes
 
 -- ---- an addition that a file takes is accepted in any buffer that holds the file and has room for the result
@@ -62,26 +68,12 @@ again-kept f more a right =
 module _ (limit : ℕ) (f : List ℕ) (h : Heading) (ss : List Segment) (a : Addition) (t : Taken limit f h ss a)
     (buffer : List ℕ) (same : take (length f) buffer ≡ f) (room : length f + length (added a) ≤ length buffer) where
   appended-of : appended limit buffer (length f) a ≡ given (length f + length (added a))
-  unfolding appended
   appended-of =
-      rw (
-        le-leb (length f) (length buffer) (omega arith),
-        same,
-        t .offered .headed,
-        t .offered .before,
-        t .offered .list,
-        t .offered .carried,
-        le-leb (length f + length (added a)) fileLimit (t .small),
-        le-leb (length (h .boxes) + addedBoxes a) boxLimit (t .boxes),
-        le-leb (length ss + 1) segmentLimit (t .few),
-        le-leb (length (chunksOf ss) + length (newSegment (length f) a .chunks)) chunkLimit (t .chunks),
-        le-leb (endOf (newSegment (length f) a)) limit (t .low),
-        t .agreed,
-        le-leb (length f + length (added a)) (length buffer) room,
-      )
+      appended-offered limit buffer (length f) a h ss (omega arith) (rw same (t .offered))
+      ∙ rw (t .admits, le-leb (length f + length (added a)) (length buffer) room)
 
   append-of : append limit (lent buffer (length f)) a ≡ lent (filled (f ++ added a) buffer) (length (f ++ added a))
-  unfolding append Writing.written sizeAfter result
+  unfolding append after sizeAfter result
   append-of = rw (appended-of, same, length-append f (added a))
 
 -- a longer file in a buffer, and the rest of the buffer
@@ -97,7 +89,7 @@ filled-long g buffer h = simp (length-append, length-drop) (omega arith)
 
 -- a refused addition leaves the file
 append-refused : (limit : ℕ) (buffer : List ℕ) (n : ℕ) (a : Addition) (k : ℕ) → appended limit buffer n a ≡ refused k → fileIn (append limit (lent buffer n) a) ≡ take n buffer
-unfolding append fileIn Writing.written sizeAfter
+unfolding append fileIn after sizeAfter
 append-refused limit buffer n a k e = rw e
 
 -- what a run makes of a file g with a heading and segments, and how what it added is written again into a buffer that holds g
@@ -115,12 +107,12 @@ pub record Rewrites (limit : ℕ) (g : List ℕ) (h : Heading) (ss : List Segmen
 module _ (limit : ℕ) (below : limit < 2 ^ 64) where
   -- one addition more, before the others
   one-rewrite : (f : List ℕ) (h : Heading) (ss : List Segment) (a : Addition) (t : Taken limit f h ss a) (whole : List ℕ)
-      → Rewrites limit (f ++ added a) (grownHeading limit f h ss a) (ss ++ (newSegment (length f) a ∷ [])) whole
+      → Rewrites limit (f ++ added a) (grownHeading limit f h ss a) (ss ++ (newSegment (psegPlace (length f) a) a ∷ [])) whole
       → Rewrites limit f h ss whole
   unfolding appendAll
   one-rewrite f h ss a t whole r =
-      let s = newSegment (length f) a in
-      let says : again whole s ≡ a = rw (r .longer) (again-kept f (r .more) a (t .offered .carried) ∙ same-again f a (t .offered .list) (t .offered .carried)) in
+      let s = newSegment (psegPlace (length f) a) a in
+      let says : again whole s ≡ a = rw (r .longer) (again-kept f (r .more) a (t .offered .list) (t .offered .carried) ∙ same-again f a (t .offered .list) (t .offered .carried)) in
       record {
         more = added a ++ r .more;
         longer = r .longer ∙ append-assoc f (added a) (r .more);
@@ -160,9 +152,10 @@ module _ (limit : ℕ) (below : limit < 2 ^ 64) where
           let u = taken-cut limit f h ss a t in
           let same : fileIn (append limit (lent buffer n) a) ≡ f ++ added c = file-after limit buffer n a size e long total ∙ ap (λ (bytes : List ℕ). f ++ bytes) (sym (added-cut a)) in
           let k = grownHeading limit f h ss c in
-          let new-head = heading-added limit f h ss c (u .offered) (u .small) (u .boxes) in
+          let (ok, _) = admits limit h ss (length f) c (u .admits) in
+          let new-head = heading-added limit f h ss c (u .offered) (ok .small) (ok .boxes) in
           let new-read = reading-segments limit (f ++ added c) new-head (reading-added limit f h ss c u (taken-sayable limit f h ss c u below (mod-lt (a .repairTime) (lit< tt)))) in
-          let ts = ss ++ (newSegment (length f) c ∷ []) in
+          let ts = ss ++ (newSegment (psegPlace (length f) c) c ∷ []) in
           one-rewrite f h ss c u whole
           (subst (λ (g : List ℕ). Rewrites limit g k ts whole) same (rest k ts (rw same new-head) (rw same new-read)))
 

@@ -14,16 +14,19 @@ use Rattle.boxes.specs.Kinds.{surl, is, those}
 use Rattle.boxes.proofs.AnswerLaws.{not-both, given-same}
 use Rattle.partial.specs.Limits.{fileLimit}
 use Rattle.partial.specs.Segments.{Segment}
-use Rattle.partial.specs.Heading.{Part, Heading, heading, boxAt, firstOf, ftypRight, url, mime}
+use Rattle.partial.specs.Heading.{Part, Heading, heading, boxAt, firstOf, ftypRight, url, mime, fileBoxes, judged}
 use Rattle.partial.specs.Reading.{reading}
-use Rattle.partial.specs.Tables.{filled, bytesIn, textOf}
-use Rattle.partial.specs.Writing
-use Rattle.partial.specs.Writing.{beginning, isText, begun, Addition, appended}
+use Rattle.partial.specs.Memory.{after, filled}
+use Rattle.partial.specs.Tables.{bytesIn, textOf}
+use Rattle.partial.specs.Begin.{beginning, isText, begun}
+use Rattle.partial.specs.Addition.{Addition}
+use Rattle.partial.specs.Append.{appended}
 use Rattle.partial.specs.Runs.{Lent, lent, fileIn, sizeAfter, begin, append, appendAll}
-use Rattle.partial.specs.Demands.{writeAgain}
+use Rattle.partial.specs.Again.{writeAgain}
 use Rattle.partial.proofs.Reading.ReadingLaws.{reading-segments}
 use Rattle.partial.proofs.Reading.HeadingAppendLaws.{heading-of, url-kept, mime-kept}
-use Rattle.partial.proofs.Writing.BegunLaws.{begunHeading, sourceBox, begun-url, begun-mime, begun-headed, begun-segments, begin-given, begin-fits}
+use Rattle.partial.proofs.Writing.BegunLaws.{begunHeading, sourceBox, begun-url, begun-mime, begun-headed, begun-segments}
+use Rattle.partial.proofs.Writing.BegunLaws.{begin-given, begin-fits}
 use Rattle.partial.proofs.Writing.RunAgainLaws.{Rewrites, rewrites, filled-take, filled-long}
 
 -- ---- the two texts stand in the file
@@ -77,16 +80,16 @@ module _ (limit : ℕ) (u m more : List ℕ) (plain-url : isText u ≡ true) (pl
 -- ---- no file
 
 none-begun : (buffer u m : List ℕ) (k : ℕ) → begun buffer u m ≡ refused k → begin buffer u m ≡ lent buffer 0
-unfolding begin Writing.written sizeAfter
+unfolding begin after sizeAfter
 none-begun buffer u m k e = rw e
 
 nothing-headed : heading [] ≡ refused 7
-unfolding heading boxesIn boxesFrom boxLimit ftypRight boxAt is
+unfolding heading fileBoxes judged boxesIn boxesFrom boxLimit ftypRight boxAt is
 nothing-headed = refl
 
 -- to no file nothing is added
 nothing-added : (limit : ℕ) (buffer : List ℕ) (additions : List Addition) → fileIn (appendAll limit (lent buffer 0) additions) ≡ []
-unfolding appendAll append appended fileIn Writing.written sizeAfter
+unfolding appendAll append appended fileIn after sizeAfter
 nothing-added limit buffer [] = refl
 nothing-added limit buffer (a ∷ more) = rw (le-leb 0 (length buffer) zero-le, nothing-headed) (nothing-added limit buffer more)
 

@@ -1,0 +1,57 @@
+-- Which definitions are opened where the checker computes them: `unfolding computing` opens all of them.
+use Rattle.boxes.specs.Numbers
+use Rattle.boxes.specs.Framing
+use Rattle.boxes.specs.Kinds
+use Rattle.partial.specs.Sequences
+use Rattle.partial.specs.Segments
+use Rattle.partial.specs.Heading
+use Rattle.partial.specs.Entries
+use Rattle.partial.specs.Meaning
+use Rattle.partial.specs.Reading
+use Rattle.partial.specs.Ranges
+use Rattle.partial.specs.Memory
+use Rattle.partial.specs.Tables
+use Rattle.partial.specs.Map
+use Rattle.partial.specs.Begin
+use Rattle.partial.specs.Addition
+use Rattle.partial.specs.Append
+use Rattle.partial.specs.Runs
+use Rattle.partial.specs.Again
+use Rattle.partial.specs.Carried
+
+unfoldable pub computing : Unit {0}
+unfolding
+    Numbers.number Numbers.bytesOf Numbers.valueOf Numbers.signed Numbers.unsigned Numbers.holds Numbers.holdsOffset Numbers.least
+    Numbers.leastWidth
+    Framing.sized Framing.large Framing.header Framing.boxesFrom Framing.boxLimit Framing.boxesIn Framing.boxOf
+    Framing.headerAnswer Framing.frontSize Framing.front Framing.boxed
+    Kinds.kinds Kinds.is Kinds.those Kinds.keeps Kinds.right
+    Sequences.someOf Sequences.allOf Sequences.sum Sequences.largest Sequences.within Sequences.stretch
+    Segments.isState Segments.present Segments.corrupted Segments.hasPlace Segments.isOpen Segments.isLast Segments.endOf
+    Segments.chunksOf
+    Heading.boxAt Heading.firstOf Heading.ftypRight Heading.brandsFrom Heading.brands Heading.brandRight Heading.pfilRight
+    Heading.pfhdFormed Heading.pfhdRight Heading.text Heading.url Heading.mime Heading.surlFormed Heading.surlRight
+    Heading.fileBoxes Heading.judged Heading.heading
+    Entries.plocHead Entries.state Entries.stateOf Entries.entry Entries.mayLie Entries.offsetPlace Entries.placeOf
+    Entries.chunkStep Entries.chunksFrom
+    Reading.offsetWidth Reading.pshdFields Reading.pshdRight Reading.segment Reading.segmentsFrom Reading.segments Reading.reading
+    Reading.earlierSegments Reading.admitted
+    Meaning.givesSize Meaning.knownSize Meaning.describedLength Meaning.isClosed Meaning.agree Meaning.covers Meaning.supplier
+    Meaning.supplied Meaning.placeOfByte Meaning.served Meaning.onward Meaning.servedRun Meaning.missingRun Meaning.reply
+    Ranges.joined Ranges.ranges Ranges.classOf Ranges.rangesOf Ranges.ofClass Ranges.hadList Ranges.missingList Ranges.total
+    Ranges.among Ranges.apart Ranges.inRow
+    Memory.fits Memory.filled Memory.after
+    Tables.segmentRow Tables.segmentRows Tables.chunkRow Tables.chunkRowsOf Tables.chunkRowsFrom Tables.chunkRows Tables.rangeRows
+    Tables.hadRows Tables.missingRows Tables.tabled Tables.listed Tables.summary Tables.totals Tables.bytesIn Tables.nowhere
+    Tables.servedPart Tables.asked Tables.textOf
+    Map.ascii Map.decimal Map.line Map.refusedLine Map.rangeLine Map.rangeLines Map.sourceLine Map.totalLine Map.mapOf Map.mapText
+    Map.mapWritten
+    Begin.beginning Begin.isText Begin.begun
+    Addition.asks Addition.items Addition.listRight Addition.dataSize Addition.dataRight Addition.anyPresent Addition.sayable
+    Append.dataBox Append.addedBoxes Append.placed Append.lengthSize Append.offsetSize Append.flagByte Append.entryBytes
+    Append.plocBody Append.versionFor Append.pshdBody Append.psegBody Append.added Append.psegPlace Append.newChunks
+    Append.newSegment Append.admission Append.appended Append.result
+    Runs.fileIn Runs.sizeAfter Runs.begin Runs.append Runs.appendAll
+    Again.dataOf Again.listFor Again.again Again.writeAgain
+    Carried.carriedBy Carried.carried Carried.orElse
+computing = tt

@@ -1,0 +1,23 @@
+-- The worked examples: the definitions say what the paper says.
+use mathlib.Core.Path.{_≡_, refl, _∙_}
+use native.Mathlib.Omega.{arith}
+use Rattle.partial.specs.Limits.{sourceLimit}
+use Rattle.partial.specs.Map.{refusedLine, ascii}
+use Rattle.partial.specs.Examples.{table, AsThePaperSays, AtTheProgramLimit}
+use Rattle.partial.proofs.Computing.{computing}
+use Rattle.partial.proofs.Reading.PrintedLaws.{printed}
+
+as-the-paper-says : AsThePaperSays
+unfolding table computing
+as-the-paper-says = refl
+
+refused-27 : refusedLine 27 ≡ ascii "refused\t27\n"
+unfolding computing
+refused-27 = refl
+
+at-the-program-limit : AtTheProgramLimit
+at-the-program-limit =
+    record {
+      taken = λ input n long e. printed sourceLimit input .refusal n (omega arith) e;
+      over = λ input long. printed sourceLimit input .overLong (omega arith) ∙ refused-27;
+    }

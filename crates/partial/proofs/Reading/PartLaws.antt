@@ -1,0 +1,56 @@
+-- The part that serving hands back is empty exactly when the file is refused, a table is too short or the position is not supplied.
+use Prim.Native.Nat.{ℕ}
+use mathlib.Core.Bool.{true, false, _&&_}
+use mathlib.Core.List.{List, []}
+use mathlib.Core.Logic.{_↔_, _⊎_, inl, inr, ⊎-elim}
+use mathlib.Core.Path.{_≡_, refl, ap, _∙_}
+use native.Mathlib.Omega.{arith}
+use lib.ListN.{length}
+use Rattle.boxes.specs.Answer.{Answer, refused, given}
+use Rattle.boxes.proofs.AnswerLaws.{both-given, held}
+use Rattle.partial.specs.Segments.{Segment}
+use Rattle.partial.specs.Heading.{Heading, heading}
+use Rattle.partial.specs.Meaning.{supplied}
+use Rattle.partial.specs.Reading.{reading}
+use Rattle.partial.specs.Memory.{fits}
+use Rattle.partial.specs.Tables.{segmentRows, chunkRows, tabled, bytesIn, nowhere, servedPart}
+use Rattle.partial.proofs.Meaning.SequenceLaws.{which}
+use Rattle.partial.proofs.Reading.ReadingLaws.{read-mapped}
+
+-- an accepted file's heading
+pub headed-read : (limit : ℕ) (f : List ℕ) {ss : List Segment} → reading limit f ≡ given ss → (h : Heading) × (heading f ≡ given h)
+unfolding reading
+headed-read limit f e =
+    let (h, head, rest) = both-given (heading f) _ e in
+    (h, head)
+
+-- a file whose tables are long enough is accepted
+pub tabled-read : (limit : ℕ) (f a b : List ℕ) {ss : List Segment} → tabled limit f a b ≡ given ss → reading limit f ≡ given ss
+unfolding tabled
+tabled-read limit f a b e =
+    let (ss, read, e1) = both-given (reading limit f) _ e in
+    let (_, e2) = held 26 (fits (segmentRows ss) a && fits (chunkRows ss) b) _ e1 in
+    read ∙ e2
+
+module _ (limit : ℕ) (f a b : List ℕ) (p : ℕ) where
+  -- of a supplied position it is not
+  some-part : (ss : List Segment) → tabled limit f a b ≡ given ss → supplied ss p ≡ true → bytesIn f (servedPart (given ss) p) ≡ [] → ⊥
+  some-part ss e there none =
+      let read = tabled-read limit f a b e in
+      let (h, head) = headed-read limit f read in
+      let s = read-mapped limit f head read .serving p (rw there tt) in
+      omega (arith, ap length none, s .long, s .notEmpty)
+
+  pub part-empty : (bytesIn f (servedPart (tabled limit f a b) p) ≡ [])
+      ↔ (((n : ℕ) × (tabled limit f a b ≡ refused n)) ⊎ ((ss : List Segment) × (tabled limit f a b ≡ given ss) × (supplied ss p ≡ false)))
+  unfolding servedPart bytesIn nowhere
+  part-empty = (λ empty. why (tabled limit f a b) refl empty, ⊎-elim (λ r. rw (r .1)) (λ r. rw (r .1, servedPart, r .2)))
+    where
+      why : (x : Answer (List Segment)) → tabled limit f a b ≡ x → bytesIn f (servedPart (tabled limit f a b) p) ≡ []
+          → ((n : ℕ) × (tabled limit f a b ≡ refused n)) ⊎ ((ss : List Segment) × (tabled limit f a b ≡ given ss) × (supplied ss p ≡ false))
+      why (refused n) e empty = inl (n, e)
+      why (given ss) e empty =
+          elim (which (supplied ss p)) [
+            | inl there ↦ absurd (some-part ss e there (rw e at empty))
+            | inr lacks ↦ inr (ss, e, lacks)
+          ]

@@ -1,0 +1,145 @@
+-- Document 01, "Append": the bytes that it writes, the segment that they say, and its refusals in order.
+use Prim.Native.Nat.{ℕ, _+_, _*_}
+use mathlib.Core.Bool.{true, false}
+use mathlib.Core.List.{List, [], _∷_, _++_}
+use mathlib.Core.Option.{Option·getD}
+use lib.ListN.{length, take}
+use lib.Dec.{leb}
+use Rattle.boxes.specs.Answer.{Answer, given, _>>=_, hold}
+use Rattle.boxes.specs.Numbers.{bytesOf, unsigned, holds, holdsOffset, leastWidth}
+use Rattle.boxes.specs.Framing.{frontSize, boxed, boxLimit}
+use Rattle.boxes.specs.Kinds.{pseg, pshd, ploc, pdat}
+use Rattle.boxes.specs.declared.numbers.Offset.{Offset}
+use Rattle.boxes.specs.declared.numbers.Offset.the-variants.{Ahead, Back}
+use Rattle.partial.specs.Limits.{fileLimit}
+use Rattle.partial.specs.Sequences.{allOf}
+use Rattle.partial.specs.Segments.{Chunk, Segment, present, corrupted, hasPlace}
+use Rattle.partial.specs.Heading.{Heading, heading}
+use Rattle.partial.specs.Entries.{offsetPlace}
+use Rattle.partial.specs.Reading.{offsetWidth, segments, admitted}
+use Rattle.partial.specs.Begin.{versionAndFlags}
+use Rattle.partial.specs.Addition.{Addition, flagsFor, Item, items, listRight, dataSize, dataRight, anyPresent}
+
+-- one `pdat` with the data in chunk order, if any chunk is present
+unfoldable pub dataBox : Addition → List ℕ
+dataBox a = elim (anyPresent a) [ true ↦ boxed (pdat .code) (a .bytes) | false ↦ [] ]
+
+-- how many boxes append adds to the file: the `pseg`, and that `pdat`
+unfoldable pub addedBoxes : Addition → ℕ
+addedBoxes a = elim (anyPresent a) [ true ↦ 2 | false ↦ 1 ]
+
+-- an item with the offset of its data from the first byte of the `pseg` box, 0 where it has no data
+pub record Placed : Type 0 where
+  pub size : ℕ
+  pub state : ℕ
+  pub offset : Offset
+
+-- items whose data ends where the `pseg` starts: each lies as far back as there are bytes from it on
+unfoldable pub placed : List Item → List Placed
+placed [] = []
+placed (i ∷ is) =
+    record {
+      size = i .size;
+      state = i .state;
+      offset = elim (present (i .state)) [ true ↦ Back (dataSize (i ∷ is)) | false ↦ Ahead 0 ];
+    }
+    ∷ placed is
+
+-- `length_size`: the least that holds every size
+unfoldable pub lengthSize : List Placed → ℕ
+lengthSize ps = leastWidth (λ w. allOf (λ p. holds w (p .size)) ps)
+
+-- `offset_size`: the least that holds every offset, 0 when there is none
+unfoldable pub offsetSize : List Placed → ℕ
+offsetSize ps = leastWidth (λ w. allOf (λ p. holdsOffset w (p .offset)) ps)
+
+-- bit corrupted, bit present, six zero bits
+unfoldable pub flagByte : ℕ → ℕ
+flagByte state = (elim (corrupted state) [ true ↦ 128 | false ↦ 0 ]) + (elim (present state) [ true ↦ 64 | false ↦ 0 ])
+
+-- the entries of a `ploc` with these widths: flags, size and, where present, offset
+unfoldable pub entryBytes : ℕ → ℕ → List Placed → List ℕ
+entryBytes l o [] = []
+entryBytes l o (p ∷ ps) =
+    flagByte (p .state)
+    ∷ (bytesOf l (p .size) ++ (elim (present (p .state)) [ true ↦ bytesOf o (unsigned o (p .offset)) | false ↦ [] ] ++ entryBytes l o ps))
+
+-- version 0, flags 0, the two widths, data reference index 0, `chunk_count`, the entries
+unfoldable pub plocBody : List Placed → List ℕ
+plocBody ps =
+    let l = lengthSize ps in
+    let o = offsetSize ps in
+    versionAndFlags ++ ((l * 16 + o) ∷ (bytesOf 2 0 ++ (bytesOf 2 (length ps) ++ entryBytes l o ps)))
+
+-- the writer's form of `pshd`: version 0 where 32 bits hold the offset, else version 1
+unfoldable pub versionFor : ℕ → ℕ
+versionFor offset = elim (holds 4 offset) [ true ↦ 0 | false ↦ 1 ]
+
+-- version, flags, `source_byte_offset`, `last_repair_time`
+unfoldable pub pshdBody : Addition → List ℕ
+pshdBody a =
+    let version = versionFor (a .sourceOffset) in
+    version ∷ (bytesOf 3 (flagsFor (a .last)) ++ (bytesOf (offsetWidth version) (a .sourceOffset) ++ bytesOf 8 (a .repairTime)))
+
+-- the body of the `pseg`: `pshd` and `ploc`
+unfoldable pub psegBody : Addition → List ℕ
+psegBody a = boxed (pshd .code) (pshdBody a) ++ boxed (ploc .code) (plocBody (placed (items (a .list))))
+
+-- what append adds to a file: the data, then the `pseg`
+unfoldable pub added : Addition → List ℕ
+added a = dataBox a ++ boxed (pseg .code) (psegBody a)
+
+-- the place of that `pseg` in a file that had n bytes
+unfoldable pub psegPlace : ℕ → Addition → ℕ
+psegPlace n a = n + length (dataBox a)
+
+-- the chunks that placed items tell of, from a source position on, of a `pseg` at a place
+unfoldable pub newChunks : ℕ → ℕ → List Placed → List Chunk
+newChunks at start [] = []
+newChunks at start (p ∷ ps) =
+    record {
+      start = start;
+      size = p .size;
+      state = p .state;
+      place = elim (hasPlace (p .state) (p .size)) [ true ↦ Option·getD (offsetPlace at (p .offset)) 0 | false ↦ 0 ];
+    }
+    ∷ newChunks at (start + p .size) ps
+
+-- the segment that an addition makes, its `pseg` at a place; the body of its `pshd` stands after two headers
+unfoldable pub newSegment : ℕ → Addition → Segment
+newSegment at a =
+    record {
+      place = at;
+      sourceOffset = a .sourceOffset;
+      flags = flagsFor (a .last);
+      repairTime = a .repairTime;
+      headerPlace = at + frontSize + frontSize;
+      headerLength = length (pshdBody a);
+      chunks = newChunks at (a .sourceOffset) (placed (items (a .list)));
+    }
+
+-- 1, 6, 13, 22, 23 or 25 if the result would have it; else the result's segments
+unfoldable pub admission : ℕ → Heading → List Segment → ℕ → Addition → Answer (List Segment)
+admission limit h ss n a = do
+  _ ← hold 1 (leb (n + length (added a)) fileLimit)
+  _ ← hold 6 (leb (length (h .boxes) + addedBoxes a) boxLimit)
+  admitted limit ss (newSegment (psegPlace n a) a)
+
+-- what append answers for the first n bytes of a buffer: its refusals in order, or the length of the result. The buffer is left as
+-- `written` says, by `result`
+unfoldable pub appended : ℕ → List ℕ → ℕ → Addition → Answer ℕ
+appended limit buffer n a = do
+  _ ← hold 30 (leb n (length buffer))
+  let f = take n buffer
+  h ← heading f
+  ss ← segments limit f h
+  _ ← hold 31 (listRight (a .list))
+  _ ← hold 32 (dataRight a)
+  _ ← admission limit h ss n a
+  let size = n + length (added a)
+  _ ← hold 33 (leb size (length buffer))
+  given size
+
+-- the result of append on the first n bytes of a buffer: earlier bytes keep their values
+unfoldable pub result : List ℕ → ℕ → Addition → List ℕ
+result buffer n a = take n buffer ++ added a

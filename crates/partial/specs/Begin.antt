@@ -1,0 +1,37 @@
+-- Document 01, "Begin": the bytes that it writes, and its refusals in order.
+use Prim.Native.Nat.{ℕ}
+use mathlib.Core.Bool.{Bool, not, _&&_}
+use mathlib.Core.List.{List, [], _∷_, _++_}
+use lib.ListN.{length}
+use lib.Dec.{leb, eqb}
+use Rattle.boxes.specs.Answer.{Answer, given, _>>=_, hold}
+use Rattle.boxes.specs.Numbers.{bytesOf}
+use Rattle.boxes.specs.Framing.{boxed}
+use Rattle.boxes.specs.Kinds.{ftyp, pfil, pfhd, surl}
+use Rattle.partial.specs.Limits.{fileLimit}
+use Rattle.partial.specs.Sequences.{allOf}
+use Rattle.partial.specs.Heading.{paff}
+
+-- version 0, flags 0
+abbrev pub versionAndFlags : List ℕ
+versionAndFlags = bytesOf 4 0
+
+-- `ftyp` (major `paff`, minor 0, one brand `paff`), then `pfil` holding `pfhd` (flags 0) and one `surl`
+unfoldable pub beginning : List ℕ → List ℕ → List ℕ
+beginning urlText mimeText =
+    boxed (ftyp .code) (bytesOf 4 paff ++ (bytesOf 4 0 ++ bytesOf 4 paff))
+    ++ boxed (pfil .code)
+    (boxed (pfhd .code) versionAndFlags ++ boxed (surl .code) (versionAndFlags ++ (urlText ++ (0 ∷ (mimeText ++ (0 ∷ []))))))
+
+-- no zero byte
+unfoldable pub isText : List ℕ → Bool
+isText bytes = allOf (λ b. not (eqb b 0)) bytes
+
+-- what begin answers: its refusals in order, or the length of the file. The buffer is left as `written` says, by `beginning`
+unfoldable pub begun : List ℕ → List ℕ → List ℕ → Answer ℕ
+begun buffer urlText mimeText = do
+  let n = length (beginning urlText mimeText)
+  _ ← hold 34 (isText urlText && isText mimeText)
+  _ ← hold 1 (leb n fileLimit)
+  _ ← hold 33 (leb n (length buffer))
+  given n
