@@ -40,12 +40,12 @@ fn between(at: Place, end: Place) -> u64
     if at.0 <= end.0 { end.0 - at.0 } else { 0 }
 }
 
-// The box whose header has that many bytes and states that size.
-fn sized_at(s: &[u8], at: Place, end: Place, front: u64, size: u64) -> Header
-    requires { ⌜ (4 ≤ front) × (at .0 + front ≤ end .0) ⌝ }
-    ensures { λ r. ⌜ headerAnswer r ≡ sized (now (s .entry)) (at .0) (end .0) front size ⌝ }
+// The box whose header is so many bytes wide and states that size.
+fn sized_at(s: &[u8], at: Place, end: Place, width: u64, size: u64) -> Header
+    requires { ⌜ (4 ≤ width) × (at .0 + width ≤ end .0) ⌝ }
+    ensures { λ r. ⌜ headerAnswer r ≡ sized (now (s .entry)) (at .0) (end .0) width size ⌝ }
 {
-    if size < front {
+    if size < width {
         return Header::Refused(SIZE_UNDER_HEADER);
     }
     if between(at, end) < size {
@@ -54,7 +54,7 @@ fn sized_at(s: &[u8], at: Place, end: Place, front: u64, size: u64) -> Header
     Header::Found(Framed {
         kind: unsigned(s, Place(at.0 + 4), 4) as u32,
         at,
-        body: Place(at.0 + front),
+        body: Place(at.0 + width),
         end: Place(at.0 + size),
     })
 }

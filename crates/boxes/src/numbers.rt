@@ -3,7 +3,7 @@ use crate::place::Place;
 ghost use Prim.Native.Nat.{ℕ, _+_, _-_, _^_, _≤_, _<_, min};
 ghost use mathlib.Core.Path.{_≡_};
 ghost use lib.ListN.{length, getD};
-ghost use Rattle.boxes.specs.Numbers.{number, bytesOf, signed, unsigned, holds, holdsOffset, leastWidth};
+ghost use Rattle.boxes.specs.Numbers.{number, bytesOf, signed, twosComplement, holds, holdsOffset, leastWidth};
 ghost use Rattle.boxes.specs.Stored.{stored, Stores};
 
 // A signed number: so many ahead, or so many back. Its size stands apart from its sign, so that adding it to a place can
@@ -124,7 +124,7 @@ pub fn put_number(buf: &mut [u8], at: Place, width: usize, n: u64) -> bool
 // A number whose w bytes stand for an offset. None back would be the power of 256, which may not fit; 0 has the same bytes.
 fn complement(w: usize, z: Offset) -> u64
     requires { ⌜ w ≤ 8 ⌝ }
-    ensures { λ r. ⌜ bytesOf w r ≡ bytesOf w (unsigned w z) ⌝ }
+    ensures { λ r. ⌜ bytesOf w r ≡ bytesOf w (twosComplement w z) ⌝ }
 {
     match z {
         Offset::Ahead(n) => n,
@@ -140,7 +140,7 @@ fn complement(w: usize, z: Offset) -> u64
 
 // Writes an offset in that width at a place, in two's complement, if there is room.
 pub fn put_offset(buf: &mut [u8], at: Place, width: usize, z: Offset) -> bool
-    ensures { λ r. ⌜ Stores (now (buf .entry)) (at .0) (bytesOf (min width 8) (unsigned (min width 8) z)) r (now (buf .exit)) ⌝ }
+    ensures { λ r. ⌜ Stores (now (buf .entry)) (at .0) (bytesOf (min width 8) (twosComplement (min width 8) z)) r (now (buf .exit)) ⌝ }
 {
     put_number(buf, at, width, complement(within(width), z))
 }

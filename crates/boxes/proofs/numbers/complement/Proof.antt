@@ -1,6 +1,6 @@
 -- `boxes::numbers::complement` meets its contract: more than the power is cut to 0, and 0 itself is the power, whose bytes are 0.
-use Rattle.boxes.specs.Numbers.{unsigned}
-use Rattle.boxes.proofs.OffsetLaws.{unsigned-back, unsigned-over, unsigned-none}
+use Rattle.boxes.specs.Numbers.{twosComplement}
+use Rattle.boxes.proofs.OffsetLaws.{twosComplement-back, twosComplement-over, twosComplement-none}
 use borrow.Author.Needs.{needs}
 use Rattle.boxes.proofs.numbers.complement.Statement.{statement}
 use Rattle.boxes.proofs.numbers.complement.Tie as tie
@@ -15,22 +15,22 @@ largest-requires : tie.Need-largest-requires
 largest-requires c κs = search needs
 
 returns : tie.Need-returns
-returns c = rw (c .before .before .before .z2 .given .1, c .if1 .taken) (unsigned-none _)
+returns c = rw (c .before .before .before .z2 .given .1, c .if1 .taken) (twosComplement-none _)
 
 add-result : tie.Need-add-result
 add-result c = search needs
 
 returns-2 : tie.Need-returns-2
-unfolding unsigned
+unfolding twosComplement
 returns-2 c = rw (c .before .z .given .1)
 
 returns-3 : tie.Need-returns-3
 returns-3 c =
-    rw (c .before .before .before .before .z2 .given .1, unsigned-over _ _ _ (c .before .before .largest .ensures) (c .if2 .taken))
+    rw (c .before .before .before .before .z2 .given .1, twosComplement-over _ _ _ (c .before .before .largest .ensures) (c .if2 .taken))
 
 returns-4 : tie.Need-returns-4
 returns-4 c =
-    rw (c .before .before .before .before .z2 .given .1, unsigned-back _ _ _ (c .before .before .largest .ensures) (c .if2 .left))
+    rw (c .before .before .before .before .z2 .given .1, twosComplement-back _ _ _ (c .before .before .largest .ensures) (c .if2 .left))
 
 pub complement-spec : {M : Type 1} → statement M
 complement-spec =
