@@ -1,45 +1,34 @@
 -- Laws of boxes as we write them: their header is one number of eight bytes, and they are read back as they were written.
 use Prim.Native.Nat.{ℕ, _+_, _-_, _*_, _^_, _≤_, _<_}
-use mathlib.Core.Bool.{Bool, false}
+use mathlib.Core.Bool.{true, false}
 use mathlib.Core.List.{List, [], _∷_, _++_, append-assoc, append-nil}
 use mathlib.Core.Path.{_≡_, refl, sym, _∙_}
 use native.Mathlib.Nat.{add-zero, add-assoc}
 use native.Mathlib.Omega.{arith}
-use borrow.Author.Tests.{lt-ltb, le-ltb}
 use lib.ListN.{length, getD, length-append}
 use Rattle.boxes.specs.Answer.{given}
 use Rattle.boxes.specs.Numbers.{number, bytesOf, holds}
-use Rattle.boxes.specs.Stored.{Stores}
-use Rattle.boxes.specs.Framing.{Box, header, frontSize, front, boxed, boxesIn, boxLimit, StoresHeader}
+use Rattle.boxes.specs.Framing.{Box, header, frontSize, front, boxed, boxesIn, boxLimit}
 use Rattle.boxes.specs.declared.kinds.Container.{Container}
 use Rattle.boxes.proofs.ContainerLaws.{box-limit, boxes-end, boxes-next, boxes-stand, boxes-appended}
 use Rattle.boxes.proofs.HeaderLaws.{sized-fits, header-short, moved}
 use Rattle.boxes.proofs.NumberLaws.{length-bytesOf, number-bytesOf, bytesOf-joined}
+use Rattle.boxes.proofs.WidthLaws.{below-holds, over-holds}
 
 -- a header as we write it is one number
 pub front-bytes : (kind n : ℕ) → kind < 2 ^ 32 → bytesOf 8 ((8 + n) * 0x1_0000_0000 + kind) ≡ front kind n
 unfolding front frontSize
 front-bytes kind n h = bytesOf-joined 4 4 (8 + n) kind h
 
--- writing a header is storing its bytes where 4 bytes hold its size, and nothing where they do not
-module _ (s : List ℕ) (at kind n : ℕ) {answer : Bool} {after : List ℕ} where
-  pub header-stored : n ≤ 0xffff_ffff - 8 → Stores s at (front kind n) answer after → StoresHeader s at kind n answer after
-  unfolding holds frontSize
-  header-stored h stores =
-      let fits = lt-ltb (8 + n) (2 ^ 32) (omega arith) in
-      record { room = rw fits (stores .room); left = rw fits (stores .left) }
+-- 4 bytes hold the size of a box with a body up to the largest
+module _ (n : ℕ) where
+  pub size-held : n ≤ 0xffff_ffff - 8 → holds 4 (frontSize + n) ≡ true
+  unfolding frontSize
+  size-held h = below-holds 4 (frontSize + n) (omega arith)
 
-  pub front-stored : frontSize + n < 2 ^ 32 → StoresHeader s at kind n answer after → Stores s at (front kind n) answer after
-  unfolding holds
-  front-stored h stores =
-      let fits = lt-ltb (frontSize + n) (2 ^ 32) h in
-      record { room = rw fits at (stores .room); left = rw fits at (stores .left) }
-
-pub header-unstored : (s : List ℕ) (at kind n : ℕ) → 0xffff_ffff - 8 < n → StoresHeader s at kind n false s
-unfolding holds frontSize
-header-unstored s at kind n h =
-    let large = le-ltb (8 + n) (2 ^ 32) (omega arith) in
-    record { room = rw large; left = rw large }
+  pub size-unheld : 0xffff_ffff - 8 < n → holds 4 (frontSize + n) ≡ false
+  unfolding frontSize
+  size-unheld h = over-holds 4 (frontSize + n) (omega arith)
 
 -- a header as we write it has 8 bytes
 pub front-size : frontSize ≡ 8

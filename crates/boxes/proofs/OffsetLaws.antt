@@ -29,15 +29,15 @@ module _ (w n top : ℕ) (largest : top + 1 ≡ 256 ^ w) where
   unfolding twosComplement
   twosComplement-back h = omega arith
 
-  -- too many back
-  pub twosComplement-over : top < n → twosComplement w (Back n) ≡ 0
-  unfolding twosComplement
-  twosComplement-over h = omega arith
-
 -- none back is the power of 256 itself, whose bytes are those of 0
 pub twosComplement-none : (w : ℕ) → bytesOf w 0 ≡ bytesOf w (twosComplement w (Back 0))
 unfolding twosComplement
 twosComplement-none w = rw (sub-zero, ← bytesOf-mod w (256 ^ w), mod-self)
+
+-- a field of width 0 has value 0
+pub signed-none : signed 0 0 ≡ Ahead 0
+unfolding signed
+signed-none = refl
 
 -- reading back, as numbers
 pub signed-twosComplement : (w : ℕ) (z : Offset) → holdsOffset w z ≡ true → signed w (twosComplement w z) ≡ z

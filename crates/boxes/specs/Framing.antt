@@ -1,13 +1,11 @@
 -- Document 01, "Framing" and refusals 2 to 6: a box header, and the boxes of one container or its first fault.
 use Prim.Native.Nat.{ℕ, zero, suc, _+_}
-use mathlib.Core.Bool.{Bool, true, false, not}
-use mathlib.Core.Path.{_≡_}
+use mathlib.Core.Bool.{true, false, not}
 use mathlib.Core.List.{List, [], _∷_, _++_}
 use lib.ListN.{length}
 use lib.Dec.{leb, eqb}
 use Rattle.boxes.specs.Answer.{Answer, refused, given, _>>=_, hold}
-use Rattle.boxes.specs.Numbers.{number, bytesOf, holds}
-use Rattle.boxes.specs.Stored.{roomFor, stored}
+use Rattle.boxes.specs.Numbers.{number, bytesOf}
 use Rattle.boxes.specs.declared.framing.Framed.{Framed}
 use Rattle.boxes.specs.declared.framing.Header.{Header}
 use Rattle.boxes.specs.declared.framing.Header.the-variants.{Found, Refused}
@@ -77,8 +75,3 @@ front kind n = bytesOf 4 (frontSize + n) ++ bytesOf 4 kind
 -- a box as we write it
 unfoldable pub boxed : ℕ → List ℕ → List ℕ
 boxed kind body = front kind (length body) ++ body
-
--- what a call that writes a header answers, and how it leaves the buffer: nothing is written of a size that 4 bytes do not hold
-pub record StoresHeader (s : List ℕ) (at kind n : ℕ) (answer : Bool) (after : List ℕ) : Type 0 where
-  pub room : answer ≡ elim (holds 4 (frontSize + n)) [ true ↦ roomFor s at (front kind n) | false ↦ false ]
-  pub left : after ≡ elim (holds 4 (frontSize + n)) [ true ↦ stored s at (front kind n) | false ↦ s ]

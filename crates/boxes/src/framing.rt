@@ -8,7 +8,9 @@ use crate::refusals::SIZE_UNDER_HEADER;
 use crate::refusals::SIZE_ZERO;
 ghost use Prim.Native.Nat.{_+_, _-_, _≤_};
 ghost use mathlib.Core.Path.{_≡_};
-ghost use Rattle.boxes.specs.Framing.{header, large, sized, headerAnswer, StoresHeader};
+ghost use Rattle.boxes.specs.Framing.{header, large, sized, headerAnswer, frontSize, front};
+ghost use Rattle.boxes.specs.Numbers.{holds};
+ghost use Rattle.boxes.specs.Stored.{Stores};
 
 // A box that was read: its kind, its first byte, the first byte of its body, and the first byte after it.
 pub struct Framed {
@@ -95,7 +97,7 @@ pub fn header_at(s: &[u8], at: Place, end: Place) -> Header
 // Writes the header of a box with a body of n bytes, if its size fits 32 bits and there is room. The size and the type are the halves of
 // one number, so that both are written or neither.
 pub fn put_header(buf: &mut [u8], at: Place, kind: u32, n: u64) -> bool
-    ensures { λ r. ⌜ StoresHeader (now (buf .entry)) (at .0) kind n r (now (buf .exit)) ⌝ }
+    ensures { λ r. ⌜ Stores (holds 4 (frontSize + n)) (now (buf .entry)) (at .0) (front kind n) r (now (buf .exit)) ⌝ }
 {
     if LARGEST_BODY < n {
         return false;

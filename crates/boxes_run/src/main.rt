@@ -16,4 +16,6 @@ fn main() {
     walking::by_table();
     writing::by_room();
     writing::by_size();
+    writing::by_number();
+    writing::by_offset();
 }
