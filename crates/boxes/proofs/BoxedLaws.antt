@@ -1,56 +1,56 @@
 -- Laws of boxes as we write them: their header is one number of eight bytes, and they are read back as they were written.
-use Prim.Native.Nat.{ℕ, suc, _+_, _-_, _*_, _^_, _≤_, _<_}
-use mathlib.Core.Bool.{Bool, false}
-use mathlib.Core.List.{List, [], _∷_, _++_, append-assoc, append-nil, map}
-use mathlib.Core.Path.{_≡_, sym, _∙_}
+use Prim.Native.Nat.{ℕ, _+_, _-_, _*_, _^_, _≤_, _<_}
+use mathlib.Core.Bool.{true, false}
+use mathlib.Core.List.{List, [], _∷_, _++_, append-assoc, append-nil}
+use mathlib.Core.Path.{_≡_, refl, sym, _∙_}
+use native.Mathlib.Nat.{add-zero, add-assoc}
 use native.Mathlib.Omega.{arith}
-use borrow.Author.Tests.{lt-ltb, le-ltb}
-use lib.ListN.{length, length-append}
-use Rattle.boxes.specs.Answer.{given, _>>=_}
+use lib.ListN.{length, getD, length-append}
+use Rattle.boxes.specs.Answer.{given}
 use Rattle.boxes.specs.Numbers.{number, bytesOf, holds}
-use Rattle.boxes.specs.Stored.{Stores}
-use Rattle.boxes.specs.Framing.{Box, header, frontSize, front, boxed, boxesFrom, StoresHeader}
-use Rattle.boxes.proofs.ContainerLaws.{boxes-end, boxes-next, appended}
+use Rattle.boxes.specs.Framing.{Box, header, frontSize, front, boxed, boxesIn, boxLimit}
+use Rattle.boxes.specs.declared.kinds.Container.{Container}
+use Rattle.boxes.proofs.ContainerLaws.{box-limit, boxes-end, boxes-next, boxes-stand, boxes-appended}
 use Rattle.boxes.proofs.HeaderLaws.{sized-fits, header-short, moved}
 use Rattle.boxes.proofs.NumberLaws.{length-bytesOf, number-bytesOf, bytesOf-joined}
+use Rattle.boxes.proofs.WidthLaws.{below-holds, over-holds}
 
 -- a header as we write it is one number
 pub front-bytes : (kind n : ℕ) → kind < 2 ^ 32 → bytesOf 8 ((8 + n) * 0x1_0000_0000 + kind) ≡ front kind n
 unfolding front frontSize
 front-bytes kind n h = bytesOf-joined 4 4 (8 + n) kind h
 
--- writing a header is storing its bytes where 4 bytes hold its size, and nothing where they do not
-module _ (s : List ℕ) (at kind n : ℕ) {answer : Bool} {after : List ℕ} where
-  pub header-stored : n ≤ 0xffff_ffff - 8 → Stores s at (front kind n) answer after → StoresHeader s at kind n answer after
-  unfolding holds frontSize
-  header-stored h stores =
-      let fits = lt-ltb (8 + n) (2 ^ 32) (omega arith) in
-      record { room = rw fits (stores .room); left = rw fits (stores .left) }
+-- 4 bytes hold the size of a box with a body up to the largest
+module _ (n : ℕ) where
+  pub size-held : n ≤ 0xffff_ffff - 8 → holds 4 (frontSize + n) ≡ true
+  unfolding frontSize
+  size-held h = below-holds 4 (frontSize + n) (omega arith)
 
-  pub front-stored : frontSize + n < 2 ^ 32 → StoresHeader s at kind n answer after → Stores s at (front kind n) answer after
-  unfolding holds
-  front-stored h stores =
-      let fits = lt-ltb (frontSize + n) (2 ^ 32) h in
-      record { room = rw fits at (stores .room); left = rw fits at (stores .left) }
+  pub size-unheld : 0xffff_ffff - 8 < n → holds 4 (frontSize + n) ≡ false
+  unfolding frontSize
+  size-unheld h = over-holds 4 (frontSize + n) (omega arith)
 
-pub header-unstored : (s : List ℕ) (at kind n : ℕ) → 0xffff_ffff - 8 < n → StoresHeader s at kind n false s
-unfolding holds frontSize
-header-unstored s at kind n h =
-    let large = le-ltb (8 + n) (2 ^ 32) (omega arith) in
-    record { room = rw large; left = rw large }
+-- a header as we write it has 8 bytes
+pub front-size : frontSize ≡ 8
+unfolding frontSize
+front-size = refl
 
--- how long a header and a box as we write them are
 pub length-front : (kind n : ℕ) → length (front kind n) ≡ frontSize
 unfolding front frontSize
 length-front kind n = simp (length-append, length-bytesOf)
+
+-- a box as we write it is its header and then its body
+pub boxed-parts : (kind : ℕ) (body : List ℕ) → boxed kind body ≡ front kind (length body) ++ body
+unfolding boxed
+boxed-parts kind body = refl
 
 pub length-boxed : (kind : ℕ) (body : List ℕ) → length (boxed kind body) ≡ frontSize + length body
 unfolding boxed
 length-boxed kind body = rw (length-append, length-front)
 
 -- a box that was written is read back: the box of that kind, at that place, with a body of n bytes
-abbrev pub written : ℕ → ℕ → ℕ → Box
-written at kind n = record { kind = kind; at = at; body = at + frontSize; end = at + (frontSize + n) }
+abbrev pub boxedAt : ℕ → ℕ → ℕ → Box
+boxedAt at kind n = record { kind = kind; at = at; body = at + frontSize; end = at + (frontSize + n) }
 
 module _ (p q : List ℕ) (kind : ℕ) (body : List ℕ) where
   boxed-in : List ℕ
@@ -67,7 +67,7 @@ module _ (p q : List ℕ) (kind : ℕ) (body : List ℕ) where
       simp append-assoc (simp (append-assoc, length-append, length-bytesOf) at (number-bytesOf (p ++ size) (body ++ q) 4 kind fits))
 
   pub header-boxed : (end : ℕ) → kind < 2 ^ 32 → frontSize + length body < 2 ^ 32 → length p + (frontSize + length body) ≤ end
-      → header (p ++ (boxed kind body ++ q)) (length p) end ≡ given (written (length p) kind (length body))
+      → header (p ++ (boxed kind body ++ q)) (length p) end ≡ given (boxedAt (length p) kind (length body))
   unfolding boxed-in frontSize
   header-boxed end code fits inside =
       let size = size-boxed fits in
@@ -75,21 +75,32 @@ module _ (p q : List ℕ) (kind : ℕ) (body : List ℕ) where
       ∙ sized-fits boxed-in (length p) end 8 (8 + length body) (omega arith) inside
       ∙ rw (kind-boxed code)
 
--- a box that was written fills its own bytes, and what follows it is walked after it
-module _ (kind : ℕ) (body : List ℕ) (code : kind < 2 ^ 32) (fits : frontSize + length body < 2 ^ 32) where
-  boxed-read : header (boxed kind body) 0 (frontSize + length body) ≡ given (written 0 kind (length body))
-  boxed-read = simp append-nil at (header-boxed [] [] kind body (frontSize + length body) code fits (omega arith))
+-- such a box so many bytes further on
+pub moved-boxedAt : (m at kind n : ℕ) → moved m (boxedAt at kind n) ≡ boxedAt (m + at) kind n
+moved-boxedAt m at kind n = simp add-assoc
 
-  pub boxed-alone : (more : ℕ) → boxesFrom (boxed kind body) (length (boxed kind body)) (suc more) 0 ≡ given (written 0 kind (length body) ∷ [])
-  unfolding frontSize
-  boxed-alone more =
-      rw length-boxed
-      (boxes-next (boxed kind body) (frontSize + length body) 0 (omega arith) more
-      ∙ rw (boxed-read, boxes-end (boxed kind body) (frontSize + length body) (0 + (frontSize + length body)) more (omega arith)))
+-- a box that was written is the one box of its own bytes
+module _ (c : Container) (kind : ℕ) (body : List ℕ) (code : kind < 2 ^ 32) (fits : frontSize + length body < 2 ^ 32) where
+  pub boxed-alone : boxesIn c (boxed kind body) 0 (length (boxed kind body)) ≡ given (boxedAt 0 kind (length body) ∷ [])
+  unfolding boxesIn boxLimit frontSize
+  boxed-alone =
+      let end : ℕ = frontSize + length body in
+      let read = simp append-nil at (header-boxed [] [] kind body end code fits (omega arith)) in
+      rw length-boxed (boxes-next c (boxed kind body) end 0 (omega arith) 511 ∙ rw (read, boxes-end c (boxed kind body) end (0 + end) 511 (omega arith)))
 
-  pub boxed-then : (g : List ℕ) (more : ℕ)
-      → boxesFrom (boxed kind body ++ g) (length (boxed kind body ++ g)) (suc more) 0
-      ≡ (boxesFrom g (length g) more 0 >>= λ cs. given (written 0 kind (length body) ∷ map (moved (frontSize + length body)) cs))
-  boxed-then g more =
-      let less : suc more - 1 ≡ more = omega arith in
-      rw (less, length-boxed) at (appended (boxed kind body) g (suc more) (boxed-alone more))
+-- two boxes, one after the other
+module _ (c : Container) (first second : ℕ) (one two : List ℕ) (code : first < 2 ^ 32) (code′ : second < 2 ^ 32) (fits : length (boxed first one ++ boxed second two) < 2 ^ 32) where
+  pub boxed-then : boxesIn c (boxed first one ++ boxed second two) 0 (length (boxed first one ++ boxed second two))
+      ≡ given (boxedAt 0 first (length one) ∷ boxedAt (frontSize + length one) second (length two) ∷ [])
+  boxed-then =
+      let size = simp (length-append, length-boxed) at fits in
+      boxes-appended c (boxed first one) (boxed second two) (boxed-alone c first one code (omega arith)) (boxed-alone c second two code′ (omega arith)) (rw box-limit (omega arith))
+      ∙ rw (moved-boxedAt (length (boxed first one)) 0 second (length two), add-zero, length-boxed)
+
+  -- and where they stand in a list, at a place
+  pub boxed-stand : (g : List ℕ) (at : ℕ) → ((i : ℕ) → i < length (boxed first one ++ boxed second two) → getD g (at + i) 0 ≡ getD (boxed first one ++ boxed second two) i 0)
+      → boxesIn c g at (at + length (boxed first one ++ boxed second two))
+      ≡ given (boxedAt at first (length one) ∷ boxedAt (at + (frontSize + length one)) second (length two) ∷ [])
+  boxed-stand g at stands =
+      boxes-stand c g at (boxed first one ++ boxed second two) stands
+      ∙ rw boxed-then (rw (moved-boxedAt at 0 first (length one), moved-boxedAt at (frontSize + length one) second (length two), add-zero))

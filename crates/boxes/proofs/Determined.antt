@@ -1,12 +1,9 @@
 -- Each public call's contract determines its answer: two that it allows of the same arguments are equal.
 use mathlib.Core.Path.{_≡_, sym, _∙_}
 use denote.Ref.{now}
-use Rattle.boxes.proofs.ToldLaws.{header-told, step-told, walked-told, right-told}
+use Rattle.boxes.proofs.ToldLaws.{header-told, step-told}
 use Rattle.boxes.proofs.framing.header_at.Reads as header-at
 use Rattle.boxes.proofs.framing.put_header.Reads as put-header
-use Rattle.boxes.proofs.rules.check_container.Reads as check-container
-use Rattle.boxes.proofs.rules.check_kind.Reads as check-kind
-use Rattle.boxes.proofs.rules.count_of.Reads as count-of
 use Rattle.boxes.proofs.kinds.table.Reads as table
 use Rattle.boxes.proofs.numbers.put_number.Reads as put-number
 use Rattle.boxes.proofs.numbers.put_offset.Reads as put-offset
@@ -14,7 +11,9 @@ use Rattle.boxes.proofs.numbers.signed.Reads as signed
 use Rattle.boxes.proofs.numbers.unsigned.Reads as unsigned
 use Rattle.boxes.proofs.numbers.width_of.Reads as width-of
 use Rattle.boxes.proofs.numbers.width_of_offset.Reads as width-of-offset
-use Rattle.boxes.proofs.walk.count.Reads as count
+use Rattle.boxes.proofs.rules.keeps.Reads as keeps
+use Rattle.boxes.proofs.rules.tally.Reads as tally
+use Rattle.boxes.proofs.tally.Tally.of.Reads as tally-of
 use Rattle.boxes.proofs.walk.Walk.new.Reads as new
 use Rattle.boxes.proofs.walk.Walk.step.Reads as step
 
@@ -69,17 +68,14 @@ new-result κs args x y after after′ p q = p ∙ sym q
 step-result : OneResult step.Post
 step-result κs args x y after after′ p q = step-told x y (p ∙ sym q)
 
-count-result : OneResult count.Post
-count-result κs args x y after after′ p q = walked-told x y (p ∙ sym q)
-
 table-result : OneResult table.Post
 table-result κs args x y after after′ p q = p ∙ sym q
 
-count-of-result : OneResult count-of.Post
-count-of-result κs args x y after after′ p q = walked-told x y (p ∙ sym q)
+tally-result : OneResult tally.Post
+tally-result κs args x y after after′ p q = p ∙ sym q
 
-check-kind-result : OneResult check-kind.Post
-check-kind-result κs args x y after after′ p q = right-told x y (p ∙ sym q)
+tally-of-result : OneResult tally-of.Post
+tally-of-result κs args x y after after′ p q = p ∙ sym q
 
-check-container-result : OneResult check-container.Post
-check-container-result κs args x y after after′ p q = right-told x y (p ∙ sym q)
+keeps-result : OneResult keeps.Post
+keeps-result κs args x y after after′ p q = p ∙ sym q

@@ -1,4 +1,4 @@
--- Laws of a box header: what each test decides, and where the box that was read lies.
+-- Laws of a box header: what each test decides, where the box that was read lies, and with which numbers a header is refused.
 use Prim.Native.Nat.{ℕ, _+_, _≤_, _<_}
 use mathlib.Core.Bool.{Bool, true, false, not}
 use mathlib.Core.List.{List}
@@ -12,23 +12,23 @@ use lib.ListN.{getD}
 use Rattle.boxes.specs.Answer.{refused, given, _>>=_}
 use Rattle.boxes.specs.Numbers.{number}
 use Rattle.boxes.specs.Framing.{Box, sized, large, header}
-use Rattle.boxes.proofs.AnswerLaws.{held, given-same}
+use Rattle.boxes.proofs.AnswerLaws.{held, given-same, Only, only-given, only-held, only-either}
 use Rattle.boxes.proofs.NumberLaws.{number-same}
 
 -- what the tests decide
 module _ (s : List ℕ) (at end : ℕ) where
-  pub sized-under : (front size : ℕ) → size < front → sized s at end front size ≡ refused 4
+  pub sized-under : (width size : ℕ) → size < width → sized s at end width size ≡ refused 4
   unfolding sized
-  sized-under front size h = simp (lt-leb front size h)
+  sized-under width size h = simp (lt-leb width size h)
 
-  pub sized-past : (front size : ℕ) → front ≤ size → end < at + size → sized s at end front size ≡ refused 5
+  pub sized-past : (width size : ℕ) → width ≤ size → end < at + size → sized s at end width size ≡ refused 5
   unfolding sized
-  sized-past front size h past = simp (le-leb front size h, lt-leb (at + size) end past)
+  sized-past width size h past = simp (le-leb width size h, lt-leb (at + size) end past)
 
-  pub sized-fits : (front size : ℕ) → front ≤ size → at + size ≤ end
-      → sized s at end front size ≡ given (record { kind = number s (at + 4) 4; at = at; body = at + front; end = at + size })
+  pub sized-fits : (width size : ℕ) → width ≤ size → at + size ≤ end
+      → sized s at end width size ≡ given (record { kind = number s (at + 4) 4; at = at; body = at + width; end = at + size })
   unfolding sized
-  sized-fits front size h fits = simp (le-leb front size h, le-leb (at + size) end fits)
+  sized-fits width size h fits = simp (le-leb width size h, le-leb (at + size) end fits)
 
   pub large-cut : end < at + 16 → large s at end ≡ refused 2
   unfolding large
@@ -58,22 +58,22 @@ module _ (s : List ℕ) (at end : ℕ) where
 -- a box that was read lies inside its container, and the place after it is further on
 pub record Inside (at end : ℕ) (b : Box) : Type 0 where
   pub starts : b .at ≡ at
-  pub front : at < b .body
+  pub front : at + 8 ≤ b .body
   pub whole : b .body ≤ b .end
   pub ends : b .end ≤ end
 
 module _ (s : List ℕ) (at end : ℕ) {b : Box} where
-  sized-given : (front size : ℕ) → sized s at end front size ≡ given b
-      → (front ≤ size) × (at + size ≤ end) × (record { kind = number s (at + 4) 4; at = at; body = at + front; end = at + size } ≡ b)
+  sized-given : (width size : ℕ) → sized s at end width size ≡ given b
+      → (width ≤ size) × (at + size ≤ end) × (record { kind = number s (at + 4) 4; at = at; body = at + width; end = at + size } ≡ b)
   unfolding sized
-  sized-given front size h =
-      let under = held 4 (leb front size) _ h in
+  sized-given width size h =
+      let under = held 4 (leb width size) _ h in
       let past = held 5 (leb (at + size) end) _ (under .1) in
       (leb-true _ _ (under .0), leb-true _ _ (past .0), given-same (past .1))
 
-  sized-inside : (front size : ℕ) → 1 ≤ front → sized s at end front size ≡ given b → Inside at end b
-  sized-inside front size some-front h =
-      let g = sized-given front size h in
+  sized-inside : (width size : ℕ) → 8 ≤ width → sized s at end width size ≡ given b → Inside at end b
+  sized-inside width size wide h =
+      let g = sized-given width size h in
       subst (Inside at end) (g .2) (record { starts = refl; front = omega arith; whole = omega arith; ends = omega arith })
 
   large-inside : large s at end ≡ given b → Inside at end b
@@ -101,10 +101,10 @@ module _ (s : List ℕ) (at end : ℕ) {b : Box} where
 
 -- a box that was read is read the same where its container ends further on
 module _ (s : List ℕ) (at end end′ : ℕ) (on : end ≤ end′) {b : Box} where
-  sized-further : (front size : ℕ) → sized s at end front size ≡ given b → sized s at end′ front size ≡ given b
-  sized-further front size h =
-      let g = sized-given s at end front size h in
-      sized-fits s at end′ front size (g .0) (omega arith) ∙ ap given (g .2)
+  sized-further : (width size : ℕ) → sized s at end width size ≡ given b → sized s at end′ width size ≡ given b
+  sized-further width size h =
+      let g = sized-given s at end width size h in
+      sized-fits s at end′ width size (g .0) (omega arith) ∙ ap given (g .2)
 
   large-further : large s at end ≡ given b → large s at end′ ≡ given b
   unfolding large
@@ -128,18 +128,18 @@ module _ (s t : List ℕ) (n at end : ℕ) (same : (i : ℕ) → i < end → get
   number-moved from w h =
       number-same t s (n + from) from w (λ k below. rw (add-assoc n from k) (same (from + k) (omega arith)))
 
-  sized-moved : (front size : ℕ) → at + 8 ≤ end → sized t (n + at) (n + end) front size ≡ (sized s at end front size >>= λ b. given (moved n b))
-  sized-moved front size whole =
-      elim (decLe front size) [
+  sized-moved : (width size : ℕ) → at + 8 ≤ end → sized t (n + at) (n + end) width size ≡ (sized s at end width size >>= λ b. given (moved n b))
+  sized-moved width size whole =
+      elim (decLe width size) [
         | no under ↦
-            sized-under t (n + at) (n + end) front size (omega arith) ∙ rw (sized-under s at end front size (omega arith))
+            sized-under t (n + at) (n + end) width size (omega arith) ∙ rw (sized-under s at end width size (omega arith))
         | yes over ↦
             elim (decLe (at + size) end) [
               | no past ↦
-                  sized-past t (n + at) (n + end) front size over (omega arith) ∙ rw (sized-past s at end front size over (omega arith))
+                  sized-past t (n + at) (n + end) width size over (omega arith) ∙ rw (sized-past s at end width size over (omega arith))
               | yes fits ↦
-                  sized-fits t (n + at) (n + end) front size over (omega arith)
-                  ∙ rw (sized-fits s at end front size over fits, add-assoc n at 4, number-moved (at + 4) 4 (omega arith), add-assoc n at front, add-assoc n at size)
+                  sized-fits t (n + at) (n + end) width size over (omega arith)
+                  ∙ rw (sized-fits s at end width size over fits, add-assoc n at 4, number-moved (at + 4) 4 (omega arith), add-assoc n at width, add-assoc n at size)
             ]
       ]
 
@@ -171,3 +171,22 @@ module _ (s t : List ℕ) (n at end : ℕ) (same : (i : ℕ) → i < end → get
                   ]
             ]
       ]
+
+-- a header is refused with 2 to 5
+module _ (s : List ℕ) (at end : ℕ) where
+  abbrev Faults : ℕ → Type 0
+  Faults n = (2 ≤ n) × (n ≤ 5)
+
+  sized-numbers : (width size : ℕ) → Only Faults (sized s at end width size)
+  unfolding sized
+  sized-numbers width size =
+      only-held Faults 4 (leb width size) _ (omega arith) (only-held Faults 5 (leb (at + size) end) _ (omega arith) (only-given Faults _))
+
+  pub header-numbers : (n : ℕ) → header s at end ≡ refused n → (2 ≤ n) × (n ≤ 5)
+  unfolding header large
+  header-numbers =
+      only-held Faults 2 (leb (at + 8) end) _ (omega arith)
+      (only-held Faults 3 (not (eqb (number s at 4) 0)) _ (omega arith)
+      (only-either Faults (eqb (number s at 4) 1)
+      (only-held Faults 2 (leb (at + 16) end) _ (omega arith) (sized-numbers 16 (number s (at + 8) 8)))
+      (sized-numbers 8 (number s at 4))))

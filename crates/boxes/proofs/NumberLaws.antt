@@ -28,6 +28,15 @@ gathered-more f s at i d inside before here =
     (λ k h. getD-set-other f i k d 0 (λ e. omega arith) ∙ before k h)
     (getD-set-same f i d 0 inside ∙ here)
 
+-- no bytes are 0, and one byte is itself
+pub number-none : (s : List ℕ) (at : ℕ) → number s at 0 ≡ 0
+unfolding number
+number-none s at = refl
+
+pub number-byte : (s : List ℕ) (at : ℕ) → number s at 1 ≡ getD s at 0
+unfolding number
+number-byte s at = rw add-zero (omega arith)
+
 -- one byte more: the step of a loop that reads a number
 pub number-more : (s : List ℕ) (at w : ℕ) → number s at (w + 1) ≡ number s at w * 256 + getD s (at + w) 0
 unfolding number

@@ -7,7 +7,7 @@ use native.Mathlib.Nat.{mod-self, sub-zero}
 use native.Mathlib.Omega.{arith}
 use borrow.Author.Tests.{lt-ltb, le-ltb, ltb-true, leb-true}
 use lib.ListN.{length}
-use Rattle.boxes.specs.Numbers.{number, bytesOf, signed, unsigned, holdsOffset, valueOf}
+use Rattle.boxes.specs.Numbers.{number, bytesOf, signed, twosComplement, holdsOffset, valueOf}
 use Rattle.boxes.specs.declared.numbers.Offset.{Offset}
 use Rattle.boxes.specs.declared.numbers.Offset.the-variants.{Ahead, Back}
 use Rattle.boxes.proofs.NumberLaws.{bytesOf-mod, number-bytesOf, number-bytesOf-mod, power-pos}
@@ -25,44 +25,44 @@ module _ (w n top : ℕ) (largest : top + 1 ≡ 256 ^ w) where
   signed-back h l = rw (le-ltb (2 * n) (256 ^ w) (omega arith), signed) (ap Back (omega arith))
 
   -- so many back, as a number
-  pub unsigned-back : n ≤ top → unsigned w (Back n) ≡ top - n + 1
-  unfolding unsigned
-  unsigned-back h = omega arith
-
-  -- too many back
-  pub unsigned-over : top < n → unsigned w (Back n) ≡ 0
-  unfolding unsigned
-  unsigned-over h = omega arith
+  pub twosComplement-back : n ≤ top → twosComplement w (Back n) ≡ top - n + 1
+  unfolding twosComplement
+  twosComplement-back h = omega arith
 
 -- none back is the power of 256 itself, whose bytes are those of 0
-pub unsigned-none : (w : ℕ) → bytesOf w 0 ≡ bytesOf w (unsigned w (Back 0))
-unfolding unsigned
-unsigned-none w = rw (sub-zero, ← bytesOf-mod w (256 ^ w), mod-self)
+pub twosComplement-none : (w : ℕ) → bytesOf w 0 ≡ bytesOf w (twosComplement w (Back 0))
+unfolding twosComplement
+twosComplement-none w = rw (sub-zero, ← bytesOf-mod w (256 ^ w), mod-self)
+
+-- a field of width 0 has value 0
+pub signed-none : signed 0 0 ≡ Ahead 0
+unfolding signed
+signed-none = refl
 
 -- reading back, as numbers
-pub signed-unsigned : (w : ℕ) (z : Offset) → holdsOffset w z ≡ true → signed w (unsigned w z) ≡ z
-unfolding signed unsigned holdsOffset
-signed-unsigned w (Ahead n) h = rw (h, signed)
-signed-unsigned w (Back n) h =
+pub signed-twosComplement : (w : ℕ) (z : Offset) → holdsOffset w z ≡ true → signed w (twosComplement w z) ≡ z
+unfolding signed twosComplement holdsOffset
+signed-twosComplement w (Ahead n) h = rw (h, signed)
+signed-twosComplement w (Back n) h =
     let half : 2 * n ≤ 256 ^ w = leb-true _ _ h in
     rw (le-ltb (2 * (256 ^ w - n)) (256 ^ w) (omega arith), signed) (ap Back (omega arith))
 
 -- an offset that w bytes hold is a number of w bytes, but for the second name of 0
-pub unsigned-below : (w : ℕ) (z : Offset) → holdsOffset w z ≡ true → (z ≡ Back 0 → ⊥) → unsigned w z < 256 ^ w
-unfolding unsigned holdsOffset
-unsigned-below w (Ahead n) h some = omega (arith, ltb-true (2 * n) (256 ^ w) h)
-unsigned-below w (Back zero) h some = absurd (some refl)
-unsigned-below w (Back (suc n)) h some = omega (arith, power-pos w)
+pub twosComplement-below : (w : ℕ) (z : Offset) → holdsOffset w z ≡ true → (z ≡ Back 0 → ⊥) → twosComplement w z < 256 ^ w
+unfolding twosComplement holdsOffset
+twosComplement-below w (Ahead n) h some = omega (arith, ltb-true (2 * n) (256 ^ w) h)
+twosComplement-below w (Back zero) h some = absurd (some refl)
+twosComplement-below w (Back (suc n)) h some = omega (arith, power-pos w)
 
 -- reading back the bytes that were written
 pub offset-back : (p t : List ℕ) (w : ℕ) (z : Offset) → holdsOffset w z ≡ true → (z ≡ Back 0 → ⊥)
-    → signed w (number (p ++ (bytesOf w (unsigned w z) ++ t)) (length p) w) ≡ z
-offset-back p t w z h some = rw (number-bytesOf p t w (unsigned w z) (unsigned-below w z h some)) (signed-unsigned w z h)
+    → signed w (number (p ++ (bytesOf w (twosComplement w z) ++ t)) (length p) w) ≡ z
+offset-back p t w z h some = rw (number-bytesOf p t w (twosComplement w z) (twosComplement-below w z h some)) (signed-twosComplement w z h)
 
 -- the same of the value, which both names of 0 have
 pub value-back : (p t : List ℕ) (w : ℕ) (z : Offset) → holdsOffset w z ≡ true
-    → valueOf (signed w (number (p ++ (bytesOf w (unsigned w z) ++ t)) (length p) w)) ≡ valueOf z
-unfolding valueOf unsigned
+    → valueOf (signed w (number (p ++ (bytesOf w (twosComplement w z) ++ t)) (length p) w)) ≡ valueOf z
+unfolding valueOf twosComplement
 value-back p t w (Ahead n) h = ap valueOf (offset-back p t w (Ahead n) h (λ e. let z : _≡_ {A = ℕ} 0 1 = cc in omega arith))
 value-back p t w (Back zero) h =
     rw (number-bytesOf-mod p t w (256 ^ w - 0), sub-zero, mod-self, ← signed-ahead w 0 (256 ^ w - 1) (omega (arith, power-pos w)) zero-le)

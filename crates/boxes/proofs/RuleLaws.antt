@@ -1,105 +1,157 @@
--- Laws of the count rules, one kind at a time and over a table.
-use Prim.Native.Nat.{ℕ, suc, _+_, _<_}
-use mathlib.Core.Bool.{Bool, true, false}
-use mathlib.Core.List.{List, [], _∷_}
-use mathlib.Core.Path.{_≡_, refl, sym, ap, _∙_}
+-- Laws of the counts of kinds: how a loop over the table counts one box more, and what is read at a kind's row.
+use Prim.Native.Nat.{ℕ, zero, suc, _+_, _≤_, _<_}
+use mathlib.Core.Bool.{Bool, true, false, _||_}
+use mathlib.Core.List.{List, [], _∷_, _++_, map}
+use mathlib.Core.Path.{_≡_, refl, sym, ap, ap₂, _∙_}
+use native.Mathlib.Nat.{add-zero}
 use native.Mathlib.Numerals.{add-one}
-use borrow.Author.Tests.{eq-eqb, ne-eqb}
-use lib.ListN.{length, getD, drop}
-use lib.Seq.{drop-cons}
-use Rattle.boxes.specs.Answer.{Answer, refused, given, _>>=_}
-use Rattle.boxes.specs.Framing.{Box, boxesIn}
-use Rattle.boxes.specs.Kinds.{those, keeps, right}
-use Rattle.boxes.specs.Rules.{countedOf, rightIn, containerNo, rightHere, allRight, allRightIn, rightAnswer}
-use Rattle.boxes.specs.Walk.{counted, walkedAnswer}
-use Rattle.boxes.specs.declared.kinds.Container.{Container}
+use native.Mathlib.Omega.{arith}
+use borrow.Author.Count.{below-more}
+use borrow.Author.Tests.{eq-eqb, ne-eqb, eqb-true, eqb-false}
+use lib.Dec.{eqb}
+use lib.ListN.{length, getD, drop, set, length-set}
+use lib.Seq.{drop-cons, drop-drop, getD-drop, getD-set-same, getD-set-other, ext-getD}
+use Rattle.boxes.specs.Answer.{given}
+use Rattle.boxes.specs.Framing.{Box}
+use Rattle.boxes.specs.Kinds.{ftyp, kinds, is, those}
+use Rattle.boxes.specs.Rules.{countsOf, tallyOf, countIn, tallyFor}
 use Rattle.boxes.specs.declared.kinds.Kind.{Kind}
-use Rattle.boxes.specs.declared.rules.Checked.{Checked}
-use Rattle.boxes.specs.declared.rules.Checked.the-variants.{Right, Refused}
-use Rattle.boxes.specs.declared.walk.Walked.{Walked}
-use Rattle.boxes.specs.declared.walk.Walked.the-variants as Walked
-use Rattle.boxes.proofs.AnswerLaws.{given-same, both-given, fault-first, then-then}
+use Rattle.boxes.proofs.KindLaws.{those-few, one-found, one-passed}
 
--- a rule is held against the number that was counted
-module _ (k : Kind) (s : List ℕ) (start end : ℕ) where
-  counted-right : rightIn k s start end ≡ (countedOf k s start end >>= λ n. given (keeps (k .count) n))
-  unfolding rightIn countedOf right
-  counted-right = sym (then-then (boxesIn s start end) (λ bs. given (length (those k bs))) (λ n. given (keeps (k .count) n)))
+-- ---- one box more
 
-  module _ {r : Walked} (answer : walkedAnswer r ≡ countedOf k s start end) where
-    pub rule-held : {n : ℕ} → r ≡ Walked.Boxes n → given (keeps (k .count) n) ≡ rightIn k s start end
-    unfolding walkedAnswer
-    rule-held e = rw (counted-right, ← answer, e)
+-- a row after a box of a type: one more where the row's kind has that type
+abbrev rowAfter : ℕ → Kind → ℕ → ℕ
+rowAfter code k n = elim (eqb code (k .code)) [ true ↦ n + 1 | false ↦ n ]
 
-    pub rule-fault : {n : ℕ} → r ≡ Walked.Refused n → refused n ≡ rightIn k s start end
-    unfolding walkedAnswer
-    rule-fault e = rw (counted-right, ← answer, e)
+row-same : (code : ℕ) (k : Kind) (n : ℕ) → code ≡ k .code → rowAfter code k n ≡ n + 1
+row-same code k n e = simp (rowAfter, eq-eqb code (k .code) e)
 
--- the rules of several kinds: a fault refuses any, and a right or a wrong kind leaves or settles the others
-module _ (c : Container) (s : List ℕ) (start end : ℕ) where
-  pub faulty : {A : Type 0} (f : List Box → A) {n : ℕ} → (boxesIn s start end >>= λ bs. given (f bs)) ≡ refused n → (ks : List Kind) → allRightIn c ks s start end ≡ refused n
-  unfolding allRightIn
-  faulty f h ks = rw (fault-first (boxesIn s start end) f h)
+row-other : (code : ℕ) (k : Kind) (n : ℕ) → (code ≡ k .code → ⊥) → rowAfter code k n ≡ n
+row-other code k n other = simp (rowAfter, ne-eqb code (k .code) other)
 
-  pub no-rules : {n : ℕ} → counted s start end ≡ given n → allRightIn c [] s start end ≡ given true
-  unfolding counted allRightIn allRight
-  no-rules h =
-      let boxes = both-given (boxesIn s start end) _ h in
-      rw (boxes .1)
+-- so many rows of a table have counted a box of that type, and the others not yet
+pub record Rows (ks : List Kind) (code : ℕ) (before : List ℕ) (i : ℕ) (counts : List ℕ) : Type 0 where
+  pub long : length counts ≡ length before
+  pub passed : (k : ℕ) → k < i → getD counts k 0 ≡ rowAfter code (getD ks k ftyp) (getD before k 0)
+  pub left : (k : ℕ) → i ≤ k → getD counts k 0 ≡ getD before k 0
 
-  module _ (k : Kind) where
-    one-rule : (bs : List Box) → allRight c (k ∷ []) bs ≡ rightHere c k bs
-    unfolding allRight
-    one-rule bs = go (rightHere c k bs)
-      where
-        go : (t : Bool) → elim t [ true ↦ true | false ↦ false ] ≡ t
-        go true = refl
-        go false = refl
+pub rows-none : (ks : List Kind) (code : ℕ) (before : List ℕ) → Rows ks code before 0 before
+rows-none ks code before = record { long = refl; passed = λ k h. absurd (omega arith); left = λ k h. refl }
 
-    pub rule-here : containerNo c ≡ containerNo (k .container) → allRightIn c (k ∷ []) s start end ≡ rightIn k s start end
-    unfolding allRightIn rightIn rightHere
-    rule-here h = go (boxesIn s start end)
-      where
-        go : (x : Answer (List Box)) → (x >>= λ bs. given (allRight c (k ∷ []) bs)) ≡ (x >>= λ bs. given (right k bs))
-        go (refused n) = refl
-        go (given bs) = ap given (one-rule bs ∙ simp (rightHere, eq-eqb (containerNo c) (containerNo (k .container)) h))
+-- within a list it does not matter what stands past its end
+getD-any : (ks : List Kind) (i : ℕ) (d e : Kind) → i < length ks → getD ks i d ≡ getD ks i e
+getD-any [] i d e h = absurd (omega arith)
+getD-any (k ∷ ks) zero d e h = refl
+getD-any (k ∷ ks) (suc i) d e h = getD-any ks i d e (omega arith)
 
-    pub rule-elsewhere : (containerNo c ≡ containerNo (k .container) → ⊥) → allRightIn c (k ∷ []) s start end ≡ allRightIn c [] s start end
-    unfolding allRightIn allRight rightHere
-    rule-elsewhere h = go (boxesIn s start end)
-      where
-        go : (x : Answer (List Box)) → (x >>= λ bs. given (allRight c (k ∷ []) bs)) ≡ (x >>= λ bs. given (allRight c [] bs))
-        go (refused n) = refl
-        go (given bs) = ap given (one-rule bs ∙ simp (rightHere, ne-eqb (containerNo c) (containerNo (k .container)) h))
+module _ {ks : List Kind} {code : ℕ} {before : List ℕ} {i : ℕ} {counts : List ℕ} (r : Rows ks code before i counts) (d : Kind) (there : i < length ks) where
+  pub rows-found : i < length counts → code ≡ getD ks i d .code → Rows ks code before (i + 1) (set counts i (getD counts i 0 + 1))
+  rows-found inside e =
+      let same : getD counts i 0 ≡ getD before i 0 = r .left i (omega arith) in
+      record {
+        long = rw length-set (r .long);
+        passed =
+            below-more _ i (λ k h. getD-set-other counts i k (getD counts i 0 + 1) 0 (λ e. omega arith) ∙ r .passed k h)
+            (getD-set-same counts i (getD counts i 0 + 1) 0 inside ∙ ap (λ n. n + 1) same ∙ sym (row-same code (getD ks i ftyp) (getD before i 0) (rw (getD-any ks i ftyp d there) e)));
+        left = λ k h. getD-set-other counts i k (getD counts i 0 + 1) 0 (λ e. omega arith) ∙ r .left k (omega arith);
+      }
 
-    decided : {t : Bool} → allRightIn c (k ∷ []) s start end ≡ given t → (bs : List Box) × (boxesIn s start end ≡ given bs) × (rightHere c k bs ≡ t)
-    unfolding allRightIn
-    decided h =
-        let boxes = both-given (boxesIn s start end) _ h in
-        (boxes .0, boxes .1, sym (one-rule (boxes .0)) ∙ given-same (boxes .2))
+  pub rows-passed : (code ≡ getD ks i d .code → ⊥) → Rows ks code before (i + 1) counts
+  rows-passed other =
+      record {
+        long = r .long;
+        passed = below-more _ i (r .passed) (r .left i (omega arith) ∙ sym (row-other code (getD ks i ftyp) (getD before i 0) (rw (getD-any ks i ftyp d there) other)));
+        left = λ k h. r .left k (omega arith);
+      }
 
-    pub rule-right : allRightIn c (k ∷ []) s start end ≡ given true → (ks : List Kind) → allRightIn c (k ∷ ks) s start end ≡ allRightIn c ks s start end
-    unfolding allRightIn allRight
-    rule-right h ks =
-        let d = decided h in
-        rw (d .1) (simp (allRight, d .2))
+-- how many there are of each of some kinds
+abbrev counted : List Kind → List Box → List ℕ
+counted ks bs = map (λ k. length (those k bs)) ks
 
-    pub rule-wrong : allRightIn c (k ∷ []) s start end ≡ given false → (ks : List Kind) → allRightIn c (k ∷ ks) s start end ≡ given false
-    unfolding allRightIn allRight
-    rule-wrong h ks =
-        let d = decided h in
-        rw (d .1) (simp (allRight, d .2))
+counted-at : (ks : List Kind) (bs : List Box) (k : ℕ) → k < length ks → getD (counted ks bs) k 0 ≡ length (those (getD ks k ftyp) bs)
+counted-at [] bs k h = absurd (omega arith)
+counted-at (j ∷ ks) bs zero h = refl
+counted-at (j ∷ ks) bs (suc k) h = counted-at ks bs k (omega arith)
 
-  -- the same for the kind at a place of a table, as a loop over it goes
-  module _ (ks : List Kind) (i : ℕ) (d : Kind) (h : i < length ks) {r : Checked} (answer : rightAnswer r ≡ allRightIn c (getD ks i d ∷ []) s start end) where
-    pub table-right : {t : Bool} → r ≡ Right t → t ≡ true → allRightIn c (drop i ks) s start end ≡ allRightIn c (drop (i + 1) ks) s start end
-    unfolding rightAnswer
-    table-right e right = rw (add-one, drop-cons ks i d h) (rule-right (getD ks i d) (sym answer ∙ ap rightAnswer e ∙ ap given right) (drop (suc i) ks))
+-- where all rows have counted the box, they are the counts with the box
+pub rows-all : (bs : List Box) (b : Box) {code : ℕ} {counts : List ℕ} → b .kind ≡ code → Rows kinds code (countsOf bs) 8 counts
+    → counts ≡ countsOf (bs ++ (b ∷ []))
+unfolding countsOf
+rows-all bs b {code} {counts} e r =
+    ext-getD 0 counts (counted kinds (bs ++ (b ∷ []))) (r .long)
+    (λ k h.
+    let inside : k < 8 = omega (arith, r .long) in
+    r .passed k inside ∙ row k inside (eqb code (getD kinds k ftyp .code)) refl)
+  where
+    row : (k : ℕ) → k < 8 → (t : Bool) → eqb code (getD kinds k ftyp .code) ≡ t
+        → (elim t as (λ _. ℕ) [ true ↦ getD (counted kinds bs) k 0 + 1 | false ↦ getD (counted kinds bs) k 0 ]) ≡ getD (counted kinds (bs ++ (b ∷ []))) k 0
+    row k h true same =
+        one-found (getD kinds k ftyp) bs b (counted-at kinds bs k h) (e ∙ eqb-true code (getD kinds k ftyp .code) same)
+        ∙ sym (counted-at kinds (bs ++ (b ∷ [])) k h)
+    row k h false other =
+        one-passed (getD kinds k ftyp) bs b (counted-at kinds bs k h) (λ f. eqb-false code (getD kinds k ftyp .code) other (sym e ∙ f))
+        ∙ sym (counted-at kinds (bs ++ (b ∷ [])) k h)
 
-    pub table-wrong : {t : Bool} → r ≡ Right t → t ≡ false → allRightIn c (drop i ks) s start end ≡ given false
-    unfolding rightAnswer
-    table-wrong e wrong = rw (drop-cons ks i d h) (rule-wrong (getD ks i d) (sym answer ∙ ap rightAnswer e ∙ ap given wrong) (drop (suc i) ks))
+-- no count is above the number of boxes
+counted-few : (ks : List Kind) (bs : List Box) (k : ℕ) → getD (counted ks bs) k 0 ≤ length bs
+counted-few [] bs k = omega arith
+counted-few (j ∷ ks) bs zero = those-few j bs
+counted-few (j ∷ ks) bs (suc k) = counted-few ks bs k
 
-    pub table-fault : {n : ℕ} → r ≡ Refused n → allRightIn c (drop i ks) s start end ≡ refused n
-    unfolding rightAnswer allRightIn
-    table-fault e = faulty (allRight c (getD ks i d ∷ [])) (sym answer ∙ ap rightAnswer e) (drop i ks)
+pub counts-few : (bs : List Box) (k : ℕ) → getD (countsOf bs) k 0 ≤ length bs
+unfolding countsOf
+counts-few = counted-few kinds
+
+-- ---- the count at a kind's row
+
+-- the first row decides, if it is of the kind
+module _ (j k : Kind) (ks : List Kind) (counts : List ℕ) where
+  count-first : j .code ≡ k .code → countIn (j ∷ ks) k counts ≡ getD counts 0 0
+  unfolding countIn
+  count-first e = simp (countIn, eq-eqb (j .code) (k .code) e)
+
+  count-later : (j .code ≡ k .code → ⊥) → countIn (j ∷ ks) k counts ≡ countIn ks k (drop 1 counts)
+  unfolding countIn
+  count-later other = simp (countIn, ne-eqb (j .code) (k .code) other)
+
+-- as a loop over a table looks for it
+module _ (ks : List Kind) (k : Kind) (counts : List ℕ) (i : ℕ) (d : Kind) (inside : i < length ks) where
+  pub count-found : getD ks i d .code ≡ k .code → countIn (drop i ks) k (drop i counts) ≡ getD counts i 0
+  count-found e =
+      rw (drop-cons ks i d inside) (count-first (getD ks i d) k (drop (suc i) ks) (drop i counts) e ∙ rw (getD-drop, add-zero))
+
+  pub count-passed : (getD ks i d .code ≡ k .code → ⊥) → countIn (drop i ks) k (drop i counts) ≡ countIn (drop (i + 1) ks) k (drop (i + 1) counts)
+  count-passed other =
+      rw (drop-cons ks i d inside) (count-later (getD ks i d) k (drop (suc i) ks) (drop i counts) other ∙ rw (drop-drop, add-one))
+
+-- whether a table has a kind
+abbrev pub has : List Kind → Kind → Bool
+has [] k = false
+has (j ∷ ks) k = eqb (j .code) (k .code) || has ks k
+
+-- two kinds of one type have the same boxes
+those-same : (j k : Kind) → j .code ≡ k .code → (bs : List Box) → those j bs ≡ those k bs
+unfolding those is
+those-same j k e [] = refl
+those-same j k e (b ∷ bs) =
+    ap₂ (λ (t : Bool) (l : List Box). elim t as (λ _. List Box) [ true ↦ b ∷ l | false ↦ l ]) (ap (eqb (b .kind)) e) (those-same j k e bs)
+
+count-of : (ks : List Kind) (k : Kind) (bs : List Box) → has ks k ≡ true → countIn ks k (counted ks bs) ≡ length (those k bs)
+count-of [] k bs h = let z : _≡_ {A = ℕ} 0 1 = cc in absurd (omega arith)
+count-of (j ∷ ks) k bs h = go (count-of ks k bs) (eqb (j .code) (k .code)) refl
+  where
+    go : (has ks k ≡ true → countIn ks k (counted ks bs) ≡ length (those k bs)) → (t : Bool) → eqb (j .code) (k .code) ≡ t → countIn (j ∷ ks) k (counted (j ∷ ks) bs) ≡ length (those k bs)
+    go rest true e =
+        let same = eqb-true (j .code) (k .code) e in
+        count-first j k ks (counted (j ∷ ks) bs) same ∙ ap length (those-same j k same bs)
+    go rest false e = count-later j k ks (counted (j ∷ ks) bs) (eqb-false (j .code) (k .code) e) ∙ rest (rw e at h)
+
+-- at the row of a kind of the table stands how many there are of it: `tally-for ftyp refl bs`
+pub tally-for : (k : Kind) → has kinds k ≡ true → (bs : List Box) → tallyFor k (countsOf bs) ≡ length (those k bs)
+unfolding tallyFor countsOf
+tally-for k h bs = count-of kinds k bs h
+
+pub tally-given : (k : Kind) → has kinds k ≡ true → (bs : List Box) → tallyFor k (tallyOf (given bs) .counts) ≡ length (those k bs)
+unfolding tallyOf
+tally-given = tally-for

@@ -1,6 +1,6 @@
 -- Laws of `stored`: what a buffer holds after bytes were written into it.
-use mathlib.Core.Path.{_≡_, sym, ap, _∙_}
-use mathlib.Core.Bool.{true, false}
+use mathlib.Core.Path.{_≡_, refl, sym, ap, _∙_}
+use mathlib.Core.Bool.{Bool, true, false}
 use mathlib.Core.List.{List, [], _∷_, _++_, append-assoc}
 use Prim.Native.Nat.{ℕ, zero, suc, _+_, _-_, _/_, _%_, _^_, _≤_, _<_}
 use native.Mathlib.Nat.{le-refl, add-zero, add-assoc}
@@ -94,20 +94,34 @@ unfolding bytesOf
 stored-number-none s at zero n none fits = sym (stored-room s at [] (omega arith) ∙ rw add-zero (take-append-drop at s))
 stored-number-none s at (suc i) n none fits = absurd (omega arith)
 
-module _ (s : List ℕ) (at w n : ℕ) where
-  -- what a call that found room for a number has done
-  pub stores-number : (after : List ℕ) → at + w ≤ length s → after ≡ stored s at (bytesOf w n)
-      → Stores s at (bytesOf w n) true after
+-- what a call that writes bytes has done
+module _ (held : Bool) (s : List ℕ) (at : ℕ) (bytes : List ℕ) where
+  -- of a value that is held, and with room
+  pub stores-held : (exit : List ℕ) → held ≡ true → at + length bytes ≤ length s → exit ≡ stored s at bytes → Stores held s at bytes true exit
   unfolding roomFor
-  stores-number after h e = record { room = rw (length-bytesOf, le-leb (at + w) (length s) h); left = e }
+  stores-held exit h room e = rw h (record { room = sym (le-leb (at + length bytes) (length s) room); left = e })
 
-  -- what a call that found none has done: nothing
-  pub stores-no-number : length s < at + w → Stores s at (bytesOf w n) false s
+  -- of a value that is not held: nothing
+  pub stores-unheld : held ≡ false → Stores held s at bytes false s
+  stores-unheld h = rw h (record { room = refl; left = refl })
+
+  -- without room: nothing
+  pub stores-crowded : length s < at + length bytes → Stores held s at bytes false s
   unfolding roomFor
-  stores-no-number h = record {
-    room = rw (length-bytesOf, lt-leb (at + w) (length s) h);
-    left = sym (stored-none s at (bytesOf w n) (rw length-bytesOf h));
-  }
+  stores-crowded h = go held
+    where
+      go : (t : Bool) → Stores t s at bytes false s
+      go true = record { room = sym (lt-leb (at + length bytes) (length s) h); left = sym (stored-none s at bytes h) }
+      go false = record { room = refl; left = refl }
+
+  module _ {answer : Bool} {exit : List ℕ} (stores : Stores held s at bytes answer exit) where
+    -- of a value that is held: whether there was room, and the bytes are stored
+    pub held-stored : held ≡ true → (answer ≡ roomFor s at bytes) × (exit ≡ stored s at bytes)
+    held-stored h = (rw h at (stores .room), rw h at (stores .left))
+
+    -- the same bytes of a value that is held as well
+    pub stores-same : {held′ : Bool} {bytes′ : List ℕ} → held ≡ held′ → bytes ≡ bytes′ → Stores held′ s at bytes′ answer exit
+    stores-same h e = rw (h, e) at stores
 
 -- reading back a number where it was stored
 pub number-stored : (s : List ℕ) (at w n : ℕ) → at + w ≤ length s → number (stored s at (bytesOf w n)) at w ≡ n % 256 ^ w

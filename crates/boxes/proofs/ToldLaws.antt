@@ -1,17 +1,12 @@
 -- Laws of what answers say: two answers that say the same are the same.
 use mathlib.Core.Path.{_≡_, ap, ap₂}
 use Rattle.boxes.specs.Framing.{Box, boxOf, headerAnswer}
-use Rattle.boxes.specs.Rules.{rightAnswer}
-use Rattle.boxes.specs.Walk.{stepAnswer, walkedAnswer}
+use Rattle.boxes.specs.Walk.{stepAnswer}
 use Rattle.boxes.specs.declared.framing.Header.{Header}
 use Rattle.boxes.specs.declared.framing.Header.the-variants as Header
-use Rattle.boxes.specs.declared.rules.Checked.{Checked}
-use Rattle.boxes.specs.declared.rules.Checked.the-variants as Checked
 use Rattle.boxes.specs.declared.walk.Step.{Step}
 use Rattle.boxes.specs.declared.walk.Step.the-variants as Step
 use Rattle.boxes.specs.declared.walk.Walk.{Walk}
-use Rattle.boxes.specs.declared.walk.Walked.{Walked}
-use Rattle.boxes.specs.declared.walk.Walked.the-variants as Walked
 
 abbrev pub Tells : {R A : Type 0} → (R → A) → Type 0
 Tells {R} says = (r t : R) → says r ≡ says t → r ≡ t
@@ -26,20 +21,6 @@ header-told (Header.Found b) (Header.Found c) e = ap Header.Found (box-told b c 
 header-told (Header.Found b) (Header.Refused m) e = cc
 header-told (Header.Refused n) (Header.Found c) e = cc
 header-told (Header.Refused n) (Header.Refused m) e = cc
-
-pub walked-told : Tells walkedAnswer
-unfolding walkedAnswer
-walked-told (Walked.Boxes n) (Walked.Boxes m) e = cc
-walked-told (Walked.Boxes n) (Walked.Refused m) e = cc
-walked-told (Walked.Refused n) (Walked.Boxes m) e = cc
-walked-told (Walked.Refused n) (Walked.Refused m) e = cc
-
-pub right-told : Tells rightAnswer
-unfolding rightAnswer
-right-told (Checked.Right a) (Checked.Right b) e = cc
-right-told (Checked.Right a) (Checked.Refused m) e = cc
-right-told (Checked.Refused n) (Checked.Right b) e = cc
-right-told (Checked.Refused n) (Checked.Refused m) e = cc
 
 pub step-told : Tells stepAnswer
 unfolding stepAnswer

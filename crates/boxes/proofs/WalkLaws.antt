@@ -11,8 +11,9 @@ use lib.Dec.{leb}
 use lib.ListN.{length, length-append}
 use Rattle.boxes.specs.Answer.{Answer, refused, given, _>>=_}
 use Rattle.boxes.specs.Framing.{Box, boxOf, header, boxesFrom, boxesIn, boxLimit}
-use Rattle.boxes.specs.Walk.{begun, stepped, stepAnswer}
+use Rattle.boxes.specs.Walk.{walkOver, stepped, stepAnswer}
 use Rattle.boxes.specs.declared.framing.Framed.{Framed}
+use Rattle.boxes.specs.declared.kinds.Container.{Container}
 use Rattle.boxes.specs.declared.place.Place.{Place}
 use Rattle.boxes.specs.declared.walk.Step.{Step}
 use Rattle.boxes.specs.declared.walk.Step.the-variants as Step
@@ -22,39 +23,39 @@ use Rattle.boxes.proofs.HeaderLaws.{Inside, header-inside}
 
 -- the boxes that a walk has before it
 abbrev pub ahead : List ℕ → Walk → Answer (List Box)
-ahead s w = boxesFrom s (w .end .0) (w .left) (w .at .0)
+ahead s w = boxesFrom (w .container) s (w .end .0) (w .left) (w .at .0)
 
 -- the boxes after a step: none at the container's end, else the box and those that the walk after it has before it
 abbrev pub after : List ℕ → Option (Box × Walk) → Answer (List Box)
 after s none = given []
 after s (some n) = ahead s (n .1) >>= λ bs. given (n .0 ∷ bs)
 
-steps-from : (s : List ℕ) (at end : Place) (left : ℕ) → let w : Walk = record { at = at; end = end; left = left } in ahead s w ≡ (stepped s w >>= after s)
+steps-from : (s : List ℕ) (c : Container) (at end : Place) (left : ℕ) → let w : Walk = record { container = c; at = at; end = end; left = left } in ahead s w ≡ (stepped s w >>= after s)
 unfolding boxesFrom stepped
-steps-from s at end zero = go (leb (end .0) (at .0)) refl
+steps-from s c at end zero = go (leb (end .0) (at .0)) refl
   where
-    go : (t : Bool) → leb (end .0) (at .0) ≡ t → boxesFrom s (end .0) zero (at .0) ≡ (stepped s (record { at = at; end = end; left = zero }) >>= after s)
+    go : (t : Bool) → leb (end .0) (at .0) ≡ t → boxesFrom c s (end .0) zero (at .0) ≡ (stepped s (record { container = c; at = at; end = end; left = zero }) >>= after s)
     go true e = simp (boxesFrom, stepped, e)
     go false e = simp (boxesFrom, stepped, e)
-steps-from s at end (suc left) = go (leb (end .0) (at .0)) refl
+steps-from s c at end (suc left) = go (leb (end .0) (at .0)) refl
   where
     box : (h : Answer Box)
-        → (h >>= λ b. boxesFrom s (end .0) left (b .end) >>= λ bs. given (b ∷ bs))
-        ≡ (h >>= (λ b. given (some (b, record { at = record { 0 = b .end }; end = end; left = left }))) >>= after s)
+        → (h >>= λ b. boxesFrom c s (end .0) left (b .end) >>= λ bs. given (b ∷ bs))
+        ≡ (h >>= (λ b. given (some (b, record { container = c; at = record { 0 = b .end }; end = end; left = left }))) >>= after s)
     box (refused n) = refl
     box (given b) = refl
 
-    go : (t : Bool) → leb (end .0) (at .0) ≡ t → boxesFrom s (end .0) (suc left) (at .0) ≡ (stepped s (record { at = at; end = end; left = suc left }) >>= after s)
+    go : (t : Bool) → leb (end .0) (at .0) ≡ t → boxesFrom c s (end .0) (suc left) (at .0) ≡ (stepped s (record { container = c; at = at; end = end; left = suc left }) >>= after s)
     go true e = simp (boxesFrom, stepped, e)
     go false e = simp (boxesFrom, stepped, e, le-leb 1 (suc left) (omega arith), sub-one) (box (header s (at .0) (end .0)))
 
 -- the walk over a container is its step, again and again
 pub walk-steps : (s : List ℕ) (w : Walk) → ahead s w ≡ (stepped s w >>= after s)
-walk-steps s w = steps-from s (w .at) (w .end) (w .left)
+walk-steps s w = steps-from s (w .container) (w .at) (w .end) (w .left)
 
 -- the walk after a box
 abbrev pub past : Walk → Box → Walk
-past w b = record { at = record { 0 = b .end }; end = w .end; left = w .left - 1 }
+past w b = record { container = w .container; at = record { 0 = b .end }; end = w .end; left = w .left - 1 }
 
 module _ (s : List ℕ) (w : Walk) where
   pub step-end : w .end .0 ≤ w .at .0 → stepped s w ≡ given none
@@ -136,18 +137,18 @@ passed-more {s} {w₀} {w} {w′} {bs} {b} p h =
     box-passed (given more) = ap given (sym (append-assoc bs (b ∷ []) more))
 
 -- a walk that began at a container's start: at its end the boxes passed are the container's, and its fault is the container's first
-module _ {s : List ℕ} {start end : Place} {w₀ w : Walk} {bs : List Box} (new : w₀ ≡ begun start end) (p : Passed s w₀ bs w) where
-  pub all-boxes : stepped s w ≡ given none → boxesIn s (start .0) (end .0) ≡ given bs
+module _ {s : List ℕ} {c : Container} {start end : Place} {w₀ w : Walk} {bs : List Box} (new : w₀ ≡ walkOver c start end) (p : Passed s w₀ bs w) where
+  pub all-boxes : stepped s w ≡ given none → boxesIn c s (start .0) (end .0) ≡ given bs
   unfolding boxesIn
   all-boxes h = rw new at (p .rest) ∙ rw (walk-steps s w, h) (ap given (append-nil bs))
 
-  pub first-fault : {n : ℕ} → stepped s w ≡ refused n → boxesIn s (start .0) (end .0) ≡ refused n
+  pub first-fault : {n : ℕ} → stepped s w ≡ refused n → boxesIn c s (start .0) (end .0) ≡ refused n
   unfolding boxesIn
   first-fault h = rw new at (p .rest) ∙ rw (walk-steps s w, h)
 
-pub begun-left : {start end : Place} {w : Walk} → w ≡ begun start end → w .left ≡ 512
+pub over-left : {c : Container} {start end : Place} {w : Walk} → w ≡ walkOver c start end → w .left ≡ 512
 unfolding boxLimit
-begun-left new = ap (λ w. w .left) new
+over-left new = ap (λ w. w .left) new
 
 -- after a step that met a box fewer are allowed
 pub fewer : (s : List ℕ) (w : Walk) {b : Box} {w′ : Walk} → stepped s w ≡ given (some (b, w′)) → w′ .left < w .left

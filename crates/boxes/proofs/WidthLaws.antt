@@ -1,11 +1,11 @@
--- Laws of the least width that passes a test: how a loop finds it, that it passes, and that no lesser one does.
+-- Laws of widths: what so many bytes hold, and the least width that passes a test: how a loop finds it, that it passes, and that no lesser one does.
 use mathlib.Core.Path.{_≡_, refl, sym, _∙_}
 use mathlib.Core.Bool.{Bool, true, false}
-use Prim.Native.Nat.{ℕ, zero, suc, _+_, _-_, _*_, _^_, _≤_, _<_, zero-le, min}
+use Prim.Native.Nat.{ℕ, zero, suc, _+_, _-_, _*_, _/_, _%_, _^_, _≤_, _<_, zero-le, min}
 use mathlib.Core.Logic.{⊎-elim}
 use native.Mathlib.Nat.{eq-or-lt-of-le, pow-le-pow-right, zero-lt-suc, le-refl, add-zero, add-suc, suc-add}
 use native.Mathlib.Omega.{arith}
-use borrow.Author.Tests.{lt-ltb, le-ltb, leb-true, leb-false}
+use borrow.Author.Tests.{lt-ltb, le-ltb, le-leb, lt-leb, ltb-true, leb-true, leb-false}
 use lib.Dec.{leb}
 use Rattle.boxes.specs.Numbers.{least, leastWidth, holds, holdsOffset}
 use Rattle.boxes.specs.declared.numbers.Offset.the-variants.{Ahead, Back}
@@ -103,17 +103,6 @@ module _ (t u : ℕ → Bool) where
   unfolding leastWidth
   leastWidth-same same = least-same 8 0 same
 
-module _ (w n top : ℕ) (largest : top + 1 ≡ 256 ^ w) where
-  -- w bytes hold what is not above their largest number
-  pub holds-up-to : n ≤ top → holds w n ≡ true
-  unfolding holds
-  holds-up-to h = lt-ltb n (256 ^ w) (omega arith)
-
-  -- and nothing above it
-  pub holds-none-above : top < n → holds w n ≡ false
-  unfolding holds
-  holds-none-above h = le-ltb n (256 ^ w) (omega arith)
-
 -- tests of two orders, each of which implies the other
 leb-same : (a b c d : ℕ) → (a ≤ b → c ≤ d) → (c ≤ d → a ≤ b) → leb a b ≡ leb c d
 leb-same a b c d to from = go (leb a b) refl (leb c d) refl
@@ -123,6 +112,60 @@ leb-same a b c d to from = go (leb a b) refl (leb c d) refl
     go true e false f = absurd (omega (arith, to (leb-true a b e), leb-false c d f))
     go false e true f = absurd (omega (arith, from (leb-true c d f), leb-false a b e))
     go false e false f = e ∙ sym f
+
+-- what w bytes hold, as orders of numbers
+module _ (w n : ℕ) where
+  pub below-holds : n < 256 ^ w → holds w n ≡ true
+  unfolding holds
+  below-holds h = lt-ltb n (256 ^ w) h
+
+  pub over-holds : 256 ^ w ≤ n → holds w n ≡ false
+  unfolding holds
+  over-holds h = le-ltb n (256 ^ w) h
+
+  pub holds-below : holds w n ≡ true → n < 256 ^ w
+  unfolding holds
+  holds-below h = ltb-true n (256 ^ w) h
+
+  pub below-ahead : 2 * n < 256 ^ w → holdsOffset w (Ahead n) ≡ true
+  unfolding holdsOffset
+  below-ahead h = lt-ltb (2 * n) (256 ^ w) h
+
+  pub over-ahead : 256 ^ w ≤ 2 * n → holdsOffset w (Ahead n) ≡ false
+  unfolding holdsOffset
+  over-ahead h = le-ltb (2 * n) (256 ^ w) h
+
+  pub ahead-below : holdsOffset w (Ahead n) ≡ true → 2 * n < 256 ^ w
+  unfolding holdsOffset
+  ahead-below h = ltb-true (2 * n) (256 ^ w) h
+
+  pub within-back : 2 * n ≤ 256 ^ w → holdsOffset w (Back n) ≡ true
+  unfolding holdsOffset
+  within-back h = le-leb (2 * n) (256 ^ w) h
+
+  pub over-back : 256 ^ w < 2 * n → holdsOffset w (Back n) ≡ false
+  unfolding holdsOffset
+  over-back h = lt-leb (2 * n) (256 ^ w) h
+
+  pub back-within : holdsOffset w (Back n) ≡ true → 2 * n ≤ 256 ^ w
+  unfolding holdsOffset
+  back-within h = leb-true (2 * n) (256 ^ w) h
+
+-- the same by the largest number of w bytes, since 256 to the 8 is past 64 bits
+module _ (w n top : ℕ) (largest : top + 1 ≡ 256 ^ w) where
+  pub holds-up-to : n ≤ top → holds w n ≡ true
+  holds-up-to h = below-holds w n (omega arith)
+
+  pub holds-none-above : top < n → holds w n ≡ false
+  holds-none-above h = over-holds w n (omega arith)
+
+  pub ahead-half : leb n (top / 2) ≡ holdsOffset w (Ahead n)
+  unfolding holdsOffset
+  ahead-half = leb-same n (top / 2) (suc (2 * n)) (256 ^ w) (λ h. omega arith) (λ h. omega arith)
+
+  pub back-half : leb n (top / 2 + top % 2) ≡ holdsOffset w (Back n)
+  unfolding holdsOffset
+  back-half = leb-same n (top / 2 + top % 2) (2 * n) (256 ^ w) (λ h. omega arith) (λ h. omega arith)
 
 module _ (w : ℕ) (narrow : w < 8) (n : ℕ) where
   small : 256 ^ w ≤ 2 ^ 56

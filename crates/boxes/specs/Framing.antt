@@ -1,16 +1,15 @@
 -- Document 01, "Framing" and refusals 2 to 6: a box header, and the boxes of one container or its first fault.
 use Prim.Native.Nat.{ℕ, zero, suc, _+_}
-use mathlib.Core.Bool.{Bool, true, false, not}
-use mathlib.Core.Path.{_≡_}
+use mathlib.Core.Bool.{true, false, not}
 use mathlib.Core.List.{List, [], _∷_, _++_}
 use lib.ListN.{length}
 use lib.Dec.{leb, eqb}
 use Rattle.boxes.specs.Answer.{Answer, refused, given, _>>=_, hold}
-use Rattle.boxes.specs.Numbers.{number, bytesOf, holds}
-use Rattle.boxes.specs.Stored.{roomFor, stored}
+use Rattle.boxes.specs.Numbers.{number, bytesOf}
 use Rattle.boxes.specs.declared.framing.Framed.{Framed}
 use Rattle.boxes.specs.declared.framing.Header.{Header}
 use Rattle.boxes.specs.declared.framing.Header.the-variants.{Found, Refused}
+use Rattle.boxes.specs.declared.kinds.Container.{Container}
 
 -- a box: its type as a number, and the places of its first byte, of its body and of the first byte after it
 pub record Box : Type 0 where
@@ -19,12 +18,12 @@ pub record Box : Type 0 where
   pub body : ℕ
   pub end : ℕ
 
--- the box at a place whose header has that many bytes and states that size
+-- the box at a place whose header is so many bytes wide and states that size
 unfoldable pub sized : List ℕ → ℕ → ℕ → ℕ → ℕ → Answer Box
-sized s at end front size = do
-  _ ← hold 4 (leb front size)
+sized s at end width size = do
+  _ ← hold 4 (leb width size)
   _ ← hold 5 (leb (at + size) end)
-  given (record { kind = number s (at + 4) 4; at = at; body = at + front; end = at + size })
+  given (record { kind = number s (at + 4) 4; at = at; body = at + width; end = at + size })
 
 -- the box at a place whose 64-bit size follows its type
 unfoldable pub large : List ℕ → ℕ → ℕ → Answer Box
@@ -40,12 +39,12 @@ header s at end = do
   elim (eqb (number s at 4) 1) [ true ↦ large s at end | false ↦ sized s at end 8 (number s at 4) ]
 
 -- the boxes from a place to the end of their container, of which so many more are allowed
-unfoldable pub boxesFrom : List ℕ → ℕ → ℕ → ℕ → Answer (List Box)
-boxesFrom s end zero at = elim (leb end at) [ true ↦ given [] | false ↦ refused 6 ]
-boxesFrom s end (suc more) at =
+unfoldable pub boxesFrom : Container → List ℕ → ℕ → ℕ → ℕ → Answer (List Box)
+boxesFrom c s end zero at = elim (leb end at) [ true ↦ given [] | false ↦ refused 6 ]
+boxesFrom c s end (suc more) at =
     elim (leb end at) [
       | true ↦ given []
-      | false ↦ header s at end >>= λ b. boxesFrom s end more (b .end) >>= λ bs. given (b ∷ bs)
+      | false ↦ header s at end >>= λ b. boxesFrom c s end more (b .end) >>= λ bs. given (b ∷ bs)
     ]
 
 -- boxes in one container: at most 512
@@ -53,8 +52,8 @@ unfoldable pub boxLimit : ℕ
 boxLimit = 512
 
 -- the boxes of the container that starts and ends at these places, or its first fault
-unfoldable pub boxesIn : List ℕ → ℕ → ℕ → Answer (List Box)
-boxesIn s start end = boxesFrom s end boxLimit start
+unfoldable pub boxesIn : Container → List ℕ → ℕ → ℕ → Answer (List Box)
+boxesIn c s start end = boxesFrom c s end boxLimit start
 
 -- what a box that was read says
 unfoldable pub boxOf : Framed → Box
@@ -76,8 +75,3 @@ front kind n = bytesOf 4 (frontSize + n) ++ bytesOf 4 kind
 -- a box as we write it
 unfoldable pub boxed : ℕ → List ℕ → List ℕ
 boxed kind body = front kind (length body) ++ body
-
--- what a call that writes a header answers, and how it leaves the buffer: nothing is written of a size that 4 bytes do not hold
-pub record StoresHeader (s : List ℕ) (at kind n : ℕ) (answer : Bool) (after : List ℕ) : Type 0 where
-  pub room : answer ≡ elim (holds 4 (frontSize + n)) [ true ↦ roomFor s at (front kind n) | false ↦ false ]
-  pub left : after ≡ elim (holds 4 (frontSize + n)) [ true ↦ stored s at (front kind n) | false ↦ s ]

@@ -2,10 +2,11 @@
 use Prim.Native.Nat.{ℕ}
 use mathlib.Core.Bool.{Bool, true, false}
 use mathlib.Core.List.{List, [], _∷_}
-use lib.ListN.{length}
+use lib.ListN.{length, getD}
 use lib.Dec.{leb, eqb}
 use Rattle.boxes.specs.Framing.{Box}
 use Rattle.boxes.specs.declared.kinds.Kind.{Kind}
+use Rattle.boxes.specs.declared.kinds.Container.{Container}
 use Rattle.boxes.specs.declared.kinds.Container.the-variants.{File, Pfil, Pseg}
 use Rattle.boxes.specs.declared.kinds.Count.{Count}
 use Rattle.boxes.specs.declared.kinds.Count.the-variants.{One, OneOrMore, Any}
@@ -34,7 +35,7 @@ ploc = record { code = 0x706c6f63; container = Pseg; count = One }
 abbrev pub pdat : Kind
 pdat = record { code = 0x70646174; container = File; count = Any }
 
-unfoldable pub kinds : List Kind
+abbrev pub kinds : List Kind
 kinds = ftyp ∷ pfil ∷ pfhd ∷ surl ∷ pseg ∷ pshd ∷ ploc ∷ pdat ∷ []
 
 -- whether a box is of a kind
@@ -52,6 +53,28 @@ keeps One n = eqb n 1
 keeps OneOrMore n = leb 1 n
 keeps Any n = true
 
--- whether the boxes of a container hold as many of a kind as the table says
-unfoldable pub right : Kind → List Box → Bool
-right k bs = keeps (k .count) (length (those k bs))
+-- the containers by number, to tell them apart
+unfoldable pub containerNo : Container → ℕ
+containerNo File = 0
+containerNo Pfil = 1
+containerNo Pseg = 2
+
+-- of a kind that stands in a container, whether so many keep its count rule; a kind of another container has no rule there
+unfoldable pub rightCount : Container → Kind → ℕ → Bool
+rightCount c k n = elim (eqb (containerNo c) (containerNo (k .container))) [ true ↦ keeps (k .count) n | false ↦ true ]
+
+-- whether the boxes of a container keep the rule of a kind
+unfoldable pub right : Container → Kind → List Box → Bool
+right c k bs = rightCount c k (length (those k bs))
+
+-- what stands past the end of a list of boxes
+abbrev pub noBox : Box
+noBox = record { kind = 0; at = 0; body = 0; end = 0 }
+
+-- the box of that number in its container, counted from 0; past the last one a box of nothing
+unfoldable pub boxAt : ℕ → List Box → Box
+boxAt n bs = getD bs n noBox
+
+-- the first of a kind
+unfoldable pub firstOf : Kind → List Box → Box
+firstOf k bs = boxAt 0 (those k bs)

@@ -29,9 +29,9 @@ unfoldable pub signed : ℕ → ℕ → Offset
 signed w n = elim (ltb (2 * n) (256 ^ w)) [ true ↦ Ahead n | false ↦ Back (256 ^ w - n) ]
 
 -- the number whose w bytes stand for an offset in two's complement
-unfoldable pub unsigned : ℕ → Offset → ℕ
-unsigned w (Ahead n) = n
-unsigned w (Back n) = 256 ^ w - n
+unfoldable pub twosComplement : ℕ → Offset → ℕ
+twosComplement w (Ahead n) = n
+twosComplement w (Back n) = 256 ^ w - n
 
 -- whether w bytes hold a number
 unfoldable pub holds : ℕ → ℕ → Bool

@@ -1,52 +1,29 @@
--- Document 01, "Framing": the count rules of the table of kinds, held against the boxes of a container.
+-- Document 01, "Framing": how many boxes of each kind of the table a container holds, counted in one walk.
 use Prim.Native.Nat.{ℕ}
-use mathlib.Core.Bool.{Bool, true, false}
-use mathlib.Core.List.{List, [], _∷_}
-use lib.ListN.{length}
+use mathlib.Core.Bool.{true, false}
+use mathlib.Core.List.{List, [], _∷_, map}
+use lib.ListN.{length, getD, drop}
 use lib.Dec.{eqb}
-use Rattle.boxes.specs.Answer.{Answer, refused, given, _>>=_}
-use Rattle.boxes.specs.Framing.{Box, boxesIn}
-use Rattle.boxes.specs.Kinds.{those, right}
-use Rattle.boxes.specs.declared.kinds.Container.{Container}
-use Rattle.boxes.specs.declared.kinds.Container.the-variants.{File, Pfil, Pseg}
+use Rattle.boxes.specs.Answer.{Answer, refused, given}
+use Rattle.boxes.specs.Framing.{Box}
+use Rattle.boxes.specs.Kinds.{kinds, those}
 use Rattle.boxes.specs.declared.kinds.Kind.{Kind}
-use Rattle.boxes.specs.declared.rules.Checked.{Checked}
-use Rattle.boxes.specs.declared.rules.Checked.the-variants.{Right, Refused}
+use Rattle.boxes.specs.declared.tally.Tally.{Tally}
 
--- how many boxes of a kind the container that starts and ends at these places holds, or its first fault
-unfoldable pub countedOf : Kind → List ℕ → ℕ → ℕ → Answer ℕ
-countedOf k s start end = do
-  bs ← boxesIn s start end
-  given (length (those k bs))
+-- how many there are of each kind, in the table's order
+unfoldable pub countsOf : List Box → List ℕ
+countsOf bs = map (λ k. length (those k bs)) kinds
 
--- whether the container that starts and ends at these places holds as many of a kind as the table says, or its first fault
-unfoldable pub rightIn : Kind → List ℕ → ℕ → ℕ → Answer Bool
-rightIn k s start end = do
-  bs ← boxesIn s start end
-  given (right k bs)
+-- what is told of a container: the number of its first fault and nothing else, or the numbers of its boxes
+unfoldable pub tallyOf : Answer (List Box) → Tally
+tallyOf (refused n) = record { fault = n; boxes = 0; counts = 0 ∷ 0 ∷ 0 ∷ 0 ∷ 0 ∷ 0 ∷ 0 ∷ 0 ∷ [] }
+tallyOf (given bs) = record { fault = 0; boxes = length bs; counts = countsOf bs }
 
--- the containers by number, to tell them apart
-unfoldable pub containerNo : Container → ℕ
-containerNo File = 0
-containerNo Pfil = 1
-containerNo Pseg = 2
+-- of counts in the order of a table, the one at a kind's row; 0 for a kind that the table has not
+unfoldable pub countIn : List Kind → Kind → List ℕ → ℕ
+countIn [] k counts = 0
+countIn (row ∷ rows) k counts = elim (eqb (row .code) (k .code)) [ true ↦ getD counts 0 0 | false ↦ countIn rows k (drop 1 counts) ]
 
--- whether the boxes of a container keep the rule of a kind: one that stands elsewhere has none here
-unfoldable pub rightHere : Container → Kind → List Box → Bool
-rightHere c k bs = elim (eqb (containerNo c) (containerNo (k .container))) [ true ↦ right k bs | false ↦ true ]
-
--- whether the boxes of a container keep the rules of several kinds
-unfoldable pub allRight : Container → List Kind → List Box → Bool
-allRight c [] bs = true
-allRight c (k ∷ ks) bs = elim (rightHere c k bs) [ true ↦ allRight c ks bs | false ↦ false ]
-
--- whether the container that starts and ends at these places keeps the rules of several kinds, or its first fault
-unfoldable pub allRightIn : Container → List Kind → List ℕ → ℕ → ℕ → Answer Bool
-allRightIn c ks s start end = do
-  bs ← boxesIn s start end
-  given (allRight c ks bs)
-
--- what an answer about rules says
-unfoldable pub rightAnswer : Checked → Answer Bool
-rightAnswer (Right b) = given b
-rightAnswer (Refused n) = refused n
+-- the count at a kind's row of the table of kinds
+unfoldable pub tallyFor : Kind → List ℕ → ℕ
+tallyFor = countIn kinds

@@ -3,20 +3,18 @@ use Prim.Native.Nat.{ℕ, _-_}
 use mathlib.Core.Bool.{true, false}
 use mathlib.Core.List.{List}
 use mathlib.Core.Option.{Option, none, some}
-use lib.ListN.{length}
 use lib.Dec.{leb}
 use Rattle.boxes.specs.Answer.{Answer, refused, given, _>>=_, hold}
-use Rattle.boxes.specs.Framing.{Box, header, boxLimit, boxesIn, boxOf}
+use Rattle.boxes.specs.Framing.{Box, header, boxLimit, boxOf}
+use Rattle.boxes.specs.declared.kinds.Container.{Container}
 use Rattle.boxes.specs.declared.place.Place.{Place}
 use Rattle.boxes.specs.declared.walk.Walk.{Walk}
 use Rattle.boxes.specs.declared.walk.Step.{Step}
 use Rattle.boxes.specs.declared.walk.Step.the-variants as Step
-use Rattle.boxes.specs.declared.walk.Walked.{Walked}
-use Rattle.boxes.specs.declared.walk.Walked.the-variants as Walked
 
--- the walk over the container that starts and ends at these places
-abbrev pub begun : Place → Place → Walk
-begun start end = record { at = start; end = end; left = boxLimit }
+-- the walk over a container that starts and ends at these places
+abbrev pub walkOver : Container → Place → Place → Walk
+walkOver c start end = record { container = c; at = start; end = end; left = boxLimit }
 
 -- what a walk meets next: nothing at the container's end, else a box, after which it goes on at the box's end with one box fewer allowed
 unfoldable pub stepped : List ℕ → Walk → Answer (Option (Box × Walk))
@@ -26,7 +24,7 @@ stepped s w =
       | false ↦ do
         _ ← hold 6 (leb 1 (w .left))
         b ← header s (w .at .0) (w .end .0)
-        given (some (b, record { at = record { 0 = b .end }; end = w .end; left = w .left - 1 }))
+        given (some (b, record { container = w .container; at = record { 0 = b .end }; end = w .end; left = w .left - 1 }))
     ]
 
 -- what an answer about a step says
@@ -34,14 +32,3 @@ unfoldable pub stepAnswer : Step → Answer (Option (Box × Walk))
 stepAnswer (Step.Next b w) = given (some (boxOf b, w))
 stepAnswer Step.End = given none
 stepAnswer (Step.Refused n) = refused n
-
--- how many boxes the container that starts and ends at these places holds, or its first fault
-unfoldable pub counted : List ℕ → ℕ → ℕ → Answer ℕ
-counted s start end = do
-  bs ← boxesIn s start end
-  given (length bs)
-
--- what an answer about a number of boxes says
-unfoldable pub walkedAnswer : Walked → Answer ℕ
-walkedAnswer (Walked.Boxes n) = given n
-walkedAnswer (Walked.Refused n) = refused n

@@ -8,7 +8,9 @@ use crate::refusals::SIZE_UNDER_HEADER;
 use crate::refusals::SIZE_ZERO;
 ghost use Prim.Native.Nat.{_+_, _-_, _≤_};
 ghost use mathlib.Core.Path.{_≡_};
-ghost use Rattle.boxes.specs.Framing.{header, large, sized, headerAnswer, StoresHeader};
+ghost use Rattle.boxes.specs.Framing.{header, large, sized, headerAnswer, frontSize, front};
+ghost use Rattle.boxes.specs.Numbers.{holds};
+ghost use Rattle.boxes.specs.Stored.{Stores};
 
 // A box that was read: its kind, its first byte, the first byte of its body, and the first byte after it.
 pub struct Framed {
@@ -40,12 +42,12 @@ fn between(at: Place, end: Place) -> u64
     if at.0 <= end.0 { end.0 - at.0 } else { 0 }
 }
 
-// The box whose header has that many bytes and states that size.
-fn sized_at(s: &[u8], at: Place, end: Place, front: u64, size: u64) -> Header
-    requires { ⌜ (4 ≤ front) × (at .0 + front ≤ end .0) ⌝ }
-    ensures { λ r. ⌜ headerAnswer r ≡ sized (now (s .entry)) (at .0) (end .0) front size ⌝ }
+// The box whose header is so many bytes wide and states that size.
+fn sized_at(s: &[u8], at: Place, end: Place, width: u64, size: u64) -> Header
+    requires { ⌜ (4 ≤ width) × (at .0 + width ≤ end .0) ⌝ }
+    ensures { λ r. ⌜ headerAnswer r ≡ sized (now (s .entry)) (at .0) (end .0) width size ⌝ }
 {
-    if size < front {
+    if size < width {
         return Header::Refused(SIZE_UNDER_HEADER);
     }
     if between(at, end) < size {
@@ -54,7 +56,7 @@ fn sized_at(s: &[u8], at: Place, end: Place, front: u64, size: u64) -> Header
     Header::Found(Framed {
         kind: unsigned(s, Place(at.0 + 4), 4) as u32,
         at,
-        body: Place(at.0 + front),
+        body: Place(at.0 + width),
         end: Place(at.0 + size),
     })
 }
@@ -95,7 +97,7 @@ pub fn header_at(s: &[u8], at: Place, end: Place) -> Header
 // Writes the header of a box with a body of n bytes, if its size fits 32 bits and there is room. The size and the type are the halves of
 // one number, so that both are written or neither.
 pub fn put_header(buf: &mut [u8], at: Place, kind: u32, n: u64) -> bool
-    ensures { λ r. ⌜ StoresHeader (now (buf .entry)) (at .0) kind n r (now (buf .exit)) ⌝ }
+    ensures { λ r. ⌜ Stores (holds 4 (frontSize + n)) (now (buf .entry)) (at .0) (front kind n) r (now (buf .exit)) ⌝ }
 {
     if LARGEST_BODY < n {
         return false;

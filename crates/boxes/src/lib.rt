@@ -6,4 +6,5 @@ pub mod numbers;
 pub mod place;
 pub mod refusals;
 pub mod rules;
+pub mod tally;
 pub mod walk;

@@ -1,9 +1,10 @@
 // Numbers of any width from 0 to 8 bytes, unsigned and in two's complement.
 use crate::place::Place;
 ghost use Prim.Native.Nat.{ℕ, _+_, _-_, _^_, _≤_, _<_, min};
+ghost use mathlib.Core.Bool.{true};
 ghost use mathlib.Core.Path.{_≡_};
 ghost use lib.ListN.{length, getD};
-ghost use Rattle.boxes.specs.Numbers.{number, bytesOf, signed, unsigned, holds, holdsOffset, leastWidth};
+ghost use Rattle.boxes.specs.Numbers.{number, bytesOf, signed, twosComplement, holds, holdsOffset, leastWidth};
 ghost use Rattle.boxes.specs.Stored.{stored, Stores};
 
 // A signed number: so many ahead, or so many back. Its size stands apart from its sign, so that adding it to a place can
@@ -105,12 +106,15 @@ fn store(buf: &mut [u8], from: usize, w: usize, n: u64)
     }
 }
 
-// Writes a number in that width at a place, if there is room.
+// Writes a number in that width at a place, if the width holds it and there is room; else the buffer stays as it was.
 pub fn put_number(buf: &mut [u8], at: Place, width: usize, n: u64) -> bool
-    ensures { λ r. ⌜ Stores (now (buf .entry)) (at .0) (bytesOf (min width 8) n) r (now (buf .exit)) ⌝ }
+    ensures { λ r. ⌜ Stores (holds (min width 8) n) (now (buf .entry)) (at .0) (bytesOf (min width 8) n) r (now (buf .exit)) ⌝ }
 {
     let w = within(width);
     let from = at.0 as usize;
+    if largest(w) < n {
+        return false;
+    }
     if buf.len() < from {
         return false;
     }
@@ -121,28 +125,44 @@ pub fn put_number(buf: &mut [u8], at: Place, width: usize, n: u64) -> bool
     true
 }
 
-// A number whose w bytes stand for an offset. None back would be the power of 256, which may not fit; 0 has the same bytes.
-fn complement(w: usize, z: Offset) -> u64
+// Whether w bytes hold an offset: half of their numbers are back, and half are ahead or 0. No bytes hold 0 alone.
+fn holds_offset(w: usize, z: Offset) -> bool
     requires { ⌜ w ≤ 8 ⌝ }
-    ensures { λ r. ⌜ bytesOf w r ≡ bytesOf w (unsigned w z) ⌝ }
+    ensures { λ r. ⌜ r ≡ holdsOffset w z ⌝ }
+{
+    let top = largest(w);
+    match z {
+        Offset::Ahead(n) => n <= top / 2,
+        Offset::Back(n) => n <= top / 2 + top % 2,
+    }
+}
+
+// A number of w bytes that stand for an offset. None back would be the power of 256, which does not fit; 0 has the same bytes.
+fn complement(w: usize, z: Offset) -> u64
+    requires { ⌜ (w ≤ 8) × (holdsOffset w z ≡ true) ⌝ }
+    ensures { λ r. ⌜ (holds w r ≡ true) × (bytesOf w r ≡ bytesOf w (twosComplement w z)) ⌝ }
 {
     match z {
         Offset::Ahead(n) => n,
         Offset::Back(n) => {
-            let top = largest(w);
             if n == 0 {
                 return 0;
             }
-            if top < n { 0 } else { top - n + 1 }
+            largest(w) - n + 1
         }
     }
 }
 
-// Writes an offset in that width at a place, in two's complement, if there is room.
+// Writes an offset in that width at a place, in two's complement, if the width holds it and there is room; else the buffer stays
+// as it was.
 pub fn put_offset(buf: &mut [u8], at: Place, width: usize, z: Offset) -> bool
-    ensures { λ r. ⌜ Stores (now (buf .entry)) (at .0) (bytesOf (min width 8) (unsigned (min width 8) z)) r (now (buf .exit)) ⌝ }
+    ensures { λ r. ⌜ Stores (holdsOffset (min width 8) z) (now (buf .entry)) (at .0) (bytesOf (min width 8) (twosComplement (min width 8) z)) r (now (buf .exit)) ⌝ }
 {
-    put_number(buf, at, width, complement(within(width), z))
+    let w = within(width);
+    if !holds_offset(w, z) {
+        return false;
+    }
+    put_number(buf, at, width, complement(w, z))
 }
 
 // The least width that holds a number.

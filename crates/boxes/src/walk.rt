@@ -2,14 +2,16 @@
 use crate::framing::Framed;
 use crate::framing::Header;
 use crate::framing::header_at;
+use crate::kinds::Container;
 use crate::limits::BOX_LIMIT;
 use crate::place::Place;
 use crate::refusals::TOO_MANY_BOXES;
 ghost use mathlib.Core.Path.{_≡_};
-ghost use Rattle.boxes.specs.Walk.{begun, stepped, stepAnswer, counted, walkedAnswer};
+ghost use Rattle.boxes.specs.Walk.{walkOver, stepped, stepAnswer};
 
-// Where the next box of a container stands, where the container ends, and how many more boxes it may hold.
+// Which container is walked, where its next box stands, where it ends, and how many more boxes it may hold.
 pub struct Walk {
+    pub container: Container,
     pub at: Place,
     pub end: Place,
     pub left: u64,
@@ -22,18 +24,13 @@ pub enum Step {
     Refused(u64),
 }
 
-// What the walk over a whole container finds: a number of boxes, or the number of the first fault.
-pub enum Walked {
-    Boxes(u64),
-    Refused(u64),
-}
-
 impl Walk {
-    // The walk over the container that starts and ends at these places.
-    pub fn new(start: Place, end: Place) -> Self
-        ensures { λ r. ⌜ r ≡ begun start end ⌝ }
+    // The walk over a container that starts and ends at these places.
+    pub fn new(container: Container, start: Place, end: Place) -> Self
+        ensures { λ r. ⌜ r ≡ walkOver container start end ⌝ }
     {
         Self {
+            container,
             at: start,
             end,
             left: BOX_LIMIT,
@@ -44,6 +41,7 @@ impl Walk {
     pub fn step(self, s: &[u8]) -> Step
         ensures { λ r. ⌜ stepAnswer r ≡ stepped (now (s .entry)) self ⌝ }
     {
+        let container = self.container;
         let at = self.at;
         let end = self.end;
         if end.0 <= at.0 {
@@ -58,6 +56,7 @@ impl Walk {
                 Step::Next(
                     b,
                     Walk {
+                        container,
                         at: next,
                         end,
                         left: self.left - 1,
@@ -65,24 +64,6 @@ impl Walk {
                 )
             }
             Header::Refused(n) => Step::Refused(n),
-        }
-    }
-}
-
-// How many boxes the container that starts and ends at these places holds, or its first fault.
-pub fn count(s: &[u8], start: Place, end: Place) -> Walked
-    ensures { λ r. ⌜ walkedAnswer r ≡ counted (now (s .entry)) (start .0) (end .0) ⌝ }
-{
-    let mut walk = Walk::new(start, end);
-    let mut boxes: u64 = 0;
-    loop {
-        match walk.step(s) {
-            Step::Next(_, next) => {
-                walk = next;
-                boxes += 1;
-            }
-            Step::End => return Walked::Boxes(boxes),
-            Step::Refused(n) => return Walked::Refused(n),
         }
     }
 }

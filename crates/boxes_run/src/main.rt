@@ -12,7 +12,10 @@ fn main() {
     reading::by_place();
     walking::by_number_of_boxes();
     walking::by_kind();
+    walking::by_rule();
     walking::by_table();
     writing::by_room();
     writing::by_size();
+    writing::by_number();
+    writing::by_offset();
 }

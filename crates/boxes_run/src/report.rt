@@ -1,8 +1,8 @@
 // The lines of the output.
 use boxes::framing::Framed;
 use boxes::framing::Header;
-use boxes::rules::Checked;
-use boxes::walk::Walked;
+use boxes::kinds::Kind;
+use boxes::tally::Tally;
 use libc::STDOUT_FILENO;
 
 fn text(s: &[u8]) {
@@ -43,25 +43,64 @@ pub fn header(asked: &[u8], h: Header) {
     }
 }
 
-pub fn walked(asked: &[u8], w: Walked) {
+// How many boxes there are, or the first fault.
+pub fn boxes(asked: &[u8], t: Tally) {
     text(asked);
     text(b"\t");
-    match w {
-        Walked::Boxes(n) => {
-            number(n);
-            text(b"\n");
-        }
-        Walked::Refused(n) => refused(n),
+    if t.fault == 0 {
+        number(t.boxes);
+        text(b"\n");
+    } else {
+        refused(t.fault);
     }
 }
 
-pub fn checked(asked: &[u8], c: Checked) {
+// How many boxes there are of a kind, or the first fault.
+pub fn of_kind(asked: &[u8], t: Tally, kind: Kind) {
     text(asked);
     text(b"\t");
-    match c {
-        Checked::Right(right) => answer(right),
-        Checked::Refused(n) => refused(n),
+    if t.fault == 0 {
+        number(t.of(kind));
+        text(b"\n");
+    } else {
+        refused(t.fault);
     }
+}
+
+// All that a walk told: the fault, the number of boxes, and the counts in the table's order.
+pub fn whole(asked: &[u8], t: Tally) {
+    let counts = t.counts;
+    text(asked);
+    text(b"\t");
+    number(t.fault);
+    text(b" ");
+    number(t.boxes);
+    row(counts[0]);
+    row(counts[1]);
+    row(counts[2]);
+    row(counts[3]);
+    row(counts[4]);
+    row(counts[5]);
+    row(counts[6]);
+    row(counts[7]);
+    text(b"\n");
+}
+
+fn row(n: u64) {
+    text(b" ");
+    number(n);
+}
+
+pub fn rule(asked: &[u8], kept: bool) {
+    text(asked);
+    text(b"\t");
+    answer(kept);
+}
+
+pub fn fault(asked: &[u8], n: u64) {
+    text(asked);
+    text(b"\t");
+    refused(n);
 }
 
 fn answer(yes: bool) {

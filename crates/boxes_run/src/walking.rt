@@ -1,21 +1,34 @@
-// Containers of as many boxes as are allowed, and of one more; and counts of a kind.
-use crate::report::checked;
-use crate::report::walked;
+// Containers of as many boxes as are allowed, and of one more; counts of kinds; and the count rules.
+use crate::report::boxes;
+use crate::report::fault;
+use crate::report::of_kind;
+use crate::report::rule;
+use crate::report::whole;
 use boxes::kinds::Container;
+use boxes::kinds::Count;
 use boxes::kinds::FTYP;
 use boxes::kinds::Kind;
 use boxes::kinds::PDAT;
+use boxes::kinds::PFHD;
 use boxes::kinds::PFIL;
+use boxes::kinds::PLOC;
 use boxes::kinds::PSEG;
+use boxes::kinds::PSHD;
 use boxes::kinds::SURL;
 use boxes::place::Place;
-use boxes::rules::check_container;
-use boxes::rules::check_kind;
-use boxes::rules::count_of;
-use boxes::walk::count;
+use boxes::rules::keeps;
+use boxes::rules::tally;
+use boxes::tally::Tally;
+
+// A kind that the table has not.
+const FREE: Kind = Kind {
+    code: 0x66726565,
+    container: Container::File,
+    count: Count::Any,
+};
 
 fn boxes_in(asked: &[u8], s: &[u8], start: u64, end: u64) {
-    walked(asked, count(s, Place(start), Place(end)));
+    boxes(asked, tally(s, Container::File, Place(start), Place(end)));
 }
 
 pub fn by_number_of_boxes() {
@@ -44,42 +57,96 @@ fn by_number_of_boxes_in(s: &[u8]) {
     boxes_in(b"512 boxes from the second", s, 8, 4104);
 }
 
-fn of_kind(asked: &[u8], s: &[u8], end: u64, kind: Kind) {
-    walked(asked, count_of(s, Place(0), Place(end), kind));
+fn kind_in(asked: &[u8], s: &[u8], end: u64, kind: Kind) {
+    of_kind(asked, tally(s, Container::File, Place(0), Place(end)), kind);
 }
 
-fn rule(asked: &[u8], s: &[u8], end: u64, kind: Kind) {
-    checked(asked, check_kind(s, Place(0), Place(end), kind));
-}
-
-// Four boxes, and a fifth with a fault.
+// Five boxes, and a sixth with a fault.
 pub fn by_kind() {
-    let s =
-        b"\x00\x00\x00\x08ftyp\x00\x00\x00\x08pseg\x00\x00\x00\x08ftyp\x00\x00\x00\x08pfil\x00\x00\x00\x00pdat";
-    by_count(s);
-    by_rule(s);
+    by_kind_in(
+        b"\x00\x00\x00\x08ftyp\x00\x00\x00\x08pseg\x00\x00\x00\x08ftyp\x00\x00\x00\x08pfil\x00\x00\x00\x08free\x00\x00\x00\x00pdat",
+    );
 }
 
-fn by_count(s: &[u8]) {
-    of_kind(b"ftyp", s, 32, FTYP);
-    of_kind(b"pdat", s, 32, PDAT);
-    of_kind(b"pdat, with a fault behind", s, 40, PDAT);
+fn by_kind_in(s: &[u8]) {
+    kind_in(b"ftyp", s, 40, FTYP);
+    kind_in(b"pseg", s, 40, PSEG);
+    kind_in(b"pdat", s, 40, PDAT);
+    kind_in(b"free, which the table has not", s, 40, FREE);
+    kind_in(b"pdat, with a fault behind", s, 48, PDAT);
+    whole(
+        b"five boxes",
+        tally(s, Container::File, Place(0), Place(40)),
+    );
+    whole(
+        b"five boxes of a pfil",
+        tally(s, Container::Pfil, Place(0), Place(40)),
+    );
+    whole(
+        b"five boxes and a fault",
+        tally(s, Container::File, Place(0), Place(48)),
+    );
 }
 
-fn by_rule(s: &[u8]) {
-    rule(b"two ftyp for one", s, 32, FTYP);
-    rule(b"one pfil for one", s, 32, PFIL);
-    rule(b"no pfil for one", s, 24, PFIL);
-    rule(b"one pseg for one or more", s, 32, PSEG);
-    rule(b"no surl for one or more", s, 32, SURL);
-    rule(b"no pdat for any number", s, 32, PDAT);
-    rule(b"no pdat, with a fault behind", s, 40, PDAT);
+pub fn by_rule() {
+    by_rule_at_home();
+    by_rule_elsewhere();
 }
 
-fn table(asked: &[u8], s: &[u8], start: u64, end: u64, container: Container) {
-    checked(
+fn by_rule_at_home() {
+    let most = 0xffff_ffff_ffff_ffff;
+    rule(b"no ftyp in a file", keeps(Container::File, FTYP, 0));
+    rule(b"one ftyp in a file", keeps(Container::File, FTYP, 1));
+    rule(b"two ftyp in a file", keeps(Container::File, FTYP, 2));
+    rule(
+        b"the most ftyp in a file",
+        keeps(Container::File, FTYP, most),
+    );
+    rule(b"no pseg in a file", keeps(Container::File, PSEG, 0));
+    rule(b"two pseg in a file", keeps(Container::File, PSEG, 2));
+    rule(b"no pdat in a file", keeps(Container::File, PDAT, 0));
+    rule(b"two pdat in a file", keeps(Container::File, PDAT, 2));
+    rule(b"no surl in a pfil", keeps(Container::Pfil, SURL, 0));
+    rule(b"one surl in a pfil", keeps(Container::Pfil, SURL, 1));
+    rule(
+        b"the most surl in a pfil",
+        keeps(Container::Pfil, SURL, most),
+    );
+    rule(b"no ploc in a pseg", keeps(Container::Pseg, PLOC, 0));
+    rule(b"one ploc in a pseg", keeps(Container::Pseg, PLOC, 1));
+}
+
+fn by_rule_elsewhere() {
+    rule(b"two ftyp in a pfil", keeps(Container::Pfil, FTYP, 2));
+    rule(b"no ftyp in a pseg", keeps(Container::Pseg, FTYP, 0));
+    rule(b"no surl in a file", keeps(Container::File, SURL, 0));
+    rule(b"no surl in a pseg", keeps(Container::Pseg, SURL, 0));
+    rule(b"two pshd in a file", keeps(Container::File, PSHD, 2));
+    rule(b"two pshd in a pfil", keeps(Container::Pfil, PSHD, 2));
+}
+
+// Whether the boxes that were counted keep the rule of a kind.
+fn kept(container: Container, t: Tally, kind: Kind) -> bool {
+    keeps(container, kind, t.of(kind))
+}
+
+// The whole table, held against what a walk told.
+fn table(asked: &[u8], s: &[u8], start: u64, end: u64, c: Container) {
+    let t = tally(s, c, Place(start), Place(end));
+    if t.fault != 0 {
+        fault(asked, t.fault);
+        return;
+    }
+    rule(
         asked,
-        check_container(s, Place(start), Place(end), container),
+        kept(c, t, FTYP)
+            && kept(c, t, PFIL)
+            && kept(c, t, PFHD)
+            && kept(c, t, SURL)
+            && kept(c, t, PSEG)
+            && kept(c, t, PSHD)
+            && kept(c, t, PLOC)
+            && kept(c, t, PDAT),
     );
 }
 

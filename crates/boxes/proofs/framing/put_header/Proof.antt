@@ -1,11 +1,16 @@
 -- `boxes::framing::put_header` meets its contract: the size and the type are the two halves of the number that is written.
 use borrow.Author.Needs.{needs}
-use Rattle.boxes.proofs.BoxedLaws.{front-bytes, header-stored, header-unstored}
+use Prim.Native.Nat.{_+_, _*_}
+use mathlib.Core.Path.{sym, _∙_}
+use native.Mathlib.Omega.{arith}
+use Rattle.boxes.proofs.BoxedLaws.{front-bytes, size-held, size-unheld}
+use Rattle.boxes.proofs.StoredLaws.{stores-unheld, stores-same}
+use Rattle.boxes.proofs.WidthLaws.{below-holds}
 use Rattle.boxes.proofs.framing.put_header.Statement.{statement}
 use Rattle.boxes.proofs.framing.put_header.Tie as tie
 
 returns : tie.Need-returns
-returns c = header-unstored _ _ _ _ (c .if1 .taken)
+returns c = stores-unheld _ _ _ _ (size-unheld _ (c .if1 .taken))
 
 add-put-number : tie.Need-add-put-number
 add-put-number c = search needs
@@ -25,8 +30,11 @@ same-length c = search needs
 returns-2 : tie.Need-returns-2
 returns-2 c =
     let start = c .before .before .before .before .before .before in
-    header-stored _ _ _ _ (c .before .before .before .before .if1 .left)
-    (rw (front-bytes (start .args .kind) (start .args .n) (start .fits .kind .fits)) at (c .before .before .put-number .ensures))
+    let kind = start .fits .kind .fits in
+    let small = size-held (start .args .n) (c .before .before .before .before .if1 .left) in
+    stores-same _ _ _ _ (c .before .before .put-number .ensures)
+    (below-holds 8 ((8 + start .args .n) * 0x1_0000_0000 + start .args .kind) (omega arith) ∙ sym small)
+    (front-bytes (start .args .kind) (start .args .n) kind)
 
 pub put-header-spec : {M : Type 1} → statement M
 put-header-spec =

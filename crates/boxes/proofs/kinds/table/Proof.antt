@@ -1,11 +1,9 @@
 -- `boxes::kinds::table` meets its contract: the two tables are compared entry by entry.
 use mathlib.Core.Path.{refl}
-use Rattle.boxes.specs.Kinds.{kinds}
 use Rattle.boxes.proofs.kinds.table.Statement.{statement}
 use Rattle.boxes.proofs.kinds.table.Tie as tie
 
 returns : tie.Need-returns
-unfolding kinds
 returns c = refl
 
 pub table-spec : {M : Type 1} → statement M

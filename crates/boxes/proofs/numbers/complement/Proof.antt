@@ -1,6 +1,9 @@
--- `boxes::numbers::complement` meets its contract: more than the power is cut to 0, and 0 itself is the power, whose bytes are 0.
-use Rattle.boxes.specs.Numbers.{unsigned}
-use Rattle.boxes.proofs.OffsetLaws.{unsigned-back, unsigned-over, unsigned-none}
+-- `boxes::numbers::complement` meets its contract, in each arm by what the offset is; none back has the bytes of 0.
+use native.Mathlib.Omega.{arith}
+use Rattle.boxes.specs.Numbers.{twosComplement}
+use Rattle.boxes.proofs.NumberLaws.{power-pos}
+use Rattle.boxes.proofs.OffsetLaws.{twosComplement-back, twosComplement-none}
+use Rattle.boxes.proofs.WidthLaws.{below-holds, holds-up-to, ahead-below, back-within}
 use borrow.Author.Needs.{needs}
 use Rattle.boxes.proofs.numbers.complement.Statement.{statement}
 use Rattle.boxes.proofs.numbers.complement.Tie as tie
@@ -11,26 +14,32 @@ enum-known-z c = search needs
 enum-known-z-2 : tie.Need-enum-known-z-2
 enum-known-z-2 c = search needs
 
+returns : tie.Need-returns
+returns c = (below-holds _ 0 (power-pos _), rw (c .before .before .z2 .given .1, c .if1 .taken) (twosComplement-none _))
+
 largest-requires : tie.Need-largest-requires
 largest-requires c κs = search needs
 
-returns : tie.Need-returns
-returns c = rw (c .before .before .before .z2 .given .1, c .if1 .taken) (unsigned-none _)
+sub-result : tie.Need-sub-result
+sub-result c =
+    let start = c .before .before .before .before .before in
+    let n = c .before .before .before .z2 .given in
+    omega (arith, back-within (start .args .w) (n .0 .0) (rw (n .1) at (start .pre .1)))
 
 add-result : tie.Need-add-result
 add-result c = search needs
 
 returns-2 : tie.Need-returns-2
-unfolding unsigned
-returns-2 c = rw (c .before .z .given .1)
+unfolding twosComplement
+returns-2 c =
+    let start = c .before .before .before in
+    let n = c .before .z .given in
+    (below-holds (start .args .w) (n .0 .0) (omega (arith, ahead-below (start .args .w) (n .0 .0) (rw (n .1) at (start .pre .1)))), rw (n .1))
 
 returns-3 : tie.Need-returns-3
 returns-3 c =
-    rw (c .before .before .before .before .z2 .given .1, unsigned-over _ _ _ (c .before .before .largest .ensures) (c .if2 .taken))
-
-returns-4 : tie.Need-returns-4
-returns-4 c =
-    rw (c .before .before .before .before .z2 .given .1, unsigned-back _ _ _ (c .before .before .largest .ensures) (c .if2 .left))
+    let n = c .before .before .before .z2 .given in
+    (holds-up-to _ _ _ (c .largest .ensures) (omega (arith, sub-result c)), rw (n .1, twosComplement-back _ _ _ (c .largest .ensures) (sub-result c)))
 
 pub complement-spec : {M : Type 1} → statement M
 complement-spec =
@@ -38,9 +47,9 @@ complement-spec =
     (tie.spec
     enum-known-z
     enum-known-z-2
-    largest-requires
     returns
+    largest-requires
+    sub-result
     add-result
     returns-2
-    returns-3
-    returns-4)
+    returns-3)

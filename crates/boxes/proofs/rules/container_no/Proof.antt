@@ -1,6 +1,6 @@
 -- `boxes::rules::container_no` meets its contract: each arm is a case of the definition.
 use borrow.Author.Needs.{needs}
-use Rattle.boxes.specs.Rules.{containerNo}
+use Rattle.boxes.specs.Kinds.{containerNo}
 use Rattle.boxes.proofs.rules.container_no.Statement.{statement}
 use Rattle.boxes.proofs.rules.container_no.Tie as tie
 

@@ -21,8 +21,8 @@ header-at-requires c κs = search needs
 enum-known-b : tie.Need-enum-known-b
 enum-known-b c = search needs
 
-sub-t11 : tie.Need-sub-t11
-sub-t11 c = search needs
+sub-t12 : tie.Need-sub-t12
+sub-t12 c = search needs
 
 enum-known-n : tie.Need-enum-known-n
 enum-known-n c = search needs
@@ -47,7 +47,7 @@ step-spec =
     returns-2
     header-at-requires
     enum-known-b
-    sub-t11
+    sub-t12
     enum-known-n
     returns-3
     returns-4)

@@ -1,0 +1,27 @@
+-- `boxes::rules::keeps` meets its contract: the test is whether the kind stands in the container.
+use mathlib.Core.Path.{sym, _∙_}
+use borrow.Author.Needs.{needs}
+use native.Mathlib.Omega.{arith}
+use Rattle.boxes.proofs.KindLaws.{count-here, count-elsewhere}
+use Rattle.boxes.proofs.rules.keeps.Statement.{statement}
+use Rattle.boxes.proofs.rules.keeps.Tie as tie
+
+container-no-requires : tie.Need-container-no-requires
+container-no-requires c κs = search needs
+
+container-no-requires-2 : tie.Need-container-no-requires-2
+container-no-requires-2 c κs = search needs
+
+keeps-rule-requires : tie.Need-keeps-rule-requires
+keeps-rule-requires c κs = search needs
+
+returns : tie.Need-returns
+returns c = c .keeps-rule .ensures ∙ sym (count-here _ _ _ (omega arith))
+
+returns-2 : tie.Need-returns-2
+returns-2 c = sym (count-elsewhere _ _ _ (omega arith))
+
+pub keeps-spec : {M : Type 1} → statement M
+keeps-spec =
+    tie.close
+    (tie.spec container-no-requires container-no-requires-2 keeps-rule-requires returns returns-2)

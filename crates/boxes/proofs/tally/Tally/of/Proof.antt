@@ -1,0 +1,72 @@
+-- `boxes::tally::Tally::of` meets its contract. The loop's invariant: the rows passed are of other kinds, so those left decide.
+use Prim.Native.Nat.{_-_, _≤_}
+use mathlib.Core.Path.{_≡_, refl, sym, _∙_}
+use borrow.Author.Needs.{needs}
+use native.Mathlib.Omega.{arith}
+use lib.ListN.{drop}
+use Rattle.boxes.specs.Kinds.{kinds}
+use Rattle.boxes.specs.Rules.{countIn, tallyFor}
+use Rattle.boxes.proofs.RuleLaws.{count-found, count-passed}
+use Rattle.boxes.proofs.tally.Tally.of.Statement.{statement}
+use Rattle.boxes.proofs.tally.Tally.of.Tie as tie
+
+abbrev Inv-loop : tie.InvT-loop
+Inv-loop kind counts i₀ i = (i ≤ 8) × (tallyFor kind counts ≡ countIn (drop i kinds) kind (drop i counts))
+
+abbrev μ-loop : tie.MeasureT-loop
+μ-loop kind counts i₀ i = 8 - i
+
+loop-holds : tie.Need-loop-holds Inv-loop μ-loop
+unfolding tallyFor
+loop-holds c = (search needs, refl)
+
+mul-row : tie.Need-mul-row Inv-loop μ-loop
+mul-row c = search needs
+
+array-copy-out-row : tie.Need-array-copy-out-row Inv-loop μ-loop
+array-copy-out-row c = search needs
+
+mul-result : tie.Need-mul-result Inv-loop μ-loop
+mul-result c = search needs
+
+array-read-result : tie.Need-array-read-result Inv-loop μ-loop
+array-read-result c = search needs
+
+returns : tie.Need-returns Inv-loop μ-loop
+returns c =
+    let at-loop = c .before .before .before .before .before in
+    sym (at-loop .loop .inv .1 ∙ count-found kinds _ _ (at-loop .loop .i) _ (omega arith) (c .if1 .taken))
+
+add-i : tie.Need-add-i Inv-loop μ-loop
+add-i c = search needs
+
+loop-less : tie.Need-loop-less Inv-loop μ-loop
+loop-less c = search needs
+
+loop-again : tie.Need-loop-again Inv-loop μ-loop
+loop-again c =
+    let at-loop = c .before .before .before .before .before in
+    (search needs, at-loop .loop .inv .1 ∙ count-passed kinds _ _ (at-loop .loop .i) _ (omega arith) (c .if1 .left))
+
+returns-2 : tie.Need-returns-2 Inv-loop μ-loop
+unfolding countIn
+returns-2 c =
+    let all : c .before .loop .i ≡ 8 = omega arith in
+    sym (rw all at (c .before .loop .inv .1))
+
+pub of-spec : {M : Type 1} → statement M
+of-spec =
+    tie.close
+    (tie.spec
+    Inv-loop
+    μ-loop
+    loop-holds
+    mul-row
+    array-copy-out-row
+    mul-result
+    array-read-result
+    returns
+    add-i
+    loop-less
+    loop-again
+    returns-2)

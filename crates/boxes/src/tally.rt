@@ -1,0 +1,31 @@
+// What one walk over a container tells of it.
+use crate::kinds::KINDS;
+use crate::kinds::Kind;
+ghost use mathlib.Core.Path.{_≡_};
+ghost use Rattle.boxes.specs.Rules.{tallyFor};
+
+// The number of the first fault, 0 for none; how many boxes there are, and how many of each kind in the table's order, none
+// where there is a fault.
+pub struct Tally {
+    pub fault: u64,
+    pub boxes: u64,
+    pub counts: [u64; 8],
+}
+
+impl Tally {
+    // The count of a kind, 0 for one that the table has not.
+    pub fn of(self, kind: Kind) -> u64
+        ensures { λ r. ⌜ r ≡ tallyFor kind (self .counts) ⌝ }
+    {
+        let counts = self.counts;
+        let mut i = 0;
+        while i < 8 {
+            let row = KINDS[i];
+            if row.code == kind.code {
+                return counts[i];
+            }
+            i += 1;
+        }
+        0
+    }
+}
