@@ -92,11 +92,23 @@ module _ (k : Kind) where
   those-none [] h = those-nil
   those-none (b ∷ bs) h = those-other b bs (h zero (omega arith)) ∙ those-none bs (λ n l. h (suc n) (omega arith))
 
+  -- the first of them
+  pub firstOf-those : (bs : List Box) → firstOf k bs ≡ boxAt 0 (those k bs)
+  unfolding firstOf
+  firstOf-those bs = refl
+
+  pub first-one : (b : Box) (bs : List Box) → is k b ≡ true → firstOf k (b ∷ bs) ≡ b
+  unfolding boxAt
+  first-one b bs h = firstOf-those (b ∷ bs) ∙ rw (those-one b bs h)
+
+  pub first-other : (b : Box) (bs : List Box) → is k b ≡ false → firstOf k (b ∷ bs) ≡ firstOf k bs
+  first-other b bs h = firstOf-those (b ∷ bs) ∙ rw (those-other b bs h) (sym (firstOf-those bs))
+
   -- the first box, if it is of the kind, is the first of the kind
   pub first-is : 0 < k .code → (bs : List Box) → is k (boxAt 0 bs) ≡ true → firstOf k bs ≡ boxAt 0 bs
-  unfolding firstOf boxAt
+  unfolding boxAt
   first-is coded [] h = absurd (omega (arith, is-there k coded 0 [] h))
-  first-is coded (b ∷ bs) h = rw (those-one b bs h)
+  first-is coded (b ∷ bs) h = first-one b bs h
 
 -- ---- where the n-th of a kind stands among all: n of the kind come before it
 pub record Nth (k : Kind) (bs : List Box) (n m : ℕ) : Type 0 where

@@ -5,12 +5,13 @@ use mathlib.Core.List.{List, _++_}
 use Prim.Native.Nat.{ℕ, zero, suc, _+_, _-_, _*_, _/_, _^_, _≤_, _<_, zero-le}
 use native.Mathlib.Nat.{mod-self, sub-zero}
 use native.Mathlib.Omega.{arith}
-use borrow.Author.Tests.{lt-ltb, le-ltb, ltb-true, leb-true}
+use borrow.Author.Tests.{lt-ltb, le-ltb}
 use lib.ListN.{length}
 use Rattle.boxes.specs.Numbers.{number, bytesOf, signed, twosComplement, holdsOffset, valueOf}
 use Rattle.boxes.specs.declared.numbers.Offset.{Offset}
 use Rattle.boxes.specs.declared.numbers.Offset.the-variants.{Ahead, Back}
 use Rattle.boxes.proofs.NumberLaws.{bytesOf-mod, number-bytesOf, number-bytesOf-mod, power-pos}
+use Rattle.boxes.proofs.WidthLaws.{ahead-below, back-within}
 
 -- By the largest number of w bytes, since 256 to the 8 is past 64 bits.
 module _ (w n top : ℕ) (largest : top + 1 ≡ 256 ^ w) where
@@ -41,16 +42,16 @@ signed-none = refl
 
 -- reading back, as numbers
 pub signed-twosComplement : (w : ℕ) (z : Offset) → holdsOffset w z ≡ true → signed w (twosComplement w z) ≡ z
-unfolding signed twosComplement holdsOffset
-signed-twosComplement w (Ahead n) h = rw (h, signed)
+unfolding signed twosComplement
+signed-twosComplement w (Ahead n) h = rw (lt-ltb (2 * n) (256 ^ w) (ahead-below w n h), signed)
 signed-twosComplement w (Back n) h =
-    let half : 2 * n ≤ 256 ^ w = leb-true _ _ h in
+    let half = back-within w n h in
     rw (le-ltb (2 * (256 ^ w - n)) (256 ^ w) (omega arith), signed) (ap Back (omega arith))
 
 -- an offset that w bytes hold is a number of w bytes, but for the second name of 0
 pub twosComplement-below : (w : ℕ) (z : Offset) → holdsOffset w z ≡ true → (z ≡ Back 0 → ⊥) → twosComplement w z < 256 ^ w
-unfolding twosComplement holdsOffset
-twosComplement-below w (Ahead n) h some = omega (arith, ltb-true (2 * n) (256 ^ w) h)
+unfolding twosComplement
+twosComplement-below w (Ahead n) h some = omega (arith, ahead-below w n h)
 twosComplement-below w (Back zero) h some = absurd (some refl)
 twosComplement-below w (Back (suc n)) h some = omega (arith, power-pos w)
 

@@ -1,8 +1,8 @@
--- Laws of the counts of kinds: how a loop over the table counts one box more, and what is read at a kind's row.
+-- Laws of the counts of kinds: how a loop over the table counts one box more, what is read at a kind's row, and what a tally says.
 use Prim.Native.Nat.{ℕ, zero, suc, _+_, _≤_, _<_}
 use mathlib.Core.Bool.{Bool, true, false, _||_}
 use mathlib.Core.List.{List, [], _∷_, _++_, map}
-use mathlib.Core.Path.{_≡_, refl, sym, ap, ap₂, _∙_}
+use mathlib.Core.Path.{_≡_, refl, sym, ap, ap₂, subst, _∙_}
 use native.Mathlib.Nat.{add-zero}
 use native.Mathlib.Numerals.{add-one}
 use native.Mathlib.Omega.{arith}
@@ -11,12 +11,15 @@ use borrow.Author.Tests.{eq-eqb, ne-eqb, eqb-true, eqb-false}
 use lib.Dec.{eqb}
 use lib.ListN.{length, getD, drop, set, length-set}
 use lib.Seq.{drop-cons, drop-drop, getD-drop, getD-set-same, getD-set-other, ext-getD}
-use Rattle.boxes.specs.Answer.{given}
-use Rattle.boxes.specs.Framing.{Box}
-use Rattle.boxes.specs.Kinds.{ftyp, kinds, is, those}
+use Rattle.boxes.specs.Answer.{Answer, refused, given}
+use Rattle.boxes.specs.Framing.{Box, boxesIn}
+use Rattle.boxes.specs.Kinds.{ftyp, kinds, is, those, rightCount, right}
 use Rattle.boxes.specs.Rules.{countsOf, tallyOf, countIn, tallyFor}
+use Rattle.boxes.specs.declared.kinds.Container.{Container}
 use Rattle.boxes.specs.declared.kinds.Kind.{Kind}
-use Rattle.boxes.proofs.KindLaws.{those-few, one-found, one-passed}
+use Rattle.boxes.specs.declared.tally.Tally.{Tally}
+use Rattle.boxes.proofs.ContainerLaws.{boxes-numbers}
+use Rattle.boxes.proofs.KindLaws.{those-few, one-found, one-passed, right-count}
 
 -- ---- one box more
 
@@ -152,6 +155,42 @@ pub tally-for : (k : Kind) → has kinds k ≡ true → (bs : List Box) → tall
 unfolding tallyFor countsOf
 tally-for k h bs = count-of kinds k bs h
 
-pub tally-given : (k : Kind) → has kinds k ≡ true → (bs : List Box) → tallyFor k (tallyOf (given bs) .counts) ≡ length (those k bs)
-unfolding tallyOf
-tally-given = tally-for
+-- ---- what a tally says
+
+-- of a container without a fault: its boxes, and how many of them are of each kind
+pub record Tallied (t : Tally) (bs : List Box) : Type 0 where
+  pub sound : t .fault ≡ 0
+  pub number : t .boxes ≡ length bs
+  pub of : (k : Kind) → has kinds k ≡ true → tallyFor k (t .counts) ≡ length (those k bs)
+
+module _ {t : Tally} {x : Answer (List Box)} (answer : t ≡ tallyOf x) where
+  pub tally-given : {bs : List Box} → x ≡ given bs → Tallied t bs
+  unfolding tallyOf
+  tally-given {bs} e =
+      subst (λ t. Tallied t bs) (sym (answer ∙ ap tallyOf e)) (record { sound = refl; number = refl; of = λ k h. tally-for k h bs })
+
+  pub tally-refused : {n : ℕ} → x ≡ refused n → t .fault ≡ n
+  unfolding tallyOf
+  tally-refused e = ap (λ t. t .fault) (answer ∙ ap tallyOf e)
+
+-- and back: no fault is told of a container that has its boxes, and else the first
+module _ (c : Container) (s : List ℕ) (start end : ℕ) {t : Tally} (answer : t ≡ tallyOf (boxesIn c s start end)) where
+  pub tally-sound : t .fault ≡ 0 → (bs : List Box) × (boxesIn c s start end ≡ given bs) × Tallied t bs
+  tally-sound h = go (boxesIn c s start end) refl
+    where
+      go : (x : Answer (List Box)) → boxesIn c s start end ≡ x → (bs : List Box) × (boxesIn c s start end ≡ given bs) × Tallied t bs
+      go (refused n) e =
+          let (low, high) = boxes-numbers c s start end n e in
+          absurd (omega (arith, tally-refused answer e))
+      go (given bs) e = (bs, e, tally-given answer e)
+
+  pub tally-fault : (t .fault ≡ 0 → ⊥) → boxesIn c s start end ≡ refused (t .fault)
+  tally-fault h = go (boxesIn c s start end) refl
+    where
+      go : (x : Answer (List Box)) → boxesIn c s start end ≡ x → boxesIn c s start end ≡ refused (t .fault)
+      go (refused n) e = e ∙ ap refused (sym (tally-refused answer e))
+      go (given bs) e = absurd (h (tally-given answer e .sound))
+
+-- a rule held against a tally is held against the boxes
+pub tally-right : (c : Container) (k : Kind) → has kinds k ≡ true → {t : Tally} {bs : List Box} → Tallied t bs → rightCount c k (tallyFor k (t .counts)) ≡ right c k bs
+tally-right c k h {bs = bs} tallied = ap (rightCount c k) (tallied .of k h) ∙ sym (right-count c k bs)

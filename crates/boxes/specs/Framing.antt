@@ -38,7 +38,7 @@ header s at end = do
   _ ← hold 3 (not (eqb (number s at 4) 0))
   elim (eqb (number s at 4) 1) [ true ↦ large s at end | false ↦ sized s at end 8 (number s at 4) ]
 
--- the boxes from a place to the end of their container, of which so many more are allowed
+-- the boxes from a place to the end of their container, of which so many more are allowed; all containers are framed alike
 unfoldable pub boxesFrom : Container → List ℕ → ℕ → ℕ → ℕ → Answer (List Box)
 boxesFrom c s end zero at = elim (leb end at) [ true ↦ given [] | false ↦ refused 6 ]
 boxesFrom c s end (suc more) at =

@@ -1,4 +1,5 @@
-// The box layer: numbers of any width, box headers, the walk over one container, and the table of the eight kinds.
+// The box layer: numbers of any width, box headers, the walk over one container, the table of the eight kinds, and
+// counts by it.
 pub mod framing;
 pub mod kinds;
 pub mod limits;

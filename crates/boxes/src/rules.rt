@@ -93,9 +93,8 @@ pub fn keeps(container: Container, kind: Kind, n: u64) -> bool
 {
     let home = kind.container;
     let count = kind.count;
-    if container_no(container) == container_no(home) {
-        keeps_rule(count, n)
-    } else {
-        true
+    if container_no(container) != container_no(home) {
+        return true;
     }
+    keeps_rule(count, n)
 }

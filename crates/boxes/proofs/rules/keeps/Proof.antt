@@ -12,16 +12,16 @@ container-no-requires c κs = search needs
 container-no-requires-2 : tie.Need-container-no-requires-2
 container-no-requires-2 c κs = search needs
 
+returns : tie.Need-returns
+returns c = sym (count-elsewhere _ _ _ (omega arith))
+
 keeps-rule-requires : tie.Need-keeps-rule-requires
 keeps-rule-requires c κs = search needs
 
-returns : tie.Need-returns
-returns c = c .keeps-rule .ensures ∙ sym (count-here _ _ _ (omega arith))
-
 returns-2 : tie.Need-returns-2
-returns-2 c = sym (count-elsewhere _ _ _ (omega arith))
+returns-2 c = c .keeps-rule .ensures ∙ sym (count-here _ _ _ (omega arith))
 
 pub keeps-spec : {M : Type 1} → statement M
 keeps-spec =
     tie.close
-    (tie.spec container-no-requires container-no-requires-2 keeps-rule-requires returns returns-2)
+    (tie.spec container-no-requires container-no-requires-2 returns keeps-rule-requires returns-2)
