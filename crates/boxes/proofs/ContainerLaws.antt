@@ -13,7 +13,8 @@ use Rattle.boxes.specs.Answer.{Answer, refused, given, _>>=_}
 use Rattle.boxes.specs.Framing.{Box, header, boxesFrom, boxesIn, boxLimit}
 use Rattle.boxes.specs.Kinds.{boxAt}
 use Rattle.boxes.specs.declared.kinds.Container.{Container}
-use Rattle.boxes.proofs.AnswerLaws.{not-both, given-same, both-given, then-given, then-then, Only, only-given, only-refused, only-then, only-either}
+use Rattle.boxes.proofs.AnswerLaws.{not-both, given-same, both-given, then-given, then-then, Only, only-given, only-refused}
+use Rattle.boxes.proofs.AnswerLaws.{only-then, only-either}
 use Rattle.boxes.proofs.HeaderLaws.{Inside, header-inside, header-further, header-numbers, header-moved, moved}
 
 -- what the tests decide

@@ -1,7 +1,9 @@
 -- Laws of `number` and `bytesOf`, each over the width: how a loop reads a number, what it depends on, what it is read back as.
 use mathlib.Core.Path.{_≡_, refl, sym, ap, ap₂, _∙_}
 use Prim.Native.Nat.{ℕ, zero, suc, _+_, _-_, _*_, _/_, _%_, _^_, _≤_, _<_}
-use native.Mathlib.Nat.{pow-suc, pow-le-pow-right, one-le-pow, lt-of-lt-of-le, zero-lt-suc, mod-lt, mod-eq-of-lt, mul-suc, add-zero, add-suc, add-assoc}
+use native.Mathlib.Nat.{pow-suc, pow-le-pow-right, one-le-pow, lt-of-lt-of-le, zero-lt-suc, mod-lt, mod-eq-of-lt, mul-suc, add-zero}
+use native.Mathlib.Nat.{add-suc, add-assoc}
+use native.Mathlib.Decide.{decLe}
 use native.Mathlib.Numerals.{add-one}
 use native.Mathlib.Omega.{arith}
 use mathlib.Core.List.{List, [], _∷_, _++_, append-assoc, append-nil}
@@ -107,6 +109,22 @@ length-bytesOf (suc w) n = rw (length-append, length-bytesOf w (n / 256), add-on
 pub bytesOf-more : (w n : ℕ) → bytesOf (w + 1) n ≡ bytesOf w (n / 256) ++ (n % 256 ∷ [])
 unfolding bytesOf
 bytesOf-more w n = rw add-one
+
+-- the bytes of 0 are zeros
+pub bytesOf-zero : (w k : ℕ) → getD (bytesOf w 0) k 0 ≡ 0
+unfolding bytesOf
+bytesOf-zero zero k = refl
+bytesOf-zero (suc w) k =
+    elim (decLe w k) [
+      | no short ↦ List·getD-append (bytesOf w 0) (0 ∷ []) 0 k (rw length-bytesOf (omega arith)) ∙ bytesOf-zero w k
+      | yes past ↦
+          let here : k ≡ length (bytesOf w 0) + (k - w) = rw length-bytesOf (omega arith) in
+          rw (here, getD-append-add (bytesOf w 0)) (last (k - w))
+    ]
+  where
+    last : (i : ℕ) → getD {A = ℕ} (0 ∷ []) i 0 ≡ 0
+    last zero = refl
+    last (suc i) = refl
 
 -- reading back: w bytes of n are n, less what does not fit them
 pub number-bytesOf-mod : (p t : List ℕ) (w n : ℕ) → number (p ++ (bytesOf w n ++ t)) (length p) w ≡ n % 256 ^ w

@@ -21,15 +21,15 @@ use Rattle.partial.specs.Carried
 
 unfoldable pub computing : Unit {0}
 unfolding
-    Numbers.number Numbers.bytesOf Numbers.valueOf Numbers.signed Numbers.unsigned Numbers.holds Numbers.holdsOffset Numbers.least
+    Numbers.number Numbers.bytesOf Numbers.valueOf Numbers.signed Numbers.twosComplement Numbers.holds Numbers.holdsOffset Numbers.least
     Numbers.leastWidth
     Framing.sized Framing.large Framing.header Framing.boxesFrom Framing.boxLimit Framing.boxesIn Framing.boxOf
     Framing.headerAnswer Framing.frontSize Framing.front Framing.boxed
-    Kinds.kinds Kinds.is Kinds.those Kinds.keeps Kinds.right
+    Kinds.is Kinds.those Kinds.keeps Kinds.containerNo Kinds.rightCount Kinds.right Kinds.boxAt Kinds.firstOf
     Sequences.someOf Sequences.allOf Sequences.sum Sequences.largest Sequences.within Sequences.stretch
     Segments.isState Segments.present Segments.corrupted Segments.hasPlace Segments.isOpen Segments.isLast Segments.endOf
     Segments.chunksOf
-    Heading.boxAt Heading.firstOf Heading.ftypRight Heading.brandsFrom Heading.brands Heading.brandRight Heading.pfilRight
+    Heading.ftypRight Heading.brandsFrom Heading.brands Heading.brandRight Heading.pfilRight
     Heading.pfhdFormed Heading.pfhdRight Heading.text Heading.url Heading.mime Heading.surlFormed Heading.surlRight
     Heading.fileBoxes Heading.judged Heading.heading
     Entries.plocHead Entries.state Entries.stateOf Entries.entry Entries.mayLie Entries.offsetPlace Entries.placeOf

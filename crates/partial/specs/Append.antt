@@ -6,7 +6,7 @@ use mathlib.Core.Option.{Option·getD}
 use lib.ListN.{length, take}
 use lib.Dec.{leb}
 use Rattle.boxes.specs.Answer.{Answer, given, _>>=_, hold}
-use Rattle.boxes.specs.Numbers.{bytesOf, unsigned, holds, holdsOffset, leastWidth}
+use Rattle.boxes.specs.Numbers.{bytesOf, twosComplement, holds, holdsOffset, leastWidth}
 use Rattle.boxes.specs.Framing.{frontSize, boxed, boxLimit}
 use Rattle.boxes.specs.Kinds.{pseg, pshd, ploc, pdat}
 use Rattle.boxes.specs.declared.numbers.Offset.{Offset}
@@ -62,7 +62,7 @@ unfoldable pub entryBytes : ℕ → ℕ → List Placed → List ℕ
 entryBytes l o [] = []
 entryBytes l o (p ∷ ps) =
     flagByte (p .state)
-    ∷ (bytesOf l (p .size) ++ (elim (present (p .state)) [ true ↦ bytesOf o (unsigned o (p .offset)) | false ↦ [] ] ++ entryBytes l o ps))
+    ∷ (bytesOf l (p .size) ++ (elim (present (p .state)) [ true ↦ bytesOf o (twosComplement o (p .offset)) | false ↦ [] ] ++ entryBytes l o ps))
 
 -- version 0, flags 0, the two widths, data reference index 0, `chunk_count`, the entries
 unfoldable pub plocBody : List Placed → List ℕ

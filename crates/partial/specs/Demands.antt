@@ -11,11 +11,11 @@ use lib.ListN.{length, getD}
 use lib.Dec.{T, leb, eqb}
 use Rattle.boxes.specs.Answer.{refused, given, _>>=_, hold}
 use Rattle.boxes.specs.Framing.{Box, boxLimit}
-use Rattle.boxes.specs.Kinds.{pdat, is}
+use Rattle.boxes.specs.Kinds.{pdat, is, boxAt}
 use Rattle.partial.specs.Limits.{fileLimit, segmentLimit, chunkLimit, programLimit}
 use Rattle.partial.specs.Sequences.{someOf, sum, within}
 use Rattle.partial.specs.Segments.{Chunk, Segment, good, endOf, chunksOf}
-use Rattle.partial.specs.Heading.{Part, Heading, heading, boxAt}
+use Rattle.partial.specs.Heading.{Part, Heading, heading}
 use Rattle.partial.specs.Meaning.{givesSize, describedLength, supplier, supplied, chunkNo, chunkFor, served, servedRun, missingRun}
 use Rattle.partial.specs.Meaning.{reply, servedFor, missingFor, notBelow}
 use Rattle.partial.specs.Reading.{segments, reading, earlierSegments}

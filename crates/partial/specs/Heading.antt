@@ -7,8 +7,8 @@ use lib.Dec.{leb, eqb}
 use Rattle.boxes.specs.Answer.{Answer, given, _>>=_, hold}
 use Rattle.boxes.specs.Numbers.{number}
 use Rattle.boxes.specs.Framing.{Box, boxesIn}
-use Rattle.boxes.specs.declared.kinds.Kind.{Kind}
-use Rattle.boxes.specs.Kinds.{ftyp, pfil, pfhd, surl, is, right, those}
+use Rattle.boxes.specs.Kinds.{ftyp, pfil, pfhd, surl, is, right, those, boxAt, firstOf}
+use Rattle.boxes.specs.declared.kinds.Container.the-variants.{File, Pfil}
 use Rattle.partial.specs.Limits.{fileLimit}
 use Rattle.partial.specs.Sequences.{someOf, allOf, stretch}
 
@@ -17,19 +17,11 @@ pub record Part : Type 0 where
   pub place : ℕ
   pub size : ℕ
 
--- the box of that number in its container, counted from 0; past the last one a box of nothing
-unfoldable pub boxAt : ℕ → List Box → Box
-boxAt n bs = getD bs n (record { kind = 0; at = 0; body = 0; end = 0 })
-
--- the first of a kind
-unfoldable pub firstOf : Kind → List Box → Box
-firstOf k bs = boxAt 0 (those k bs)
-
 -- 7: `ftyp` is first, its body at least 8 bytes and a multiple of 4, and there is no second
 unfoldable pub ftypRight : List Box → Bool
 ftypRight bs =
     let b = boxAt 0 bs in
-    is ftyp b && leb (b .body + 8) (b .end) && eqb ((b .end - b .body) % 4) 0 && right ftyp bs
+    is ftyp b && leb (b .body + 8) (b .end) && eqb ((b .end - b .body) % 4) 0 && right File ftyp bs
 
 -- so many brands from a place on, four bytes each
 unfoldable pub brandsFrom : List ℕ → ℕ → ℕ → List ℕ
@@ -49,7 +41,7 @@ brandRight f bs = someOf (eqb paff) (brands f (boxAt 0 bs))
 
 -- 9: `pfil` is second, and there is no other
 unfoldable pub pfilRight : List Box → Bool
-pfilRight bs = is pfil (boxAt 1 bs) && right pfil bs
+pfilRight bs = is pfil (boxAt 1 bs) && right File pfil bs
 
 -- `pfhd`: version 0, flags, nothing more
 unfoldable pub pfhdFormed : List ℕ → Box → Bool
@@ -57,7 +49,7 @@ pfhdFormed f b = eqb (b .body + 4) (b .end) && eqb (number f (b .body) 1) 0
 
 -- 10: exactly one `pfhd`, and it is well-formed
 unfoldable pub pfhdRight : List ℕ → List Box → Bool
-pfhdRight f bs = right pfhd bs && pfhdFormed f (firstOf pfhd bs)
+pfhdRight f bs = right Pfil pfhd bs && pfhdFormed f (firstOf pfhd bs)
 
 -- the text from a place up to the first zero byte before an end, or up to that end
 unfoldable pub text : List ℕ → ℕ → ℕ → Part
@@ -77,7 +69,7 @@ surlFormed f b = leb (b .body + 4) (b .end) && eqb (number f (b .body) 4) 0 && e
 
 -- 11: one `surl` or more, each well-formed
 unfoldable pub surlRight : List ℕ → List Box → Bool
-surlRight f bs = right surl bs && allOf (surlFormed f) (those surl bs)
+surlRight f bs = right Pfil surl bs && allOf (surlFormed f) (those surl bs)
 
 -- the boxes of the file and those of its `pfil`
 pub record Heading : Type 0 where
@@ -88,7 +80,7 @@ pub record Heading : Type 0 where
 unfoldable pub fileBoxes : List ℕ → Answer (List Box)
 fileBoxes f = do
   _ ← hold 1 (leb (length f) fileLimit)
-  boxesIn f 0 (length f)
+  boxesIn File f 0 (length f)
 
 -- stages 7 to 11 of a file with these boxes, the framing of `pfil` before 10
 unfoldable pub judged : List ℕ → List Box → Answer Heading
@@ -96,7 +88,7 @@ judged f boxes = do
   _ ← hold 7 (ftypRight boxes)
   _ ← hold 8 (brandRight f boxes)
   _ ← hold 9 (pfilRight boxes)
-  inner ← boxesIn f (boxAt 1 boxes .body) (boxAt 1 boxes .end)
+  inner ← boxesIn Pfil f (boxAt 1 boxes .body) (boxAt 1 boxes .end)
   _ ← hold 10 (pfhdRight f inner)
   _ ← hold 11 (surlRight f inner)
   given (record { boxes = boxes; inner = inner })

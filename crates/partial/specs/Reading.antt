@@ -7,10 +7,11 @@ use lib.Dec.{leb, eqb}
 use Rattle.boxes.specs.Answer.{Answer, given, _>>=_, hold}
 use Rattle.boxes.specs.Numbers.{number}
 use Rattle.boxes.specs.Framing.{Box, boxesIn}
-use Rattle.boxes.specs.Kinds.{pseg, pshd, ploc, surl, is, right, those}
+use Rattle.boxes.specs.declared.kinds.Container.the-variants.{File, Pseg}
+use Rattle.boxes.specs.Kinds.{pseg, pshd, ploc, surl, is, right, those, boxAt, firstOf}
 use Rattle.partial.specs.Limits.{segmentLimit, chunkLimit}
 use Rattle.partial.specs.Segments.{Segment, chunksOf, endOf}
-use Rattle.partial.specs.Heading.{Heading, heading, boxAt, firstOf}
+use Rattle.partial.specs.Heading.{Heading, heading}
 use Rattle.partial.specs.Entries.{plocHead, chunksFrom}
 use Rattle.partial.specs.Meaning.{agree}
 
@@ -40,14 +41,14 @@ pshdFields f b =
 unfoldable pub pshdRight : List ℕ → List Box → Bool
 pshdRight f bs =
     let b = boxAt 0 bs in
-    is pshd b && right pshd bs && eqb (pshdFields f b .end) (b .end)
+    is pshd b && right Pseg pshd bs && eqb (pshdFields f b .end) (b .end)
 
 -- the step: one `pseg` box of the file, beside the segments before it
 unfoldable pub segment : ℕ → List ℕ → Heading → List Segment → Box → Answer Segment
 segment limit f h before b = do
-  inner ← boxesIn f (b .body) (b .end)
+  inner ← boxesIn Pseg f (b .body) (b .end)
   _ ← hold 14 (pshdRight f inner)
-  _ ← hold 15 (right ploc inner)
+  _ ← hold 15 (right Pseg ploc inner)
   _ ← hold 16 (eqb (length (those surl inner)) 0)
   l ← plocHead f (firstOf ploc inner)
   _ ← hold 22 (leb (length (chunksOf before) + l .count) chunkLimit)
@@ -86,7 +87,7 @@ segments limit f h = do
 unfoldable pub reading : ℕ → List ℕ → Answer (List Segment)
 reading limit f = do
   h ← heading f
-  _ ← hold 12 (right pseg (h .boxes))
+  _ ← hold 12 (right File pseg (h .boxes))
   segments limit f h
 
 -- the segments of a file that append takes: an acceptable file, or one whose only refusal is 12, which counts as serving nothing

@@ -4,10 +4,10 @@ use mathlib.Core.Bool.{Bool, true, false, _&&_}
 use mathlib.Core.List.{List, [], _∷_, _++_}
 use lib.ListN.{length, take, drop}
 use Rattle.boxes.specs.Answer.{Answer, refused, given, _>>=_, hold}
-use Rattle.boxes.specs.Kinds.{surl}
+use Rattle.boxes.specs.Kinds.{surl, firstOf}
 use Rattle.boxes.specs.Framing.{Box}
 use Rattle.partial.specs.Segments.{Chunk, Segment, chunksOf}
-use Rattle.partial.specs.Heading.{Part, heading, firstOf}
+use Rattle.partial.specs.Heading.{Part, heading}
 use Rattle.partial.specs.Meaning.{describedLength, isClosed, supplied, placeOfByte, servedRun, Reply, reply}
 use Rattle.partial.specs.Reading.{reading}
 use Rattle.partial.specs.Ranges.{Range, hadList, missingList, total}

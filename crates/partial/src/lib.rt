@@ -1,4 +1,7 @@
-// Partial files: reading to tables, serving, lists, the map's text, begin and append.
+// Partial files: the types of the answers, positions, the segment header, limits and numbers of refusals. The definitions and their laws stand
+// beside them in specs/ and proofs/, and the calls in the layers above.
 pub mod answers;
 pub mod header;
+pub mod limits;
 pub mod position;
+pub mod refusals;

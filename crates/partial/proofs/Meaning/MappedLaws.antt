@@ -9,10 +9,11 @@ use native.Mathlib.Omega.{arith}
 use borrow.Author.Tests.{lt-ltb, ltb-true, leb-true}
 use lib.Dec.{leb}
 use lib.ListN.{length, getD}
-use Rattle.boxes.specs.Kinds.{pdat, is}
+use Rattle.boxes.specs.Kinds.{pdat, is, boxAt, noBox}
+use Rattle.boxes.proofs.KindLaws.{boxAt-getD}
 use Rattle.partial.specs.Sequences.{allOf}
 use Rattle.partial.specs.Segments.{Chunk, noChunk, Segment, present, chunksOf, hasPlace}
-use Rattle.partial.specs.Heading.{Heading, boxAt}
+use Rattle.partial.specs.Heading.{Heading}
 use Rattle.partial.specs.Entries.{mayLie}
 use Rattle.partial.specs.Meaning.{agree, supplier, supplied, placeOfByte, served, covers, chunkFor, chunkNo}
 use Rattle.partial.specs.Demands.{Serving, Mapped}
@@ -34,11 +35,11 @@ in-box : (h : Heading) (state place size : ℕ) → mayLie h state place size �
     × (is pdat (boxAt k (h .boxes)) ≡ true)
     × (boxAt k (h .boxes) .body ≤ place)
     × (place + size ≤ boxAt k (h .boxes) .end)
-unfolding mayLie boxAt
+unfolding mayLie
 in-box h state place size may =
-    let (k, less, there) = some-at _ (record { kind = 0; at = 0; body = 0; end = 0 }) (h .boxes) may in
+    let (k, less, there) = some-at _ noBox (h .boxes) may in
     let b = boxAt k (h .boxes) in
-    let (front, ends) = both (is pdat b && leb (b .body) place) (leb (place + size) (b .end)) there in
+    let (front, ends) = both (is pdat b && leb (b .body) place) (leb (place + size) (b .end)) (rw (boxAt-getD k (h .boxes)) there) in
     let (kind, starts) = both (is pdat b) (leb (b .body) place) front in
     (k, less, kind, leb-true _ _ starts, leb-true _ _ ends)
 

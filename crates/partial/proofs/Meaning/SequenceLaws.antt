@@ -73,6 +73,11 @@ module _ {A : Type 0} where
   all-at test d (x ∷ xs) h zero l = both _ _ h .0
   all-at test d (x ∷ xs) h (suc k) l = all-at test d xs (both (test x) _ h .1) k (omega arith)
 
+  pub all-by : (test : A → Bool) (d : A) (xs : List A) → ((k : ℕ) → k < length xs → test (getD xs k d) ≡ true) → allOf test xs ≡ true
+  unfolding allOf
+  all-by test d [] each = refl
+  all-by test d (x ∷ xs) each = rw (each 0 (omega arith)) (all-by test d xs (λ k l. each (suc k) (omega arith)))
+
   -- the largest is at most n where each is, and no smaller of a longer list
   pub largest-most : (of : A → ℕ) (test : A → Bool) (n : ℕ) → ((x : A) → test x ≡ true → of x ≤ n) → (xs : List A) → allOf test xs ≡ true
       → largest (map of xs) ≤ n

@@ -1,28 +1,29 @@
 -- What is put behind a file changes nothing in its heading but the list of the file's boxes, which the new boxes follow.
 use Prim.Native.Nat.{ℕ, zero, suc, _+_, _-_, _*_, _/_, _%_, _≤_, _<_}
 use mathlib.Core.Bool.{Bool, true, false, not, _&&_}
-use mathlib.Core.List.{List, [], _∷_, _++_, map, append-nil}
+use mathlib.Core.List.{List, [], _∷_, _++_, map}
 use mathlib.Core.Path.{_≡_, refl, ap, ap₂, subst, _∙_}
-use native.Mathlib.Decide.{decLe}
 use native.Mathlib.Omega.{arith}
 use borrow.Author.Tests.{le-leb, leb-true, eqb-true}
 use lib.Dec.{leb, eqb, lit<}
-use lib.ListN.{length, getD, List·getD-append, List·getD-eq-default}
+use lib.ListN.{length, getD, List·getD-append}
 use Rattle.boxes.specs.Answer.{given}
 use Rattle.boxes.specs.Numbers.{number}
-use Rattle.boxes.specs.Framing.{Box, boxesIn, boxesFrom, boxLimit}
-use Rattle.boxes.specs.Kinds.{ftyp, pfil, pfhd, surl, is, right, those, keeps}
+use Rattle.boxes.specs.Framing.{Box, boxesIn, boxLimit}
+use Rattle.boxes.specs.Kinds.{ftyp, pfil, pfhd, surl, is, right, those, boxAt, firstOf, noBox}
 use Rattle.boxes.specs.declared.kinds.Kind.{Kind}
+use Rattle.boxes.specs.declared.kinds.Container.{Container}
+use Rattle.boxes.specs.declared.kinds.Container.the-variants.{Pfil, File}
 use Rattle.boxes.proofs.AnswerLaws.{both-given, held, given-same}
-use Rattle.boxes.proofs.HeaderLaws.{header-inside, moved}
-use Rattle.boxes.proofs.ContainerLaws.{Filled, full, next, fills, boxes-kept, boxes-appended}
-use Rattle.boxes.proofs.KindLaws.{those-append}
+use Rattle.boxes.proofs.HeaderLaws.{moved}
+use Rattle.boxes.proofs.ContainerLaws.{boxes-kept, boxes-appended, boxes-standing}
 use Rattle.boxes.proofs.NumberLaws.{number-append}
+use Rattle.boxes.proofs.KindLaws.{boxAt-getD, is-there, firstOf-those, those-nth, right-one, boxAt-first, right-append}
 use Rattle.partial.specs.Limits.{fileLimit}
 use Rattle.partial.specs.Sequences.{allOf, stretch}
-use Rattle.partial.specs.Heading.{boxAt, firstOf, ftypRight, brandsFrom, brands, brandRight, pfilRight, pfhdFormed, pfhdRight, text}
-use Rattle.partial.specs.Heading.{url, mime, surlFormed, surlRight, Heading, heading, fileBoxes, judged}
-use Rattle.partial.proofs.Meaning.SequenceLaws.{both}
+use Rattle.partial.specs.Heading.{ftypRight, brandsFrom, brands, brandRight, pfilRight, pfhdFormed, pfhdRight, text, url, mime}
+use Rattle.partial.specs.Heading.{surlFormed, surlRight, Heading, heading, fileBoxes, judged}
+use Rattle.partial.proofs.Meaning.SequenceLaws.{both, all-by, all-at}
 
 -- whether a box lies before a place
 abbrev pub lies : ℕ → Box → Bool
@@ -32,49 +33,25 @@ pub lies-ends : (end : ℕ) (b : Box) → lies end b ≡ true → b .end ≤ end
 lies-ends end b h = leb-true (b .end) end (both (leb (b .body) (b .end)) (leb (b .end) end) h .1)
 
 -- the boxes of a container lie before its end
-filled-lie : {s : List ℕ} {end at : ℕ} {bs : List Box} → Filled s end at bs → allOf (lies end) bs ≡ true
-unfolding allOf
-filled-lie (full e) = refl
-filled-lie {s} {end} (next {at = at} {b = b} {bs = bs} short read rest) =
-    let box = header-inside s at end read in
-    rw (le-leb (b .body) (b .end) (box .whole), le-leb (b .end) end (box .ends)) (filled-lie rest)
-
-pub boxes-lie : (s : List ℕ) (start end : ℕ) (bs : List Box) → boxesIn s start end ≡ given bs → allOf (lies end) bs ≡ true
-unfolding boxesIn
-boxes-lie s start end bs h = filled-lie (fills s end boxLimit start h .boxes)
-
--- so do those of a kind
-pub those-all : (k : Kind) (test : Box → Bool) (bs : List Box) → allOf test bs ≡ true → allOf test (those k bs) ≡ true
-unfolding those allOf
-those-all k test [] h = refl
-those-all k test (b ∷ bs) h = go (is k b) (both (test b) (allOf test bs) h .0) (those-all k test bs (both (test b) (allOf test bs) h .1))
-  where
-    go : (t : Bool) → test b ≡ true → allOf test (those k bs) ≡ true → allOf test (elim t [ true ↦ b ∷ those k bs | false ↦ those k bs ]) ≡ true
-    go true e r = rw e r
-    go false e r = r
+pub boxes-lie : (c : Container) (s : List ℕ) (start end : ℕ) (bs : List Box) → boxesIn c s start end ≡ given bs → allOf (lies end) bs ≡ true
+boxes-lie c s start end bs known =
+    all-by (lies end) noBox bs
+    (λ k less.
+    let b : Box = getD bs k noBox in
+    let box = rw (boxAt-getD k bs) at (boxes-standing c s start end known k less .inside) in
+    rw (le-leb (b .body) (b .end) (box .whole), le-leb (b .end) end (box .ends)))
 
 -- the box of a number that there is
 pub all-boxAt : (test : Box → Bool) (bs : List Box) (n : ℕ) → n < length bs → allOf test bs ≡ true → test (boxAt n bs) ≡ true
-unfolding boxAt allOf
-all-boxAt test [] n h all = absurd (omega arith)
-all-boxAt test (b ∷ bs) zero h all = both (test b) (allOf test bs) all .0
-all-boxAt test (b ∷ bs) (suc n) h all = all-boxAt test bs n (omega arith) (both (test b) (allOf test bs) all .1)
+all-boxAt test bs n less all = rw boxAt-getD (all-at test noBox bs all n less)
 
--- a box of a kind is there
-pub is-there : (k : Kind) → 0 < k .code → (n : ℕ) (bs : List Box) → is k (boxAt n bs) ≡ true → n < length bs
-unfolding is boxAt
-is-there k some n bs h =
-    elim (decLe (length bs) n) [
-      | no there ↦ omega arith
-      | yes past ↦
-          let none : Box = record { kind = 0; at = 0; body = 0; end = 0 } in
-          let zero-kind : 0 ≡ k .code = eqb-true 0 (k .code) (rw (List·getD-eq-default bs none past) at h) in
-          absurd (omega arith)
-    ]
-
-pub boxAt-append : (bs cs : List Box) (n : ℕ) → n < length bs → boxAt n (bs ++ cs) ≡ boxAt n bs
-unfolding boxAt
-boxAt-append bs cs n h = List·getD-append bs cs (record { kind = 0; at = 0; body = 0; end = 0 }) n h
+-- those of a kind are among them
+pub those-all : (k : Kind) (test : Box → Bool) (bs : List Box) → allOf test bs ≡ true → allOf test (those k bs) ≡ true
+those-all k test bs all =
+    all-by test noBox (those k bs)
+    (λ n less.
+    let (m, t) = those-nth k bs n less in
+    rw (← (boxAt-getD n (those k bs)), t .same) (all-boxAt test bs m (t .there) all))
 
 -- a test that passes wherever another does and the box lies there
 pub all-kept : {A : Type 0} (t u v : A → Bool) → ((x : A) → t x ≡ true → u x ≡ true → v x ≡ true) → (xs : List A) → allOf t xs ≡ true → allOf u xs ≡ true → allOf v xs ≡ true
@@ -128,6 +105,10 @@ module _ (f g : List ℕ) where
   brands-kept zero at h = refl
   brands-kept (suc n) at h = ap₂ (λ (m : ℕ) (ms : List ℕ). m ∷ ms) (number-append f g at 4 (omega arith)) (brands-kept n (at + 4) (omega arith))
 
+-- the first of a kind that there is lies with the others
+pub first-lies : (end : ℕ) (k : Kind) (bs : List Box) → 0 < length (those k bs) → allOf (lies end) bs ≡ true → lies end (firstOf k bs) ≡ true
+first-lies end k bs some all = rw firstOf-those (all-boxAt (lies end) (those k bs) 0 some (those-all k (lies end) bs all))
+
 module _ (f g : List ℕ) where
   -- of `ftyp`: its brands
   pub brand-kept : (b : Box) → b .body + 8 ≤ b .end → b .end ≤ length f → brands (f ++ g) b ≡ brands f b
@@ -136,22 +117,17 @@ module _ (f g : List ℕ) where
 
   -- of `pfil`: its boxes, which lie in it
   pub pfhdRight-kept : (bs : List Box) → pfhdRight f bs ≡ true → allOf (lies (length f)) bs ≡ true → pfhdRight (f ++ g) bs ≡ true
-  unfolding pfhdRight right keeps firstOf
+  unfolding pfhdRight
   pfhdRight-kept bs h l =
-      let (one, formed) = both (right pfhd bs) (pfhdFormed f (firstOf pfhd bs)) h in
-      let single : length (those pfhd bs) ≡ 1 = eqb-true (length (those pfhd bs)) 1 one in
-      rw (one, pfhd-kept f g (firstOf pfhd bs) formed (all-boxAt (lies (length f)) (those pfhd bs) 0 (omega arith) (those-all pfhd (lies (length f)) bs l)))
+      let (one, formed) = both (right Pfil pfhd bs) (pfhdFormed f (firstOf pfhd bs)) h in
+      let single = right-one pfhd bs refl one in
+      rw (one, pfhd-kept f g (firstOf pfhd bs) formed (first-lies (length f) pfhd bs (omega arith) l))
 
   pub surlRight-kept : (bs : List Box) → surlRight f bs ≡ true → allOf (lies (length f)) bs ≡ true → surlRight (f ++ g) bs ≡ true
   unfolding surlRight
   surlRight-kept bs h l =
-      let (some, formed) = both (right surl bs) (allOf (surlFormed f) (those surl bs)) h in
+      let (some, formed) = both (right Pfil surl bs) (allOf (surlFormed f) (those surl bs)) h in
       rw (some, all-kept (surlFormed f) (lies (length f)) (surlFormed (f ++ g)) (surl-kept f g) (those surl bs) formed (those-all surl (lies (length f)) bs l))
-
--- more boxes, none of them of a kind, keep its rule
-pub right-kept : (k : Kind) (bs cs : List Box) → those k cs ≡ [] → right k (bs ++ cs) ≡ right k bs
-unfolding right
-right-kept k bs cs none = rw (those-append, none, append-nil)
 
 pub further-lie : (m n : ℕ) → m ≤ n → (bs : List Box) → allOf (lies m) bs ≡ true → allOf (lies n) bs ≡ true
 further-lie m n h bs l =
@@ -161,11 +137,11 @@ further-lie m n h bs l =
 -- what stages 1 to 11 test, of the heading that they give
 pub record Headed (f : List ℕ) (h : Heading) : Type 0 where
   pub small : leb (length f) fileLimit ≡ true
-  pub boxes : boxesIn f 0 (length f) ≡ given (h .boxes)
+  pub boxes : boxesIn File f 0 (length f) ≡ given (h .boxes)
   pub ftyp : ftypRight (h .boxes) ≡ true
   pub brand : brandRight f (h .boxes) ≡ true
   pub pfil : pfilRight (h .boxes) ≡ true
-  pub inner : boxesIn f (boxAt 1 (h .boxes) .body) (boxAt 1 (h .boxes) .end) ≡ given (h .inner)
+  pub inner : boxesIn Pfil f (boxAt 1 (h .boxes) .body) (boxAt 1 (h .boxes) .end) ≡ given (h .inner)
   pub pfhd : pfhdRight f (h .inner) ≡ true
   pub surl : surlRight f (h .inner) ≡ true
 
@@ -178,7 +154,7 @@ module _ (f : List ℕ) (h : Heading) where
       let (ftyp, e7) = held 7 (ftypRight bs) _ e2 in
       let (brand, e8) = held 8 (brandRight f bs) _ e7 in
       let (pfil, e9) = held 9 (pfilRight bs) _ e8 in
-      let (is, inner, e6) = both-given (boxesIn f (boxAt 1 bs .body) (boxAt 1 bs .end)) _ e9 in
+      let (is, inner, e6) = both-given (boxesIn Pfil f (boxAt 1 bs .body) (boxAt 1 bs .end)) _ e9 in
       let (pfhd, e10) = held 10 (pfhdRight f is) _ e6 in
       let (surl, e11) = held 11 (surlRight f is) _ e10 in
       subst (Headed f) (given-same e11)
@@ -198,37 +174,39 @@ module _ (f g : List ℕ) (h : Heading) (cs : List Box) where
   unfolding ftypRight
   ftyp-first t =
       let b = boxAt 0 (h .boxes) in
-      let (three, one) = both (is ftyp b && leb (b .body + 8) (b .end) && eqb ((b .end - b .body) % 4) 0) (right ftyp (h .boxes)) (t .ftyp) in
+      let (three, one) = both (is ftyp b && leb (b .body + 8) (b .end) && eqb ((b .end - b .body) % 4) 0) (right File ftyp (h .boxes)) (t .ftyp) in
       let (two, fours) = both (is ftyp b && leb (b .body + 8) (b .end)) (eqb ((b .end - b .body) % 4) 0) three in
       let (kind, room) = both (is ftyp b) (leb (b .body + 8) (b .end)) two in
       (is-there ftyp (lit< tt) 0 (h .boxes) kind, leb-true (b .body + 8) (b .end) room)
 
   pfil-second : Headed f h → 1 < length (h .boxes)
   unfolding pfilRight
-  pfil-second t = is-there pfil (lit< tt) 1 (h .boxes) (both (is pfil (boxAt 1 (h .boxes))) (right pfil (h .boxes)) (t .pfil) .0)
+  pfil-second t = is-there pfil (lit< tt) 1 (h .boxes) (both (is pfil (boxAt 1 (h .boxes))) (right File pfil (h .boxes)) (t .pfil) .0)
 
   pub headed-appended : Headed f h → length (f ++ g) ≤ fileLimit
-      → boxesFrom g (length g) (boxLimit - length (h .boxes)) 0 ≡ given cs
+      → boxesIn File g 0 (length g) ≡ given cs
+      → length (h .boxes) + length cs ≤ boxLimit
       → those ftyp (map (moved (length f)) cs) ≡ []
       → those pfil (map (moved (length f)) cs) ≡ []
       → Headed (f ++ g) (withBoxes h (map (moved (length f)) cs))
   unfolding ftypRight brandRight pfilRight
-  headed-appended t fits new no-ftyp no-pfil =
+  headed-appended t fits new few no-ftyp no-pfil =
       let bs = h .boxes in
       let ds = map (moved (length f)) cs in
       let (first, room) = ftyp-first t in
       let second = pfil-second t in
-      let lie = boxes-lie f 0 (length f) bs (t .boxes) in
+      let lie = boxes-lie File f 0 (length f) bs (t .boxes) in
       let end-first = lies-ends (length f) (boxAt 0 bs) (all-boxAt (lies (length f)) bs 0 first lie) in
       let end-second = lies-ends (length f) (boxAt 1 bs) (all-boxAt (lies (length f)) bs 1 second lie) in
-      let inner-lie = further-lie (boxAt 1 bs .end) (length f) end-second (h .inner) (boxes-lie f (boxAt 1 bs .body) (boxAt 1 bs .end) (h .inner) (t .inner)) in
+      let inner-boxes = boxes-lie Pfil f (boxAt 1 bs .body) (boxAt 1 bs .end) (h .inner) (t .inner) in
+      let inner-lie = further-lie (boxAt 1 bs .end) (length f) end-second (h .inner) inner-boxes in
       record {
         small = le-leb (length (f ++ g)) fileLimit fits;
-        boxes = boxes-appended f g (t .boxes) ∙ rw new;
-        ftyp = rw (boxAt-append bs ds 0 first, right-kept ftyp bs ds no-ftyp) (t .ftyp);
-        brand = rw (boxAt-append bs ds 0 first, brand-kept f g (boxAt 0 bs) room end-first) (t .brand);
-        pfil = rw (boxAt-append bs ds 1 second, right-kept pfil bs ds no-pfil) (t .pfil);
-        inner = rw (boxAt-append bs ds 1 second) (boxes-kept f g (boxAt 1 bs .end) end-second (boxAt 1 bs .body) ∙ t .inner);
+        boxes = boxes-appended File f g (t .boxes) new few;
+        ftyp = rw (boxAt-first bs ds 0 first, right-append File ftyp bs ds no-ftyp) (t .ftyp);
+        brand = rw (boxAt-first bs ds 0 first, brand-kept f g (boxAt 0 bs) room end-first) (t .brand);
+        pfil = rw (boxAt-first bs ds 1 second, right-append File pfil bs ds no-pfil) (t .pfil);
+        inner = rw (boxAt-first bs ds 1 second) (boxes-kept f g (boxAt 1 bs .end) end-second Pfil (boxAt 1 bs .body) ∙ t .inner);
         pfhd = pfhdRight-kept f g (h .inner) (t .pfhd) inner-lie;
         surl = surlRight-kept f g (h .inner) (t .surl) inner-lie;
       }

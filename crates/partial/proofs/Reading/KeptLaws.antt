@@ -1,6 +1,6 @@
 -- What is put behind a file changes no segment that was read from it: a segment is read from the bytes of its own box, and where a chunk
 -- may lie there it may lie in the longer file.
-use Prim.Native.Nat.{ℕ, zero, suc, _+_, _-_, _/_, _%_, _≤_, _<_}
+use Prim.Native.Nat.{ℕ, zero, suc, _+_, _-_, _/_, _%_, _≤_}
 use mathlib.Core.Bool.{Bool, true, false, _&&_}
 use mathlib.Core.List.{List, [], _∷_, _++_}
 use mathlib.Core.Option.{Option, none, some}
@@ -12,31 +12,26 @@ use lib.ListN.{length, getD, List·getD-append}
 use Rattle.boxes.specs.Answer.{Answer, refused, given, _>>=_, hold}
 use Rattle.boxes.specs.Numbers.{number}
 use Rattle.boxes.specs.Framing.{Box, boxesIn}
-use Rattle.boxes.specs.Kinds.{pshd, ploc, surl, is, right, those, keeps}
-use Rattle.boxes.specs.declared.kinds.Kind.{Kind}
+use Rattle.boxes.specs.Kinds.{pshd, ploc, surl, is, right, those, boxAt, firstOf}
+use Rattle.boxes.specs.declared.kinds.Container.the-variants.{Pseg}
 use Rattle.boxes.proofs.AnswerLaws.{both-given, held, given-same}
 use Rattle.boxes.proofs.ContainerLaws.{boxes-kept}
 use Rattle.boxes.proofs.NumberLaws.{number-append}
+use Rattle.boxes.proofs.KindLaws.{is-there, right-one, first-is}
 use Rattle.partial.specs.Limits.{chunkLimit}
 use Rattle.partial.specs.Sequences.{allOf}
 use Rattle.partial.specs.Segments.{Chunk, Segment, present, chunksOf, hasPlace}
-use Rattle.partial.specs.Heading.{Heading, boxAt, firstOf}
+use Rattle.partial.specs.Heading.{Heading}
 use Rattle.partial.specs.Entries.{Ploc, Entry, plocHead, stateOf, entry, mayLie, offsetPlace, placeOf, chunksFrom, chunkStep, Cursor}
 use Rattle.partial.specs.Reading.{offsetWidth, pshdFields, pshdRight, segment, segmentsFrom}
 use Rattle.partial.proofs.Meaning.SequenceLaws.{both}
-use Rattle.partial.proofs.Reading.HeadingAppendLaws.{lies, lies-ends, boxes-lie, those-all, all-boxAt, is-there, further-lie}
-
--- the first box, if it is of a kind, is the first of that kind
-pub first-is : (k : Kind) → 0 < k .code → (bs : List Box) → is k (boxAt 0 bs) ≡ true → firstOf k bs ≡ boxAt 0 bs
-unfolding firstOf those boxAt
-first-is k coded [] h = refl
-first-is k coded (b ∷ bs) h = rw (h, those)
+use Rattle.partial.proofs.Reading.HeadingAppendLaws.{lies, lies-ends, boxes-lie, all-boxAt, further-lie, first-lies}
 
 -- what the step tests, of the boxes, the `ploc` and the chunks that it finds
 pub record Stepped (limit : ℕ) (f : List ℕ) (h : Heading) (before : List Segment) (b : Box) (inner : List Box) (l : Ploc) (cs : List Chunk) : Type 0 where
-  pub boxes : boxesIn f (b .body) (b .end) ≡ given inner
+  pub boxes : boxesIn Pseg f (b .body) (b .end) ≡ given inner
   pub header : pshdRight f inner ≡ true
-  pub single : right ploc inner ≡ true
+  pub single : right Pseg ploc inner ≡ true
   pub sourceless : eqb (length (those surl inner)) 0 ≡ true
   pub head : plocHead f (firstOf ploc inner) ≡ given l
   pub few : leb (length (chunksOf before) + l .count) chunkLimit ≡ true
@@ -65,9 +60,9 @@ module _ (limit : ℕ) (f : List ℕ) (h : Heading) (before : List Segment) (b :
       → (inner : List Box) × (l : Ploc) × (cs : List Chunk) × Stepped limit f h before b inner l cs × (found f b inner cs ≡ s)
   unfolding segment
   stepped e =
-      let (inner, boxes, e1) = both-given (boxesIn f (b .body) (b .end)) _ e in
+      let (inner, boxes, e1) = both-given (boxesIn Pseg f (b .body) (b .end)) _ e in
       let (header, e2) = held 14 (pshdRight f inner) _ e1 in
-      let (single, e3) = held 15 (right ploc inner) _ e2 in
+      let (single, e3) = held 15 (right Pseg ploc inner) _ e2 in
       let (sourceless, e4) = held 16 (eqb (length (those surl inner)) 0) _ e3 in
       let (l, head, e5) = both-given (plocHead f (firstOf ploc inner)) _ e4 in
       let (few, e6) = held 22 (leb (length (chunksOf before) + l .count) chunkLimit) _ e5 in
@@ -94,8 +89,8 @@ module _ (f g : List ℕ) where
   unfolding pshdRight
   pshdRight-kept bs l e =
       let b = boxAt 0 bs in
-      let (two, whole) = both (is pshd b && right pshd bs) (eqb (pshdFields f b .end) (b .end)) e in
-      let (kind, single) = both (is pshd b) (right pshd bs) two in
+      let (two, whole) = both (is pshd b && right Pseg pshd bs) (eqb (pshdFields f b .end) (b .end)) e in
+      let (kind, single) = both (is pshd b) (right Pseg pshd bs) two in
       let there = is-there pshd (lit< tt) 0 bs kind in
       let end-inside = lies-ends (length f) b (all-boxAt (lies (length f)) bs 0 there l) in
       let ends : pshdFields f b .end ≡ b .end = eqb-true (pshdFields f b .end) (b .end) whole in
@@ -179,17 +174,16 @@ module _ (f g : List ℕ) where
     pub segment-kept : (limit : ℕ) (before : List Segment) (b : Box) (s : Segment) → b .end ≤ length f
         → segment limit f h before b ≡ given s
         → segment limit (f ++ g) k before b ≡ given s
-    unfolding right keeps firstOf
     segment-kept limit before b s ends e =
         let (inner, l, cs, t, same) = stepped limit f h before b e in
-        let lie = further-lie (b .end) (length f) ends inner (boxes-lie f (b .body) (b .end) inner (t .boxes)) in
+        let lie = further-lie (b .end) (length f) ends inner (boxes-lie Pseg f (b .body) (b .end) inner (t .boxes)) in
         let (first, fields, header) = pshdRight-kept inner lie (t .header) in
-        let one : length (those ploc inner) ≡ 1 = eqb-true (length (those ploc inner)) 1 (t .single) in
-        let ploc-ends = lies-ends (length f) (firstOf ploc inner) (all-boxAt (lies (length f)) (those ploc inner) 0 (omega arith) (those-all ploc (lies (length f)) inner lie)) in
+        let one = right-one ploc inner refl (t .single) in
+        let ploc-ends = lies-ends (length f) (firstOf ploc inner) (first-lies (length f) ploc inner (omega arith) lie) in
         let (head, end-same) = ploc-kept (firstOf ploc inner) l ploc-ends (t .head) in
         let same-fields : pshdFields (f ++ g) (firstOf pshd inner) ≡ pshdFields f (firstOf pshd inner) = rw first fields in
         let there : Stepped limit (f ++ g) k before b inner l cs = record {
-          boxes = boxes-kept f g (b .end) ends (b .body) ∙ t .boxes;
+          boxes = boxes-kept f g (b .end) ends Pseg (b .body) ∙ t .boxes;
           header = header;
           single = t .single;
           sourceless = t .sourceless;

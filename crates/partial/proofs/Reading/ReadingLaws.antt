@@ -5,19 +5,18 @@ use mathlib.Core.List.{List, [], _∷_, _++_, append-nil}
 use mathlib.Core.Logic.{inl, inr}
 use mathlib.Core.Option.{Option, none, some}
 use mathlib.Core.Path.{_≡_, refl, subst}
-use native.Mathlib.Omega.{arith}
 use lib.Dec.{leb, eqb}
 use lib.ListN.{length}
 use Rattle.boxes.specs.Answer.{refused, given, _>>=_, hold}
-use Rattle.boxes.specs.Framing.{Box, boxLimit, boxesIn}
-use Rattle.boxes.specs.Kinds.{pseg, right, those}
+use Rattle.boxes.specs.Framing.{Box}
+use Rattle.boxes.specs.Kinds.{pseg, right, those, boxAt}
+use Rattle.boxes.specs.declared.kinds.Container.the-variants.{File}
 use Rattle.boxes.proofs.AnswerLaws.{not-both, given-same, both-given, held}
-use Rattle.boxes.proofs.ContainerLaws.{Filled, full, next, fills}
-use Rattle.boxes.proofs.HeaderLaws.{header-inside}
+use Rattle.boxes.proofs.ContainerLaws.{boxes-standing}
 use Rattle.partial.specs.Limits.{segmentLimit}
 use Rattle.partial.specs.Sequences.{allOf}
 use Rattle.partial.specs.Segments.{Chunk, Segment, chunksOf, hasPlace}
-use Rattle.partial.specs.Heading.{Heading, heading, boxAt}
+use Rattle.partial.specs.Heading.{Heading, heading}
 use Rattle.partial.specs.Entries.{Ploc, Entry, entry, mayLie, offsetPlace, placeOf, chunksFrom, chunkStep, Cursor}
 use Rattle.partial.specs.Meaning.{agree}
 use Rattle.partial.specs.Reading.{segment, segmentsFrom, segments, reading, earlierSegments}
@@ -30,15 +29,8 @@ use Rattle.partial.proofs.Meaning.DescribedLaws.{Follow, InOrder, in-or
 use Rattle.partial.proofs.Meaning.MappedLaws.{lies, Accepted, mapped}
 
 -- the boxes of a file end in it
-boxes-inside : {s : List ℕ} {end at : ℕ} {bs : List Box} → Filled s end at bs → (k : ℕ) → k < length bs → boxAt k bs .end ≤ end
-unfolding boxAt
-boxes-inside (full e) k h = absurd (omega arith)
-boxes-inside (next short read rest) zero h = header-inside _ _ _ read .ends
-boxes-inside (next short read rest) (suc k) h = boxes-inside rest k (omega arith)
-
 heading-inside : (f : List ℕ) {h : Heading} → heading f ≡ given h → (k : ℕ) → k < length (h .boxes) → boxAt k (h .boxes) .end ≤ length f
-unfolding boxesIn
-heading-inside f {h} g = boxes-inside (fills f (length f) boxLimit 0 (headed f h g .boxes) .boxes)
+heading-inside f {h} head k less = boxes-standing File f 0 (length f) (headed f h head .boxes) k less .inside .ends
 
 -- the place of an entry's chunk
 module _ (h : Heading) (from : ℕ) (e : Entry) {place : ℕ} where
@@ -125,7 +117,7 @@ module _ (limit : ℕ) (f : List ℕ) (h : Heading) where
 module _ (limit : ℕ) (f : List ℕ) {h : Heading} {ss : List Segment} (head : heading f ≡ given h) where
   pub reading-segments : reading limit f ≡ given ss → segments limit f h ≡ given ss
   unfolding reading
-  reading-segments g = held 12 (right pseg (h .boxes)) _ (rw (reading, head) at g) .1
+  reading-segments g = held 12 (right File pseg (h .boxes)) _ (rw (reading, head) at g) .1
 
   pub earlier-segments : earlierSegments limit f ≡ given ss → segments limit f h ≡ given ss
   unfolding earlierSegments

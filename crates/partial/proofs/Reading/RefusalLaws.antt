@@ -1,24 +1,27 @@
 -- Demand 1: every refusal has a number that the paper has for the call, and after it all lent memory holds what it held.
 use Prim.Native.Nat.{ℕ, zero, suc, _+_, _/_, _%_, _≤_}
-use mathlib.Core.Bool.{Bool, true, false, not, _&&_}
+use mathlib.Core.Bool.{Bool, true, false, _&&_, true≢false}
 use mathlib.Core.List.{List, [], _∷_, _++_}
 use mathlib.Core.Logic.{_⊎_, inl, inr, ⊎-elim}
 use mathlib.Core.Option.{Option, none, some}
-use mathlib.Core.Path.{_≡_, refl, sym, subst, _∙_}
+use mathlib.Core.Path.{_≡_, refl, sym, _∙_}
 use native.Mathlib.Omega.{arith}
-use borrow.Author.Tests.{leb-false}
+use native.Mathlib.Decide.{decLe}
 use lib.Dec.{T, leb, ltb, eqb, lit≤}
 use lib.ListN.{length, getD, take, drop-of-length-le}
 use Rattle.boxes.specs.Answer.{Answer, refused, given, _>>=_, hold}
 use Rattle.boxes.specs.Numbers.{number}
-use Rattle.boxes.specs.Framing.{Box, sized, large, header, boxesFrom, boxesIn, boxLimit}
-use Rattle.boxes.specs.Kinds.{pseg, pshd, ploc, surl, right, those, keeps}
-use Rattle.boxes.proofs.AnswerLaws.{not-both}
+use Rattle.boxes.specs.Framing.{Box, boxesIn, boxLimit}
+use Rattle.boxes.specs.Kinds.{pseg, pshd, ploc, surl, right, those, boxAt, firstOf}
+use Rattle.boxes.specs.declared.kinds.Container.{Container}
+use Rattle.boxes.specs.declared.kinds.Container.the-variants.{File, Pfil, Pseg}
+use Rattle.boxes.proofs.AnswerLaws.{not-both, Only, refused-same, only-then, only-held, only-given, only-refused, only-either}
+use Rattle.boxes.proofs.ContainerLaws.{boxes-numbers}
+use Rattle.boxes.proofs.KindLaws.{some-right}
 use Rattle.partial.specs.Limits.{fileLimit, segmentLimit, chunkLimit}
 use Rattle.partial.specs.Sequences.{someOf, within}
 use Rattle.partial.specs.Segments.{Segment, present, chunksOf, endOf, hasPlace}
-use Rattle.partial.specs.Heading.{Heading, heading, boxAt, firstOf, ftypRight, brandRight, pfilRight, pfhdRight, surlRight}
-use Rattle.partial.specs.Heading.{fileBoxes, judged, Part}
+use Rattle.partial.specs.Heading.{Heading, heading, ftypRight, brandRight, pfilRight, pfhdRight, surlRight, fileBoxes, judged, Part}
 use Rattle.partial.specs.Entries.{Ploc, plocHead, state, stateOf, Entry, entry, mayLie, offsetPlace, placeOf, chunksFrom, chunkStep}
 use Rattle.partial.specs.Entries.{Cursor}
 use Rattle.partial.specs.Meaning.{agree, knownSize}
@@ -33,66 +36,23 @@ use Rattle.partial.specs.Runs.{lent, sizeAfter, append}
 use Rattle.partial.specs.Demands.{Demand1, Takes}
 use Rattle.partial.proofs.Meaning.SequenceLaws.{passes, inside, within-true, which}
 
-same-number : {A : Type 0} {m n : ℕ} → _≡_ {A = Answer A} (refused m) (refused n) → m ≡ n
-same-number e = cc
-
-module _ (P : ℕ → Type 0) where
-  -- an answer refuses only with numbers of a kind
-  abbrev Only : {A : Type 0} → Answer A → Type 0
-  Only x = (n : ℕ) → x ≡ refused n → P n
-
-  only-given : {A : Type 0} (a : A) → Only (given a)
-  only-given a n e = absurd (not-both (sym e))
-
-  only-refused : {A : Type 0} (n : ℕ) → P n → Only {A = A} (refused n)
-  only-refused n t m e = subst (λ k. P k) (same-number e) t
-
-  only-then : {A B : Type 0} (x : Answer A) (next : A → Answer B) → Only x → ((a : A) → Only (next a)) → Only (x >>= next)
-  only-then (refused n) next first rest = λ m e. first m (cc)
-  only-then (given a) next first rest = rest a
-
-  only-either : {A : Type 0} (b : Bool) {x y : Answer A} → Only x → Only y → Only {A = A} (elim b [ true ↦ x | false ↦ y ])
-  only-either true p q = p
-  only-either false p q = q
-
-  only-held : {B : Type 0} (n : ℕ) (b : Bool) (next : Unit {0} → Answer B) → P n → Only (next tt) → Only (hold n b >>= next)
-  only-held n true next t rest = rest
-  only-held n false next t rest = only-refused n t
-
 -- stages 1 to 11 and 13 to 25, by a kind that has their numbers
 module _ (P : ℕ → Type 0) (early : (n : ℕ) → T (within 1 11 n) → P n) (late : (n : ℕ) → T (within 13 13 n) → P n) where
-  sized-only : (s : List ℕ) (at end front size : ℕ) → Only P (sized s at end front size)
-  unfolding sized within
-  sized-only s at end front size =
-      only-held P 4 (leb front size) _ (early 4 tt) (only-held P 5 (leb (at + size) end) _ (early 5 tt) (only-given P _))
-
-  header-only : (s : List ℕ) (at end : ℕ) → Only P (header s at end)
-  unfolding header large within
-  header-only s at end =
-      only-held P 2 (leb (at + 8) end) _ (early 2 tt)
-      (only-held P 3 (not (eqb (number s at 4) 0)) _ (early 3 tt)
-      (only-either P (eqb (number s at 4) 1)
-      (only-held P 2 (leb (at + 16) end) _ (early 2 tt) (sized-only s at end 16 (number s (at + 8) 8)))
-      (sized-only s at end 8 (number s at 4))))
-
-  boxes-only : (s : List ℕ) (end more at : ℕ) → Only P (boxesFrom s end more at)
-  unfolding boxesFrom within
-  boxes-only s end zero at = only-either P (leb end at) (only-given P _) (only-refused P 6 (early 6 tt))
-  boxes-only s end (suc more) at =
-      only-either P (leb end at) (only-given P _)
-      (only-then P (header s at end) _ (header-only s at end)
-      (λ b. only-then P (boxesFrom s end more (b .end)) _ (boxes-only s end more (b .end)) (λ bs. only-given P _)))
+  boxes-only : (c : Container) (s : List ℕ) (start end : ℕ) → Only P (boxesIn c s start end)
+  boxes-only c s start end n e =
+      let (low, high) = boxes-numbers c s start end n e in
+      early n (rw (inside 1 11 n (omega arith) (omega arith)) tt)
 
   heading-only : (f : List ℕ) → Only P (heading f)
-  unfolding heading fileBoxes judged boxesIn within
+  unfolding heading fileBoxes judged within
   heading-only f =
       only-then P (fileBoxes f) _
-      (only-held P 1 (leb (length f) fileLimit) _ (early 1 tt) (boxes-only f (length f) boxLimit 0))
+      (only-held P 1 (leb (length f) fileLimit) _ (early 1 tt) (boxes-only File f 0 (length f)))
       (λ boxes.
       only-held P 7 (ftypRight boxes) _ (early 7 tt)
       (only-held P 8 (brandRight f boxes) _ (early 8 tt)
       (only-held P 9 (pfilRight boxes) _ (early 9 tt)
-      (only-then P (boxesIn f (boxAt 1 boxes .body) (boxAt 1 boxes .end)) _ (boxes-only f (boxAt 1 boxes .end) boxLimit (boxAt 1 boxes .body))
+      (only-then P (boxesIn Pfil f (boxAt 1 boxes .body) (boxAt 1 boxes .end)) _ (boxes-only Pfil f (boxAt 1 boxes .body) (boxAt 1 boxes .end))
       (λ inner.
       only-held P 10 (pfhdRight f inner) _ (early 10 tt)
       (only-held P 11 (surlRight f inner) _ (early 11 tt) (only-given P _)))))))
@@ -147,13 +107,13 @@ module _ (P : ℕ → Type 0) (early : (n : ℕ) → T (within 1 11 n) → P n) 
       (λ met. only-then P (chunksFrom limit f h from l n (met .1)) _ (chunks-only limit f h from l n (met .1)) (λ rest. only-given P _))
 
   segment-only : (limit : ℕ) (f : List ℕ) (h : Heading) (before : List Segment) (b : Box) → Only P (segment limit f h before b)
-  unfolding segment boxesIn within
+  unfolding segment within
   segment-only limit f h before b =
-      only-then P (boxesIn f (b .body) (b .end)) _ (boxes-only f (b .end) boxLimit (b .body))
+      only-then P (boxesIn Pseg f (b .body) (b .end)) _ (boxes-only Pseg f (b .body) (b .end))
       (λ inner.
       let offset = pshdFields f (firstOf pshd inner) .sourceOffset in
       only-held P 14 (pshdRight f inner) _ (late 14 tt)
-      (only-held P 15 (right ploc inner) _ (late 15 tt)
+      (only-held P 15 (right Pseg ploc inner) _ (late 15 tt)
       (only-held P 16 (eqb (length (those surl inner)) 0) _ (late 16 tt)
       (only-then P (plocHead f (firstOf ploc inner)) _ (ploc-only f (firstOf ploc inner))
       (λ l.
@@ -199,12 +159,15 @@ late-file n t =
 
 -- append takes an acceptable file, or one whose only refusal is 12
 module _ (limit : ℕ) (f : List ℕ) where
-  no-segments : (h : Heading) → right pseg (h .boxes) ≡ false → segments limit f h ≡ given []
-  unfolding segments segmentsFrom right keeps agree knownSize
+  no-segments : (h : Heading) → right File pseg (h .boxes) ≡ false → segments limit f h ≡ given []
+  unfolding segments segmentsFrom agree knownSize
   no-segments h lacks =
-      let few = leb-false 1 (length (those pseg (h .boxes))) lacks in
-      let nothing : those pseg (h .boxes) ≡ [] = drop-of-length-le (those pseg (h .boxes)) {i = 0} (omega arith) in
-      rw nothing
+      elim (decLe 1 (length (those pseg (h .boxes)))) [
+        | yes there ↦ absurd (true≢false (sym (some-right pseg (h .boxes) refl there) ∙ lacks))
+        | no few ↦
+            let nothing : those pseg (h .boxes) ≡ [] = drop-of-length-le (those pseg (h .boxes)) {i = 0} (omega arith) in
+            rw nothing
+      ]
 
   -- reading differs from what append goes by only in 12
   twelve-apart : (reading limit f ≡ earlierSegments limit f) ⊎ ((reading limit f ≡ refused 12) × (earlierSegments limit f ≡ given []))
@@ -215,7 +178,7 @@ module _ (limit : ℕ) (f : List ℕ) where
           → (reading limit f ≡ earlierSegments limit f) ⊎ ((reading limit f ≡ refused 12) × (earlierSegments limit f ≡ given []))
       go (refused n) e = inl (rw e)
       go (given h) e =
-          elim (which (right pseg (h .boxes))) [
+          elim (which (right File pseg (h .boxes))) [
             | inl there ↦ inl (rw (e, there))
             | inr lacks ↦ inr (rw (e, lacks), rw e (no-segments h lacks))
           ]
@@ -230,7 +193,7 @@ module _ (limit : ℕ) (f : List ℕ) where
       record {
         acceptable = λ ss e. ⊎-elim (λ same. sym same ∙ e) (λ t. absurd (not-both (sym (t .0) ∙ e))) twelve-apart;
         onlyTwelve = λ e. ⊎-elim (λ same. absurd (earlier-only 12 (sym same ∙ e) .1 refl)) (λ t. t .1) twelve-apart;
-        itsOwn = λ k e other. ⊎-elim (λ same. sym same ∙ e) (λ t. absurd (other (same-number (sym e ∙ t .0)))) twelve-apart;
+        itsOwn = λ k e other. ⊎-elim (λ same. sym same ∙ e) (λ t. absurd (other (refused-same (sym e ∙ t .0)))) twelve-apart;
       }
 
 module _ (limit : ℕ) where
@@ -248,7 +211,7 @@ module _ (limit : ℕ) where
   tabled-only f a b =
       only-then OfReading (reading limit f) _
       (only-then OfReading (heading f) _ (heading-only OfReading early-read late-read f)
-      (λ h. only-held OfReading 12 (right pseg (h .boxes)) _ tt (segments-only OfReading early-read late-read limit f h)))
+      (λ h. only-held OfReading 12 (right File pseg (h .boxes)) _ tt (segments-only OfReading early-read late-read limit f h)))
       (λ ss. only-held OfReading 26 (fits (segmentRows ss) a && fits (chunkRows ss) b) _ tt (only-given OfReading ss))
 
   listed-only : (f a b h m : List ℕ) → Only OfReading (listed limit f a b h m)

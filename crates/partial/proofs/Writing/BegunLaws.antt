@@ -1,9 +1,9 @@
 -- A file just begun has a heading and no segment, so that append takes it.
-use Prim.Native.Nat.{ℕ, zero, suc, _+_, _-_, _≤_, _<_}
+use Prim.Native.Nat.{ℕ, zero, suc, _+_, _-_, _≤_, _<_, _/_, _%_}
 use mathlib.Core.Bool.{true, not, _&&_}
 use mathlib.Core.List.{List, [], _∷_, _++_}
-use mathlib.Core.Path.{_≡_, refl, ap}
-use native.Mathlib.Nat.{add-assoc, zero-add}
+use mathlib.Core.Path.{_≡_, refl, ap, _∙_}
+use native.Mathlib.Nat.{add-assoc, zero-add, add-zero}
 use native.Mathlib.Numerals.{add-one}
 use native.Mathlib.Omega.{arith}
 use borrow.Author.Tests.{le-leb, leb-true, eq-eqb}
@@ -12,15 +12,17 @@ use lib.ListN.{length, getD, drop, length-append}
 use lib.Seq.{take-at}
 use Rattle.boxes.specs.Answer.{given}
 use Rattle.boxes.specs.Numbers.{number, bytesOf}
-use Rattle.boxes.specs.Framing.{Box, frontSize, front, boxed, boxesIn}
-use Rattle.boxes.specs.Kinds.{ftyp, pfil, pfhd, surl, is, right, those, keeps}
+use Rattle.boxes.specs.Framing.{Box, frontSize, boxed, boxesIn}
+use Rattle.boxes.specs.Kinds.{ftyp, pfil, pfhd, surl, those, boxAt, firstOf, pseg}
+use Rattle.boxes.specs.declared.kinds.Container.the-variants.{File, Pfil}
 use Rattle.boxes.proofs.AnswerLaws.{held, given-same}
-use Rattle.boxes.proofs.NumberLaws.{length-bytesOf}
-use Rattle.boxes.proofs.BoxedLaws.{written, length-boxed}
+use Rattle.boxes.proofs.NumberLaws.{length-bytesOf, number-byte, bytesOf-zero}
+use Rattle.boxes.proofs.BoxedLaws.{boxedAt, length-boxed, boxed-stand}
+use Rattle.boxes.proofs.KindLaws.{some-right, firstOf-those, one-right, is-eqb, boxAt-getD, first-is}
 use Rattle.partial.specs.Limits.{fileLimit}
 use Rattle.partial.specs.Sequences.{someOf, allOf, stretch}
-use Rattle.partial.specs.Heading.{Heading, paff, boxAt, firstOf, ftypRight, brandsFrom, brands, brandRight, pfilRight, pfhdFormed}
-use Rattle.partial.specs.Heading.{pfhdRight, text, url, mime, surlFormed, surlRight}
+use Rattle.partial.specs.Heading.{Heading, paff, ftypRight, brandsFrom, brands, brandRight, pfilRight, pfhdFormed, pfhdRight, text}
+use Rattle.partial.specs.Heading.{url, mime, surlFormed, surlRight}
 use Rattle.partial.specs.Meaning.{knownSize, agree}
 use Rattle.partial.specs.Reading.{segmentsFrom, segments, earlierSegments}
 use Rattle.partial.specs.Memory.{after, filled}
@@ -29,7 +31,7 @@ use Rattle.partial.specs.Runs.{lent, fileIn, sizeAfter, begin}
 use Rattle.partial.proofs.Meaning.SequenceLaws.{both, passes}
 use Rattle.partial.proofs.Writing.StandsLaws.{Stands, stands-behind, stands-head, stands-tail, stands-left, stands-right}
 use Rattle.partial.proofs.Writing.StandsLaws.{stands-number}
-use Rattle.partial.proofs.Writing.BoxesStandLaws.{twoBoxes, two-back, stands-two}
+use Rattle.partial.proofs.Writing.BoxesStandLaws.{stands-two, only-second, second-box, neither, only-first, first-box}
 use Rattle.partial.proofs.Reading.HeadingAppendLaws.{Headed, heading-of}
 
 -- a text with no zero byte ends where the first zero byte stands
@@ -45,16 +47,25 @@ text-back f (b ∷ u) rest at (suc more) stands plain room =
 
 -- a `surl` as we write it is well-formed, wherever its body stands
 module _ (u m : List ℕ) where
-  abbrev sourceBody : List ℕ
+  abbrev pub sourceBody : List ℕ
   sourceBody = versionAndFlags ++ (u ++ (0 ∷ (m ++ (0 ∷ []))))
 
-  source-long : length sourceBody ≡ 4 + (length u + (1 + (length m + 1)))
+  pub source-long : length sourceBody ≡ 4 + (length u + (1 + (length m + 1)))
   source-long = simp (length-append, length-bytesOf) (omega arith)
 
   module _ (f : List ℕ) (b : Box) (stands : Stands f (b .body) sourceBody) (ends : b .body + length sourceBody ≡ b .end)
       (plain-url : isText u ≡ true) (plain-mime : isText m ≡ true) where
     after-front : Stands f (b .body + 4) (u ++ (0 ∷ (m ++ (0 ∷ []))))
     after-front = rw (length-bytesOf 4 0) at (stands-right f (b .body) versionAndFlags (u ++ (0 ∷ (m ++ (0 ∷ [])))) stands)
+
+    pub url-stands : Stands f (b .body + 4) u
+    url-stands = stands-left f (b .body + 4) u (0 ∷ (m ++ (0 ∷ []))) after-front
+
+    after-url : Stands f (b .body + 4 + length u + 1) (m ++ (0 ∷ []))
+    after-url = stands-tail f (b .body + 4 + length u) 0 (m ++ (0 ∷ [])) (stands-right f (b .body + 4) u (0 ∷ (m ++ (0 ∷ []))) after-front)
+
+    pub mime-stands : Stands f (b .body + 4 + length u + 1) m
+    mime-stands = stands-left f (b .body + 4 + length u + 1) m (0 ∷ []) after-url
 
     pub url-back : url f b ≡ record { place = b .body + 4; size = length u }
     unfolding url text
@@ -68,8 +79,7 @@ module _ (u m : List ℕ) where
         let long = source-long in
         let at : ℕ = b .body + 4 in
         let second : ℕ = at + length u + 1 in
-        let after : Stands f second (m ++ (0 ∷ [])) = stands-tail f (at + length u) 0 (m ++ (0 ∷ [])) (stands-right f at u (0 ∷ (m ++ (0 ∷ []))) after-front) in
-        rw (url-back, text-back f m [] second (b .end - second) after plain-mime (omega arith))
+        rw (url-back, text-back f m [] second (b .end - second) after-url plain-mime (omega arith))
 
     surl-back : surlFormed f b ≡ true
     unfolding surlFormed
@@ -92,73 +102,134 @@ module _ (u m : List ℕ) where
   abbrev filePlace : ℕ
   filePlace = 0 + (frontSize + length brandBody) + frontSize
 
+  abbrev brandBox : Box
+  brandBox = boxedAt 0 (ftyp .code) (length brandBody)
+
+  abbrev fileBox : Box
+  fileBox = boxedAt (0 + (frontSize + length brandBody)) (pfil .code) (length fileBody)
+
+  abbrev plainBox : Box
+  plainBox = boxedAt filePlace (pfhd .code) (length versionAndFlags)
+
+  -- its `surl`
+  abbrev pub sourceBox : Box
+  sourceBox = boxedAt (filePlace + (frontSize + length versionAndFlags)) (surl .code) (length (sourceBody u m))
+
   abbrev pub begunHeading : Heading
-  begunHeading =
-      record {
-        boxes = twoBoxes (beginning u m) 0 (ftyp .code) (pfil .code) brandBody fileBody;
-        inner = twoBoxes (beginning u m) filePlace (pfhd .code) (surl .code) versionAndFlags (sourceBody u m);
-      }
+  begunHeading = record { boxes = brandBox ∷ fileBox ∷ []; inner = plainBox ∷ sourceBox ∷ [] }
 
   stands-all : Stands (beginning u m) 0 (boxed (ftyp .code) brandBody ++ boxed (pfil .code) fileBody)
   unfolding beginning
   stands-all = stands-behind [] (beginning u m)
 
+  stands-brand : Stands (beginning u m) (0 + frontSize) brandBody
+  stands-brand = stands-two (beginning u m) 0 (ftyp .code) (pfil .code) brandBody fileBody stands-all .0
+
   stands-file : Stands (beginning u m) filePlace fileBody
   stands-file = stands-two (beginning u m) 0 (ftyp .code) (pfil .code) brandBody fileBody stands-all .1
 
-  begun-boxes : length (beginning u m) ≤ fileLimit → boxesIn (beginning u m) 0 (length (beginning u m)) ≡ given (begunHeading .boxes)
+  begun-boxes : length (beginning u m) ≤ fileLimit → boxesIn File (beginning u m) 0 (length (beginning u m)) ≡ given (begunHeading .boxes)
   unfolding beginning
-  begun-boxes small = rw (zero-add (length (beginning u m))) at (two-back (beginning u m) 0 (ftyp .code) (pfil .code) brandBody fileBody (lit< tt) (lit< tt) stands-all (omega arith))
+  begun-boxes small =
+      rw (zero-add (length (beginning u m))) at
+      (boxed-stand File (ftyp .code) (pfil .code) brandBody fileBody (lit< tt) (lit< tt) (omega arith) (beginning u m) 0 stands-all)
 
-  begun-inner : length (beginning u m) ≤ fileLimit
-      → boxesIn (beginning u m) filePlace (0 + (frontSize + length brandBody) + (frontSize + length fileBody)) ≡ given (begunHeading .inner)
+  begun-inner : length (beginning u m) ≤ fileLimit → boxesIn Pfil (beginning u m) (fileBox .body) (fileBox .end) ≡ given (begunHeading .inner)
   unfolding beginning
   begun-inner small =
       let long = length-append (boxed (ftyp .code) brandBody) (boxed (pfil .code) fileBody) in
       let long-file = length-boxed (pfil .code) fileBody in
       rw (add-assoc (0 + (frontSize + length brandBody)) frontSize (length fileBody)) at
-      (two-back (beginning u m) filePlace (pfhd .code) (surl .code) versionAndFlags (sourceBody u m) (lit< tt) (lit< tt) stands-file (omega arith))
+      (boxed-stand Pfil (pfhd .code) (surl .code) versionAndFlags (sourceBody u m) (lit< tt) (lit< tt) (omega arith) (beginning u m) filePlace stands-file)
 
-  -- its `surl`
-  abbrev pub sourceBox : Box
-  sourceBox = written (filePlace + (frontSize + length versionAndFlags)) (surl .code) (length (sourceBody u m))
-
-  source-stands : Stands (beginning u m) (sourceBox .body) (sourceBody u m)
+  pub source-stands : Stands (beginning u m) (sourceBox .body) (sourceBody u m)
   source-stands = stands-two (beginning u m) filePlace (pfhd .code) (surl .code) versionAndFlags (sourceBody u m) stands-file .1
 
-  source-ends : sourceBox .body + length (sourceBody u m) ≡ sourceBox .end
+  pub source-ends : sourceBox .body + length (sourceBody u m) ≡ sourceBox .end
   source-ends = add-assoc (filePlace + (frontSize + length versionAndFlags)) frontSize (length (sourceBody u m))
 
-  begun-surl : isText u ≡ true → isText m ≡ true → surlRight (beginning u m) (begunHeading .inner) ≡ true
-  unfolding surlRight right keeps those is allOf
-  begun-surl plain-url plain-mime = rw (surl-back u m (beginning u m) sourceBox source-stands source-ends plain-url plain-mime)
+  pub source-inside : sourceBox .end ≤ length (beginning u m)
+  unfolding beginning
+  source-inside = simp (length-append, length-boxed) (omega arith)
 
-  pub begun-url : isText u ≡ true → isText m ≡ true → url (beginning u m) sourceBox ≡ record { place = 52; size = length u }
-  unfolding frontSize bytesOf
+  only-source : those surl (begunHeading .inner) ≡ sourceBox ∷ []
+  only-source = only-second surl plainBox sourceBox (is-eqb surl plainBox) (is-eqb surl sourceBox)
+
+  begun-surl : isText u ≡ true → isText m ≡ true → surlRight (beginning u m) (begunHeading .inner) ≡ true
+  unfolding surlRight allOf
+  begun-surl plain-url plain-mime =
+      let some-source = some-right surl (begunHeading .inner) refl (rw only-source (omega arith)) in
+      rw (some-source, only-source, surl-back u m (beginning u m) sourceBox source-stands source-ends plain-url plain-mime)
+
+  pub first-source : firstOf surl (begunHeading .inner) ≡ sourceBox
+  first-source = firstOf-those surl (begunHeading .inner) ∙ ap (boxAt 0) only-source ∙ boxAt-getD 0 (sourceBox ∷ [])
+
+  pub begun-url : isText u ≡ true → isText m ≡ true → url (beginning u m) sourceBox ≡ record { place = sourceBox .body + 4; size = length u }
   begun-url plain-url plain-mime = url-back u m (beginning u m) sourceBox source-stands source-ends plain-url plain-mime
 
-  pub begun-mime : isText u ≡ true → isText m ≡ true → mime (beginning u m) sourceBox ≡ record { place = 52 + length u + 1; size = length m }
-  unfolding frontSize bytesOf
+  pub begun-mime : isText u ≡ true → isText m ≡ true → mime (beginning u m) sourceBox ≡ record { place = sourceBox .body + 4 + length u + 1; size = length m }
   begun-mime plain-url plain-mime = mime-back u m (beginning u m) sourceBox source-stands source-ends plain-url plain-mime
 
+  brand-long : length brandBody ≡ 12
+  brand-long = simp (length-append, length-bytesOf) (omega arith)
+
+  begun-ftyp : ftypRight (begunHeading .boxes) ≡ true
+  unfolding ftypRight
+  begun-ftyp =
+      let long = brand-long in
+      let one = one-right ftyp (begunHeading .boxes) refl (ap length (only-first ftyp brandBox fileBox (is-eqb ftyp brandBox) (is-eqb ftyp fileBox))) in
+      rw (
+        first-box ftyp brandBox fileBox,
+        is-eqb ftyp brandBox,
+        le-leb (0 + frontSize + 8) (0 + (frontSize + length brandBody)) (omega arith),
+        eq-eqb ((0 + (frontSize + length brandBody) - (0 + frontSize)) % 4) 0 (omega arith),
+        one,
+      )
+
+  -- one brand, `paff`
+  begun-brand : brandRight (beginning u m) (begunHeading .boxes) ≡ true
+  unfolding brandRight brands brandsFrom someOf
+  begun-brand =
+      let long = brand-long in
+      let many : (0 + (frontSize + length brandBody) - (0 + frontSize) - 8) / 4 ≡ 1 = omega arith in
+      let minor : Stands (beginning u m) (0 + frontSize + 4) (bytesOf 4 0 ++ bytesOf 4 paff) = rw length-bytesOf at (stands-right (beginning u m) (0 + frontSize) (bytesOf 4 paff) (bytesOf 4 0 ++ bytesOf 4 paff) stands-brand) in
+      let third = rw (length-bytesOf 4 0) at (stands-right (beginning u m) (0 + frontSize + 4) (bytesOf 4 0) (bytesOf 4 paff) minor) in
+      let eight : 0 + frontSize + 4 + 4 ≡ 0 + frontSize + 8 = omega arith in
+      rw (first-box ftyp brandBox fileBox, many) (rw (stands-number (beginning u m) (0 + frontSize + 8) 4 paff (lit< tt) (rw eight at third)))
+
+  begun-pfil : pfilRight (begunHeading .boxes) ≡ true
+  unfolding pfilRight
+  begun-pfil =
+      let one = one-right pfil (begunHeading .boxes) refl (ap length (only-second pfil brandBox fileBox (is-eqb pfil brandBox) (is-eqb pfil fileBox))) in
+      rw (second-box pfil brandBox fileBox, is-eqb pfil fileBox, one)
+
+  begun-pfhd : pfhdRight (beginning u m) (begunHeading .inner) ≡ true
+  unfolding pfhdRight pfhdFormed
+  begun-pfhd =
+      let one = one-right pfhd (begunHeading .inner) refl (ap length (only-first pfhd plainBox sourceBox (is-eqb pfhd plainBox) (is-eqb pfhd sourceBox))) in
+      let first = first-is pfhd (lit< tt) (begunHeading .inner) (rw (first-box pfhd plainBox sourceBox) (is-eqb pfhd plainBox)) ∙ first-box pfhd plainBox sourceBox in
+      let long = length-bytesOf 4 0 in
+      let plain = stands-two (beginning u m) filePlace (pfhd .code) (surl .code) versionAndFlags (sourceBody u m) stands-file .0 in
+      let zero-byte : number (beginning u m) (plainBox .body) 1 ≡ 0 = number-byte (beginning u m) (plainBox .body) ∙ rw add-zero at (plain 0 (rw long (omega arith))) ∙ bytesOf-zero 4 0 in
+      rw (one, first, eq-eqb (filePlace + frontSize + 4) (filePlace + (frontSize + length versionAndFlags)) (omega arith), zero-byte)
+
   pub begun-headed : length (beginning u m) ≤ fileLimit → isText u ≡ true → isText m ≡ true → Headed (beginning u m) begunHeading
-  unfolding beginning boxed front frontSize bytesOf ftypRight brandRight brands brandsFrom number someOf pfilRight pfhdRight pfhdFormed firstOf boxAt those is right keeps
   begun-headed small plain-url plain-mime =
       record {
         small = le-leb (length (beginning u m)) fileLimit small;
         boxes = begun-boxes small;
-        ftyp = refl;
-        brand = refl;
-        pfil = refl;
-        inner = begun-inner small;
-        pfhd = refl;
+        ftyp = begun-ftyp;
+        brand = begun-brand;
+        pfil = begun-pfil;
+        inner = rw (second-box pfil brandBox fileBox) (begun-inner small);
+        pfhd = begun-pfhd;
         surl = begun-surl plain-url plain-mime;
       }
 
   -- and no segment
   pub begun-segments : (limit : ℕ) → segments limit (beginning u m) begunHeading ≡ given []
-  unfolding segments segmentsFrom those is agree knownSize
-  begun-segments limit = refl
+  unfolding segments segmentsFrom agree knownSize
+  begun-segments limit = rw (neither pseg brandBox fileBox (is-eqb pseg brandBox) (is-eqb pseg fileBox))
 
   begun-taken : (limit : ℕ) → length (beginning u m) ≤ fileLimit → isText u ≡ true → isText m ≡ true → earlierSegments limit (beginning u m) ≡ given []
   unfolding earlierSegments

@@ -1,23 +1,24 @@
 -- Entries as we write them read back: wherever their bytes stand, the chunks that they tell of are those of the placed items.
-use Prim.Native.Nat.{ℕ, _+_, _^_, _≤_}
+use Prim.Native.Nat.{ℕ, _+_, _≤_}
 use mathlib.Core.Bool.{Bool, true, false}
 use mathlib.Core.List.{List, [], _∷_, _++_, map}
 use mathlib.Core.Logic.{inl, inr}
 use mathlib.Core.Option.{some, Option·getD}
-use mathlib.Core.Path.{_≡_, refl, sym}
+use mathlib.Core.Path.{_≡_, refl, sym, ap, _∙_}
 use native.Mathlib.Decide.{decLe}
 use native.Mathlib.Nat.{add-zero, add-assoc}
 use native.Mathlib.Omega.{arith}
-use borrow.Author.Tests.{le-leb, lt-leb, lt-ltb, eq-eqb, ltb-true, eqb-true}
+use borrow.Author.Tests.{le-leb, lt-leb, lt-ltb, eq-eqb, eqb-true}
 use lib.Dec.{leb, eqb}
 use lib.ListN.{length, length-append}
 use Rattle.boxes.specs.Answer.{given, _>>=_, hold}
-use Rattle.boxes.specs.Numbers.{number, bytesOf, signed, unsigned, holds, holdsOffset}
+use Rattle.boxes.specs.Numbers.{number, bytesOf, signed, twosComplement, holds, holdsOffset}
 use Rattle.boxes.specs.declared.numbers.Offset.{Offset}
 use Rattle.boxes.specs.declared.numbers.Offset.the-variants.{Ahead, Back}
 use Rattle.boxes.proofs.AnswerLaws.{then-then}
-use Rattle.boxes.proofs.NumberLaws.{length-bytesOf}
-use Rattle.boxes.proofs.OffsetLaws.{signed-unsigned, unsigned-below}
+use Rattle.boxes.proofs.NumberLaws.{length-bytesOf, number-none}
+use Rattle.boxes.proofs.OffsetLaws.{signed-twosComplement, twosComplement-below, signed-none}
+use Rattle.boxes.proofs.WidthLaws.{holds-below}
 use Rattle.partial.specs.Sequences.{allOf, sum}
 use Rattle.partial.specs.Segments.{good, damaged, lost, isState, present, corrupted, hasPlace}
 use Rattle.partial.specs.Heading.{Heading}
@@ -46,19 +47,18 @@ state-back s h = by-state (λ n. stateOf (flagByte n) ≡ given n) s h refl refl
 
 -- an offset that is written where a bit is set
 module _ (o : ℕ) (z : Offset) where
-  offset-long : (set : Bool) → length {A = ℕ} (elim set [ true ↦ bytesOf o (unsigned o z) | false ↦ [] ]) ≡ (elim set [ true ↦ o | false ↦ 0 ])
-  offset-long true = length-bytesOf o (unsigned o z)
+  offset-long : (set : Bool) → length {A = ℕ} (elim set [ true ↦ bytesOf o (twosComplement o z) | false ↦ [] ]) ≡ (elim set [ true ↦ o | false ↦ 0 ])
+  offset-long true = length-bytesOf o (twosComplement o z)
   offset-long false = refl
 
-  offset-back : (g : List ℕ) (at : ℕ) (set : Bool) → Stands g at (elim set [ true ↦ bytesOf o (unsigned o z) | false ↦ [] ])
+  offset-back : (g : List ℕ) (at : ℕ) (set : Bool) → Stands g at (elim set [ true ↦ bytesOf o (twosComplement o z) | false ↦ [] ])
       → holdsOffset o z ≡ true
       → (z ≡ Back 0 → ⊥)
       → (set ≡ false → z ≡ Ahead 0)
       → signed (elim set [ true ↦ o | false ↦ 0 ]) (number g at (elim set [ true ↦ o | false ↦ 0 ])) ≡ z
-  unfolding signed number
   offset-back g at true stands fits not-none absent =
-      rw (stands-number g at o (unsigned o z) (unsigned-below o z fits not-none) stands) (signed-unsigned o z fits)
-  offset-back g at false stands fits not-none absent = sym (absent refl)
+      rw (stands-number g at o (twosComplement o z) (twosComplement-below o z fits not-none) stands) (signed-twosComplement o z fits)
+  offset-back g at false stands fits not-none absent = ap (signed 0) (number-none g at) ∙ signed-none ∙ sym (absent refl)
 
 -- what a placed item has to be for its entry to tell of it: its state is one of the three, its offset is written as it is read, and its data,
 -- if it has any, may lie where the offset says
@@ -87,17 +87,17 @@ module _ (g : List ℕ) (l : Ploc) (p : Placed) (ps : List Placed) where
       → holds (l .lengthSize) (p .size) ≡ true
       → holdsOffset (l .offsetSize) (p .offset) ≡ true
       → (entry g l at ≡ given (entryRead at)) × Stands g (at + 1 + l .lengthSize + wide) (entryBytes (l .lengthSize) (l .offsetSize) ps)
-  unfolding entry entryBytes holds
+  unfolding entry entryBytes
   entry-back h pseg at stands ends tells fits-size fits-offset =
       let w = l .lengthSize in
       let o = l .offsetSize in
       let z = p .offset in
       let others : List ℕ = entryBytes w o ps in
-      let bytes : List ℕ = elim (present (p .state)) [ true ↦ bytesOf o (unsigned o z) | false ↦ [] ] in
+      let bytes : List ℕ = elim (present (p .state)) [ true ↦ bytesOf o (twosComplement o z) | false ↦ [] ] in
       let long = entry-long in
       let flag = stands-head g at (flagByte (p .state)) (bytesOf w (p .size) ++ (bytes ++ others)) stands in
       let rest = stands-tail g at (flagByte (p .state)) (bytesOf w (p .size) ++ (bytes ++ others)) stands in
-      let size = stands-number g (at + 1) w (p .size) (ltb-true (p .size) (256 ^ w) fits-size) (stands-left g (at + 1) (bytesOf w (p .size)) (bytes ++ others) rest) in
+      let size = stands-number g (at + 1) w (p .size) (holds-below w (p .size) fits-size) (stands-left g (at + 1) (bytesOf w (p .size)) (bytes ++ others) rest) in
       let behind : Stands g (at + 1 + w) (bytes ++ others) = rw length-bytesOf at (stands-right g (at + 1) (bytesOf w (p .size)) (bytes ++ others) rest) in
       let offset = offset-back o z g (at + 1 + w) (present (p .state)) (stands-left g (at + 1 + w) bytes others behind) fits-offset (tells .not-none) (tells .absent) in (
         rw (lt-ltb at (l .end) (omega arith), flag, state-back (p .state) (tells .known), le-leb (at + 1 + w + wide) (l .end) (omega arith), size, offset),

@@ -4,14 +4,14 @@ use mathlib.Core.Bool.{Bool, true, false}
 use mathlib.Core.List.{List, [], _∷_, _++_, map}
 use mathlib.Core.Path.{_≡_, refl}
 use native.Mathlib.Omega.{arith}
-use borrow.Author.Tests.{le-leb, lt-ltb, ltb-true}
+use borrow.Author.Tests.{le-leb}
 use lib.Dec.{lit<}
 use lib.ListN.{length, length-append}
 use Rattle.boxes.specs.Answer.{given}
 use Rattle.boxes.specs.Numbers.{bytesOf, holds, holdsOffset}
 use Rattle.boxes.specs.Framing.{Box}
 use Rattle.boxes.proofs.NumberLaws.{length-bytesOf}
-use Rattle.boxes.proofs.WidthLaws.{leastWidth-within, leastWidth-passes}
+use Rattle.boxes.proofs.WidthLaws.{leastWidth-within, leastWidth-passes, holds-below, below-holds}
 use Rattle.partial.specs.Sequences.{allOf, sum}
 use Rattle.partial.specs.Entries.{Ploc, plocHead}
 use Rattle.partial.specs.Reading.{offsetWidth, pshdFields}
@@ -24,11 +24,11 @@ use Rattle.partial.proofs.Writing.StandsLaws.{Stands, stands-byte, stan
 
 -- the writer's version has room for the offset
 version-holds : (offset : ℕ) → offset < 2 ^ 64 → offset < 256 ^ offsetWidth (versionFor offset)
-unfolding versionFor offsetWidth holds
+unfolding versionFor offsetWidth
 version-holds offset h = go (holds 4 offset) refl
   where
     go : (t : Bool) → holds 4 offset ≡ t → offset < 256 ^ offsetWidth (elim t [ true ↦ 0 | false ↦ 1 ])
-    go true e = ltb-true offset (256 ^ 4) e
+    go true e = holds-below 4 offset e
     go false e = h
 
 flags-hold : (last : Bool) → flagsFor last < 256 ^ 3
@@ -122,9 +122,9 @@ head-back g b ps stands ends few =
 
 -- eight bytes hold every size that has its end below 2 to the 64
 pub sizes-eight : (ps : List Placed) → sum (map (λ p. p .size) ps) < 2 ^ 64 → allOf (λ p. holds 8 (p .size)) ps ≡ true
-unfolding allOf sum holds
+unfolding allOf sum
 sizes-eight [] h = refl
-sizes-eight (p ∷ ps) h = rw (lt-ltb (p .size) (256 ^ 8) (omega arith)) (sizes-eight ps (omega arith))
+sizes-eight (p ∷ ps) h = rw (below-holds 8 (p .size) (omega arith)) (sizes-eight ps (omega arith))
 
 -- what eight bytes hold, the widths that are written hold
 pub sizes-held : (ps : List Placed) → allOf (λ p. holds 8 (p .size)) ps ≡ true → allOf (λ p. holds (lengthSize ps) (p .size)) ps ≡ true

@@ -12,8 +12,9 @@ use borrow.Author.Tests.{eqb-true}
 use lib.Dec.{eqb}
 use lib.ListN.{length, getD, drop, length-append, drop-of-length-le, List·getD-append}
 use lib.Seq.{getD-drop, getD-append-add}
-use Rattle.boxes.specs.Framing.{front, boxed}
+use Rattle.boxes.specs.Framing.{front}
 use Rattle.boxes.specs.Kinds.{pdat}
+use Rattle.boxes.proofs.BoxedLaws.{boxed-parts}
 use Rattle.partial.specs.Sequences.{someOf, sum, within}
 use Rattle.partial.specs.Segments.{Segment, good, present, chunksOf}
 use Rattle.partial.specs.Heading.{Heading}
@@ -80,10 +81,10 @@ module _ (a : Addition) (right : dataRight a ≡ true) where
   data-length = eqb-true _ _ right
 
   pub data-last : (head : List ℕ) × (dataBox a ≡ head ++ a .bytes)
-  unfolding dataBox anyPresent boxed
+  unfolding dataBox anyPresent
   data-last =
       elim (which (anyPresent a)) [
-        | inl e ↦ (front (pdat .code) (length (a .bytes)), rw (dataBox, e))
+        | inl e ↦ (front (pdat .code) (length (a .bytes)), rw (dataBox, e) (boxed-parts (pdat .code) (a .bytes)))
         | inr e ↦ ([], rw (dataBox, e) (sym (drop-of-length-le (a .bytes) {i = 0} (omega (arith, data-length, no-data (items (a .list)) e)))))
       ]
 

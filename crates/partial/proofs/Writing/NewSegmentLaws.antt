@@ -12,14 +12,16 @@ use lib.ListN.{length}
 use Rattle.boxes.specs.Answer.{Answer, refused, given, _>>=_, hold}
 use Rattle.boxes.specs.Numbers.{holds}
 use Rattle.boxes.specs.Framing.{Box, frontSize, boxed}
-use Rattle.boxes.specs.Kinds.{pseg, pshd, ploc, is, right, those, keeps}
-use Rattle.boxes.proofs.BoxedLaws.{written}
+use Rattle.boxes.specs.Kinds.{pseg, pshd, ploc, right, boxAt, firstOf, those, surl}
+use Rattle.boxes.specs.declared.kinds.Container.the-variants.{Pseg}
+use Rattle.boxes.proofs.BoxedLaws.{boxedAt, boxed-stand}
+use Rattle.boxes.proofs.KindLaws.{first-is, one-right, firstOf-those, is-eqb, boxAt-getD}
 use Rattle.partial.specs.Limits.{chunkLimit}
 use Rattle.partial.specs.Sequences.{allOf, sum}
 use Rattle.partial.specs.Segments.{Segment, endOf, chunksOf}
-use Rattle.partial.specs.Heading.{Heading, boxAt, firstOf}
+use Rattle.partial.specs.Heading.{Heading}
 use Rattle.partial.specs.Entries.{mayLie}
-use Rattle.partial.specs.Reading.{pshdRight, segment}
+use Rattle.partial.specs.Reading.{pshdRight, segment, pshdFields}
 use Rattle.partial.specs.Addition.{items, Addition, flagsFor, dataSize, dataRight}
 use Rattle.partial.specs.Append.{dataBox, plocBody, pshdBody, added, newChunks, newSegment, Placed, placed, psegBody, psegPlace}
 use Rattle.partial.proofs.Writing.PlacedLaws.{formed, sizes-placed, length-placed, placed-tell, offsets-eight}
@@ -27,7 +29,7 @@ use Rattle.partial.proofs.Writing.StandsLaws.{Stands, stands-behind, st
 use Rattle.partial.proofs.Writing.EntriesBackLaws.{chunks-back}
 use Rattle.partial.proofs.Writing.FieldsBackLaws.{fields-back, plocOf, head-back, sizes-held, offsets-held}
 use Rattle.partial.proofs.Writing.AddedBoxesLaws.{data-low}
-use Rattle.partial.proofs.Writing.BoxesStandLaws.{stands-body, twoBoxes, two-back, stands-two}
+use Rattle.partial.proofs.Writing.BoxesStandLaws.{stands-body, stands-two, only-second, first-box, only-first, neither}
 
 -- the new chunks are as many as the items, and as long
 length-chunks : (at start : ℕ) (ps : List Placed) → length (newChunks at start ps) ≡ length ps
@@ -58,8 +60,34 @@ pub record Sayable (a : Addition) : Type 0 where
 
 -- the segment of a `pseg` box at a place, whose body stands there and before which its data lies
 module _ (limit : ℕ) (g : List ℕ) (h : Heading) (before : List Segment) (a : Addition) (at : ℕ) where
+  abbrev headerBox : Box
+  headerBox = boxedAt (at + frontSize) (pshd .code) (length (pshdBody a))
+
+  abbrev locationBox : Box
+  locationBox = boxedAt (at + frontSize + (frontSize + length (pshdBody a))) (ploc .code) (length (plocBody (placed (items (a .list)))))
+
   abbrev inners : List Box
-  inners = twoBoxes g (at + frontSize) (pshd .code) (ploc .code) (pshdBody a) (plocBody (placed (items (a .list))))
+  inners = headerBox ∷ locationBox ∷ []
+
+  -- `pshd` is first and single, `ploc` is single, and there is no `surl`
+  first-header : firstOf pshd inners ≡ headerBox
+  first-header = first-is pshd (lit< tt) inners (rw (first-box pshd headerBox locationBox) (is-eqb pshd headerBox)) ∙ first-box pshd headerBox locationBox
+
+  one-header : right Pseg pshd inners ≡ true
+  one-header = one-right pshd inners refl (ap length (only-first pshd headerBox locationBox (is-eqb pshd headerBox) (is-eqb pshd locationBox)))
+
+  only-location : those ploc inners ≡ locationBox ∷ []
+  only-location = only-second ploc headerBox locationBox (is-eqb ploc headerBox) (is-eqb ploc locationBox)
+
+  first-location : firstOf ploc inners ≡ locationBox
+  first-location = firstOf-those ploc inners ∙ ap (boxAt 0) only-location ∙ boxAt-getD 0 (locationBox ∷ [])
+
+  no-source : those surl inners ≡ []
+  no-source = neither surl headerBox locationBox (is-eqb surl headerBox) (is-eqb surl locationBox)
+
+  header-right : pshdFields g headerBox .end ≡ headerBox .end → pshdRight g inners ≡ true
+  unfolding pshdRight
+  header-right whole = rw (first-box pshd headerBox locationBox, is-eqb pshd headerBox, one-header, eq-eqb _ _ whole)
 
   segment-at : Sayable a
       → allOf formed (items (a .list)) ≡ true
@@ -68,10 +96,10 @@ module _ (limit : ℕ) (g : List ℕ) (h : Heading) (before : List Segment) (a :
       → dataSize (items (a .list)) ≤ at
       → dataSize (items (a .list)) < 2 ^ 63
       → ((state place size : ℕ) → 0 < size → at ≤ place + dataSize (items (a .list)) → place + size ≤ at → mayLie h state place size ≡ true)
-      → segment limit g h before (written at (pseg .code) (length (psegBody a)))
+      → segment limit g h before (boxedAt at (pseg .code) (length (psegBody a)))
       ≡ (hold 22 (leb (length (chunksOf before) + length (newSegment at a .chunks)) chunkLimit)
       >>= λ _. hold 23 (leb (endOf (newSegment at a)) limit) >>= λ _. given (newSegment at a))
-  unfolding segment pshdRight right keeps those is firstOf boxAt newSegment psegBody
+  unfolding segment newSegment psegBody
   segment-at says listed small stands data-low data-small lie =
       let list = items (a .list) in
       let ps = placed list in
@@ -79,31 +107,24 @@ module _ (limit : ℕ) (g : List ℕ) (h : Heading) (before : List Segment) (a :
       let second : ℕ = here + (frontSize + length (pshdBody a)) in
       let total : ℕ = a .sourceOffset + sum (map (λ p. p .size) ps) in
       let (stands-fields, stands-ploc) = stands-two g here (pshd .code) (ploc .code) (pshdBody a) (plocBody ps) stands in
-      let fields = fields-back g (boxAt 0 inners) a stands-fields (says .offset) (says .time) in
-      let (head, stands-entries, ends) = head-back g (boxAt 1 inners) ps stands-ploc (add-assoc second frontSize (length (plocBody ps))) (rw length-placed (says .count)) in
-      let whole : at + frontSize + frontSize + length (pshdBody a) ≡ at + frontSize + (frontSize + length (pshdBody a)) = omega arith in
-      let same-end : at + frontSize + length (psegBody a) ≡ at + (frontSize + length (psegBody a)) = omega arith in
-      let boxes = rw same-end at (two-back g here (pshd .code) (ploc .code) (pshdBody a) (plocBody ps) (lit< tt) (lit< tt) stands small) in
-      let long : at + frontSize + (frontSize + length (pshdBody a)) - (at + frontSize + frontSize) ≡ length (pshdBody a) = omega arith in
-      let many = length-new at a in
-      let end = end-new at a in
+      let fields = fields-back g headerBox a stands-fields (says .offset) (says .time) in
+      let (head, stands-entries, ends) = head-back g locationBox ps stands-ploc (add-assoc second frontSize (length (plocBody ps))) (rw length-placed (says .count)) in
+      let whole : here + frontSize + length (pshdBody a) ≡ here + (frontSize + length (pshdBody a)) = omega arith in
+      let same-end : here + length (psegBody a) ≡ at + (frontSize + length (psegBody a)) = omega arith in
+      let boxes = rw same-end at (boxed-stand Pseg (pshd .code) (ploc .code) (pshdBody a) (plocBody ps) (lit< tt) (lit< tt) small g here stands) in
+      let long : here + (frontSize + length (pshdBody a)) - (here + frontSize) ≡ length (pshdBody a) = omega arith in
+      let right-header = header-right (rw fields whole) in
+      let chunks = chunks-back limit g h at (plocOf locationBox ps) ps (record { at = second + frontSize + 9; start = a .sourceOffset }) stands-entries ends
+      (placed-tell h at list listed data-low lie) (sizes-held ps (says .sizes)) (offsets-held ps (offsets-eight list data-small)) in
       let sizes = sizes-placed list in
       let count = length-placed list in
-      rw (many, end, ← sizes, ← count)
+      rw (length-new at a, end-new at a, ← sizes, ← count)
       (elim (decLe (a .sourceOffset) limit) [
         | yes low ↦
-            rw (
-              boxes,
-              fields,
-              eq-eqb _ _ whole,
-              head,
-              le-leb (a .sourceOffset) limit low,
-              chunks-back limit g h at (plocOf (boxAt 1 inners) ps) ps (record { at = second + frontSize + 9; start = a .sourceOffset }) stands-entries ends
-                  (placed-tell h at list listed data-low lie) (sizes-held ps (says .sizes)) (offsets-held ps (offsets-eight list data-small)) low,
-              long,
-            ) (both-tests (leb (length (chunksOf before) + length ps) chunkLimit) (leb total limit))
+            rw (boxes, right-header, one-right ploc inners refl (ap length only-location), no-source, first-location, head, first-header, fields, le-leb (a .sourceOffset) limit low, chunks low, long)
+            (both-tests (leb (length (chunksOf before) + length ps) chunkLimit) (leb total limit))
         | no over ↦
-            rw (boxes, fields, eq-eqb _ _ whole, head, lt-leb (a .sourceOffset) limit (omega arith), lt-leb total limit (omega arith))
+            rw (boxes, right-header, one-right ploc inners refl (ap length only-location), no-source, first-location, head, first-header, fields, lt-leb (a .sourceOffset) limit (omega arith), lt-leb total limit (omega arith))
             (one-test (leb (length (chunksOf before) + length ps) chunkLimit))
       ])
     where
@@ -135,7 +156,7 @@ pub new-segment : (limit : ℕ) (f : List ℕ) (h : Heading) (before : List Segm
     → psegPlace (length f) a ≤ place + dataSize (items (a .list))
     → place + size ≤ psegPlace (length f) a
     → mayLie h state place size ≡ true)
-    → segment limit (f ++ added a) h before (written (psegPlace (length f) a) (pseg .code) (length (psegBody a)))
+    → segment limit (f ++ added a) h before (boxedAt (psegPlace (length f) a) (pseg .code) (length (psegBody a)))
     ≡ (hold 22 (leb (length (chunksOf before) + length (newSegment (psegPlace (length f) a) a .chunks)) chunkLimit)
     >>= λ _. hold 23 (leb (endOf (newSegment (psegPlace (length f) a) a)) limit) >>= λ _. given (newSegment (psegPlace (length f) a) a))
 unfolding added psegPlace

@@ -1,5 +1,5 @@
 -- Laws of items with their offsets: which they are, how far back their data lies, and that their entries tell of them.
-use Prim.Native.Nat.{ℕ, suc, _+_, _-_, _*_, _^_, _≤_, _<_}
+use Prim.Native.Nat.{ℕ, suc, _+_, _-_, _^_, _≤_, _<_}
 use mathlib.Core.Bool.{Bool, true, false, not, _&&_, true≢false}
 use mathlib.Core.List.{List, [], _∷_, map}
 use mathlib.Core.Logic.{inl, inr}
@@ -7,10 +7,11 @@ use mathlib.Core.Option.{Option, some, Option·getD}
 use mathlib.Core.Path.{_≡_, refl, sym, ap, _∙_}
 use native.Mathlib.Omega.{arith}
 use borrow.Author.Tests.{le-leb, lt-ltb, eqb-false, not-true}
-use lib.Dec.{ltb, eqb}
+use lib.Dec.{ltb, eqb, lit<}
 use lib.ListN.{length}
 use Rattle.boxes.specs.Numbers.{holdsOffset}
 use Rattle.boxes.specs.declared.numbers.Offset.the-variants.{Ahead, Back}
+use Rattle.boxes.proofs.WidthLaws.{within-back, below-ahead}
 use Rattle.partial.specs.Sequences.{allOf, sum}
 use Rattle.partial.specs.Segments.{isState, present, hasPlace}
 use Rattle.partial.specs.Heading.{Heading}
@@ -65,14 +66,14 @@ module _ (at : ℕ) (i : Item) (is : List Item) (there : present (i .state) ≡ 
 
 -- eight bytes hold every offset of a file's data
 pub offsets-eight : (is : List Item) → dataSize is < 2 ^ 63 → allOf (λ p. holdsOffset 8 (p .offset)) (placed is) ≡ true
-unfolding allOf placed holdsOffset
+unfolding allOf placed
 offsets-eight [] h = refl
 offsets-eight (i ∷ is) h =
     let (less, all) = data-on i is in
     let rest = offsets-eight is (omega arith) in
     elim (which (present (i .state))) [
-      | inl e ↦ rw (placed, e, allOf, le-leb (2 * dataSize (i ∷ is)) (256 ^ 8) (omega arith)) rest
-      | inr e ↦ rw (placed, e, allOf) rest
+      | inl e ↦ rw (placed, e, allOf, within-back 8 (dataSize (i ∷ is)) (omega arith)) rest
+      | inr e ↦ rw (placed, e, allOf, below-ahead 8 0 (lit< tt)) rest
     ]
 
 -- where the data may lie, the entries tell of the items

@@ -1,5 +1,5 @@
 -- A segment that append adds reads back: the longer file has the segments of the file before and then the new one.
-use Prim.Native.Nat.{ℕ, _+_, _-_, _%_, _^_, _≤_, _<_}
+use Prim.Native.Nat.{ℕ, _+_, _%_, _^_, _≤_, _<_}
 use mathlib.Core.Bool.{Bool, true, false}
 use mathlib.Core.List.{List, [], _∷_, _++_, map}
 use mathlib.Core.Path.{_≡_, refl, sym, ap, _∙_}
@@ -11,12 +11,14 @@ use lib.Dec.{leb, eqb}
 use lib.ListN.{length, take, drop, length-append}
 use lib.Seq.{length-take-le, take-at}
 use Rattle.boxes.specs.Answer.{refused, given, _>>=_, hold}
-use Rattle.boxes.specs.Framing.{Box, boxLimit, boxesIn}
-use Rattle.boxes.specs.Kinds.{ftyp, pfil, pseg, is, right, those, keeps}
+use Rattle.boxes.specs.Framing.{Box, boxLimit}
+use Rattle.boxes.specs.Kinds.{ftyp, pfil, pseg, right, those, pdat}
+use Rattle.boxes.specs.declared.kinds.Container.the-variants.{File}
+use Rattle.boxes.specs.declared.kinds.Kind.{Kind}
 use Rattle.boxes.proofs.AnswerLaws.{both-given, held, given-same}
-use Rattle.boxes.proofs.ContainerLaws.{fills, boxes-appended}
-use Rattle.boxes.proofs.KindLaws.{those-append}
-use Rattle.boxes.proofs.BoxedLaws.{written}
+use Rattle.boxes.proofs.KindLaws.{those-append, those-one, is-eqb, some-right, those-nil, those-other}
+use Rattle.boxes.proofs.BoxedLaws.{boxedAt}
+use Rattle.boxes.proofs.ContainerLaws.{boxes-crowded}
 use Rattle.partial.specs.Limits.{fileLimit, segmentLimit, chunkLimit}
 use Rattle.partial.specs.Sequences.{allOf, sum}
 use Rattle.partial.specs.Segments.{Segment, endOf, chunksOf}
@@ -32,14 +34,9 @@ use Rattle.partial.proofs.Meaning.SequenceLaws.{both}
 use Rattle.partial.proofs.Reading.HeadingAppendLaws.{headed, heading-of, headed-appended, lies, boxes-lie, those-all, withBoxes}
 use Rattle.partial.proofs.Reading.KeptLaws.{segments-kept}
 use Rattle.partial.proofs.Writing.FieldsBackLaws.{sizes-eight}
-use Rattle.partial.proofs.Writing.AddedBoxesLaws.{newBoxes, addedList, boxes-added, boxes-crowded, added-moved, those-new, data-low}
-use Rattle.partial.proofs.Writing.AddedBoxesLaws.{length-added, lie-longer, lie-new}
+use Rattle.partial.proofs.Writing.AddedBoxesLaws.{newBoxes, addedList, boxes-added, added-moved, those-new, data-low, length-added}
+use Rattle.partial.proofs.Writing.AddedBoxesLaws.{added-many, lie-longer, lie-new}
 use Rattle.partial.proofs.Writing.NewSegmentLaws.{Sayable, length-new, new-segment, end-new}
-
--- a container has no more boxes than are allowed
-fills-within : (f : List ℕ) (bs : List Box) → boxesIn f 0 (length f) ≡ given bs → length bs ≤ boxLimit
-unfolding boxesIn
-fills-within f bs e = fills f (length f) boxLimit 0 e .within
 
 -- segments are read box by box
 module _ (limit : ℕ) (f : List ℕ) (h : Heading) where
@@ -165,17 +162,25 @@ module _ (limit : ℕ) (f : List ℕ) (h : Heading) (ss : List Segment) (a : Add
   grownHeading = withBoxes h (newBoxes (length f) a)
 
   abbrev newBox : Box
-  newBox = written (psegPlace (length f) a) (pseg .code) (length (psegBody a))
+  newBox = boxedAt (psegPlace (length f) a) (pseg .code) (length (psegBody a))
+
+  -- of the new boxes the last alone is a `pseg`
+  new-psegs : those pseg (newBox ∷ []) ≡ newBox ∷ []
+  new-psegs = those-one pseg newBox [] (is-eqb pseg newBox) ∙ ap (λ (bs : List Box). newBox ∷ bs) (those-nil pseg)
 
   psegs-added : those pseg (grownHeading .boxes) ≡ those pseg (h .boxes) ++ (newBox ∷ [])
-  unfolding those is
-  psegs-added = those-append pseg (h .boxes) (newBoxes (length f) a) ∙ ap (λ (bs : List Box). those pseg (h .boxes) ++ bs) (those-new a (length f) pseg refl)
+  psegs-added =
+      those-append pseg (h .boxes) (newBoxes (length f) a)
+      ∙ ap (λ (bs : List Box). those pseg (h .boxes) ++ bs) (those-new a (length f) pseg refl ∙ new-psegs)
 
-  pseg-there : right pseg (grownHeading .boxes) ≡ true
-  unfolding right keeps
+  -- and none of them is of a kind that the file has once
+  none-new : (k : Kind) → eqb (pdat .code) (k .code) ≡ false → eqb (pseg .code) (k .code) ≡ false → those k (newBoxes (length f) a) ≡ []
+  none-new k no-data no-segment = those-new a (length f) k no-data ∙ those-other k newBox [] (is-eqb k newBox ∙ no-segment) ∙ those-nil k
+
+  pseg-there : right File pseg (grownHeading .boxes) ≡ true
   pseg-there =
       let long = length-append (those pseg (h .boxes)) (newBox ∷ []) in
-      rw psegs-added (le-leb 1 (length (those pseg (h .boxes) ++ (newBox ∷ []))) (omega arith))
+      some-right pseg (grownHeading .boxes) refl (rw psegs-added (omega arith))
 
   module _ (t : Offered limit f h ss a) where
     heading-large : fileLimit < length f + length (added a) → heading (f ++ added a) ≡ refused 1
@@ -187,18 +192,18 @@ module _ (limit : ℕ) (f : List ℕ) (h : Heading) (ss : List Segment) (a : Add
       unfolding heading fileBoxes
       heading-crowded over =
           let head = headed f h (t .headed) in
-          let boxes = boxes-crowded a (boxLimit - length (h .boxes)) (omega (arith, fills-within f (h .boxes) (head .boxes))) (omega arith) in
-          rw (le-leb (length (f ++ added a)) fileLimit (rw length-append small), boxes-appended f (added a) (head .boxes), boxes)
+          rw (
+            le-leb (length (f ++ added a)) fileLimit (rw length-append small),
+            boxes-crowded File f (added a) (head .boxes) (boxes-added a (omega arith)) (rw (added-many a) over),
+          )
 
       pub heading-added : length (h .boxes) + addedBoxes a ≤ boxLimit → heading (f ++ added a) ≡ given grownHeading
-      unfolding those is
       heading-added room =
-          let boxes = boxes-added a (boxLimit - length (h .boxes)) (omega arith) (omega arith) in
           let moved-there = added-moved a (length f) in
           heading-of (f ++ added a) grownHeading
           (rw moved-there at
-          (headed-appended f (added a) h (addedList a) (headed f h (t .headed)) (rw length-append small) boxes
-          (rw moved-there (those-new a (length f) ftyp refl)) (rw moved-there (those-new a (length f) pfil refl))))
+          (headed-appended f (added a) h (addedList a) (headed f h (t .headed)) (rw length-append small) (boxes-added a (omega arith)) (rw (added-many a) room)
+          (rw moved-there (none-new ftyp refl refl)) (rw moved-there (none-new pfil refl refl))))
 
       segments-added : Sayable a
           → segments limit (f ++ added a) grownHeading ≡ admitted limit ss (newSegment (psegPlace (length f) a) a)
@@ -212,7 +217,7 @@ module _ (limit : ℕ) (f : List ℕ) (h : Heading) (ss : List Segment) (a : Add
           let (us, read, e2) = both-given (segmentsFrom limit f h [] old) _ e1 in
           let (agreed, e3) = held 25 (agree us) _ e2 in
           let before : segmentsFrom limit f h [] old ≡ given ss = read ∙ e3 in
-          let lie = those-all pseg (lies n) (h .boxes) (boxes-lie f 0 n (h .boxes) (headed f h (t .headed) .boxes)) in
+          let lie = those-all pseg (lies n) (h .boxes) (boxes-lie File f 0 n (h .boxes) (headed f h (t .headed) .boxes)) in
           let kept = segments-kept f (added a) h grownHeading (lie-longer h (newBoxes n a)) limit old [] ss lie before in
           let many = segments-many limit f h old [] before in
           let long : length (old ++ (newBox ∷ [])) ≡ length ss + 1 = length-append old (newBox ∷ []) ∙ omega arith in

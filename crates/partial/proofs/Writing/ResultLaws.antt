@@ -13,6 +13,7 @@ use Rattle.boxes.specs.Answer.{Answer, refused, given, _>>=_, hold}
 use Rattle.boxes.specs.Numbers.{holds}
 use Rattle.boxes.specs.Framing.{boxLimit}
 use Rattle.boxes.proofs.AnswerLaws.{both-given}
+use Rattle.boxes.proofs.WidthLaws.{below-holds}
 use Rattle.partial.specs.Limits.{fileLimit, segmentLimit, chunkLimit}
 use Rattle.partial.specs.Sequences.{allOf}
 use Rattle.partial.specs.Segments.{Segment, chunksOf}
@@ -28,12 +29,12 @@ use Rattle.partial.proofs.Writing.RepairTimeLaws.{cut, added-cut, offer
 
 -- the sizes of a list whose numbers 64 bits hold
 sizes-said : (list : List ℕ) → allOf (λ n. ltb n (2 ^ 64)) list ≡ true → allOf (λ p. holds 8 (p .size)) (placed (items list)) ≡ true
-unfolding allOf items placed holds
+unfolding allOf items placed
 sizes-said [] h = refl
 sizes-said (size ∷ []) h = refl
 sizes-said (size ∷ state ∷ rest) h =
     let (first, others) = both (ltb size (2 ^ 64)) (ltb state (2 ^ 64) && allOf (λ n. ltb n (2 ^ 64)) rest) h in
-    rw first (sizes-said rest (both (ltb state (2 ^ 64)) (allOf (λ n. ltb n (2 ^ 64)) rest) others .1))
+    rw (below-holds 8 size (ltb-true size (2 ^ 64) first)) (sizes-said rest (both (ltb state (2 ^ 64)) (allOf (λ n. ltb n (2 ^ 64)) rest) others .1))
 
 -- what 64 bits and `chunk_count` can say is said, but for what is cut from the repair time
 said : (a : Addition) → T (sayable a) → Sayable (cut a)

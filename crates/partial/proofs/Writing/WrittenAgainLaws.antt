@@ -1,20 +1,21 @@
 -- Demand 2: writing again what was read from our writer's file gives that file.
 use Prim.Native.Nat.{ℕ, _+_, _^_, _≤_, _<_, zero-le}
-use mathlib.Core.Bool.{true}
-use mathlib.Core.List.{List, [], _∷_, _++_, append-assoc}
+use mathlib.Core.Bool.{true, false}
+use mathlib.Core.List.{List, [], _∷_, _++_}
 use mathlib.Core.Path.{_≡_, refl, sym, ap, subst, _∙_}
 use native.Mathlib.Omega.{arith}
 use borrow.Author.Tests.{le-leb}
 use lib.ListN.{length, take, drop, length-append}
-use lib.Seq.{drop-drop, drop-at, take-append-seam}
 use Rattle.boxes.specs.Answer.{Answer, refused, given}
-use Rattle.boxes.specs.Numbers.{bytesOf}
-use Rattle.boxes.specs.Framing.{Box, frontSize, front, boxed, boxesIn, boxesFrom, boxLimit}
-use Rattle.boxes.specs.Kinds.{surl, is, those}
+use Rattle.boxes.specs.Framing.{Box}
+use Rattle.boxes.specs.Kinds.{surl, is, boxAt, firstOf, ftyp, noBox}
+use Rattle.boxes.specs.declared.kinds.Container.the-variants.{File}
 use Rattle.boxes.proofs.AnswerLaws.{not-both, given-same}
+use Rattle.boxes.proofs.KindLaws.{boxAt-getD, is-eqb}
+use Rattle.boxes.proofs.ContainerLaws.{boxes-none}
 use Rattle.partial.specs.Limits.{fileLimit}
 use Rattle.partial.specs.Segments.{Segment}
-use Rattle.partial.specs.Heading.{Part, Heading, heading, boxAt, firstOf, ftypRight, url, mime, fileBoxes, judged}
+use Rattle.partial.specs.Heading.{Part, Heading, heading, ftypRight, url, mime, fileBoxes, judged}
 use Rattle.partial.specs.Reading.{reading}
 use Rattle.partial.specs.Memory.{after, filled}
 use Rattle.partial.specs.Tables.{bytesIn, textOf}
@@ -26,56 +27,42 @@ use Rattle.partial.specs.Again.{writeAgain}
 use Rattle.partial.proofs.Reading.ReadingLaws.{reading-segments}
 use Rattle.partial.proofs.Reading.HeadingAppendLaws.{heading-of, url-kept, mime-kept}
 use Rattle.partial.proofs.Writing.BegunLaws.{begunHeading, sourceBox, begun-url, begun-mime, begun-headed, begun-segments}
-use Rattle.partial.proofs.Writing.BegunLaws.{begin-given, begin-fits}
+use Rattle.partial.proofs.Writing.BegunLaws.{first-source, source-inside, url-stands, mime-stands, source-stands, source-ends}
+use Rattle.partial.proofs.Writing.BegunLaws.{source-long, begin-given, begin-fits}
 use Rattle.partial.proofs.Writing.RunAgainLaws.{Rewrites, rewrites, filled-take, filled-long}
+use Rattle.partial.proofs.Writing.StandsLaws.{Stands, part-stands, stands-longer}
 
 -- ---- the two texts stand in the file
-
--- what stands behind so many bytes
-part-at : (p x rest : List ℕ) (at : ℕ) → length p ≡ at → take (length x) (drop at (p ++ (x ++ rest))) ≡ x
-part-at p x rest at e = rw (drop-at p (x ++ rest) at e) (take-append-seam x rest)
-
-module _ (u m more : List ℕ) where
-  url-part : take (length u) (drop 52 (beginning u m ++ more)) ≡ u
-  unfolding beginning boxed front frontSize bytesOf
-  url-part = rw (append-assoc u (0 ∷ (m ++ (0 ∷ []))) more) (take-append-seam u ((0 ∷ (m ++ (0 ∷ []))) ++ more))
-
-  mime-part : take (length m) (drop (52 + length u + 1) (beginning u m ++ more)) ≡ m
-  unfolding beginning boxed front frontSize bytesOf
-  mime-part =
-      let place : 52 + length u + 1 ≡ 52 + (length u + 1) = omega arith in
-      let regroup : (u ++ (0 ∷ (m ++ (0 ∷ [])))) ++ more ≡ (u ++ (0 ∷ [])) ++ (m ++ ((0 ∷ []) ++ more)) = simp append-assoc in
-      ap (λ (n : ℕ). take (length m) (drop n (beginning u m ++ more))) place
-      ∙ ap (take (length m)) (sym (drop-drop (length u + 1) 52 (beginning u m ++ more)) ∙ ap (drop (length u + 1)) regroup)
-      ∙ part-at (u ++ (0 ∷ [])) m ((0 ∷ []) ++ more) (length u + 1) (length-append u (0 ∷ []))
 
 -- they are handed back from a file that goes on from one just begun
 module _ (limit : ℕ) (u m more : List ℕ) (plain-url : isText u ≡ true) (plain-mime : isText m ≡ true) (h : Heading) (ss : List Segment)
     (read : reading limit (beginning u m ++ more) ≡ given ss) (head : heading (beginning u m ++ more) ≡ given h)
     (inner : h .inner ≡ begunHeading u m .inner) where
-  first-source : firstOf surl (h .inner) ≡ sourceBox u m
-  unfolding firstOf those is boxAt
-  first-source = rw inner
-
   text-from : (pick : List ℕ → Box → Part) → textOf pick limit (beginning u m ++ more) ≡ pick (beginning u m ++ more) (sourceBox u m)
   unfolding textOf
-  text-from pick = rw (textOf, read, head) (ap (pick (beginning u m ++ more)) first-source)
+  text-from pick = rw (textOf, read, head) (ap (pick (beginning u m ++ more)) (ap (firstOf surl) inner ∙ first-source u m))
 
-  source-inside : sourceBox u m .end ≤ length (beginning u m)
-  unfolding beginning boxed front frontSize bytesOf
-  source-inside = omega arith
+  -- a part of the file just begun is that part of the longer file
+  part-again : (at : ℕ) (s : List ℕ) → Stands (beginning u m) at s → at + length s ≤ length (beginning u m)
+      → take (length s) (drop at (beginning u m ++ more)) ≡ s
+  part-again at s stands inside =
+      part-stands (beginning u m ++ more) at s (stands-longer (beginning u m) more at s stands inside) (rw length-append (omega arith))
 
   url-again : bytesIn (beginning u m ++ more) (textOf url limit (beginning u m ++ more)) ≡ u
   unfolding bytesIn
   url-again =
-      let part = url-kept (beginning u m) more (sourceBox u m) source-inside ∙ begun-url u m plain-url plain-mime in
-      rw (text-from url, part) (url-part u m more)
+      let b = sourceBox u m in
+      let part = url-kept (beginning u m) more b (source-inside u m) ∙ begun-url u m plain-url plain-mime in
+      let stands = url-stands u m (beginning u m) b (source-stands u m) (source-ends u m) plain-url plain-mime in
+      rw (text-from url, part) (part-again (b .body + 4) u stands (omega (arith, source-inside u m, source-ends u m, source-long u m)))
 
   mime-again : bytesIn (beginning u m ++ more) (textOf mime limit (beginning u m ++ more)) ≡ m
   unfolding bytesIn
   mime-again =
-      let part = mime-kept (beginning u m) more (sourceBox u m) source-inside ∙ begun-mime u m plain-url plain-mime in
-      rw (text-from mime, part) (mime-part u m more)
+      let b = sourceBox u m in
+      let part = mime-kept (beginning u m) more b (source-inside u m) ∙ begun-mime u m plain-url plain-mime in
+      let stands = mime-stands u m (beginning u m) b (source-stands u m) (source-ends u m) plain-url plain-mime in
+      rw (text-from mime, part) (part-again (b .body + 4 + length u + 1) m stands (omega (arith, source-inside u m, source-ends u m, source-long u m)))
 
 -- ---- no file
 
@@ -84,8 +71,10 @@ unfolding begin after sizeAfter
 none-begun buffer u m k e = rw e
 
 nothing-headed : heading [] ≡ refused 7
-unfolding heading fileBoxes judged boxesIn boxesFrom boxLimit ftypRight boxAt is
-nothing-headed = refl
+unfolding heading fileBoxes judged ftypRight
+nothing-headed =
+    let no-box : is ftyp (boxAt 0 []) ≡ false = rw (boxAt-getD 0 []) (is-eqb ftyp noBox) in
+    rw (boxes-none File [] 0 0 zero-le, no-box)
 
 -- to no file nothing is added
 nothing-added : (limit : ℕ) (buffer : List ℕ) (additions : List Addition) → fileIn (appendAll limit (lent buffer 0) additions) ≡ []

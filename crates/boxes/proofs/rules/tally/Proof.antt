@@ -8,7 +8,8 @@ use Rattle.boxes.specs.Framing.{Box, boxOf}
 use Rattle.boxes.specs.Kinds.{those}
 use Rattle.boxes.specs.Rules.{countsOf, tallyOf}
 use Rattle.boxes.proofs.RuleLaws.{counts-few}
-use Rattle.boxes.proofs.WalkLaws.{Passed, passed-none, passed-more, all-boxes, first-fault, over-left, fewer, next-box, no-more, a-fault}
+use Rattle.boxes.proofs.WalkLaws.{Passed, passed-none, passed-more, all-boxes, first-fault, over-left, fewer, next-box, no-more}
+use Rattle.boxes.proofs.WalkLaws.{a-fault}
 use Rattle.boxes.proofs.rules.tally.Statement.{statement}
 use Rattle.boxes.proofs.rules.tally.Tie as tie
 

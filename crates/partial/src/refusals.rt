@@ -1,0 +1,30 @@
+// The numbers of the refusals of partial files. Those of box framing, 2 to 6, stand in the box layer.
+
+// The file is over its limit.
+pub const FILE_TOO_LONG: u64 = 1;
+// The first box is not `ftyp`, it is ill-formed, or there is a second.
+pub const FTYP_WRONG: u64 = 7;
+// No compatible brand is `paff`.
+pub const BRAND_MISSING: u64 = 8;
+// The second box is not `pfil`, or there is another.
+pub const PFIL_WRONG: u64 = 9;
+// There is not exactly one well-formed `pfhd`.
+pub const PFHD_WRONG: u64 = 10;
+// There is no `surl` in `pfil`, or one is ill-formed.
+pub const SURL_WRONG: u64 = 11;
+// The `pshd` is not first, not single or not as 5.1.4.2.
+pub const PSHD_WRONG: u64 = 14;
+// The `ploc` is too short, of another version or with flags, cut short or with bytes left over.
+pub const PLOC_WRONG: u64 = 17;
+// A width of `ploc` is over 8.
+pub const WIDTH_WRONG: u64 = 18;
+// The data reference index is not 0.
+pub const DATA_ELSEWHERE: u64 = 19;
+// A reserved bit of an entry is set.
+pub const RESERVED_BIT: u64 = 20;
+// A chunk is neither corrupted nor present.
+pub const NO_STATE: u64 = 21;
+// A source offset or chunk end is over its limit.
+pub const SOURCE_TOO_LONG: u64 = 23;
+// A present chunk does not lie wholly in one `pdat` body.
+pub const OUTSIDE_DATA: u64 = 24;
