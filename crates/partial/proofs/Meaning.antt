@@ -1,6 +1,7 @@
 -- Laws of a list of segments: supply, the described length, the lists, serving and asking.
 pub mod AgreementLaws
 pub mod DescribedLaws
+pub mod KnownLaws
 pub mod ListingLaws
 pub mod MappedLaws
 pub mod RangeLaws

@@ -42,7 +42,7 @@ ends-most ss = go (knownSize ss)
     go (some n) h = largest-most endOf _ n (λ s e. leb-true _ _ (both _ _ e .0)) ss h
 
 -- the known size of segments and then others
-known-append : (ss ts : List Segment) → knownSize (ss ++ ts) ≡ orElse (knownSize ss) (knownSize ts)
+pub known-append : (ss ts : List Segment) → knownSize (ss ++ ts) ≡ orElse (knownSize ss) (knownSize ts)
 unfolding knownSize orElse
 known-append [] ts = refl
 known-append (s ∷ ss) ts =

@@ -1,0 +1,3 @@
+// Reading a partial file into tables.
+pub mod rows;
+pub mod sizes;
