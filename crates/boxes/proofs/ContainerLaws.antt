@@ -155,6 +155,15 @@ module _ (c : Container) (s : List ℕ) (start end : ℕ) where
     unfolding boxesIn
     boxes-few = fills c s end boxLimit start known .within
 
+    -- the first is read where it starts
+    pub boxes-first : 0 < length bs → header s start end ≡ given (boxAt 0 bs)
+    unfolding boxesIn boxAt
+    boxes-first some = go (fills c s end boxLimit start known .boxes) some
+      where
+        go : {at : ℕ} {cs : List Box} → Filled s end at cs → 0 < length cs → header s at end ≡ given (boxAt 0 cs)
+        go (full e) some = absurd (omega arith)
+        go (next short read rest) some = read
+
     -- each stands in it
     pub boxes-standing : (k : ℕ) → k < length bs → Standing s start end (boxAt k bs)
     unfolding boxesIn

@@ -12,8 +12,16 @@ pub const PFIL_WRONG: u64 = 9;
 pub const PFHD_WRONG: u64 = 10;
 // There is no `surl` in `pfil`, or one is ill-formed.
 pub const SURL_WRONG: u64 = 11;
+// There is no `pseg`.
+pub const NO_SEGMENT: u64 = 12;
+// There are over 64 `pseg`.
+pub const TOO_MANY_SEGMENTS: u64 = 13;
 // The `pshd` is not first, not single or not as 5.1.4.2.
 pub const PSHD_WRONG: u64 = 14;
+// There is not exactly one `ploc`.
+pub const PLOC_NOT_SINGLE: u64 = 15;
+// A `surl` stands in a `pseg`.
+pub const SURL_IN_SEGMENT: u64 = 16;
 // The `ploc` is too short, of another version or with flags, cut short or with bytes left over.
 pub const PLOC_WRONG: u64 = 17;
 // A width of `ploc` is over 8.
@@ -24,7 +32,13 @@ pub const DATA_ELSEWHERE: u64 = 19;
 pub const RESERVED_BIT: u64 = 20;
 // A chunk is neither corrupted nor present.
 pub const NO_STATE: u64 = 21;
+// There are over 1,024 chunks so far.
+pub const TOO_MANY_CHUNKS: u64 = 22;
 // A source offset or chunk end is over its limit.
 pub const SOURCE_TOO_LONG: u64 = 23;
 // A present chunk does not lie wholly in one `pdat` body.
 pub const OUTSIDE_DATA: u64 = 24;
+// Two known sizes differ, or a segment end or open offset lies above the known size.
+pub const SIZES_DIFFER: u64 = 25;
+// The file is acceptable, but a lent table or list is too short.
+pub const TABLE_TOO_SHORT: u64 = 26;

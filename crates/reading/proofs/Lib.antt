@@ -1,2 +1,4 @@
+pub mod FoundLaws
+pub mod PartsLaws
 pub mod RowLaws
 pub mod SizeLaws

@@ -1,3 +1,5 @@
 // Reading a partial file into tables.
+pub mod find;
+pub mod parts;
 pub mod rows;
 pub mod sizes;

@@ -1,0 +1,49 @@
+-- Document 01, "In one `pseg`: framing, 14, 15, 16, then 17 (head), 18, 19": the parts of a segment's box, and what is told of them.
+use Prim.Native.Nat.{ℕ}
+use mathlib.Core.List.{List}
+use lib.Dec.{eqb}
+use lib.ListN.{length}
+use Rattle.boxes.specs.Answer.{Answer, refused, given, _>>=_, hold}
+use Rattle.boxes.specs.Framing.{Box, boxesIn, boxOf}
+use Rattle.boxes.specs.Kinds.{pshd, ploc, surl, right, those, firstOf}
+use Rattle.boxes.specs.declared.kinds.Container.the-variants.{Pseg}
+use Rattle.partial.specs.Entries.{Ploc, plocHead}
+use Rattle.partial.specs.Reading.{pshdRight, pshdFields}
+use Rattle.segment.specs.Fields.{valuesOf}
+use Rattle.segment.specs.Location.{headOf}
+use Rattle.segment.specs.declared.fields.Fields.{Fields}
+use Rattle.reading.specs.declared.parts.HeaderRead.{HeaderRead}
+use Rattle.reading.specs.declared.parts.HeaderRead.the-variants as HeaderRead
+use Rattle.reading.specs.declared.parts.PartsRead.{PartsRead}
+use Rattle.reading.specs.declared.parts.PartsRead.the-variants.{Refused, Given}
+
+-- its `pshd`, the fields of that, and the head of its `ploc`
+pub record Parts : Type 0 where
+  pub header : Box
+  pub fields : Fields
+  pub location : Ploc
+
+-- 14: the `pshd` among the boxes of a segment, with its fields
+unfoldable pub headerIn : List ℕ → List Box → Answer (Box × Fields)
+headerIn f inner = do
+  _ ← hold 14 (pshdRight f inner)
+  given (firstOf pshd inner, valuesOf (pshdFields f (firstOf pshd inner)))
+
+unfoldable pub partsIn : List ℕ → Box → Answer Parts
+partsIn f b = do
+  inner ← boxesIn Pseg f (b .body) (b .end)
+  header ← headerIn f inner
+  _ ← hold 15 (right Pseg ploc inner)
+  _ ← hold 16 (eqb (length (those surl inner)) 0)
+  l ← plocHead f (firstOf ploc inner)
+  given (record { header = header .0; fields = header .1; location = l })
+
+-- what an answer about a header says
+unfoldable pub headerAnswer : HeaderRead → Answer (Box × Fields)
+headerAnswer (HeaderRead.Refused n) = refused n
+headerAnswer (HeaderRead.Given b fields) = given (boxOf b, fields)
+
+-- what an answer about the parts says
+unfoldable pub partsAnswer : PartsRead → Answer Parts
+partsAnswer (Refused n) = refused n
+partsAnswer (Given p) = given (record { header = boxOf (p .header); fields = p .fields; location = headOf (p .location) })
