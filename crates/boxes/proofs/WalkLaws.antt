@@ -146,6 +146,11 @@ module _ {s : List ℕ} {c : Container} {start end : Place} {w₀ w : Walk} {bs 
   unfolding boxesIn
   first-fault h = rw new at (p .rest) ∙ rw (walk-steps s w, h)
 
+-- the boxes of a container are those that a walk from its start has before it
+pub walk-boxes : (s : List ℕ) {c : Container} {start end : Place} {w : Walk} → w ≡ walkOver c start end → boxesIn c s (start .0) (end .0) ≡ ahead s w
+unfolding boxesIn
+walk-boxes s new = rw new
+
 pub over-left : {c : Container} {start end : Place} {w : Walk} → w ≡ walkOver c start end → w .left ≡ 512
 unfolding boxLimit
 over-left new = ap (λ w. w .left) new

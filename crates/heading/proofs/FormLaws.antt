@@ -1,0 +1,99 @@
+-- Laws of the forms of `ftyp`, `pfil`, `pfhd` and `surl`, as they are tested on a box that was read.
+use Prim.Native.Nat.{ℕ, _+_, _-_, _%_, _≤_}
+use mathlib.Core.Bool.{Bool, true, false, _&&_}
+use mathlib.Core.List.{List, [], _∷_}
+use mathlib.Core.Path.{_≡_, refl, ap, _∙_}
+use native.Mathlib.Omega.{arith}
+use lib.Dec.{leb, eqb}
+use Rattle.boxes.specs.Answer.{given}
+use Rattle.boxes.specs.Framing.{Box, boxesIn, boxOf}
+use Rattle.boxes.specs.Kinds.{ftyp, pfil, surl, kinds, is, those, rightCount, right, boxAt}
+use Rattle.boxes.specs.Numbers.{number}
+use Rattle.boxes.specs.Rules.{tallyOf, tallyFor}
+use Rattle.boxes.specs.declared.framing.Framed.{Framed}
+use Rattle.boxes.specs.declared.kinds.Container.{Container}
+use Rattle.boxes.specs.declared.kinds.Container.the-variants.{File}
+use Rattle.boxes.specs.declared.kinds.Kind.{Kind}
+use Rattle.boxes.specs.declared.tally.Tally.{Tally}
+use Rattle.boxes.proofs.KindLaws.{those-nil, those-one, those-other}
+use Rattle.boxes.proofs.RuleLaws.{has, tally-given, tally-sound, tally-right}
+use Rattle.boxes.proofs.ToldLaws.{box-fields}
+use Rattle.partial.specs.Heading.{ftypRight, pfilRight, pfhdFormed, text, url, mime, surlFormed}
+use Rattle.partial.specs.Sequences.{allOf}
+use Rattle.heading.proofs.TextLaws.{text-most}
+
+-- a tally that tells no fault counts the boxes of its container
+pub tally-known : (c : Container) (s : List ℕ) (start end : ℕ) {t : Tally} → t ≡ tallyOf (boxesIn c s start end) → t .fault ≡ 0
+    → (bs : List Box) × (boxesIn c s start end ≡ given bs) × (t ≡ tallyOf (given bs))
+tally-known c s start end answer sound =
+    let (bs, known, tallied) = tally-sound c s start end answer sound in
+    (bs, known, answer ∙ ap tallyOf known)
+
+-- a count rule that was held against a tally is held against the boxes
+pub rule-kept : {t : Tally} (bs : List Box) → t ≡ tallyOf (given bs) → (c : Container) (k : Kind) → has kinds k ≡ true → {n : ℕ} {r : Bool}
+    → n ≡ tallyFor k (t .counts)
+    → r ≡ rightCount c k n
+    → r ≡ right c k bs
+rule-kept bs tallied c k known counted kept = kept ∙ ap (rightCount c k) counted ∙ tally-right c k known (tally-given tallied refl)
+
+module _ (b : Framed) (bs : List Box) where
+  pub ftyp-tests : boxOf b ≡ boxAt 0 bs
+      → ftypRight bs ≡ (is ftyp (boxOf b) && leb (b .body .0 + 8) (b .end .0) && eqb ((b .end .0 - b .body .0) % 4) 0 && right File ftyp bs)
+  unfolding ftypRight
+  ftyp-tests same = rw (← same, box-fields b)
+
+  pub pfil-tests : boxOf b ≡ boxAt 1 bs → pfilRight bs ≡ (is pfil (boxOf b) && right File pfil bs)
+  unfolding pfilRight
+  pfil-tests same = rw (← same)
+
+module _ (f : List ℕ) (b : Framed) where
+  pub pfhd-tests : pfhdFormed f (boxOf b) ≡ (eqb (b .body .0 + 4) (b .end .0) && eqb (number f (b .body .0) 1) 0)
+  unfolding pfhdFormed
+  pfhd-tests = rw (box-fields b)
+
+  pub url-text : url f (boxOf b) ≡ text f (b .body .0 + 4) (b .end .0)
+  unfolding url
+  url-text = rw (box-fields b)
+
+  pub mime-text : mime f (boxOf b) ≡ text f (url f (boxOf b) .place + url f (boxOf b) .size + 1) (b .end .0)
+  unfolding mime
+  mime-text = rw (box-fields b)
+
+  pub surl-tests : surlFormed f (boxOf b)
+      ≡ (leb (b .body .0 + 4) (b .end .0) && eqb (number f (b .body .0) 4) 0 && eqb (mime f (boxOf b) .place + mime f (boxOf b) .size + 1) (b .end .0))
+  unfolding surlFormed
+  surl-tests = rw (box-fields b)
+
+  -- the texts end by the box's end, or at their own start if that is further on
+  module _ (whole : b .body .0 ≤ b .end .0) where
+    pub url-ends : url f (boxOf b) .place + url f (boxOf b) .size ≤ b .end .0 + 4
+    unfolding text
+    url-ends =
+        rw url-text (omega (arith, text-most f (b .body .0 + 4) (b .end .0)))
+
+    pub mime-ends : mime f (boxOf b) .place + mime f (boxOf b) .size ≤ b .end .0 + 5
+    unfolding text
+    mime-ends =
+        rw mime-text (omega (arith, url-ends, text-most f (url f (boxOf b) .place + url f (boxOf b) .size + 1) (b .end .0)))
+
+-- whether each `surl` among the boxes is well-formed
+abbrev pub allFormed : List ℕ → List Box → Bool
+allFormed f bs = allOf (surlFormed f) (those surl bs)
+
+module _ (f : List ℕ) where
+  pub formed-none : allFormed f [] ≡ true
+  unfolding allOf
+  formed-none = rw (those-nil surl)
+
+  module _ (b : Box) (rest : List Box) where
+    pub formed-other : is surl b ≡ false → allFormed f (b ∷ rest) ≡ allFormed f rest
+    formed-other other = rw (those-other surl b rest other)
+
+    module _ (one : is surl b ≡ true) where
+      pub formed-one : true ≡ surlFormed f b → allFormed f (b ∷ rest) ≡ allFormed f rest
+      unfolding allOf
+      formed-one formed = rw (those-one surl b rest one, ← formed)
+
+      pub formed-ill : false ≡ surlFormed f b → allFormed f (b ∷ rest) ≡ false
+      unfolding allOf
+      formed-ill ill = rw (those-one surl b rest one, ← ill)

@@ -1,0 +1,6 @@
+pub mod BrandLaws
+pub mod Determined
+pub mod FormLaws
+pub mod FoundLaws
+pub mod StageLaws
+pub mod TextLaws

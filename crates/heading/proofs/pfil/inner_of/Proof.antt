@@ -1,0 +1,144 @@
+-- `heading::pfil::inner_of` meets its contract: the framing of `pfil`, then each test is a stage's, and what is told is read at the first `surl`.
+use mathlib.Core.List.{List}
+use mathlib.Core.Path.{_≡_, refl, sym, ap, _∙_}
+use native.Mathlib.Omega.{arith}
+use borrow.Author.Needs.{needs}
+use borrow.Author.Tests.{not-true, not-false}
+use lib.ListN.{length}
+use Rattle.boxes.specs.Answer.{given}
+use Rattle.boxes.specs.Framing.{Box, boxesIn}
+use Rattle.boxes.specs.Kinds.{pfhd, surl, pseg}
+use Rattle.boxes.specs.Rules.{tallyOf}
+use Rattle.boxes.specs.declared.kinds.Container.the-variants.{Pfil}
+use Rattle.boxes.proofs.RuleLaws.{tally-fault, tally-given}
+use Rattle.partial.specs.Heading.{pfhdRight, surlRight, url, mime}
+use Rattle.heading.specs.Facts.{headedAnswer}
+use Rattle.heading.specs.Steps.{Within}
+use Rattle.heading.proofs.FormLaws.{tally-known}
+use Rattle.heading.proofs.FoundLaws.{first-within}
+use Rattle.heading.proofs.StageLaws.{inner-refused, pfhd-refused, surl-refused, all-right, found-told}
+use Rattle.heading.proofs.pfil.inner_of.Statement.{statement}
+use Rattle.heading.proofs.pfil.inner_of.Tie as tie
+
+-- the boxes of `pfil`, which were counted
+boxes-known : (c : tie.Else1)
+    → let start = c .before .before .before .before .before .before in
+    (is : List Box)
+    × (boxesIn Pfil (start .args .file .now) (start .args .b .body .0) (start .args .b .end .0) ≡ given is)
+    × (c .before .before .tally .result ≡ tallyOf (given is))
+boxes-known c = tally-known Pfil _ _ _ (c .before .before .tally .ensures) (c .if1 .left)
+
+-- what the two tests say of them
+pfhd-told : (c : tie.After-pfhd-right)
+    → let else1 = c .before .before in
+    c .pfhd-right .result ≡ pfhdRight (else1 .before .before .before .before .before .before .args .file .now) (boxes-known else1 .0)
+pfhd-told c =
+    let (is, known, counted) = boxes-known (c .before .before) in
+    c .pfhd-right .ensures is counted (c .before .first-of .ensures is known)
+
+surl-told : (c : tie.After-surl-right)
+    → let else1 = c .before .before .before .before in
+    c .surl-right .result ≡ surlRight (else1 .before .before .before .before .before .before .args .file .now) (boxes-known else1 .0)
+surl-told c =
+    let (is, known, counted) = boxes-known (c .before .before .before .before) in
+    c .surl-right .ensures is counted known
+
+-- the first `surl` lies in the file
+first-surl : (c : tie.After-first-of2)
+    → let start = c .before .before .before .before .before .before .before .before .before .before .before .before in
+    Within (length (start .args .file .now)) (c .first-of2 .result)
+first-surl c =
+    let else1 = c .before .before .before .before .before .before in
+    let (is, known, counted) = boxes-known else1 in
+    let within = first-within Pfil _ _ _ known (c .first-of2 .result) surl (c .first-of2 .ensures is known) in
+    record { whole = within .whole; ends = omega arith }
+
+tally-requires : tie.Need-tally-requires
+tally-requires c κs = search needs
+
+returns : tie.Need-returns
+unfolding headedAnswer
+returns c bs tallied same front =
+    let after-tally = c .before .before in
+    let start = after-tally .before .before .before .before in
+    let fault = tally-fault Pfil _ _ _ (after-tally .tally .ensures) (c .if1 .taken) in
+    rw (inner-refused (start .args .file .now) bs front (start .args .b) same fault)
+
+first-of-requires : tie.Need-first-of-requires
+first-of-requires c κs = search needs
+
+pfhd-right-requires : tie.Need-pfhd-right-requires
+pfhd-right-requires c κs =
+    let (is, known, counted) = boxes-known (c .before) in
+    let start = c .before .before .before .before .before .before .before in
+    let within = first-within Pfil _ _ _ known (c .first-of .result) pfhd (c .first-of .ensures is known) in
+    record { whole = within .whole; ends = omega arith }
+
+returns-2 : tie.Need-returns-2
+unfolding headedAnswer
+returns-2 c bs tallied same front =
+    let else1 = c .before .before .before in
+    let start = else1 .before .before .before .before .before .before in
+    let (is, known, counted) = boxes-known else1 in
+    let wrong = sym (pfhd-told (c .before)) ∙ not-true _ (c .if2 .taken) in
+    rw (pfhd-refused (start .args .file .now) bs front (start .args .b) same known wrong)
+
+surl-right-requires : tie.Need-surl-right-requires
+surl-right-requires c κs = search needs
+
+returns-3 : tie.Need-returns-3
+unfolding headedAnswer
+returns-3 c bs tallied same front =
+    let after-surl = c .before in
+    let else1 = after-surl .before .before .before .before in
+    let start = else1 .before .before .before .before .before .before in
+    let (is, known, counted) = boxes-known else1 in
+    let right = sym (pfhd-told (after-surl .before .before)) ∙ not-false _ (after-surl .before .if2 .left) in
+    let wrong = sym (surl-told after-surl) ∙ not-true _ (c .if3 .taken) in
+    rw (surl-refused (start .args .file .now) bs front (start .args .b) same known right wrong)
+
+first-of-requires-2 : tie.Need-first-of-requires-2
+first-of-requires-2 c κs = search needs
+
+of-requires : tie.Need-of-requires
+of-requires c κs = search needs
+
+url-of-requires : tie.Need-url-of-requires
+url-of-requires c κs = first-surl (c .before)
+
+mime-of-requires : tie.Need-mime-of-requires
+mime-of-requires c κs = first-surl (c .before .before)
+
+returns-4 : tie.Need-returns-4
+returns-4 c bs tallied same front =
+    let after-of = c .before .before in
+    let after-first = after-of .before in
+    let after-surl = after-first .before .before in
+    let else1 = after-surl .before .before .before .before in
+    let start = else1 .before .before .before .before .before .before in
+    let (is, known, counted) = boxes-known else1 in
+    let right = sym (pfhd-told (after-surl .before .before)) ∙ not-false _ (after-surl .before .if2 .left) in
+    let formed = sym (surl-told after-surl) ∙ not-false _ (after-first .before .if3 .left) in
+    let first = after-first .first-of2 .ensures is known in
+    let all = tally-given tallied refl in
+    rw (all-right (start .args .file .now) bs front (start .args .b) same known right formed)
+    (found-told (start .args .file .now) bs is _ (all .number) (after-of .of .ensures ∙ all .of pseg refl)
+    (c .before .url-of .ensures ∙ ap (url _) first)
+    (c .mime-of .ensures ∙ ap (mime _) first))
+
+pub inner-of-spec : {M : Type 1} → statement M
+inner-of-spec =
+    tie.close
+    (tie.spec
+    tally-requires
+    returns
+    first-of-requires
+    pfhd-right-requires
+    returns-2
+    surl-right-requires
+    returns-3
+    first-of-requires-2
+    of-requires
+    url-of-requires
+    mime-of-requires
+    returns-4)

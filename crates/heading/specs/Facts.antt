@@ -1,0 +1,36 @@
+-- What the heading of a file tells the layers above, and what an answer of the call says of it.
+use Prim.Native.Nat.{ℕ}
+use mathlib.Core.List.{List}
+use lib.ListN.{length}
+use Rattle.boxes.specs.Answer.{Answer, refused, given, _>>=_}
+use Rattle.boxes.specs.Kinds.{surl, pseg, those, firstOf}
+use Rattle.partial.specs.Heading.{Part, Heading, url, mime}
+use Rattle.heading.specs.declared.answers.Part as Stated
+use Rattle.heading.specs.declared.answers.Headed.{Headed}
+use Rattle.heading.specs.declared.answers.Headed.the-variants.{Refused, Found}
+
+-- how many boxes the file has, how many of them are `pseg`, and the URL and the MIME text of the first `surl`
+pub record Facts : Type 0 where
+  pub boxes : ℕ
+  pub segments : ℕ
+  pub url : Part
+  pub mime : Part
+
+unfoldable pub factsOf : List ℕ → Heading → Facts
+factsOf f h =
+    let first = firstOf surl (h .inner) in
+    record { boxes = length (h .boxes); segments = length (those pseg (h .boxes)); url = url f first; mime = mime f first }
+
+-- what is told of a heading, or its refusal
+abbrev pub told : List ℕ → Answer Heading → Answer Facts
+told f answer = answer >>= λ h. given (factsOf f h)
+
+-- what a part that was found says
+abbrev pub partOf : Stated.Part → Part
+partOf p = record { place = p .place .0; size = p .size }
+
+-- what an answer about a heading says
+unfoldable pub headedAnswer : Headed → Answer Facts
+headedAnswer (Refused n) = refused n
+headedAnswer (Found h) =
+    given (record { boxes = h .boxes; segments = h .segments; url = partOf (h .url); mime = partOf (h .mime) })

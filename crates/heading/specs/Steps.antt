@@ -1,0 +1,17 @@
+-- What a step of reading a heading takes from those before it: a box that lies before an end, and stages 7 to 9 passed.
+use Prim.Native.Nat.{ℕ, _≤_}
+use mathlib.Core.Bool.{true}
+use mathlib.Core.List.{List}
+use mathlib.Core.Path.{_≡_}
+use Rattle.boxes.specs.Framing.{Box}
+use Rattle.boxes.specs.declared.framing.Framed.{Framed}
+use Rattle.partial.specs.Heading.{ftypRight, brandRight, pfilRight}
+
+pub record Within (end : ℕ) (b : Framed) : Type 0 where
+  pub whole : b .body .0 ≤ b .end .0
+  pub ends : b .end .0 ≤ end
+
+pub record Fronted (f : List ℕ) (bs : List Box) : Type 0 where
+  pub ftyp : ftypRight bs ≡ true
+  pub brand : brandRight f bs ≡ true
+  pub pfil : pfilRight bs ≡ true

@@ -1,0 +1,21 @@
+// What the heading of a file tells the layers above, or the number of its refusal.
+use boxes::place::Place;
+
+// A part of the file: its place and its size.
+pub struct Part {
+    pub place: Place,
+    pub size: u64,
+}
+
+// How many boxes the file has, how many of them are `pseg`, and the URL and the MIME text of the first `surl`.
+pub struct Head {
+    pub boxes: u64,
+    pub segments: u64,
+    pub url: Part,
+    pub mime: Part,
+}
+
+pub enum Headed {
+    Refused(u64),
+    Found(Head),
+}

@@ -1,0 +1,127 @@
+// Refusals 9 to 11: the `pfil` box, the framing of its body, and the `pfhd` and the `surl` boxes in it.
+use crate::answers::Head;
+use crate::answers::Headed;
+use crate::find::first_of;
+use crate::surl::mime_of;
+use crate::surl::surl_formed;
+use crate::surl::url_of;
+use boxes::framing::Framed;
+use boxes::kinds::Container;
+use boxes::kinds::PFHD;
+use boxes::kinds::PFIL;
+use boxes::kinds::PSEG;
+use boxes::kinds::SURL;
+use boxes::numbers::unsigned;
+use boxes::place::Place;
+use boxes::rules::keeps;
+use boxes::rules::tally;
+use boxes::tally::Tally;
+use boxes::walk::Step;
+use boxes::walk::Walk;
+use partial::refusals::PFHD_WRONG;
+use partial::refusals::SURL_WRONG;
+ghost use Prim.Native.Nat.{_≤_};
+ghost use mathlib.Core.List.{List};
+ghost use mathlib.Core.Path.{_≡_};
+ghost use lib.ListN.{length};
+ghost use Rattle.boxes.specs.Answer.{given};
+ghost use Rattle.boxes.specs.Framing.{Box, boxesIn, boxOf};
+ghost use Rattle.boxes.specs.Kinds.{pfhd, surl, those, boxAt, firstOf};
+ghost use Rattle.boxes.specs.Rules.{tallyOf};
+ghost use Rattle.boxes.specs.declared.kinds.Container.the-variants.{Pfil};
+ghost use Rattle.partial.specs.Heading.{pfilRight, pfhdFormed, pfhdRight, surlFormed, surlRight, judged};
+ghost use Rattle.partial.specs.Sequences.{allOf};
+ghost use Rattle.heading.specs.Facts.{told, headedAnswer};
+ghost use Rattle.heading.specs.Steps.{Within, Fronted};
+
+// Whether the second box of the file is `pfil`, and the only one.
+pub(crate) fn pfil_right(b: Framed, boxes: Tally) -> bool
+    ensures { λ r. ⌜ ((bs : List Box) → boxes ≡ tallyOf (given bs) → boxOf b ≡ boxAt 1 bs → r ≡ pfilRight bs) ⌝ }
+{
+    if b.kind != PFIL.code {
+        return false;
+    }
+    keeps(Container::File, PFIL, boxes.of(PFIL))
+}
+
+// Whether a `pfhd` has version 0, flags, and nothing more.
+fn pfhd_formed(file: &[u8], b: Framed) -> bool
+    requires { ⌜ Within (length (now file)) b ⌝ }
+    ensures { λ r. ⌜ r ≡ pfhdFormed (now (file .entry)) (boxOf b) ⌝ }
+{
+    let body = b.body;
+    if body.0 + 4 != b.end.0 {
+        return false;
+    }
+    unsigned(file, body, 1) == 0
+}
+
+// Whether `pfil` has exactly one `pfhd`, the first, and it is well-formed.
+fn pfhd_right(file: &[u8], b: Framed, inner: Tally) -> bool
+    requires { ⌜ Within (length (now file)) b ⌝ }
+    ensures { λ r. ⌜ ((bs : List Box) → inner ≡ tallyOf (given bs) → boxOf b ≡ firstOf pfhd bs → r ≡ pfhdRight (now (file .entry)) bs) ⌝ }
+{
+    if !keeps(Container::Pfil, PFHD, inner.of(PFHD)) {
+        return false;
+    }
+    pfhd_formed(file, b)
+}
+
+// Whether each `surl` of a `pfil` whose body starts and ends at these places is well-formed.
+fn surls_formed(file: &[u8], start: Place, end: Place) -> bool
+    requires { ⌜ end .0 ≤ length (now file) ⌝ }
+    ensures { λ r. ⌜ ((bs : List Box) → boxesIn Pfil (now (file .entry)) (start .0) (end .0) ≡ given bs → r ≡ allOf (surlFormed (now (file .entry))) (those surl bs)) ⌝ }
+{
+    let mut walk = Walk::new(Container::Pfil, start, end);
+    loop {
+        match walk.step(file) {
+            Step::Next(b, next) => {
+                walk = next;
+                if b.kind == SURL.code {
+                    if !surl_formed(file, b) {
+                        return false;
+                    }
+                }
+            }
+            Step::End => return true,
+            Step::Refused(_) => return false,
+        }
+    }
+}
+
+// Whether `pfil` has one `surl` or more, each well-formed.
+fn surl_right(file: &[u8], start: Place, end: Place, inner: Tally) -> bool
+    requires { ⌜ end .0 ≤ length (now file) ⌝ }
+    ensures { λ r. ⌜ ((bs : List Box) → inner ≡ tallyOf (given bs) → boxesIn Pfil (now (file .entry)) (start .0) (end .0) ≡ given bs → r ≡ surlRight (now (file .entry)) bs) ⌝ }
+{
+    if !keeps(Container::Pfil, SURL, inner.of(SURL)) {
+        return false;
+    }
+    surls_formed(file, start, end)
+}
+
+// What the heading tells of a file that passed stages 1 to 9, or the refusal that its `pfil` has.
+pub(crate) fn inner_of(file: &[u8], b: Framed, boxes: Tally) -> Headed
+    requires { ⌜ Within (length (now file)) b ⌝ }
+    ensures { λ r. ⌜ ((bs : List Box) → boxes ≡ tallyOf (given bs) → boxOf b ≡ boxAt 1 bs → Fronted (now (file .entry)) bs → headedAnswer r ≡ told (now (file .entry)) (judged (now (file .entry)) bs)) ⌝ }
+{
+    let start = b.body;
+    let end = b.end;
+    let inner = tally(file, Container::Pfil, start, end);
+    if inner.fault != 0 {
+        return Headed::Refused(inner.fault);
+    }
+    if !pfhd_right(file, first_of(file, PFHD, start, end), inner) {
+        return Headed::Refused(PFHD_WRONG);
+    }
+    if !surl_right(file, start, end, inner) {
+        return Headed::Refused(SURL_WRONG);
+    }
+    let first = first_of(file, SURL, start, end);
+    Headed::Found(Head {
+        boxes: boxes.boxes,
+        segments: boxes.of(PSEG),
+        url: url_of(file, first),
+        mime: mime_of(file, first),
+    })
+}
