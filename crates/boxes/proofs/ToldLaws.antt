@@ -1,7 +1,8 @@
 -- Laws of what answers say: two answers that say the same are the same.
-use mathlib.Core.Path.{_≡_, ap, ap₂}
+use mathlib.Core.Path.{_≡_, refl, ap, ap₂}
 use Rattle.boxes.specs.Framing.{Box, boxOf, headerAnswer}
 use Rattle.boxes.specs.Walk.{stepAnswer}
+use Rattle.boxes.specs.declared.framing.Framed.{Framed}
 use Rattle.boxes.specs.declared.framing.Header.{Header}
 use Rattle.boxes.specs.declared.framing.Header.the-variants as Header
 use Rattle.boxes.specs.declared.walk.Step.{Step}
@@ -11,7 +12,12 @@ use Rattle.boxes.specs.declared.walk.Walk.{Walk}
 abbrev pub Tells : {R A : Type 0} → (R → A) → Type 0
 Tells {R} says = (r t : R) → says r ≡ says t → r ≡ t
 
-box-told : Tells boxOf
+-- a box that was read, field by field
+pub box-read : (b : Framed) → boxOf b ≡ record { kind = b .kind; at = b .at .0; body = b .body .0; end = b .end .0 }
+unfolding boxOf
+box-read b = refl
+
+pub box-told : Tells boxOf
 unfolding boxOf
 box-told b c e = λ i. record { kind = e i .kind; at = record { 0 = e i .at }; body = record { 0 = e i .body }; end = record { 0 = e i .end } }
 

@@ -146,6 +146,13 @@ module _ {s : List ℕ} {c : Container} {start end : Place} {w₀ w : Walk} {bs 
   unfolding boxesIn
   first-fault h = rw new at (p .rest) ∙ rw (walk-steps s w, h)
 
+  -- where the container's boxes are known, those passed are the first of them
+  pub passed-known : {all : List Box} → boxesIn c s (start .0) (end .0) ≡ given all → (more : List Box) × (all ≡ bs ++ more)
+  unfolding boxesIn
+  passed-known known =
+      let rest = both-given (ahead s w) (λ more. given (bs ++ more)) (sym (rw new at (p .rest)) ∙ known) in
+      (rest .0, sym (given-same (rest .2)))
+
 pub over-left : {c : Container} {start end : Place} {w : Walk} → w ≡ walkOver c start end → w .left ≡ 512
 unfolding boxLimit
 over-left new = ap (λ w. w .left) new
