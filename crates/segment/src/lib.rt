@@ -1,0 +1,6 @@
+// The segment layer: the fields of a `pshd`, the head and the entries of a `ploc`, and the chunks that they tell of.
+pub mod entry;
+pub mod fields;
+pub mod location;
+pub mod state;
+pub mod sums;
