@@ -1,5 +1,7 @@
 -- Laws of what answers say: what a box that was read says, and that two answers that say the same are the same.
-use mathlib.Core.Path.{_≡_, refl, ap, ap₂}
+use Prim.Native.Nat.{ℕ}
+use mathlib.Core.Path.{_≡_, refl, sym, ap, ap₂, _∙_}
+use Rattle.boxes.specs.Answer.{Answer, refused, given}
 use Rattle.boxes.specs.Framing.{Box, boxOf, headerAnswer}
 use Rattle.boxes.specs.Walk.{stepAnswer}
 use Rattle.boxes.specs.declared.framing.Framed.{Framed}
@@ -20,6 +22,16 @@ box-fields b = refl
 pub box-told : Tells boxOf
 unfolding boxOf
 box-told b c e = λ i. record { kind = e i .kind; at = record { 0 = e i .at }; body = record { 0 = e i .body }; end = record { 0 = e i .end } }
+
+-- what each answer about a header says of it
+module _ {r : Header} {read : Answer Box} (answer : headerAnswer r ≡ read) where
+  pub header-found : {b : Framed} → r ≡ Header.Found b → read ≡ given (boxOf b)
+  unfolding headerAnswer
+  header-found e = sym answer ∙ ap headerAnswer e
+
+  pub header-fault : {n : ℕ} → r ≡ Header.Refused n → read ≡ refused n
+  unfolding headerAnswer
+  header-fault e = sym answer ∙ ap headerAnswer e
 
 pub header-told : Tells headerAnswer
 unfolding headerAnswer

@@ -43,7 +43,7 @@ pub(crate) fn box_at(file: &[u8], n: u64) -> Framed
 }
 
 // The first box of a kind in the container that starts and ends at these places.
-pub(crate) fn first_of(file: &[u8], kind: Kind, start: Place, end: Place) -> Framed
+pub fn first_of(file: &[u8], kind: Kind, start: Place, end: Place) -> Framed
     ensures { λ r. ⌜ ((bs : List Box) → boxesIn (kind .container) (now (file .entry)) (start .0) (end .0) ≡ given bs → boxOf r ≡ firstOf kind bs) ⌝ }
 {
     let container = kind.container;

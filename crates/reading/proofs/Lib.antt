@@ -1,4 +1,3 @@
-pub mod FoundLaws
 pub mod PartsLaws
 pub mod RowLaws
 pub mod SizeLaws

@@ -39,9 +39,9 @@ partsIn f b = do
   given (record { header = header .0; fields = header .1; location = l })
 
 -- what an answer about a header says
-unfoldable pub headerAnswer : HeaderRead → Answer (Box × Fields)
-headerAnswer (HeaderRead.Refused n) = refused n
-headerAnswer (HeaderRead.Given b fields) = given (boxOf b, fields)
+unfoldable pub pshdAnswer : HeaderRead → Answer (Box × Fields)
+pshdAnswer (HeaderRead.Refused n) = refused n
+pshdAnswer (HeaderRead.Given b fields) = given (boxOf b, fields)
 
 -- what an answer about the parts says
 unfoldable pub partsAnswer : PartsRead → Answer Parts

@@ -1,5 +1,4 @@
 // Reading a partial file into tables.
-pub mod find;
 pub mod parts;
 pub mod rows;
 pub mod sizes;

@@ -1,5 +1,4 @@
 // The parts of a segment's box: refusals 14 to 16, and those of the head of its `ploc`.
-use crate::find::first_of;
 use boxes::framing::Framed;
 use boxes::framing::Header;
 use boxes::framing::header_at;
@@ -10,6 +9,7 @@ use boxes::kinds::SURL;
 use boxes::rules::keeps;
 use boxes::rules::tally;
 use boxes::tally::Tally;
+use heading::find::first_of;
 use partial::refusals::PLOC_NOT_SINGLE;
 use partial::refusals::PSHD_WRONG;
 use partial::refusals::SURL_IN_SEGMENT;
@@ -25,7 +25,7 @@ ghost use Rattle.boxes.specs.Answer.{given};
 ghost use Rattle.boxes.specs.Framing.{Box, boxOf, boxesIn};
 ghost use Rattle.boxes.specs.Rules.{tallyOf};
 ghost use Rattle.boxes.specs.declared.kinds.Container.the-variants.{Pseg};
-ghost use Rattle.reading.specs.Parts.{headerIn, headerAnswer, partsIn, partsAnswer};
+ghost use Rattle.reading.specs.Parts.{headerIn, pshdAnswer, partsIn, partsAnswer};
 
 // Its `pshd`, the fields of that, and the head of its `ploc`.
 pub struct Parts {
@@ -48,7 +48,7 @@ pub enum HeaderRead {
 
 // The `pshd`, which is first, single and as 5.1.4.2, of a box whose boxes were counted.
 fn header_of(file: &[u8], b: Framed, inner: Tally) -> HeaderRead
-    ensures { λ r. ⌜ ((bs : List Box) → boxesIn Pseg (now (file .entry)) (b .body .0) (b .end .0) ≡ given bs → inner ≡ tallyOf (given bs) → headerAnswer r ≡ headerIn (now (file .entry)) bs) ⌝ }
+    ensures { λ r. ⌜ ((bs : List Box) → boxesIn Pseg (now (file .entry)) (b .body .0) (b .end .0) ≡ given bs → inner ≡ tallyOf (given bs) → pshdAnswer r ≡ headerIn (now (file .entry)) bs) ⌝ }
 {
     if !keeps(Container::Pseg, PSHD, inner.of(PSHD)) {
         return HeaderRead::Refused(PSHD_WRONG);

@@ -61,7 +61,11 @@ impl Sizes {
         ensures { λ r. ⌜ ((ss : List Segment) → self ≡ sizesOf ss → r ≡ agree ss) ⌝ }
     {
         if self.known {
-            if self.size < self.largest { false } else { self.same }
+            if self.size < self.largest {
+                false
+            } else {
+                self.same
+            }
         } else {
             true
         }

@@ -59,8 +59,8 @@ loop-again c =
       search needs,
       search needs,
       row-more (at-loop .loop .table) (args .at) (args .row .now) (i - 1) (omega arith) (omega arith)
-      ∙ ap (λ (n : ℕ). stored (at-loop .loop .table) (args .at) (take n (args .row .now))) back
-      ∙ at-loop .loop .inv .2,
+          ∙ ap (λ (n : ℕ). stored (at-loop .loop .table) (args .at) (take n (args .row .now))) back
+          ∙ at-loop .loop .inv .2,
     )
 
 same-length : tie.Need-same-length Inv-loop μ-loop
