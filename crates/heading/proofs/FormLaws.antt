@@ -1,9 +1,10 @@
 -- Laws of the forms of `ftyp`, `pfil`, `pfhd` and `surl`, as they are tested on a box that was read.
 use Prim.Native.Nat.{ℕ, _+_, _-_, _%_, _≤_}
-use mathlib.Core.Bool.{Bool, true, false, _&&_}
+use mathlib.Core.Bool.{Bool, true, false, not, _&&_}
 use mathlib.Core.List.{List, [], _∷_}
-use mathlib.Core.Path.{_≡_, refl, ap, _∙_}
+use mathlib.Core.Path.{_≡_, refl, sym, ap, _∙_}
 use native.Mathlib.Omega.{arith}
+use borrow.Author.Tests.{not-true, not-false}
 use lib.Dec.{leb, eqb}
 use Rattle.boxes.specs.Answer.{given}
 use Rattle.boxes.specs.Framing.{Box, boxesIn, boxOf}
@@ -21,6 +22,13 @@ use Rattle.boxes.proofs.ToldLaws.{box-fields}
 use Rattle.partial.specs.Heading.{ftypRight, pfilRight, pfhdFormed, text, url, mime, surlFormed}
 use Rattle.partial.specs.Sequences.{allOf}
 use Rattle.heading.proofs.TextLaws.{text-most}
+
+-- what a negated test says of the one that it answers
+pub refuted : {r x : Bool} → r ≡ x → not r ≡ true → x ≡ false
+refuted {r} answer h = sym answer ∙ not-true r h
+
+pub upheld : {r x : Bool} → r ≡ x → not r ≡ false → x ≡ true
+upheld {r} answer h = sym answer ∙ not-false r h
 
 -- a tally that tells no fault counts the boxes of its container
 pub tally-known : (c : Container) (s : List ℕ) (start end : ℕ) {t : Tally} → t ≡ tallyOf (boxesIn c s start end) → t .fault ≡ 0
@@ -68,13 +76,11 @@ module _ (f : List ℕ) (b : Framed) where
   module _ (whole : b .body .0 ≤ b .end .0) where
     pub url-ends : url f (boxOf b) .place + url f (boxOf b) .size ≤ b .end .0 + 4
     unfolding text
-    url-ends =
-        rw url-text (omega (arith, text-most f (b .body .0 + 4) (b .end .0)))
+    url-ends = rw url-text (omega (arith, text-most f (b .body .0 + 4) (b .end .0)))
 
     pub mime-ends : mime f (boxOf b) .place + mime f (boxOf b) .size ≤ b .end .0 + 5
     unfolding text
-    mime-ends =
-        rw mime-text (omega (arith, url-ends, text-most f (url f (boxOf b) .place + url f (boxOf b) .size + 1) (b .end .0)))
+    mime-ends = rw mime-text (omega (arith, url-ends, text-most f (url f (boxOf b) .place + url f (boxOf b) .size + 1) (b .end .0)))
 
 -- whether each `surl` among the boxes is well-formed
 abbrev pub allFormed : List ℕ → List Box → Bool
@@ -90,10 +96,10 @@ module _ (f : List ℕ) where
     formed-other other = rw (those-other surl b rest other)
 
     module _ (one : is surl b ≡ true) where
-      pub formed-one : true ≡ surlFormed f b → allFormed f (b ∷ rest) ≡ allFormed f rest
+      pub formed-one : surlFormed f b ≡ true → allFormed f (b ∷ rest) ≡ allFormed f rest
       unfolding allOf
-      formed-one formed = rw (those-one surl b rest one, ← formed)
+      formed-one formed = rw (those-one surl b rest one, formed)
 
-      pub formed-ill : false ≡ surlFormed f b → allFormed f (b ∷ rest) ≡ false
+      pub formed-ill : surlFormed f b ≡ false → allFormed f (b ∷ rest) ≡ false
       unfolding allOf
-      formed-ill ill = rw (those-one surl b rest one, ← ill)
+      formed-ill ill = rw (those-one surl b rest one, ill)

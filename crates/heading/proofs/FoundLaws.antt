@@ -1,5 +1,5 @@
 -- Laws of boxes looked for along a walk over a container whose boxes are known.
-use Prim.Native.Nat.{ℕ, _+_, _-_, zero-le}
+use Prim.Native.Nat.{ℕ, _+_, _-_, _≤_, zero-le}
 use mathlib.Core.Bool.{true, false}
 use mathlib.Core.List.{List, [], _∷_}
 use mathlib.Core.Option.{none, some}
@@ -68,6 +68,10 @@ module _ {A : Type 0} {s : List ℕ} {of₀ of : List Box → A} {c : Container}
   asked-sound step =
       let (rest, before, e) = left in
       known-sound s w before step
+
+-- what lies before an end lies before one further on
+pub further-within : {end end′ : ℕ} {b : Framed} → end ≤ end′ → Within end b → Within end′ b
+further-within on within = record { whole = within .whole; ends = omega arith }
 
 -- a box that was met lies in the container, which ends where it did
 module _ (s : List ℕ) (w : Walk) (b : Framed) {w′ : Walk} (step : stepped s w ≡ given (some (boxOf b, w′))) where

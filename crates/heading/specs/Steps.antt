@@ -1,4 +1,4 @@
--- What a step of reading a heading takes from those before it: a box that lies before an end, and stages 7 to 9 passed.
+-- What a step of reading a heading takes from those before it.
 use Prim.Native.Nat.{ℕ, _≤_}
 use mathlib.Core.Bool.{true}
 use mathlib.Core.List.{List}
@@ -7,10 +7,12 @@ use Rattle.boxes.specs.Framing.{Box}
 use Rattle.boxes.specs.declared.framing.Framed.{Framed}
 use Rattle.partial.specs.Heading.{ftypRight, brandRight, pfilRight}
 
+-- a box that was read lies before an end
 pub record Within (end : ℕ) (b : Framed) : Type 0 where
   pub whole : b .body .0 ≤ b .end .0
   pub ends : b .end .0 ≤ end
 
+-- stages 7 to 9 are passed
 pub record Fronted (f : List ℕ) (bs : List Box) : Type 0 where
   pub ftyp : ftypRight bs ≡ true
   pub brand : brandRight f bs ≡ true

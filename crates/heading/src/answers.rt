@@ -1,4 +1,4 @@
-// What the heading of a file tells the layers above, or the number of its refusal.
+// The answer of the heading's call.
 use boxes::place::Place;
 
 // A part of the file: its place and its size.
@@ -15,6 +15,7 @@ pub struct Head {
     pub mime: Part,
 }
 
+// A refusal, or what the heading tells.
 pub enum Headed {
     Refused(u64),
     Found(Head),

@@ -41,7 +41,7 @@ pub(crate) fn ftyp_right(b: Framed, boxes: Tally) -> bool
     keeps(Container::File, FTYP, boxes.of(FTYP))
 }
 
-// Whether one of the compatible brands is `paff`.
+// Whether one of the compatible brands, four bytes each to the end, is `paff`.
 pub(crate) fn brand_right(file: &[u8], b: Framed) -> bool
     requires { ⌜ Within (length (now file)) b ⌝ }
     ensures { λ r. ⌜ ((bs : List Box) → boxOf b ≡ boxAt 0 bs → r ≡ brandRight (now (file .entry)) bs) ⌝ }

@@ -1,9 +1,7 @@
 -- `heading::pfil::inner_of` meets its contract: the framing of `pfil`, then each test is a stage's, and what is told is read at the first `surl`.
 use mathlib.Core.List.{List}
-use mathlib.Core.Path.{_≡_, refl, sym, ap, _∙_}
-use native.Mathlib.Omega.{arith}
+use mathlib.Core.Path.{_≡_, refl, ap, _∙_}
 use borrow.Author.Needs.{needs}
-use borrow.Author.Tests.{not-true, not-false}
 use lib.ListN.{length}
 use Rattle.boxes.specs.Answer.{given}
 use Rattle.boxes.specs.Framing.{Box, boxesIn}
@@ -14,8 +12,8 @@ use Rattle.boxes.proofs.RuleLaws.{tally-fault, tally-given}
 use Rattle.partial.specs.Heading.{pfhdRight, surlRight, url, mime}
 use Rattle.heading.specs.Facts.{headedAnswer}
 use Rattle.heading.specs.Steps.{Within}
-use Rattle.heading.proofs.FormLaws.{tally-known}
-use Rattle.heading.proofs.FoundLaws.{first-within}
+use Rattle.heading.proofs.FormLaws.{refuted, upheld, tally-known}
+use Rattle.heading.proofs.FoundLaws.{first-within, further-within}
 use Rattle.heading.proofs.StageLaws.{inner-refused, pfhd-refused, surl-refused, all-right, found-told}
 use Rattle.heading.proofs.pfil.inner_of.Statement.{statement}
 use Rattle.heading.proofs.pfil.inner_of.Tie as tie
@@ -50,8 +48,7 @@ first-surl : (c : tie.After-first-of2)
 first-surl c =
     let else1 = c .before .before .before .before .before .before in
     let (is, known, counted) = boxes-known else1 in
-    let within = first-within Pfil _ _ _ known (c .first-of2 .result) surl (c .first-of2 .ensures is known) in
-    record { whole = within .whole; ends = omega arith }
+    further-within (else1 .before .before .before .before .before .before .pre .ends) (first-within Pfil _ _ _ known _ surl (c .first-of2 .ensures is known))
 
 tally-requires : tie.Need-tally-requires
 tally-requires c κs = search needs
@@ -71,8 +68,7 @@ pfhd-right-requires : tie.Need-pfhd-right-requires
 pfhd-right-requires c κs =
     let (is, known, counted) = boxes-known (c .before) in
     let start = c .before .before .before .before .before .before .before in
-    let within = first-within Pfil _ _ _ known (c .first-of .result) pfhd (c .first-of .ensures is known) in
-    record { whole = within .whole; ends = omega arith }
+    further-within (start .pre .ends) (first-within Pfil _ _ _ known _ pfhd (c .first-of .ensures is known))
 
 returns-2 : tie.Need-returns-2
 unfolding headedAnswer
@@ -80,7 +76,7 @@ returns-2 c bs tallied same front =
     let else1 = c .before .before .before in
     let start = else1 .before .before .before .before .before .before in
     let (is, known, counted) = boxes-known else1 in
-    let wrong = sym (pfhd-told (c .before)) ∙ not-true _ (c .if2 .taken) in
+    let wrong = refuted (pfhd-told (c .before)) (c .if2 .taken) in
     rw (pfhd-refused (start .args .file .now) bs front (start .args .b) same known wrong)
 
 surl-right-requires : tie.Need-surl-right-requires
@@ -93,8 +89,8 @@ returns-3 c bs tallied same front =
     let else1 = after-surl .before .before .before .before in
     let start = else1 .before .before .before .before .before .before in
     let (is, known, counted) = boxes-known else1 in
-    let right = sym (pfhd-told (after-surl .before .before)) ∙ not-false _ (after-surl .before .if2 .left) in
-    let wrong = sym (surl-told after-surl) ∙ not-true _ (c .if3 .taken) in
+    let right = upheld (pfhd-told (after-surl .before .before)) (after-surl .before .if2 .left) in
+    let wrong = refuted (surl-told after-surl) (c .if3 .taken) in
     rw (surl-refused (start .args .file .now) bs front (start .args .b) same known right wrong)
 
 first-of-requires-2 : tie.Need-first-of-requires-2
@@ -117,8 +113,8 @@ returns-4 c bs tallied same front =
     let else1 = after-surl .before .before .before .before in
     let start = else1 .before .before .before .before .before .before in
     let (is, known, counted) = boxes-known else1 in
-    let right = sym (pfhd-told (after-surl .before .before)) ∙ not-false _ (after-surl .before .if2 .left) in
-    let formed = sym (surl-told after-surl) ∙ not-false _ (after-first .before .if3 .left) in
+    let right = upheld (pfhd-told (after-surl .before .before)) (after-surl .before .if2 .left) in
+    let formed = upheld (surl-told after-surl) (after-first .before .if3 .left) in
     let first = after-first .first-of2 .ensures is known in
     let all = tally-given tallied refl in
     rw (all-right (start .args .file .now) bs front (start .args .b) same known right formed)

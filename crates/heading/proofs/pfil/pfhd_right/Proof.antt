@@ -2,11 +2,10 @@
 use mathlib.Core.Bool.{true, false}
 use mathlib.Core.Path.{_≡_, refl, sym, _∙_}
 use borrow.Author.Needs.{needs}
-use borrow.Author.Tests.{not-true, not-false}
 use Rattle.boxes.specs.Kinds.{pfhd, right}
 use Rattle.boxes.specs.declared.kinds.Container.the-variants.{Pfil}
 use Rattle.partial.specs.Heading.{pfhdRight}
-use Rattle.heading.proofs.FormLaws.{rule-kept}
+use Rattle.heading.proofs.FormLaws.{refuted, upheld, rule-kept}
 use Rattle.heading.proofs.pfil.pfhd_right.Statement.{statement}
 use Rattle.heading.proofs.pfil.pfhd_right.Tie as tie
 
@@ -20,7 +19,7 @@ returns : tie.Need-returns
 unfolding pfhdRight
 returns c bs tallied first =
     let rule = rule-kept bs tallied Pfil pfhd refl (c .before .before .of .ensures) (c .before .keeps .ensures) in
-    let broken : right Pfil pfhd bs ≡ false = sym rule ∙ not-true _ (c .if1 .taken) in
+    let broken : right Pfil pfhd bs ≡ false = refuted rule (c .if1 .taken) in
     sym (rw broken)
 
 pfhd-formed-requires : tie.Need-pfhd-formed-requires
@@ -31,7 +30,7 @@ unfolding pfhdRight
 returns-2 c bs tallied first =
     let after-keeps = c .before .before in
     let rule = rule-kept bs tallied Pfil pfhd refl (after-keeps .before .of .ensures) (after-keeps .keeps .ensures) in
-    let kept : right Pfil pfhd bs ≡ true = sym rule ∙ not-false _ (c .before .if1 .left) in
+    let kept : right Pfil pfhd bs ≡ true = upheld rule (c .before .if1 .left) in
     c .pfhd-formed .ensures ∙ sym (rw (kept, ← first))
 
 pub pfhd-right-spec : {M : Type 1} → statement M

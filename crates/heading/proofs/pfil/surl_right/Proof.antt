@@ -2,11 +2,10 @@
 use mathlib.Core.Bool.{true, false}
 use mathlib.Core.Path.{_≡_, refl, sym, _∙_}
 use borrow.Author.Needs.{needs}
-use borrow.Author.Tests.{not-true, not-false}
 use Rattle.boxes.specs.Kinds.{surl, right}
 use Rattle.boxes.specs.declared.kinds.Container.the-variants.{Pfil}
 use Rattle.partial.specs.Heading.{surlRight}
-use Rattle.heading.proofs.FormLaws.{rule-kept}
+use Rattle.heading.proofs.FormLaws.{refuted, upheld, rule-kept}
 use Rattle.heading.proofs.pfil.surl_right.Statement.{statement}
 use Rattle.heading.proofs.pfil.surl_right.Tie as tie
 
@@ -20,7 +19,7 @@ returns : tie.Need-returns
 unfolding surlRight
 returns c bs tallied known =
     let rule = rule-kept bs tallied Pfil surl refl (c .before .before .of .ensures) (c .before .keeps .ensures) in
-    let broken : right Pfil surl bs ≡ false = sym rule ∙ not-true _ (c .if1 .taken) in
+    let broken : right Pfil surl bs ≡ false = refuted rule (c .if1 .taken) in
     sym (rw broken)
 
 surls-formed-requires : tie.Need-surls-formed-requires
@@ -31,7 +30,7 @@ unfolding surlRight
 returns-2 c bs tallied known =
     let after-keeps = c .before .before in
     let rule = rule-kept bs tallied Pfil surl refl (after-keeps .before .of .ensures) (after-keeps .keeps .ensures) in
-    let kept : right Pfil surl bs ≡ true = sym rule ∙ not-false _ (c .before .if1 .left) in
+    let kept : right Pfil surl bs ≡ true = upheld rule (c .before .if1 .left) in
     c .surls-formed .ensures bs known ∙ sym (rw kept)
 
 pub surl-right-spec : {M : Type 1} → statement M

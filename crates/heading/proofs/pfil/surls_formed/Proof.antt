@@ -2,12 +2,11 @@
 use mathlib.Core.Path.{_≡_, refl, sym, ap, _∙_}
 use native.Mathlib.Omega.{arith}
 use borrow.Author.Needs.{needs}
-use borrow.Author.Tests.{not-true, not-false}
 use Rattle.boxes.specs.Kinds.{surl}
 use Rattle.boxes.proofs.WalkLaws.{fewer, next-box, no-more, a-fault}
-use Rattle.heading.proofs.FormLaws.{allFormed, formed-none, formed-other, formed-one, formed-ill}
+use Rattle.heading.proofs.FormLaws.{refuted, upheld, allFormed, formed-none, formed-other, formed-one, formed-ill}
 use Rattle.heading.proofs.FoundLaws.{Asked, asked-none, asked-more, asked-next, asked-end, asked-sound}
-use Rattle.heading.proofs.FoundLaws.{is-kind, is-other, met-within, end-kept}
+use Rattle.heading.proofs.FoundLaws.{is-kind, is-other, met-within, further-within, end-kept}
 use Rattle.heading.proofs.pfil.surls_formed.Statement.{statement}
 use Rattle.heading.proofs.pfil.surls_formed.Tie as tie
 
@@ -34,8 +33,7 @@ surl-formed-requires c κs =
     let after-b = c .before .before .before .before in
     let after-step = after-b .before .before in
     let at-loop = after-step .before in
-    let within = met-within _ _ _ (next-box (after-step .step .ensures) (after-b .b .given .1)) in
-    record { whole = within .whole; ends = omega (arith, ap (λ p. p .0) (at-loop .loop .inv .1), ap (λ w. w .end .0) (at-loop .before .new .ensures)) }
+    further-within (omega (arith, ap (λ p. p .0) (at-loop .loop .inv .1), ap (λ w. w .end .0) (at-loop .before .new .ensures))) (met-within _ _ _ (next-box (after-step .step .ensures) (after-b .b .given .1)))
 
 returns : tie.Need-returns Inv-loop μ-loop
 returns c bs known =
@@ -43,7 +41,7 @@ returns c bs known =
     let after-b = branch .before .before .before .before in
     let after-step = after-b .before .before in
     let at-loop = after-step .before in
-    let ill = sym (not-true _ (c .if2 .taken)) ∙ c .before .surl-formed .ensures in
+    let ill = refuted (c .before .surl-formed .ensures) (c .if2 .taken) in
     sym
     (asked-next (at-loop .before .new .ensures) (at-loop .loop .inv .0) known (next-box (after-step .step .ensures) (after-b .b .given .1))
     (λ rest. formed-ill _ _ rest (is-kind surl _ (branch .if1 .taken)) ill))
@@ -60,7 +58,7 @@ loop-again c =
     let after-step = after-b .before .before in
     let inv = after-step .before .loop .inv in
     let step = next-box (after-step .step .ensures) (after-b .b .given .1) in
-    let formed = sym (not-false _ (c .if2 .left)) ∙ c .before .surl-formed .ensures in (
+    let formed = upheld (c .before .surl-formed .ensures) (c .if2 .left) in (
       asked-more (allFormed _) (inv .0) step (λ rest. formed-one _ _ rest (is-kind surl _ (branch .if1 .taken)) formed),
       end-kept _ _ _ step ∙ inv .1,
     )

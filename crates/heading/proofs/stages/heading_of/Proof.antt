@@ -1,8 +1,7 @@
 -- `heading::stages::heading_of` meets its contract: each test is a stage's, in their order.
 use mathlib.Core.List.{List}
-use mathlib.Core.Path.{_≡_, sym, _∙_}
+use mathlib.Core.Path.{_≡_}
 use borrow.Author.Needs.{needs}
-use borrow.Author.Tests.{not-true, not-false}
 use lib.ListN.{length}
 use Rattle.boxes.specs.Answer.{given}
 use Rattle.boxes.specs.Framing.{Box, boxesIn}
@@ -12,7 +11,7 @@ use Rattle.boxes.proofs.RuleLaws.{tally-fault}
 use Rattle.partial.specs.Heading.{ftypRight, brandRight, pfilRight}
 use Rattle.heading.specs.Facts.{headedAnswer}
 use Rattle.heading.specs.Steps.{Within}
-use Rattle.heading.proofs.FormLaws.{tally-known}
+use Rattle.heading.proofs.FormLaws.{refuted, upheld, tally-known}
 use Rattle.heading.proofs.FoundLaws.{number-within}
 use Rattle.heading.proofs.StageLaws.{too-long, ill-framed, framed, ftyp-refused, brand-refused, pfil-refused}
 use Rattle.heading.proofs.stages.heading_of.Statement.{statement}
@@ -75,7 +74,7 @@ unfolding headedAnswer
 returns-3 c =
     let else2 = c .before .before .before in
     let (bs, known, counted) = boxes-known else2 in
-    let wrong = sym (ftyp-told (c .before)) ∙ not-true _ (c .if3 .taken) in
+    let wrong = refuted (ftyp-told (c .before)) (c .if3 .taken) in
     rw (framed _ (else2 .before .before .before .if1 .left) known, ftyp-refused _ bs wrong)
 
 brand-right-requires : tie.Need-brand-right-requires
@@ -87,8 +86,8 @@ returns-4 c =
     let else3 = c .before .before in
     let else2 = else3 .before .before .before in
     let (bs, known, counted) = boxes-known else2 in
-    let ftyp = sym (ftyp-told (else3 .before)) ∙ not-false _ (else3 .if3 .left) in
-    let wrong = sym (brand-told (c .before)) ∙ not-true _ (c .if4 .taken) in
+    let ftyp = upheld (ftyp-told (else3 .before)) (else3 .if3 .left) in
+    let wrong = refuted (brand-told (c .before)) (c .if4 .taken) in
     rw (framed _ (else2 .before .before .before .if1 .left) known, brand-refused _ bs ftyp wrong)
 
 box-at-requires-2 : tie.Need-box-at-requires-2
@@ -104,9 +103,9 @@ returns-5 c =
     let else3 = else4 .before .before in
     let else2 = else3 .before .before .before in
     let (bs, known, counted) = boxes-known else2 in
-    let ftyp = sym (ftyp-told (else3 .before)) ∙ not-false _ (else3 .if3 .left) in
-    let brand = sym (brand-told (else4 .before)) ∙ not-false _ (else4 .if4 .left) in
-    let wrong = sym (pfil-told (c .before)) ∙ not-true _ (c .if5 .taken) in
+    let ftyp = upheld (ftyp-told (else3 .before)) (else3 .if3 .left) in
+    let brand = upheld (brand-told (else4 .before)) (else4 .if4 .left) in
+    let wrong = refuted (pfil-told (c .before)) (c .if5 .taken) in
     rw (framed _ (else2 .before .before .before .if1 .left) known, pfil-refused _ bs ftyp brand wrong)
 
 inner-of-requires : tie.Need-inner-of-requires
@@ -126,9 +125,9 @@ returns-6 c =
     rw (framed _ (else2 .before .before .before .if1 .left) known)
     (c .inner-of .ensures bs counted (after-second .box-at2 .ensures bs known)
     (record {
-      ftyp = sym (ftyp-told (else3 .before)) ∙ not-false _ (else3 .if3 .left);
-      brand = sym (brand-told (else4 .before)) ∙ not-false _ (else4 .if4 .left);
-      pfil = sym (pfil-told (else5 .before)) ∙ not-false _ (else5 .if5 .left);
+      ftyp = upheld (ftyp-told (else3 .before)) (else3 .if3 .left);
+      brand = upheld (brand-told (else4 .before)) (else4 .if4 .left);
+      pfil = upheld (pfil-told (else5 .before)) (else5 .if5 .left);
     }))
 
 pub heading-of-spec : {M : Type 1} → statement M
