@@ -66,7 +66,7 @@ fn header_of(file: &[u8], b: Framed, inner: Tally) -> HeaderRead
 }
 
 // The parts of the box of a segment.
-pub fn parts_of(file: &[u8], b: Framed) -> PartsRead
+pub(crate) fn parts_of(file: &[u8], b: Framed) -> PartsRead
     ensures { λ r. ⌜ partsAnswer r ≡ partsIn (now (file .entry)) (boxOf b) ⌝ }
 {
     let inner = tally(file, Container::Pseg, b.body, b.end);

@@ -3,7 +3,7 @@ ghost use mathlib.Core.Path.{_≡_};
 ghost use Rattle.boxes.specs.Stored.{stored};
 
 // Writes a row from that number of the table on, if there is room for it.
-pub fn put_row(table: &mut [u64], at: usize, row: &[u64])
+pub(crate) fn put_row(table: &mut [u64], at: usize, row: &[u64])
     ensures { λ _. ⌜ now (table .exit) ≡ stored (now (table .entry)) at (now (row .entry)) ⌝ }
 {
     if table.len() < at {

@@ -23,7 +23,7 @@ fn larger(a: u64, b: u64) -> u64
 
 impl Sizes {
     // Of no segment.
-    pub fn none() -> Self
+    pub(crate) fn none() -> Self
         ensures { λ r. ⌜ r ≡ sizesOf [] ⌝ }
     {
         Sizes {
@@ -35,7 +35,7 @@ impl Sizes {
     }
 
     // With one segment more, that ends there and makes the size known or not.
-    pub fn with(self, end: u64, gives: bool) -> Self
+    pub(crate) fn with(self, end: u64, gives: bool) -> Self
         ensures { λ r. ⌜ ((ss : List Segment) (s : Segment) → self ≡ sizesOf ss → end ≡ endOf s → gives ≡ givesSize s → r ≡ sizesOf (ss ++ (s ∷ []))) ⌝ }
     {
         let mut sizes = self;
@@ -57,7 +57,7 @@ impl Sizes {
     }
 
     // 25: whether no two known sizes differ, and nothing lies above the known size.
-    pub fn agree(self) -> bool
+    pub(crate) fn agree(self) -> bool
         ensures { λ r. ⌜ ((ss : List Segment) → self ≡ sizesOf ss → r ≡ agree ss) ⌝ }
     {
         if self.known {
@@ -72,7 +72,7 @@ impl Sizes {
     }
 
     // The described length.
-    pub fn described(self) -> u64
+    pub(crate) fn described(self) -> u64
         ensures { λ r. ⌜ ((ss : List Segment) → self ≡ sizesOf ss → r ≡ describedLength ss) ⌝ }
     {
         if self.known { self.size } else { self.largest }
