@@ -1,10 +1,11 @@
 -- Laws of the data box that holds a chunk: what the tests of a box decide, and what a search has found.
 use Prim.Native.Nat.{ℕ, _+_, _≤_, _<_}
-use mathlib.Core.Bool.{Bool, true, false, _&&_}
+use mathlib.Core.Bool.{Bool, true, false, _&&_, false≢true}
 use mathlib.Core.List.{List, [], _∷_, _++_}
 use mathlib.Core.Logic.{inl, inr}
 use mathlib.Core.Path.{_≡_, refl, sym, ap, subst, _∙_}
-use native.Mathlib.Nat.{add-zero}
+use native.Mathlib.Decide.{decLe}
+use native.Mathlib.Nat.{add-zero, eq-or-lt-of-le}
 use native.Mathlib.Omega.{arith}
 use borrow.Author.Tests.{leb-true, le-leb, lt-leb, eq-eqb, ne-eqb}
 use lib.Dec.{leb}
@@ -14,13 +15,15 @@ use Rattle.boxes.specs.Framing.{Box, boxesIn, boxOf}
 use Rattle.boxes.specs.Kinds.{pdat, is, boxAt, noBox}
 use Rattle.boxes.specs.declared.framing.Framed.{Framed}
 use Rattle.boxes.specs.declared.kinds.Container.the-variants.{File}
-use Rattle.boxes.proofs.ContainerLaws.{boxes-standing}
+use Rattle.boxes.proofs.ContainerLaws.{boxes-standing, boxes-apart}
 use Rattle.boxes.proofs.KindLaws.{boxAt-getD, boxAt-first, boxAt-second, is-eqb}
+use Rattle.boxes.proofs.ToldLaws.{box-told}
 use Rattle.partial.specs.Entries.{mayLie}
 use Rattle.partial.specs.Heading.{Heading}
 use Rattle.partial.specs.Sequences.{someOf}
 use Rattle.partial.proofs.Meaning.SequenceLaws.{which, both, some-append, some-at, some-by}
 use Rattle.segment.specs.Data.{holdsChunk, Among, Searched, found, Finds}
+use Rattle.segment.specs.declared.data.Held.{Held}
 use Rattle.segment.specs.declared.data.Held.the-variants.{In, Nowhere}
 
 -- what the tests of a box decide
@@ -43,6 +46,10 @@ module _ (place size : ℕ) (b : Box) where
     pub holds-kind : is pdat b ≡ true
     unfolding holdsChunk
     holds-kind = both (is pdat b) (leb (b .body) place) (both (is pdat b && leb (b .body) place) (leb (place + size) (b .end)) holds .0) .0
+
+    holds-low : b .body ≤ place
+    unfolding holdsChunk
+    holds-low = leb-true (b .body) place (both (is pdat b) (leb (b .body) place) (both (is pdat b && leb (b .body) place) (leb (place + size) (b .end)) holds .0) .1)
 
     pub holds-whole : place + size ≤ b .end
     unfolding holdsChunk
@@ -84,6 +91,28 @@ none-past f {bs} known place size far some =
           absurd (omega (arith, stands .inside .ends))
     ]
 
+-- one box of a file at most holds a chunk, since the header of the next stands between two bodies
+module _ (f : List ℕ) {bs : List Box} (known : boxesIn File f 0 (length f) ≡ given bs) (place size : ℕ) where
+  not-later : (j k : ℕ) → j < k → k < length bs → holdsChunk place size (boxAt j bs) ≡ true → holdsChunk place size (boxAt k bs) ≡ true → ⊥
+  not-later j k h there first second =
+      let stands = boxes-standing File f 0 (length f) known k there in
+      let whole = holds-whole place size (boxAt j bs) first in
+      let low = holds-low place size (boxAt k bs) second in
+      omega (arith, stands .inside .front, boxes-apart File f 0 (length f) known j k h there)
+
+  pub one-holds : {a b : Box} → Among bs a → Among bs b → holdsChunk place size a ≡ true → holdsChunk place size b ≡ true → a ≡ b
+  one-holds {a} {b} x y first second =
+      let one = rw (← x .same) at first in
+      let other = rw (← y .same) at second in
+      elim (decLe (y .number) (x .number)) [
+        | no less ↦ absurd (not-later (x .number) (y .number) (omega arith) (y .there) one other)
+        | yes most ↦
+            elim (eq-or-lt-of-le most) [
+              | inl same ↦ sym (x .same) ∙ ap (λ n. boxAt n bs) (sym same) ∙ y .same
+              | inr more ↦ absurd (not-later (y .number) (x .number) more (x .there) other one)
+            ]
+      ]
+
 -- what a search has found
 module _ {f : List ℕ} {last : Box} {place size : ℕ} where
   pub finds-box : (b : Framed) → holdsChunk place size (boxOf b) ≡ true → ((bs : List Box) → Searched f last bs → Among bs (boxOf b)) → Finds f last place size (In b)
@@ -93,9 +122,9 @@ module _ {f : List ℕ} {last : Box} {place size : ℕ} where
         answer = λ h p state.
             let a = among (h .boxes) p in
             sym (lies-some h state place size ∙ some-by (holdsChunk place size) noBox (h .boxes) (a .number) (a .there) (ap (holdsChunk place size) (sym (boxAt-getD (a .number) (h .boxes)) ∙ a .same) ∙ holds));
-        kind = λ {b = b′} e.
+        holds = λ {b = b′} e.
             let same : b ≡ b′ = cc in
-            subst (λ b. is pdat (boxOf b) ≡ true) same (holds-kind place size (boxOf b) holds);
+            subst (λ (b : Framed). holdsChunk place size (boxOf b) ≡ true) same holds;
         onward = λ h p {b = b′} e.
             let same : b ≡ b′ = cc in
             subst (λ b. Searched f (boxOf b) (h .boxes)) same (record { boxes = p .boxes; known = λ _. among (h .boxes) p });
@@ -106,8 +135,21 @@ module _ {f : List ℕ} {last : Box} {place size : ℕ} where
   finds-none none =
       record {
         answer = λ h p state. sym (lies-some h state place size ∙ none (h .boxes) p);
-        kind = λ e. cc;
+        holds = λ e. cc;
         onward = λ h p e.
             let z : _≡_ {A = ℕ} 0 1 = cc in
             absurd (omega arith);
       }
+
+  -- two searches find the same box
+  pub one-found : (h : Heading) → Searched f last (h .boxes) → (x y : Held) → Finds f last place size x → Finds f last place size y → x ≡ y
+  unfolding found
+  one-found h known (In a) (In b) p q =
+      let first = p .holds refl in
+      let second = q .holds refl in
+      let among = p .onward h known refl .known (holds-kind place size (boxOf a) first) in
+      let among′ = q .onward h known refl .known (holds-kind place size (boxOf b) second) in
+      ap In (box-told a b (one-holds f (known .boxes) place size among among′ first second))
+  one-found h known (In a) Nowhere p q = absurd (false≢true (sym (p .answer h known 0 ∙ sym (q .answer h known 0))))
+  one-found h known Nowhere (In b) p q = absurd (false≢true (p .answer h known 0 ∙ sym (q .answer h known 0)))
+  one-found h known Nowhere Nowhere p q = refl

@@ -35,8 +35,8 @@ unfoldable pub found : Held → Bool
 found (In b) = true
 found Nowhere = false
 
--- what a search finds: a box exactly where a chunk may lie, and then a data box of the file
+-- what a search finds: a box exactly where a chunk may lie, and then the data box of the file that holds it
 pub record Finds (f : List ℕ) (last : Box) (place size : ℕ) (r : Held) : Type 0 where
   pub answer : (h : Heading) → Searched f last (h .boxes) → (state : ℕ) → found r ≡ mayLie h state place size
-  pub kind : {b : Framed} → r ≡ In b → is pdat (boxOf b) ≡ true
+  pub holds : {b : Framed} → r ≡ In b → holdsChunk place size (boxOf b) ≡ true
   pub onward : (h : Heading) → Searched f last (h .boxes) → {b : Framed} → r ≡ In b → Searched f (boxOf b) (h .boxes)
