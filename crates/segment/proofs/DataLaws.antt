@@ -22,7 +22,7 @@ use Rattle.partial.specs.Entries.{mayLie}
 use Rattle.partial.specs.Heading.{Heading}
 use Rattle.partial.specs.Sequences.{someOf}
 use Rattle.partial.proofs.Meaning.SequenceLaws.{which, both, some-append, some-at, some-by}
-use Rattle.segment.specs.Data.{holdsChunk, Among, Searched, found, Finds}
+use Rattle.segment.specs.Data.{holdsChunk, Among, Searched, found, Finds, Onward}
 use Rattle.segment.specs.declared.data.Held.{Held}
 use Rattle.segment.specs.declared.data.Held.the-variants.{In, Nowhere}
 
@@ -153,3 +153,14 @@ module _ {f : List ℕ} {last : Box} {place size : ℕ} where
   one-found h known (In a) Nowhere p q = absurd (false≢true (sym (p .answer h known 0 ∙ sym (q .answer h known 0))))
   one-found h known Nowhere (In b) p q = absurd (false≢true (p .answer h known 0 ∙ sym (q .answer h known 0)))
   one-found h known Nowhere Nowhere p q = refl
+
+-- after the same chunk the same box is to be looked at first
+pub one-onward : {f : List ℕ} {last : Box} {bs : List Box} {placed : Bool} {place size : ℕ} (a b : Framed) → Onward f last bs placed place size (boxOf a) → Onward f last bs placed place size (boxOf b) → a ≡ b
+one-onward {f} {placed = placed} {place} {size} a b x y =
+    elim (which placed) [
+      | inl e ↦
+          let among = x .known .known (holds-kind place size (boxOf a) (x .holds e)) in
+          let among′ = y .known .known (holds-kind place size (boxOf b) (y .holds e)) in
+          box-told a b (one-holds f (x .known .boxes) place size among among′ (x .holds e) (y .holds e))
+      | inr e ↦ box-told a b (x .kept e ∙ sym (y .kept e))
+    ]

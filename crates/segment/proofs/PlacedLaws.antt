@@ -1,9 +1,9 @@
 -- Laws of a chunk's place: what an offset reaches, and what decides the place of an entry's chunk.
 use Prim.Native.Nat.{ℕ, _+_, _-_, _^_, _≤_, _<_}
-use mathlib.Core.Bool.{true, false}
+use mathlib.Core.Bool.{true, false, false≢true}
 use mathlib.Core.List.{List}
 use mathlib.Core.Option.{Option, none, some}
-use mathlib.Core.Path.{_≡_, refl, sym, ap, subst, _∙_}
+use mathlib.Core.Path.{_≡_, refl, sym, ap, ap₂, subst, _∙_}
 use native.Mathlib.Omega.{arith}
 use borrow.Author.Tests.{ltb-true, lt-ltb, le-leb, lt-leb}
 use lib.Dec.{ltb}
@@ -14,18 +14,20 @@ use Rattle.boxes.specs.declared.framing.Framed.{Framed}
 use Rattle.boxes.specs.declared.numbers.Offset.{Offset}
 use Rattle.boxes.specs.declared.numbers.Offset.the-variants.{Ahead, Back}
 use Rattle.boxes.specs.declared.place.Place.{Place}
+use Rattle.boxes.proofs.AnswerLaws.{given-same}
 use Rattle.partial.specs.Entries.{Entry, mayLie, offsetPlace, placeOf}
 use Rattle.partial.specs.Heading.{Heading}
 use Rattle.partial.specs.Segments.{present, hasPlace}
 use Rattle.partial.proofs.Meaning.SequenceLaws.{both}
-use Rattle.segment.specs.Data.{Searched, found, Finds}
+use Rattle.segment.specs.Data.{Searched, found, Finds, Onward}
 use Rattle.segment.specs.Placed.{Reaches, placeAnswer, Places}
 use Rattle.segment.specs.declared.data.Held.{Held}
 use Rattle.segment.specs.declared.data.Held.the-variants as Held
+use Rattle.segment.specs.declared.placed.Placed.{Placed}
 use Rattle.segment.specs.declared.placed.Placed.the-variants.{Refused, At}
 use Rattle.segment.specs.declared.placed.Reached.{Reached}
 use Rattle.segment.specs.declared.placed.Reached.the-variants as Reached
-use Rattle.segment.proofs.DataLaws.{lies-some, none-past}
+use Rattle.segment.proofs.DataLaws.{lies-some, none-past, one-onward}
 
 -- what an offset reaches
 module _ (pseg : ℕ) {z : Offset} where
@@ -102,21 +104,28 @@ module _ {f : List ℕ} {last : Box} {pseg : ℕ} {e : Entry} where
       }
 
   places-box : {place : Place} {b : Framed} → ((h : Heading) → Searched f last (h .boxes) → placeOf h pseg e ≡ given (place .0))
-      → ((h : Heading) → Searched f last (h .boxes) → Searched f (boxOf b) (h .boxes))
+      → ((h : Heading) → Searched f last (h .boxes) → Onward f last (h .boxes) (hasPlace (e .state) (e .size)) (place .0) (e .size) (boxOf b))
       → Places f last pseg e (At place b)
   unfolding placeAnswer
   places-box {place} {b} at onward =
       record {
         answer = λ h p. sym (at h p);
-        onward = λ h p {b = b′} e.
+        onward = λ h p {place = place′} {b = b′} s.
+            let there : place ≡ place′ = cc in
             let same : b ≡ b′ = cc in
-            subst (λ (b : Framed). Searched f (boxOf b) (h .boxes)) same (onward h p);
+            subst (λ (q : Place). Onward f last (h .boxes) (hasPlace (e .state) (e .size)) (q .0) (e .size) (boxOf b′)) there
+            (subst (λ (b : Framed). Onward f last (h .boxes) (hasPlace (e .state) (e .size)) (place .0) (e .size) (boxOf b)) same (onward h p));
       }
 
   -- a chunk with no place
   pub places-none : {b : Framed} → last ≡ boxOf b → hasPlace (e .state) (e .size) ≡ false → Places f last pseg e (At (record { 0 = 0 }) b)
   unfolding placeOf
-  places-none same placeless = places-box (λ h p. simp (placeOf, placeless)) (λ h p. subst (λ (b : Box). Searched f b (h .boxes)) same p)
+  places-none same placeless = places-box (λ h p. simp (placeOf, placeless))
+      (λ h p. record {
+        known = subst (λ (b : Box). Searched f b (h .boxes)) same p;
+        holds = λ has. absurd (false≢true (sym placeless ∙ has));
+        kept = λ _. sym same;
+      })
 
   module _ (has : hasPlace (e .state) (e .size) ≡ true) where
     -- a chunk past every place
@@ -148,4 +157,26 @@ module _ {f : List ℕ} {last : Box} {pseg : ℕ} {e : Entry} where
           let lies : mayLie h (e .state) n (e .size) ≡ true = sym (finds .answer h p (e .state)) ∙ ap found held in
           let here : placeOf h pseg e ≡ given n = simp (placeOf, has, at, lies) in
           here ∙ ap given same)
-          (λ h p. finds .onward h p held)
+          (λ h p. record {
+            known = finds .onward h p held;
+            holds = λ _. rw (← same) (finds .holds held);
+            kept = λ placeless. absurd (false≢true (sym placeless ∙ has));
+          })
+
+  -- two answers about a chunk's place are the same
+  pub one-placed : (h : Heading) → Searched f last (h .boxes) → (x y : Placed) → Places f last pseg e x → Places f last pseg e y → x ≡ y
+  unfolding placeAnswer
+  one-placed h p (Refused n) (Refused m) u v =
+      let same = u .answer h p ∙ sym (v .answer h p) in
+      cc
+  one-placed h p (Refused n) (At r b) u v =
+      let same = u .answer h p ∙ sym (v .answer h p) in
+      cc
+  one-placed h p (At q a) (Refused m) u v =
+      let same = u .answer h p ∙ sym (v .answer h p) in
+      cc
+  one-placed h p (At q a) (At r b) u v =
+      let same = given-same (u .answer h p ∙ sym (v .answer h p)) in
+      let place : q ≡ r = λ i. record { 0 = same i } in
+      ap₂ At place
+      (one-onward a b (u .onward h p refl) (subst (λ (p : Place). Onward f last (h .boxes) (hasPlace (e .state) (e .size)) (p .0) (e .size) (boxOf b)) (sym place) (v .onward h p refl)))

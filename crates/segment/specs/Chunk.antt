@@ -7,8 +7,8 @@ use Rattle.boxes.specs.Framing.{boxOf}
 use Rattle.partial.specs.Entries.{Ploc, Cursor, chunkStep}
 use Rattle.partial.specs.Heading.{Heading}
 use Rattle.partial.specs.Limits.{sourceLimit}
-use Rattle.partial.specs.Segments.{Chunk}
-use Rattle.segment.specs.Data.{Searched}
+use Rattle.partial.specs.Segments.{Chunk, hasPlace}
+use Rattle.segment.specs.Data.{Searched, Onward}
 use Rattle.segment.specs.declared.chunk.Chunk.{Chunk as CodeChunk}
 use Rattle.segment.specs.declared.chunk.Cursor.{Cursor as CodeCursor}
 use Rattle.segment.specs.declared.chunk.ChunkStep.{ChunkStep}
@@ -27,7 +27,8 @@ unfoldable pub chunkAnswer : ChunkStep → Answer (Chunk × Cursor)
 chunkAnswer (Refused n) = refused n
 chunkAnswer (Given chunk next) = given (chunkOf chunk, cursorOf next)
 
--- a cursor's step, and a box that may be looked at first in the next one
+-- a cursor's step, and the box to be looked at first in the next one
 pub record Steps (f : List ℕ) (pseg : ℕ) (l : Ploc) (c : CodeCursor) (r : ChunkStep) : Type 0 where
   pub answer : (h : Heading) → Searched f (boxOf (c .last)) (h .boxes) → chunkAnswer r ≡ chunkStep sourceLimit f h pseg l (cursorOf c)
-  pub onward : (h : Heading) → Searched f (boxOf (c .last)) (h .boxes) → {chunk : CodeChunk} {next : CodeCursor} → r ≡ Given chunk next → Searched f (boxOf (next .last)) (h .boxes)
+  pub onward : (h : Heading) → Searched f (boxOf (c .last)) (h .boxes) → {chunk : CodeChunk} {next : CodeCursor} → r ≡ Given chunk next
+      → Onward f (boxOf (c .last)) (h .boxes) (hasPlace (chunk .state) (chunk .size)) (chunk .place .0) (chunk .size) (boxOf (next .last))

@@ -40,3 +40,9 @@ pub record Finds (f : List ℕ) (last : Box) (place size : ℕ) (r : Held) : Typ
   pub answer : (h : Heading) → Searched f last (h .boxes) → (state : ℕ) → found r ≡ mayLie h state place size
   pub holds : {b : Framed} → r ≡ In b → holdsChunk place size (boxOf b) ≡ true
   pub onward : (h : Heading) → Searched f last (h .boxes) → {b : Framed} → r ≡ In b → Searched f (boxOf b) (h .boxes)
+
+-- the box to be looked at first after a chunk: the one that holds it; where the chunk has no place, the one before
+pub record Onward (f : List ℕ) (last : Box) (bs : List Box) (placed : Bool) (place size : ℕ) (next : Box) : Type 0 where
+  pub known : Searched f next bs
+  pub holds : placed ≡ true → holdsChunk place size next ≡ true
+  pub kept : placed ≡ false → next ≡ last

@@ -10,7 +10,8 @@ use Rattle.boxes.specs.declared.numbers.Offset.{Offset}
 use Rattle.boxes.specs.declared.place.Place.{Place}
 use Rattle.partial.specs.Entries.{Entry, offsetPlace, placeOf}
 use Rattle.partial.specs.Heading.{Heading}
-use Rattle.segment.specs.Data.{Searched}
+use Rattle.partial.specs.Segments.{hasPlace}
+use Rattle.segment.specs.Data.{Searched, Onward}
 use Rattle.segment.specs.declared.placed.Placed.{Placed}
 use Rattle.segment.specs.declared.placed.Placed.the-variants as Placed
 use Rattle.segment.specs.declared.placed.Reached.{Reached}
@@ -26,7 +27,8 @@ unfoldable pub placeAnswer : Placed → Answer ℕ
 placeAnswer (Placed.Refused n) = refused n
 placeAnswer (Placed.At place b) = given (place .0)
 
--- the place of an entry's chunk, and a box that may be looked at first in the next search
+-- the place of an entry's chunk, and the box to be looked at first after it
 pub record Places (f : List ℕ) (last : Box) (pseg : ℕ) (e : Entry) (r : Placed) : Type 0 where
   pub answer : (h : Heading) → Searched f last (h .boxes) → placeAnswer r ≡ placeOf h pseg e
-  pub onward : (h : Heading) → Searched f last (h .boxes) → {place : Place} {b : Framed} → r ≡ Placed.At place b → Searched f (boxOf b) (h .boxes)
+  pub onward : (h : Heading) → Searched f last (h .boxes) → {place : Place} {b : Framed} → r ≡ Placed.At place b
+      → Onward f last (h .boxes) (hasPlace (e .state) (e .size)) (place .0) (e .size) (boxOf b)
