@@ -96,6 +96,14 @@ filled-standing (next short read rest) (suc k) h =
     let inside = header-inside _ _ _ read in
     further (omega arith) (filled-standing rest k (omega arith))
 
+-- a box that comes later starts where an earlier one ends, or further on
+filled-apart : {s : List ℕ} {end at : ℕ} {bs : List Box} → Filled s end at bs → (j k : ℕ) → j < k → k < length bs → boxAt j bs .end ≤ boxAt k bs .at
+unfolding boxAt
+filled-apart (full e) j k h l = absurd (omega arith)
+filled-apart (next short read rest) j zero h l = absurd (omega arith)
+filled-apart (next short read rest) zero (suc k) h l = filled-standing rest k (omega arith) .low
+filled-apart (next short read rest) (suc j) (suc k) h l = filled-apart rest j k (omega arith) (omega arith)
+
 module _ (c : Container) where
   -- where as many boxes are allowed as fill the container, they are given; where fewer are, it is 6
   pub within : {s : List ℕ} {end at : ℕ} {bs : List Box} → Filled s end at bs → (more : ℕ) → length bs ≤ more → boxesFrom c s end more at ≡ given bs
@@ -168,6 +176,11 @@ module _ (c : Container) (s : List ℕ) (start end : ℕ) where
     pub boxes-standing : (k : ℕ) → k < length bs → Standing s start end (boxAt k bs)
     unfolding boxesIn
     boxes-standing = filled-standing (fills c s end boxLimit start known .boxes)
+
+    -- and one that comes later starts where an earlier one ends, or further on
+    pub boxes-apart : (j k : ℕ) → j < k → k < length bs → boxAt j bs .end ≤ boxAt k bs .at
+    unfolding boxesIn
+    boxes-apart = filled-apart (fills c s end boxLimit start known .boxes)
 
 -- the boxes are the same where the same bytes stand so many bytes further on
 module _ (c : Container) (s t : List ℕ) (n end : ℕ) (same : (i : ℕ) → i < end → getD t (n + i) 0 ≡ getD s i 0) where

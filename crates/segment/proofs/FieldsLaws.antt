@@ -1,16 +1,19 @@
--- Laws of the fields of a `pshd`: what the version decides, and what the tests of the body decide.
+-- Laws of the fields of a `pshd`: what the version decides, what the tests of the body decide, and what each answer says.
 use Prim.Native.Nat.{ℕ, _+_, _-_, _≤_, min}
 use mathlib.Core.Bool.{Bool, true, false}
 use mathlib.Core.List.{List}
-use mathlib.Core.Path.{_≡_, refl}
+use mathlib.Core.Path.{_≡_, refl, sym, ap, _∙_}
 use native.Mathlib.Omega.{arith}
 use borrow.Author.Tests.{eq-eqb, ne-eqb}
 use lib.Dec.{eqb}
-use Rattle.boxes.specs.Answer.{refused, given}
+use Rattle.boxes.specs.Answer.{Answer, refused, given}
 use Rattle.boxes.specs.Numbers.{number}
 use Rattle.boxes.specs.Framing.{Box}
 use Rattle.partial.specs.Reading.{offsetWidth, pshdFields}
-use Rattle.segment.specs.Fields.{fieldsOf}
+use Rattle.segment.specs.Fields.{fieldsOf, fieldsAnswer}
+use Rattle.segment.specs.declared.fields.Fields.{Fields}
+use Rattle.segment.specs.declared.fields.FieldsRead.{FieldsRead}
+use Rattle.segment.specs.declared.fields.FieldsRead.the-variants.{Refused, Given}
 
 -- the bytes of `source_byte_offset`
 module _ (version : ℕ) where
@@ -43,3 +46,13 @@ module _ (f : List ℕ) (b : Box) {width : ℕ} (read : width ≡ offsetWidth (n
       let narrow : min width 8 ≡ width = omega (arith, width-most (number f (b .body) 1)) in
       let last : b .end - 8 ≡ b .body + 4 + width = omega arith in
       simp (fieldsOf, pshdFields, ← read, eq-eqb (b .body + 4 + width + 8) (b .end) h, flags, offset, repair, narrow, last)
+
+-- what each answer about fields says
+module _ {r : FieldsRead} {x : Answer Fields} (answer : fieldsAnswer r ≡ x) where
+  pub fields-given : {p : Fields} → r ≡ Given p → x ≡ given p
+  unfolding fieldsAnswer
+  fields-given e = sym answer ∙ ap fieldsAnswer e
+
+  pub fields-refused : {n : ℕ} → r ≡ Refused n → x ≡ refused n
+  unfolding fieldsAnswer
+  fields-refused e = sym answer ∙ ap fieldsAnswer e

@@ -1,8 +1,8 @@
--- Laws of the head of a `ploc`: what each test of it decides.
+-- Laws of the head of a `ploc`: what each test of it decides, and what each answer says.
 use Prim.Native.Nat.{ℕ, _+_, _/_, _%_, _≤_, _<_, min}
 use mathlib.Core.Bool.{true, false, _&&_}
 use mathlib.Core.List.{List}
-use mathlib.Core.Path.{_≡_, ap, _∙_}
+use mathlib.Core.Path.{_≡_, sym, ap, _∙_}
 use native.Mathlib.Omega.{arith}
 use borrow.Author.Tests.{leb-true, le-leb, lt-leb, eq-eqb, ne-eqb}
 use lib.Dec.{leb, eqb}
@@ -12,8 +12,10 @@ use Rattle.boxes.specs.Framing.{Box}
 use Rattle.boxes.proofs.AnswerLaws.{given-same, held}
 use Rattle.partial.specs.Entries.{Ploc, plocHead}
 use Rattle.partial.proofs.Meaning.SequenceLaws.{both}
-use Rattle.segment.specs.Location.{headOf, plocOf}
+use Rattle.segment.specs.Location.{headOf, plocOf, locationAnswer}
 use Rattle.segment.specs.declared.location.Location.{Location}
+use Rattle.segment.specs.declared.location.LocationRead.{LocationRead}
+use Rattle.segment.specs.declared.location.LocationRead.the-variants.{Refused, Given}
 
 -- the head with those widths
 abbrev headWith : List ℕ → Box → ℕ → Ploc
@@ -52,7 +54,7 @@ module _ (f : List ℕ) (b : Box) where
           head-given h counted = narrow ∙ rw (eq-eqb index 0 h, counted)
 
 -- the widths of a head that was read count as they are
-pub head-read : (f : List ℕ) (b : Box) (l : Location) → plocHead f b ≡ given (headOf l) → plocHead f b ≡ given (plocOf l)
+head-read : (f : List ℕ) (b : Box) (l : Location) → plocHead f b ≡ given (headOf l) → plocHead f b ≡ given (plocOf l)
 unfolding plocHead
 head-read f b l h =
     let widths = number f (b .body + 4) 1 in
@@ -64,3 +66,13 @@ head-read f b l h =
     let length : min (l .«length_size») 8 ≡ l .«length_size» = omega (arith, leb-true (widths / 16) 8 (narrow .0), ap (λ p. p .lengthSize) same) in
     let offset : min (l .«offset_size») 8 ≡ l .«offset_size» = omega (arith, leb-true (widths % 16) 8 (narrow .1), ap (λ p. p .offsetSize) same) in
     rw (length, offset) h
+
+-- what each answer about a head says
+module _ (f : List ℕ) (b : Box) {r : LocationRead} (answer : locationAnswer r ≡ plocHead f b) where
+  pub location-given : {l : Location} → r ≡ Given l → plocHead f b ≡ given (plocOf l)
+  unfolding locationAnswer
+  location-given {l} e = head-read f b l (sym answer ∙ ap locationAnswer e)
+
+  pub location-refused : {n : ℕ} → r ≡ Refused n → plocHead f b ≡ refused n
+  unfolding locationAnswer
+  location-refused e = sym answer ∙ ap locationAnswer e

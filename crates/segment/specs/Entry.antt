@@ -7,7 +7,7 @@ use Rattle.boxes.specs.Answer.{Answer, refused, given, _>>=_, hold}
 use Rattle.boxes.specs.Numbers.{number, signed}
 use Rattle.partial.specs.Segments.{present}
 use Rattle.partial.specs.Entries.{Ploc, Entry}
-use Rattle.segment.specs.declared.entry.Entry as code
+use Rattle.segment.specs.declared.entry.Entry.{Entry as CodeEntry}
 use Rattle.segment.specs.declared.entry.EntryRead.{EntryRead}
 use Rattle.segment.specs.declared.entry.EntryRead.the-variants.{Refused, Given}
 
@@ -24,7 +24,7 @@ entryRest f l at state = do
   given (record { state = state; size = number f (at + 1) (l .lengthSize); offset = signed width (number f rest width); next = rest + width })
 
 -- what an entry that was read says
-abbrev pub entryOf : code.Entry → Entry
+abbrev pub entryOf : CodeEntry → Entry
 entryOf e = record { state = e .state; size = e .size; offset = e .offset; next = e .next .0 }
 
 -- what an answer about an entry says

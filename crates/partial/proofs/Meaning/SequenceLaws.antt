@@ -1,6 +1,6 @@
 -- Laws of a test's two values, of `within`, and of what is said of a list: some or all pass a test, the largest.
 use Prim.Native.Nat.{ℕ, zero, suc, _+_, _≤_, _<_}
-use mathlib.Core.Bool.{Bool, true, false, _&&_, _||_, and-false, and-assoc, or-assoc, false≢true}
+use mathlib.Core.Bool.{Bool, true, false, _&&_, _||_, and-false, and-assoc, or-assoc, or-true, false≢true}
 use mathlib.Core.List.{List, [], _∷_, _++_, map}
 use mathlib.Core.Logic.{_⊎_, inl, inr}
 use mathlib.Core.Path.{_≡_, refl, sym, ap, _∙_}
@@ -66,6 +66,12 @@ module _ {A : Type 0} where
             let (k, less, there) = some-at test d xs (rw e at h) in
             (suc k, omega arith, there)
       ]
+
+  pub some-by : (test : A → Bool) (d : A) (xs : List A) (k : ℕ) → k < length xs → test (getD xs k d) ≡ true → someOf test xs ≡ true
+  unfolding someOf
+  some-by test d [] k l h = absurd (omega arith)
+  some-by test d (x ∷ xs) zero l h = rw h
+  some-by test d (x ∷ xs) (suc k) l h = rw (some-by test d xs k (omega arith) h, or-true)
 
   pub all-at : (test : A → Bool) (d : A) (xs : List A) → allOf test xs ≡ true → (k : ℕ) → k < length xs → test (getD xs k d) ≡ true
   unfolding allOf

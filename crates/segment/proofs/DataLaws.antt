@@ -1,0 +1,166 @@
+-- Laws of the data box that holds a chunk: what the tests of a box decide, and what a search has found.
+use Prim.Native.Nat.{ℕ, _+_, _≤_, _<_}
+use mathlib.Core.Bool.{Bool, true, false, _&&_, false≢true}
+use mathlib.Core.List.{List, [], _∷_, _++_}
+use mathlib.Core.Logic.{inl, inr}
+use mathlib.Core.Path.{_≡_, refl, sym, ap, subst, _∙_}
+use native.Mathlib.Decide.{decLe}
+use native.Mathlib.Nat.{add-zero, eq-or-lt-of-le}
+use native.Mathlib.Omega.{arith}
+use borrow.Author.Tests.{leb-true, le-leb, lt-leb, eq-eqb, ne-eqb}
+use lib.Dec.{leb}
+use lib.ListN.{length, length-append}
+use Rattle.boxes.specs.Answer.{given}
+use Rattle.boxes.specs.Framing.{Box, boxesIn, boxOf}
+use Rattle.boxes.specs.Kinds.{pdat, is, boxAt, noBox}
+use Rattle.boxes.specs.declared.framing.Framed.{Framed}
+use Rattle.boxes.specs.declared.kinds.Container.the-variants.{File}
+use Rattle.boxes.proofs.ContainerLaws.{boxes-standing, boxes-apart}
+use Rattle.boxes.proofs.KindLaws.{boxAt-getD, boxAt-first, boxAt-second, is-eqb}
+use Rattle.boxes.proofs.ToldLaws.{box-told}
+use Rattle.partial.specs.Entries.{mayLie}
+use Rattle.partial.specs.Heading.{Heading}
+use Rattle.partial.specs.Sequences.{someOf}
+use Rattle.partial.proofs.Meaning.SequenceLaws.{which, both, some-append, some-at, some-by}
+use Rattle.segment.specs.Data.{holdsChunk, Among, Searched, found, Finds, Onward}
+use Rattle.segment.specs.declared.data.Held.{Held}
+use Rattle.segment.specs.declared.data.Held.the-variants.{In, Nowhere}
+
+-- what the tests of a box decide
+module _ (place size : ℕ) (b : Box) where
+  pub holds-other : (b .kind ≡ pdat .code → ⊥) → holdsChunk place size b ≡ false
+  unfolding holdsChunk
+  holds-other h = simp (holdsChunk, is-eqb, ne-eqb (b .kind) (pdat .code) h)
+
+  module _ (kind : b .kind ≡ pdat .code) where
+    pub holds-before : place < b .body → holdsChunk place size b ≡ false
+    unfolding holdsChunk
+    holds-before h = simp (holdsChunk, is-eqb, eq-eqb (b .kind) (pdat .code) kind, lt-leb (b .body) place h)
+
+    pub holds-end : b .body ≤ place → holdsChunk place size b ≡ leb (place + size) (b .end)
+    unfolding holdsChunk
+    holds-end h = simp (holdsChunk, is-eqb, eq-eqb (b .kind) (pdat .code) kind, le-leb (b .body) place h)
+
+  -- what holds a chunk is a `pdat`, and does not end before it
+  module _ (holds : holdsChunk place size b ≡ true) where
+    pub holds-kind : is pdat b ≡ true
+    unfolding holdsChunk
+    holds-kind = both (is pdat b) (leb (b .body) place) (both (is pdat b && leb (b .body) place) (leb (place + size) (b .end)) holds .0) .0
+
+    holds-low : b .body ≤ place
+    unfolding holdsChunk
+    holds-low = leb-true (b .body) place (both (is pdat b) (leb (b .body) place) (both (is pdat b && leb (b .body) place) (leb (place + size) (b .end)) holds .0) .1)
+
+    pub holds-whole : place + size ≤ b .end
+    unfolding holdsChunk
+    holds-whole = leb-true (place + size) (b .end) (both (is pdat b && leb (b .body) place) (leb (place + size) (b .end)) holds .1)
+
+-- a box after some others is among all
+pub among-passed : (bs more : List Box) (b : Box) {all : List Box} → all ≡ (bs ++ (b ∷ [])) ++ more → Among all b
+among-passed bs more b {all} e =
+    let short : length bs < length (bs ++ (b ∷ [])) = simp length-append (omega arith) in
+    record {
+      number = length bs;
+      there = rw e (simp length-append (omega arith));
+      same =
+          rw e
+          (boxAt-first (bs ++ (b ∷ [])) more (length bs) short
+          ∙ simp add-zero at (boxAt-second bs (b ∷ []) 0)
+          ∙ boxAt-getD 0 (b ∷ []));
+    }
+
+-- where none holds a chunk, and one more does not, none does
+pub none-passed : (test : Box → Bool) (bs : List Box) (b : Box) → someOf test bs ≡ false → test b ≡ false → someOf test (bs ++ (b ∷ [])) ≡ false
+unfolding someOf
+none-passed test bs b none other = some-append test bs (b ∷ []) ∙ rw (none, other)
+
+-- a chunk may lie where a box holds it
+pub lies-some : (h : Heading) (state place size : ℕ) → mayLie h state place size ≡ someOf (holdsChunk place size) (h .boxes)
+unfolding mayLie holdsChunk
+lies-some h state place size = refl
+
+-- no box holds a chunk past the file's end
+pub none-past : (f : List ℕ) {bs : List Box} → boxesIn File f 0 (length f) ≡ given bs → (place size : ℕ) → length f ≤ place → 0 < size → someOf (holdsChunk place size) bs ≡ false
+none-past f {bs} known place size far some =
+    elim (which (someOf (holdsChunk place size) bs)) [
+      | inr e ↦ e
+      | inl e ↦
+          let (k, there, holds) = some-at (holdsChunk place size) noBox bs e in
+          let stands = boxes-standing File f 0 (length f) known k there in
+          let whole = holds-whole place size (boxAt k bs) (rw boxAt-getD holds) in
+          absurd (omega (arith, stands .inside .ends))
+    ]
+
+-- one box of a file at most holds a chunk, since the header of the next stands between two bodies
+module _ (f : List ℕ) {bs : List Box} (known : boxesIn File f 0 (length f) ≡ given bs) (place size : ℕ) where
+  not-later : (j k : ℕ) → j < k → k < length bs → holdsChunk place size (boxAt j bs) ≡ true → holdsChunk place size (boxAt k bs) ≡ true → ⊥
+  not-later j k h there first second =
+      let stands = boxes-standing File f 0 (length f) known k there in
+      let whole = holds-whole place size (boxAt j bs) first in
+      let low = holds-low place size (boxAt k bs) second in
+      omega (arith, stands .inside .front, boxes-apart File f 0 (length f) known j k h there)
+
+  pub one-holds : {a b : Box} → Among bs a → Among bs b → holdsChunk place size a ≡ true → holdsChunk place size b ≡ true → a ≡ b
+  one-holds {a} {b} x y first second =
+      let one = rw (← x .same) at first in
+      let other = rw (← y .same) at second in
+      elim (decLe (y .number) (x .number)) [
+        | no less ↦ absurd (not-later (x .number) (y .number) (omega arith) (y .there) one other)
+        | yes most ↦
+            elim (eq-or-lt-of-le most) [
+              | inl same ↦ sym (x .same) ∙ ap (λ n. boxAt n bs) (sym same) ∙ y .same
+              | inr more ↦ absurd (not-later (y .number) (x .number) more (x .there) other one)
+            ]
+      ]
+
+-- what a search has found
+module _ {f : List ℕ} {last : Box} {place size : ℕ} where
+  pub finds-box : (b : Framed) → holdsChunk place size (boxOf b) ≡ true → ((bs : List Box) → Searched f last bs → Among bs (boxOf b)) → Finds f last place size (In b)
+  unfolding found
+  finds-box b holds among =
+      record {
+        answer = λ h p state.
+            let a = among (h .boxes) p in
+            sym (lies-some h state place size ∙ some-by (holdsChunk place size) noBox (h .boxes) (a .number) (a .there) (ap (holdsChunk place size) (sym (boxAt-getD (a .number) (h .boxes)) ∙ a .same) ∙ holds));
+        holds = λ {b = b′} e.
+            let same : b ≡ b′ = cc in
+            subst (λ (b : Framed). holdsChunk place size (boxOf b) ≡ true) same holds;
+        onward = λ h p {b = b′} e.
+            let same : b ≡ b′ = cc in
+            subst (λ b. Searched f (boxOf b) (h .boxes)) same (record { boxes = p .boxes; known = λ _. among (h .boxes) p });
+      }
+
+  pub finds-none : ((bs : List Box) → Searched f last bs → someOf (holdsChunk place size) bs ≡ false) → Finds f last place size Nowhere
+  unfolding found
+  finds-none none =
+      record {
+        answer = λ h p state. sym (lies-some h state place size ∙ none (h .boxes) p);
+        holds = λ e. cc;
+        onward = λ h p e.
+            let z : _≡_ {A = ℕ} 0 1 = cc in
+            absurd (omega arith);
+      }
+
+  -- two searches find the same box
+  pub one-found : (h : Heading) → Searched f last (h .boxes) → (x y : Held) → Finds f last place size x → Finds f last place size y → x ≡ y
+  unfolding found
+  one-found h known (In a) (In b) p q =
+      let first = p .holds refl in
+      let second = q .holds refl in
+      let among = p .onward h known refl .known (holds-kind place size (boxOf a) first) in
+      let among′ = q .onward h known refl .known (holds-kind place size (boxOf b) second) in
+      ap In (box-told a b (one-holds f (known .boxes) place size among among′ first second))
+  one-found h known (In a) Nowhere p q = absurd (false≢true (sym (p .answer h known 0 ∙ sym (q .answer h known 0))))
+  one-found h known Nowhere (In b) p q = absurd (false≢true (p .answer h known 0 ∙ sym (q .answer h known 0)))
+  one-found h known Nowhere Nowhere p q = refl
+
+-- after the same chunk the same box is to be looked at first
+pub one-onward : {f : List ℕ} {last : Box} {bs : List Box} {placed : Bool} {place size : ℕ} (a b : Framed) → Onward f last bs placed place size (boxOf a) → Onward f last bs placed place size (boxOf b) → a ≡ b
+one-onward {f} {placed = placed} {place} {size} a b x y =
+    elim (which placed) [
+      | inl e ↦
+          let among = x .known .known (holds-kind place size (boxOf a) (x .holds e)) in
+          let among′ = y .known .known (holds-kind place size (boxOf b) (y .holds e)) in
+          box-told a b (one-holds f (x .known .boxes) place size among among′ (x .holds e) (y .holds e))
+      | inr e ↦ box-told a b (x .kept e ∙ sym (y .kept e))
+    ]

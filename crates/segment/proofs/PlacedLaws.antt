@@ -1,0 +1,182 @@
+-- Laws of a chunk's place: what an offset reaches, and what decides the place of an entry's chunk.
+use Prim.Native.Nat.{ℕ, _+_, _-_, _^_, _≤_, _<_}
+use mathlib.Core.Bool.{true, false, false≢true}
+use mathlib.Core.List.{List}
+use mathlib.Core.Option.{Option, none, some}
+use mathlib.Core.Path.{_≡_, refl, sym, ap, ap₂, subst, _∙_}
+use native.Mathlib.Omega.{arith}
+use borrow.Author.Tests.{ltb-true, lt-ltb, le-leb, lt-leb}
+use lib.Dec.{ltb}
+use lib.ListN.{length}
+use Rattle.boxes.specs.Answer.{refused, given}
+use Rattle.boxes.specs.Framing.{Box, boxOf}
+use Rattle.boxes.specs.declared.framing.Framed.{Framed}
+use Rattle.boxes.specs.declared.numbers.Offset.{Offset}
+use Rattle.boxes.specs.declared.numbers.Offset.the-variants.{Ahead, Back}
+use Rattle.boxes.specs.declared.place.Place.{Place}
+use Rattle.boxes.proofs.AnswerLaws.{given-same}
+use Rattle.partial.specs.Entries.{Entry, mayLie, offsetPlace, placeOf}
+use Rattle.partial.specs.Heading.{Heading}
+use Rattle.partial.specs.Segments.{present, hasPlace}
+use Rattle.partial.proofs.Meaning.SequenceLaws.{both}
+use Rattle.segment.specs.Data.{Searched, found, Finds, Onward}
+use Rattle.segment.specs.Placed.{Reaches, placeAnswer, Places}
+use Rattle.segment.specs.declared.data.Held.{Held}
+use Rattle.segment.specs.declared.data.Held.the-variants as Held
+use Rattle.segment.specs.declared.placed.Placed.{Placed}
+use Rattle.segment.specs.declared.placed.Placed.the-variants.{Refused, At}
+use Rattle.segment.specs.declared.placed.Reached.{Reached}
+use Rattle.segment.specs.declared.placed.Reached.the-variants as Reached
+use Rattle.segment.proofs.DataLaws.{lies-some, none-past, one-onward}
+
+-- what an offset reaches
+module _ (pseg : ℕ) {z : Offset} where
+  pub reaches-at : {place : Place} → offsetPlace pseg z ≡ some (place .0) → Reaches pseg z (Reached.At place)
+  reaches-at {place} at =
+      record {
+        at = λ {place = place′} e.
+            let same : place ≡ place′ = cc in
+            subst (λ (p : Place). offsetPlace pseg z ≡ some (p .0)) same at;
+        past = λ e n h.
+            let z : _≡_ {A = ℕ} 0 1 = cc in
+            absurd (omega arith);
+      }
+
+  reaches-none : ((n : ℕ) → offsetPlace pseg z ≡ some n → 2 ^ 64 ≤ n) → Reaches pseg z Reached.Nowhere
+  reaches-none past = record { at = λ e. cc; past = λ e. past }
+
+  module _ {n : ℕ} (ahead : z ≡ Ahead n) where
+    pub ahead-at : offsetPlace pseg z ≡ some (pseg + n)
+    unfolding offsetPlace
+    ahead-at = ap (offsetPlace pseg) ahead
+
+    pub ahead-past : 2 ^ 64 ≤ pseg + n → Reaches pseg z Reached.Nowhere
+    ahead-past far =
+        reaches-none
+        (λ m h.
+        let same : pseg + n ≡ m = cc ahead-at in
+        omega arith)
+
+  module _ {n : ℕ} (back : z ≡ Back n) where
+    pub back-at : n ≤ pseg → offsetPlace pseg z ≡ some (pseg - n)
+    unfolding offsetPlace
+    back-at low = ap (offsetPlace pseg) back ∙ rw (le-leb n pseg low, offsetPlace)
+
+    back-none : pseg < n → offsetPlace pseg z ≡ none
+    unfolding offsetPlace
+    back-none before = ap (offsetPlace pseg) back ∙ rw (lt-leb n pseg before, offsetPlace)
+
+    pub back-past : pseg < n → Reaches pseg z Reached.Nowhere
+    back-past before =
+        reaches-none
+        (λ m h.
+        let z : _≡_ {A = ℕ} 0 1 = cc (back-none before) in
+        absurd (omega arith))
+
+-- which chunks have a place
+module _ (state size : ℕ) where
+  pub absent : present state ≡ false → hasPlace state size ≡ false
+  unfolding hasPlace
+  absent h = rw h
+
+  pub empty : present state ≡ true → size ≡ 0 → hasPlace state size ≡ false
+  unfolding hasPlace
+  empty here no-bytes = rw (here, no-bytes)
+
+  pub has-place : present state ≡ true → (size ≡ 0 → ⊥) → hasPlace state size ≡ true
+  unfolding hasPlace
+  has-place here bytes = rw here (lt-ltb 0 size (omega arith))
+
+  some-bytes : hasPlace state size ≡ true → 0 < size
+  unfolding hasPlace
+  some-bytes has = ltb-true 0 size (both (present state) (ltb 0 size) has .1)
+
+-- the place of an entry's chunk
+module _ {f : List ℕ} {last : Box} {pseg : ℕ} {e : Entry} where
+  places-refused : {n : ℕ} → ((h : Heading) → Searched f last (h .boxes) → placeOf h pseg e ≡ refused n) → Places f last pseg e (Refused n)
+  unfolding placeAnswer
+  places-refused fault =
+      record {
+        answer = λ h p. sym (fault h p);
+        onward = λ h p e.
+            let z : _≡_ {A = ℕ} 0 1 = cc in
+            absurd (omega arith);
+      }
+
+  places-box : {place : Place} {b : Framed} → ((h : Heading) → Searched f last (h .boxes) → placeOf h pseg e ≡ given (place .0))
+      → ((h : Heading) → Searched f last (h .boxes) → Onward f last (h .boxes) (hasPlace (e .state) (e .size)) (place .0) (e .size) (boxOf b))
+      → Places f last pseg e (At place b)
+  unfolding placeAnswer
+  places-box {place} {b} at onward =
+      record {
+        answer = λ h p. sym (at h p);
+        onward = λ h p {place = place′} {b = b′} s.
+            let there : place ≡ place′ = cc in
+            let same : b ≡ b′ = cc in
+            subst (λ (q : Place). Onward f last (h .boxes) (hasPlace (e .state) (e .size)) (q .0) (e .size) (boxOf b′)) there
+            (subst (λ (b : Framed). Onward f last (h .boxes) (hasPlace (e .state) (e .size)) (place .0) (e .size) (boxOf b)) same (onward h p));
+      }
+
+  -- a chunk with no place
+  pub places-none : {b : Framed} → last ≡ boxOf b → hasPlace (e .state) (e .size) ≡ false → Places f last pseg e (At (record { 0 = 0 }) b)
+  unfolding placeOf
+  places-none same placeless = places-box (λ h p. simp (placeOf, placeless))
+      (λ h p. record {
+        known = subst (λ (b : Box). Searched f b (h .boxes)) same p;
+        holds = λ has. absurd (false≢true (sym placeless ∙ has));
+        kept = λ _. sym same;
+      })
+
+  module _ (has : hasPlace (e .state) (e .size) ≡ true) where
+    -- a chunk past every place
+    pub places-past : {r : Reached} → Reaches pseg (e .offset) r → r ≡ Reached.Nowhere → length f < 2 ^ 64 → Places f last pseg e (Refused 24)
+    unfolding placeOf
+    places-past reaches nowhere short = places-refused (λ h p. go h p (offsetPlace pseg (e .offset)) refl)
+      where
+        go : (h : Heading) → Searched f last (h .boxes) → (x : Option ℕ) → offsetPlace pseg (e .offset) ≡ x → placeOf h pseg e ≡ refused 24
+        go h p none q = simp (placeOf, has, q)
+        go h p (some n) q =
+            let lies : mayLie h (e .state) n (e .size) ≡ false = lies-some h (e .state) n (e .size) ∙ none-past f (p .boxes) n (e .size) (omega (arith, reaches .past nowhere n q)) (some-bytes (e .state) (e .size) has) in
+            simp (placeOf, has, q, lies)
+
+    -- a chunk at a place that was searched
+    module _ {n : ℕ} (at : offsetPlace pseg (e .offset) ≡ some n) {r : Held} (finds : Finds f last n (e .size) r) where
+      pub places-nowhere : r ≡ Held.Nowhere → Places f last pseg e (Refused 24)
+      unfolding placeOf found
+      places-nowhere nowhere =
+          places-refused
+          (λ h p.
+          let lies : mayLie h (e .state) n (e .size) ≡ false = sym (finds .answer h p (e .state)) ∙ ap found nowhere in
+          simp (placeOf, has, at, lies))
+
+      pub places-in : {place : Place} {b : Framed} → n ≡ place .0 → r ≡ Held.In b → Places f last pseg e (At place b)
+      unfolding placeOf found
+      places-in same held =
+          places-box
+          (λ h p.
+          let lies : mayLie h (e .state) n (e .size) ≡ true = sym (finds .answer h p (e .state)) ∙ ap found held in
+          let here : placeOf h pseg e ≡ given n = simp (placeOf, has, at, lies) in
+          here ∙ ap given same)
+          (λ h p. record {
+            known = finds .onward h p held;
+            holds = λ _. rw (← same) (finds .holds held);
+            kept = λ placeless. absurd (false≢true (sym placeless ∙ has));
+          })
+
+  -- two answers about a chunk's place are the same
+  pub one-placed : (h : Heading) → Searched f last (h .boxes) → (x y : Placed) → Places f last pseg e x → Places f last pseg e y → x ≡ y
+  unfolding placeAnswer
+  one-placed h p (Refused n) (Refused m) u v =
+      let same = u .answer h p ∙ sym (v .answer h p) in
+      cc
+  one-placed h p (Refused n) (At r b) u v =
+      let same = u .answer h p ∙ sym (v .answer h p) in
+      cc
+  one-placed h p (At q a) (Refused m) u v =
+      let same = u .answer h p ∙ sym (v .answer h p) in
+      cc
+  one-placed h p (At q a) (At r b) u v =
+      let same = given-same (u .answer h p ∙ sym (v .answer h p)) in
+      let place : q ≡ r = λ i. record { 0 = same i } in
+      ap₂ At place
+      (one-onward a b (u .onward h p refl) (subst (λ (p : Place). Onward f last (h .boxes) (hasPlace (e .state) (e .size)) (p .0) (e .size) (boxOf b)) (sym place) (v .onward h p refl)))

@@ -1,0 +1,71 @@
+// The chunks of a `ploc`, one after another.
+use crate::entry::EntryRead;
+use crate::entry::entry_at;
+use crate::location::Location;
+use crate::placed::Placed;
+use crate::placed::placed_at;
+use crate::sums::ends_by;
+use boxes::framing::Framed;
+use boxes::place::Place;
+use partial::limits::SOURCE_LIMIT;
+use partial::position::Position;
+use partial::refusals::SOURCE_TOO_LONG;
+ghost use Rattle.segment.specs.Chunk.{Steps};
+ghost use Rattle.segment.specs.Location.{plocOf};
+
+// A cursor over entries: the place of the next one, where its chunk starts in the source, and the data box that held the last chunk.
+pub struct Cursor {
+    pub at: Place,
+    pub start: Position,
+    pub last: Framed,
+}
+
+// Where a chunk starts in the source, its size, its state, and its place in the file: 0 if it is not present or empty.
+pub struct Chunk {
+    pub start: Position,
+    pub size: u64,
+    pub state: u64,
+    pub place: Place,
+}
+
+// What a cursor meets: a chunk with the cursor behind it, or the number of a refusal.
+pub enum ChunkStep {
+    Refused(u64),
+    Given(Chunk, Cursor),
+}
+
+impl Cursor {
+    // The chunk of the next entry of a `ploc` in the `pseg` at a place. It starts where the one before it ends.
+    pub fn step(self, s: &[u8], pseg: Place, l: Location) -> ChunkStep
+        ensures { λ r. ⌜ Steps (now (s .entry)) (pseg .0) (plocOf l) self r ⌝ }
+    {
+        let start = self.start;
+        let last = self.last;
+        match entry_at(s, l, self.at) {
+            EntryRead::Refused(n) => ChunkStep::Refused(n),
+            EntryRead::Given(e) => {
+                let size = e.size;
+                let next = e.next;
+                if !ends_by(start.0, size, SOURCE_LIMIT) {
+                    return ChunkStep::Refused(SOURCE_TOO_LONG);
+                }
+                match placed_at(s, last, pseg, e) {
+                    Placed::Refused(n) => ChunkStep::Refused(n),
+                    Placed::At(place, held) => ChunkStep::Given(
+                        Chunk {
+                            start,
+                            size,
+                            state: e.state,
+                            place,
+                        },
+                        Cursor {
+                            at: next,
+                            start: Position(start.0 + size),
+                            last: held,
+                        },
+                    ),
+                }
+            }
+        }
+    }
+}

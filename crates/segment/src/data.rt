@@ -1,0 +1,59 @@
+// Where a chunk lies: the data box of a file that holds it.
+use crate::sums::ends_by;
+use boxes::framing::Framed;
+use boxes::kinds::Container;
+use boxes::kinds::PDAT;
+use boxes::place::Place;
+use boxes::walk::Step;
+use boxes::walk::Walk;
+ghost use mathlib.Core.Path.{_≡_};
+ghost use Rattle.boxes.specs.Framing.{boxOf};
+ghost use Rattle.segment.specs.Data.{holdsChunk, Finds};
+
+// The data box that holds a chunk, if there is one.
+pub enum Held {
+    In(Framed),
+    Nowhere,
+}
+
+// Whether a box is a `pdat` whose body holds so many bytes at a place.
+fn holds(b: Framed, place: Place, size: u64) -> bool
+    ensures { λ r. ⌜ r ≡ holdsChunk (place .0) size (boxOf b) ⌝ }
+{
+    let body = b.body;
+    let end = b.end;
+    if b.kind != PDAT.code {
+        return false;
+    }
+    if place.0 < body.0 {
+        return false;
+    }
+    ends_by(place.0, size, end.0)
+}
+
+// The data box of a file that holds so many bytes at a place. Chunks often follow each other in one box, so the box that held the last
+// one is looked at first.
+pub fn held_at(s: &[u8], last: Framed, place: Place, size: u64) -> Held
+    ensures { λ r. ⌜ Finds (now (s .entry)) (boxOf last) (place .0) size r ⌝ }
+{
+    if holds(last, place, size) {
+        return Held::In(last);
+    }
+    let mut walk = Walk::new(Container::File, Place(0), Place(s.len() as u64));
+    loop {
+        match walk.step(s) {
+            Step::Next(b, next) => {
+                if holds(b, place, size) {
+                    return Held::In(b);
+                }
+                walk = next;
+            }
+            Step::End => {
+                return Held::Nowhere;
+            }
+            Step::Refused(_) => {
+                return Held::Nowhere;
+            }
+        }
+    }
+}

@@ -1,0 +1,67 @@
+// The place in the file of an entry's chunk.
+use crate::data::Held;
+use crate::data::held_at;
+use crate::entry::Entry;
+use crate::state::present;
+use boxes::framing::Framed;
+use boxes::numbers::Offset;
+use boxes::place::Place;
+use partial::refusals::OUTSIDE_DATA;
+ghost use Rattle.boxes.specs.Framing.{boxOf};
+ghost use Rattle.segment.specs.Entry.{entryOf};
+ghost use Rattle.segment.specs.Placed.{Reaches, Places};
+
+// The place of a chunk, 0 if it is not present or empty, with the data box that held the last chunk; or the number of a refusal.
+pub enum Placed {
+    Refused(u64),
+    At(Place, Framed),
+}
+
+// The place that an offset gives, if it is not before the file's first byte or past every place.
+enum Reached {
+    At(Place),
+    Nowhere,
+}
+
+// The place that an offset gives, counted from the first byte of the `pseg` box.
+fn offset_place(pseg: Place, offset: Offset) -> Reached
+    ensures { λ r. ⌜ Reaches (pseg .0) offset r ⌝ }
+{
+    match offset {
+        Offset::Ahead(n) => {
+            if n <= 0xffff_ffff_ffff_ffff - pseg.0 {
+                Reached::At(Place(pseg.0 + n))
+            } else {
+                Reached::Nowhere
+            }
+        }
+        Offset::Back(n) => {
+            if n <= pseg.0 {
+                Reached::At(Place(pseg.0 - n))
+            } else {
+                Reached::Nowhere
+            }
+        }
+    }
+}
+
+// Where the chunk of an entry lies. The place of an empty chunk is not checked.
+pub fn placed_at(s: &[u8], last: Framed, pseg: Place, e: Entry) -> Placed
+    ensures { λ r. ⌜ Places (now (s .entry)) (boxOf last) (pseg .0) (entryOf e) r ⌝ }
+{
+    let size = e.size;
+    let offset = e.offset;
+    if !present(e.state) {
+        return Placed::At(Place(0), last);
+    }
+    if size == 0 {
+        return Placed::At(Place(0), last);
+    }
+    match offset_place(pseg, offset) {
+        Reached::Nowhere => Placed::Refused(OUTSIDE_DATA),
+        Reached::At(place) => match held_at(s, last, place, size) {
+            Held::In(b) => Placed::At(place, b),
+            Held::Nowhere => Placed::Refused(OUTSIDE_DATA),
+        },
+    }
+}
