@@ -41,19 +41,20 @@ module _ (place size : ℕ) (b : Box) where
     unfolding holdsChunk
     holds-end h = simp (holdsChunk, is-eqb, eq-eqb (b .kind) (pdat .code) kind, le-leb (b .body) place h)
 
-  -- what holds a chunk is a `pdat`, and does not end before it
+  -- what holds a chunk is a `pdat`, whose body starts no later and ends no earlier
   module _ (holds : holdsChunk place size b ≡ true) where
-    pub holds-kind : is pdat b ≡ true
+    tests : ((is pdat b && leb (b .body) place) ≡ true) × (leb (place + size) (b .end) ≡ true)
     unfolding holdsChunk
-    holds-kind = both (is pdat b) (leb (b .body) place) (both (is pdat b && leb (b .body) place) (leb (place + size) (b .end)) holds .0) .0
+    tests = both (is pdat b && leb (b .body) place) (leb (place + size) (b .end)) holds
+
+    pub holds-kind : is pdat b ≡ true
+    holds-kind = both (is pdat b) (leb (b .body) place) (tests .0) .0
 
     holds-low : b .body ≤ place
-    unfolding holdsChunk
-    holds-low = leb-true (b .body) place (both (is pdat b) (leb (b .body) place) (both (is pdat b && leb (b .body) place) (leb (place + size) (b .end)) holds .0) .1)
+    holds-low = leb-true (b .body) place (both (is pdat b) (leb (b .body) place) (tests .0) .1)
 
-    pub holds-whole : place + size ≤ b .end
-    unfolding holdsChunk
-    holds-whole = leb-true (place + size) (b .end) (both (is pdat b && leb (b .body) place) (leb (place + size) (b .end)) holds .1)
+    holds-whole : place + size ≤ b .end
+    holds-whole = leb-true (place + size) (b .end) (tests .1)
 
 -- a box after some others is among all
 pub among-passed : (bs more : List Box) (b : Box) {all : List Box} → all ≡ (bs ++ (b ∷ [])) ++ more → Among all b

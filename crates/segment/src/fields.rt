@@ -38,6 +38,7 @@ pub fn fields_of(s: &[u8], b: Framed) -> FieldsRead
     if end.0 < body.0 {
         return FieldsRead::Refused(PSHD_WRONG);
     }
+    // Beside the offset there are 4 bytes of version and flags before it and 8 of `last_repair_time` after it.
     if end.0 - body.0 != width as u64 + 12 {
         return FieldsRead::Refused(PSHD_WRONG);
     }

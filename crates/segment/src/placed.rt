@@ -28,6 +28,7 @@ fn offset_place(pseg: Place, offset: Offset) -> Reached
     ensures { λ r. ⌜ Reaches (pseg .0) offset r ⌝ }
 {
     match offset {
+        // A place past 64 bits is past the end of any file.
         Offset::Ahead(n) => {
             if n <= 0xffff_ffff_ffff_ffff - pseg.0 {
                 Reached::At(Place(pseg.0 + n))
