@@ -29,6 +29,14 @@ module _ {L : Type 0} {A R E : L → Type 0} (post : (κs : L) → A κs → R �
       (κs : L) (args : A κs) (x y : R κs) (after after′ : E κs) → post κs args x after → post κs args y after′
       → of κs after ≡ of κs after′
 
+  -- where something is known of the arguments, a contract allows one result
+  abbrev pub OneKnown : {X : Type 0} → ((κs : L) → A κs → X → Type 0) → Type 0
+  OneKnown {X} known =
+      (κs : L) (args : A κs) (what : X) → known κs args what → (x y : R κs) (after after′ : E κs)
+      → post κs args x after
+      → post κs args y after′
+      → x ≡ y
+
 unsigned-result : OneResult unsigned.Post
 unsigned-result κs args x y after after′ p q = p ∙ sym q
 

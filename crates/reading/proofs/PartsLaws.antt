@@ -1,6 +1,6 @@
 -- Laws of the parts of a segment's box: what the tests of its `pshd` decide, and what follows.
 use Prim.Native.Nat.{ℕ, _<_}
-use mathlib.Core.Bool.{Bool, true, false, _&&_, and-false}
+use mathlib.Core.Bool.{Bool, true, false, and-false}
 use mathlib.Core.List.{List}
 use mathlib.Core.Path.{_≡_, refl, sym, ap, _∙_}
 use native.Mathlib.Omega.{arith}
@@ -11,16 +11,10 @@ use Rattle.boxes.specs.Framing.{Box, boxesIn, header, boxOf}
 use Rattle.boxes.specs.Kinds.{pshd, is, right, those, boxAt, firstOf, ploc, surl}
 use Rattle.boxes.specs.declared.kinds.Container.the-variants.{Pseg}
 use Rattle.boxes.proofs.KindLaws.{first-is, right-one, those-few, is-eqb}
-use Rattle.partial.specs.Entries.{Ploc, plocHead}
+use Rattle.partial.specs.Entries.{plocHead}
 use Rattle.partial.specs.Reading.{pshdRight, pshdFields}
-use Rattle.segment.specs.Fields.{valuesOf, fieldsOf, fieldsAnswer}
-use Rattle.segment.specs.declared.fields.FieldsRead.{FieldsRead}
-use Rattle.segment.specs.declared.fields.FieldsRead.the-variants as FieldsRead
+use Rattle.segment.specs.Fields.{valuesOf, fieldsOf}
 use Rattle.segment.specs.declared.fields.Fields.{Fields}
-use Rattle.segment.specs.Location.{headOf, locationAnswer}
-use Rattle.segment.specs.declared.location.Location.{Location}
-use Rattle.segment.specs.declared.location.LocationRead.{LocationRead}
-use Rattle.segment.specs.declared.location.LocationRead.the-variants as LocationRead
 use Rattle.reading.specs.declared.parts.HeaderRead.{HeaderRead}
 use Rattle.reading.specs.declared.parts.HeaderRead.the-variants as HeaderRead
 use Rattle.reading.specs.Parts.{headerIn, pshdAnswer, partsIn}
@@ -77,16 +71,6 @@ module _ (f : List ℕ) (start end : ℕ) (bs : List Box) (known : boxesIn Pseg 
     pub first-by : b .kind ≡ pshd .code → headerIn f bs ≡ _>>=_ {B = Box × Fields} (fieldsOf f (boxOf b)) (λ x. given (boxOf b, x))
     first-by same = rw first-same (header-by f bs single (first-kind ∙ eq-eqb (b .kind) (pshd .code) same))
 
--- what each answer about fields says of them
-module _ {r : FieldsRead} {read : Answer Fields} (answer : fieldsAnswer r ≡ read) where
-  pub fields-given : {x : Fields} → r ≡ FieldsRead.Given x → read ≡ given x
-  unfolding fieldsAnswer
-  fields-given e = sym answer ∙ ap fieldsAnswer e
-
-  pub fields-refused : {n : ℕ} → r ≡ FieldsRead.Refused n → read ≡ refused n
-  unfolding fieldsAnswer
-  fields-refused e = sym answer ∙ ap fieldsAnswer e
-
 -- the stages of the parts of a box that was read
 module _ (f : List ℕ) (b : Framed) where
   pub parts-fault : {n : ℕ} → boxesIn Pseg f (b .body .0) (b .end .0) ≡ refused n → partsIn f (boxOf b) ≡ refused n
@@ -119,17 +103,7 @@ module _ (f : List ℕ) (b : Framed) where
         unfolding partsIn
         parts-by nothing = rw (box-fields b, known, header-given, single, nothing)
 
--- what each answer about a head says of it
-module _ {r : LocationRead} {read : Answer Ploc} (answer : locationAnswer r ≡ read) where
-  pub location-given : {l : Location} → r ≡ LocationRead.Given l → read ≡ given (headOf l)
-  unfolding locationAnswer
-  location-given e = sym answer ∙ ap locationAnswer e
-
-  pub location-refused : {n : ℕ} → r ≡ LocationRead.Refused n → read ≡ refused n
-  unfolding locationAnswer
-  location-refused e = sym answer ∙ ap locationAnswer e
-
--- and each answer about a header
+-- what each answer about a header says of it
 module _ {r : HeaderRead} {read : Answer (Box × Fields)} (answer : pshdAnswer r ≡ read) where
   pub pshd-given : {b : Framed} {x : Fields} → r ≡ HeaderRead.Given b x → read ≡ given (boxOf b, x)
   unfolding pshdAnswer

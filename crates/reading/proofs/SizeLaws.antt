@@ -1,12 +1,12 @@
 -- Laws of what is gathered of the ends of segments: with one segment more, whether they agree, and the described length.
 use Prim.Native.Nat.{ℕ, _≤_, _<_, max}
-use mathlib.Core.Bool.{Bool, true, false, not, _&&_, _||_, and-true, and-false}
+use mathlib.Core.Bool.{true, false, _&&_, and-true, and-false}
 use mathlib.Core.List.{List, [], _∷_, _++_, map}
 use mathlib.Core.Option.{Option·getD}
 use mathlib.Core.Path.{_≡_, refl, sym, ap, _∙_}
 use native.Mathlib.Omega.{arith}
 use borrow.Author.Tests.{le-leb, lt-leb, eq-eqb, ne-eqb}
-use lib.Dec.{leb, eqb}
+use lib.Dec.{eqb}
 use Rattle.partial.specs.Sequences.{allOf, largest}
 use Rattle.partial.specs.Segments.{Segment, endOf}
 use Rattle.partial.specs.Meaning.{givesSize, knownSize, isClosed, agree, describedLength}

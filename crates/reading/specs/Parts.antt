@@ -10,7 +10,7 @@ use Rattle.boxes.specs.declared.kinds.Container.the-variants.{Pseg}
 use Rattle.partial.specs.Entries.{Ploc, plocHead}
 use Rattle.partial.specs.Reading.{pshdRight, pshdFields}
 use Rattle.segment.specs.Fields.{valuesOf}
-use Rattle.segment.specs.Location.{headOf}
+use Rattle.segment.specs.Location.{plocOf}
 use Rattle.segment.specs.declared.fields.Fields.{Fields}
 use Rattle.reading.specs.declared.parts.HeaderRead.{HeaderRead}
 use Rattle.reading.specs.declared.parts.HeaderRead.the-variants as HeaderRead
@@ -46,4 +46,4 @@ pshdAnswer (HeaderRead.Given b fields) = given (boxOf b, fields)
 -- what an answer about the parts says
 unfoldable pub partsAnswer : PartsRead → Answer Parts
 partsAnswer (Refused n) = refused n
-partsAnswer (Given p) = given (record { header = boxOf (p .header); fields = p .fields; location = headOf (p .location) })
+partsAnswer (Given p) = given (record { header = boxOf (p .header); fields = p .fields; location = plocOf (p .location) })

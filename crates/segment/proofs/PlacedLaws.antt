@@ -3,7 +3,7 @@ use Prim.Native.Nat.{ℕ, _+_, _-_, _^_, _≤_, _<_}
 use mathlib.Core.Bool.{true, false, false≢true}
 use mathlib.Core.List.{List}
 use mathlib.Core.Option.{Option, none, some}
-use mathlib.Core.Path.{_≡_, refl, sym, ap, ap₂, subst, _∙_}
+use mathlib.Core.Path.{_≡_, refl, sym, ap, subst, _∙_}
 use native.Mathlib.Omega.{arith}
 use borrow.Author.Tests.{ltb-true, lt-ltb, le-leb, lt-leb}
 use lib.Dec.{ltb}
@@ -14,7 +14,6 @@ use Rattle.boxes.specs.declared.framing.Framed.{Framed}
 use Rattle.boxes.specs.declared.numbers.Offset.{Offset}
 use Rattle.boxes.specs.declared.numbers.Offset.the-variants.{Ahead, Back}
 use Rattle.boxes.specs.declared.place.Place.{Place}
-use Rattle.boxes.proofs.AnswerLaws.{given-same}
 use Rattle.partial.specs.Entries.{Entry, mayLie, offsetPlace, placeOf}
 use Rattle.partial.specs.Heading.{Heading}
 use Rattle.partial.specs.Segments.{present, hasPlace}
@@ -23,11 +22,10 @@ use Rattle.segment.specs.Data.{Searched, found, Finds, Onward}
 use Rattle.segment.specs.Placed.{Reaches, placeAnswer, Places}
 use Rattle.segment.specs.declared.data.Held.{Held}
 use Rattle.segment.specs.declared.data.Held.the-variants as Held
-use Rattle.segment.specs.declared.placed.Placed.{Placed}
 use Rattle.segment.specs.declared.placed.Placed.the-variants.{Refused, At}
 use Rattle.segment.specs.declared.placed.Reached.{Reached}
 use Rattle.segment.specs.declared.placed.Reached.the-variants as Reached
-use Rattle.segment.proofs.DataLaws.{lies-some, none-past, one-onward}
+use Rattle.segment.proofs.DataLaws.{lies-some, none-past}
 
 -- what an offset reaches
 module _ (pseg : ℕ) {z : Offset} where
@@ -162,21 +160,3 @@ module _ {f : List ℕ} {last : Box} {pseg : ℕ} {e : Entry} where
             holds = λ _. rw (← same) (finds .holds held);
             kept = λ placeless. absurd (false≢true (sym placeless ∙ has));
           })
-
-  -- two answers about a chunk's place are the same
-  pub one-placed : (h : Heading) → Searched f last (h .boxes) → (x y : Placed) → Places f last pseg e x → Places f last pseg e y → x ≡ y
-  unfolding placeAnswer
-  one-placed h p (Refused n) (Refused m) u v =
-      let same = u .answer h p ∙ sym (v .answer h p) in
-      cc
-  one-placed h p (Refused n) (At r b) u v =
-      let same = u .answer h p ∙ sym (v .answer h p) in
-      cc
-  one-placed h p (At q a) (Refused m) u v =
-      let same = u .answer h p ∙ sym (v .answer h p) in
-      cc
-  one-placed h p (At q a) (At r b) u v =
-      let same = given-same (u .answer h p ∙ sym (v .answer h p)) in
-      let place : q ≡ r = λ i. record { 0 = same i } in
-      ap₂ At place
-      (one-onward a b (u .onward h p refl) (subst (λ (p : Place). Onward f last (h .boxes) (hasPlace (e .state) (e .size)) (p .0) (e .size) (boxOf b)) (sym place) (v .onward h p refl)))

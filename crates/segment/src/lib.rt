@@ -4,6 +4,6 @@ pub mod data;
 pub mod entry;
 pub mod fields;
 pub mod location;
-pub mod placed;
+mod placed;
 pub mod state;
-pub mod sums;
+mod sums;

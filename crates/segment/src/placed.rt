@@ -47,7 +47,7 @@ fn offset_place(pseg: Place, offset: Offset) -> Reached
 }
 
 // Where the chunk of an entry lies. The place of an empty chunk is not checked.
-pub fn placed_at(s: &[u8], last: Framed, pseg: Place, e: Entry) -> Placed
+pub(crate) fn placed_at(s: &[u8], last: Framed, pseg: Place, e: Entry) -> Placed
     ensures { λ r. ⌜ Places (now (s .entry)) (boxOf last) (pseg .0) (entryOf e) r ⌝ }
 {
     let size = e.size;

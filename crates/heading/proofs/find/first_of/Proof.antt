@@ -5,7 +5,8 @@ use Rattle.boxes.specs.Kinds.{firstOf}
 use Rattle.boxes.proofs.KindLaws.{first-one, first-other}
 use Rattle.boxes.proofs.ToldLaws.{box-fields}
 use Rattle.boxes.proofs.WalkLaws.{fewer, next-box, no-more, a-fault}
-use Rattle.heading.proofs.FoundLaws.{Asked, asked-none, asked-more, asked-next, asked-end, asked-sound, first-none, is-kind, is-other}
+use Rattle.heading.proofs.FoundLaws.{Asked, asked-none, asked-more, asked-next, asked-end, asked-sound, first-none, is-kind}
+use Rattle.heading.proofs.FoundLaws.{is-other}
 use Rattle.heading.proofs.find.first_of.Statement.{statement}
 use Rattle.heading.proofs.find.first_of.Tie as tie
 

@@ -1,21 +1,16 @@
 -- `reading::parts::header_of` meets its contract: the count rule, the first box, its kind and its fields.
-use mathlib.Core.Path.{_≡_, refl, sym, ap, _∙_}
+use mathlib.Core.Path.{refl, sym, _∙_}
 use borrow.Author.Tests.{not-true, not-false}
 use Rattle.boxes.specs.Kinds.{pshd}
 use Rattle.boxes.specs.declared.kinds.Container.the-variants.{Pseg}
 use Rattle.boxes.proofs.ToldLaws.{header-found, header-fault}
+use Rattle.segment.proofs.FieldsLaws.{fields-given, fields-refused}
 use Rattle.heading.proofs.FormLaws.{rule-kept}
 use Rattle.reading.specs.Parts.{pshdAnswer}
-use Rattle.reading.proofs.PartsLaws.{header-lone, first-sound, first-other, first-by, fields-given, fields-refused}
+use Rattle.reading.proofs.PartsLaws.{header-lone, first-sound, first-other, first-by}
 use borrow.Author.Needs.{needs}
 use Rattle.reading.proofs.parts.header_of.Statement.{statement}
 use Rattle.reading.proofs.parts.header_of.Tie as tie
-use Rattle.reading.proofs.parts.header_of.Reads as reads
-use Rattle.reading.proofs.parts.header_of.Lts as lts
-use Rattle.boxes.proofs.framing.header_at.Reads as header-at-reads
-use Rattle.boxes.proofs.rules.keeps.Reads as keeps-reads
-use Rattle.boxes.proofs.tally.Tally.of.Reads as of-reads
-use Rattle.segment.proofs.fields.fields_of.Reads as fields-of-reads
 
 of-requires : tie.Need-of-requires
 of-requires c κs = search needs

@@ -1,5 +1,5 @@
 -- `reading::parts::parts_of` meets its contract: framing, 14, 15, 16, and what the head of the `ploc` says.
-use mathlib.Core.Path.{_≡_, refl, sym, ap, _∙_}
+use mathlib.Core.Path.{refl, sym, ap, _∙_}
 use borrow.Author.Tests.{not-true, not-false}
 use Rattle.boxes.specs.Kinds.{ploc, surl}
 use Rattle.boxes.specs.declared.kinds.Container.the-variants.{Pseg}
@@ -9,7 +9,7 @@ use Rattle.partial.specs.Entries.{plocHead}
 use Rattle.heading.proofs.FormLaws.{rule-kept}
 use Rattle.reading.specs.Parts.{partsAnswer}
 use Rattle.reading.proofs.PartsLaws.{parts-fault, parts-header, parts-lone, parts-source, parts-by, pshd-given, pshd-refused}
-use Rattle.reading.proofs.PartsLaws.{location-given, location-refused}
+use Rattle.segment.proofs.LocationLaws.{location-given, location-refused}
 use borrow.Author.Needs.{needs}
 use Rattle.reading.proofs.parts.parts_of.Statement.{statement}
 use Rattle.reading.proofs.parts.parts_of.Tie as tie
@@ -100,7 +100,7 @@ returns-5 c =
     let single = sym rule ∙ not-false _ (c .before .before .before .before .before .before .before .if2 .left) in
     let nothing = sym (c .before .before .before .before .before .before .of2 .ensures ∙ counts .of surl refl) ∙ c .before .before .before .before .before .if3 .left in
     let first = ap (plocHead _) (sym (c .before .before .before .before .first-of .ensures bs known)) in
-    sym (parts-by _ _ known header single nothing ∙ rw (first ∙ location-given (c .before .before .before .location-of .ensures) (c .before .location .given .1)))
+    sym (parts-by _ _ known header single nothing ∙ rw (first ∙ location-given _ _ (c .before .before .before .location-of .ensures) (c .before .location .given .1)))
 
 returns-6 : tie.Need-returns-6
 unfolding partsAnswer
@@ -116,7 +116,7 @@ returns-6 c =
     let single = sym rule ∙ not-false _ (c .before .before .before .before .before .before .before .if2 .left) in
     let nothing = sym (c .before .before .before .before .before .before .of2 .ensures ∙ counts .of surl refl) ∙ c .before .before .before .before .before .if3 .left in
     let first = ap (plocHead _) (sym (c .before .before .before .before .first-of .ensures bs known)) in
-    sym (parts-by _ _ known header single nothing ∙ rw (first ∙ location-refused (c .before .before .before .location-of .ensures) (c .before .n .given .1)))
+    sym (parts-by _ _ known header single nothing ∙ rw (first ∙ location-refused _ _ (c .before .before .before .location-of .ensures) (c .before .n .given .1)))
 
 pub parts-of-spec : {M : Type 1} → statement M
 parts-of-spec =

@@ -5,7 +5,8 @@ use mathlib.Core.Path.{_≡_, refl, sym, ap, _∙_}
 use borrow.Author.Needs.{needs}
 use Rattle.boxes.specs.Framing.{Box, boxOf}
 use Rattle.boxes.proofs.AnswerLaws.{not-both, given-same}
-use Rattle.boxes.proofs.WalkLaws.{Passed, passed-none, passed-more, passed-known, all-boxes, first-fault, fewer, next-box, no-more, a-fault}
+use Rattle.boxes.proofs.WalkLaws.{Passed, passed-none, passed-more, passed-known, all-boxes, first-fault, fewer, next-box, no-more}
+use Rattle.boxes.proofs.WalkLaws.{a-fault}
 use Rattle.partial.specs.Sequences.{someOf}
 use Rattle.segment.specs.Data.{holdsChunk}
 use Rattle.segment.proofs.DataLaws.{holds-kind, among-passed, none-passed, finds-box, finds-none}

@@ -1,5 +1,5 @@
 -- `reading::sizes::Sizes::described` meets its contract: by whether the size is known.
-use mathlib.Core.Path.{_≡_, sym, ap, _∙_}
+use mathlib.Core.Path.{sym, ap, _∙_}
 use Rattle.reading.proofs.SizeLaws.{described-known, described-unknown}
 use Rattle.reading.proofs.sizes.Sizes.described.Statement.{statement}
 use Rattle.reading.proofs.sizes.Sizes.described.Tie as tie
