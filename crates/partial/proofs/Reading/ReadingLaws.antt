@@ -56,7 +56,7 @@ pub record Told (h : Heading) (start : ℕ) (cs : List Chunk) : Type 0 where
 
 module _ (limit : ℕ) (f : List ℕ) (h : Heading) (from : ℕ) (l : Ploc) where
   -- a step's chunk starts where the cursor stands in the source, and the cursor goes on at its end
-  step-told : (c : Cursor) {met : Chunk × Cursor} → chunkStep limit f h from l c ≡ given met
+  pub step-told : (c : Cursor) {met : Chunk × Cursor} → chunkStep limit f h from l c ≡ given met
       → (met .0 .start ≡ c .start) × (met .1 .start ≡ c .start + met .0 .size) × (lies h (met .0) ≡ true)
   unfolding chunkStep lies
   step-told c g =

@@ -1,0 +1,7 @@
+pub mod PartsLaws
+pub mod RowLaws
+pub mod SizeLaws
+pub mod GatheredLaws
+pub mod ChunksLaws
+pub mod StepLaws
+pub mod PassLaws

@@ -1,0 +1,127 @@
+-- Laws of the pass over a file's segments: those that were read, and the boxes that are left, which decide.
+use Prim.Native.Nat.{ℕ, _+_, _*_}
+use mathlib.Core.Bool.{true, false, false≢true}
+use mathlib.Core.List.{List, [], _∷_, _++_}
+use mathlib.Core.Option.{none, some}
+use mathlib.Core.Path.{_≡_, refl, sym, ap, _∙_}
+use native.Mathlib.Omega.{arith}
+use lib.Dec.{eqb}
+use lib.ListN.{length}
+use Rattle.boxes.specs.Answer.{refused, given}
+use Rattle.boxes.specs.Framing.{Box, boxesIn, boxOf}
+use Rattle.boxes.specs.Kinds.{pseg, pdat, is, those}
+use Rattle.boxes.specs.Walk.{stepped}
+use Rattle.boxes.specs.declared.framing.Framed.{Framed}
+use Rattle.boxes.specs.declared.kinds.Container.the-variants.{File}
+use Rattle.boxes.specs.declared.walk.Walk.{Walk}
+use Rattle.boxes.proofs.KindLaws.{is-eqb, those-nil, those-one, those-other}
+use Rattle.boxes.proofs.ToldLaws.{box-fields}
+use Rattle.boxes.proofs.WalkLaws.{ahead, known-next, known-end, known-sound}
+use Rattle.partial.specs.Heading.{Heading}
+use Rattle.partial.specs.Limits.{sourceLimit}
+use Rattle.partial.specs.Reading.{segment, segmentsFrom}
+use Rattle.partial.specs.Segments.{Segment, chunksOf}
+use Rattle.partial.specs.Tables.{segmentRow, segmentRows, chunkRows, chunkRowsFrom, chunkRowsOf}
+use Rattle.segment.specs.Data.{Searched}
+use Rattle.gathering.specs.Gathered.{gatheredOf}
+use Rattle.gathering.specs.Pass.{segmentsBy, Gathers}
+use Rattle.gathering.specs.Rows.{Put}
+use Rattle.gathering.specs.Step.{Segmented}
+use Rattle.gathering.specs.declared.gathered.Gathered.{Gathered}
+use Rattle.gathering.specs.declared.pass.Passed.the-variants.{Given}
+use Rattle.gathering.specs.declared.step.SegmentRead.the-variants as SegmentRead
+use Rattle.gathering.proofs.RowLaws.{put-none, put-more, put-same, segment-rows-long, segment-rows-last, all-rows-long, all-rows-last}
+
+-- a box of no kind may be looked at first
+pub searched-none : {f : List ℕ} {bs : List Box} (b : Framed) → b .kind ≡ 0 → boxesIn File f 0 (length f) ≡ given bs → Searched f (boxOf b) bs
+searched-none b kindless known =
+    record {
+      boxes = known;
+      known = λ is-data.
+          let kind : false ≡ is pdat (boxOf b) = sym (is-eqb pdat (boxOf b) ∙ ap (λ (x : Box). eqb (x .kind) (pdat .code)) (box-fields b) ∙ rw kindless refl) in
+          absurd (false≢true (kind ∙ is-data));
+    }
+
+-- the rows of segments with one more
+module _ (ss : List Segment) (s : Segment) where
+  pub segments-put : {t₀ t t′ : List ℕ} → Put t₀ 0 (segmentRows ss) t → Put t (7 * length ss) (segmentRow s) t′ → Put t₀ 0 (segmentRows (ss ++ (s ∷ []))) t′
+  segments-put p q =
+      let here : 7 * length ss ≡ 0 + length (segmentRows ss) = omega (arith, segment-rows-long ss) in
+      put-same refl (sym (segment-rows-last ss s)) (put-more 0 (segmentRows ss) (segmentRow s) p (put-same here refl q))
+
+  pub chunks-put : {t₀ t t′ : List ℕ} → Put t₀ 0 (chunkRows ss) t → Put t (6 * length (chunksOf ss)) (chunkRowsOf (length ss) 0 (s .chunks)) t′
+      → Put t₀ 0 (chunkRows (ss ++ (s ∷ []))) t′
+  unfolding chunkRows
+  chunks-put p q =
+      let here : 6 * length (chunksOf ss) ≡ 0 + length (chunkRowsFrom 0 ss) = omega (arith, all-rows-long 0 ss) in
+      let number : length ss ≡ 0 + length ss = omega arith in
+      put-same refl (sym (all-rows-last 0 ss s)) (put-more 0 (chunkRowsFrom 0 ss) _ p (put-same here (ap (λ (n : ℕ). chunkRowsOf n 0 (s .chunks)) number) q))
+
+-- the segments before were read, and the boxes that are left decide
+pub record Midway (f : List ℕ) (h : Heading) (t₀ u₀ t u : List ℕ) (w : Walk) (g : Gathered) (last : Framed) : Type 0 where
+  pub before : List Segment
+  pub rest : List Box
+  pub left : ahead f w ≡ given rest
+  pub decide : segmentsBy f h ≡ segmentsFrom sourceLimit f h before (those pseg rest)
+  pub gathered : g ≡ gatheredOf before
+  pub known : Searched f (boxOf last) (h .boxes)
+  pub segments : Put t₀ 0 (segmentRows before) t
+  pub chunks : Put u₀ 0 (chunkRows before) u
+
+module _ (f : List ℕ) (h : Heading) (t₀ u₀ : List ℕ) where
+  pub midway-none : {w : Walk} {g : Gathered} {last : Framed} → ahead f w ≡ given (h .boxes) → g ≡ gatheredOf [] → Searched f (boxOf last) (h .boxes)
+      → Midway f h t₀ u₀ t₀ u₀ w g last
+  unfolding segmentRows chunkRows chunkRowsFrom
+  midway-none all nothing known =
+      record { before = []; rest = h .boxes; left = all; decide = refl; gathered = nothing; known = known; segments = put-none t₀ 0; chunks = put-none u₀ 0 }
+
+  module _ {t u : List ℕ} {w : Walk} {g : Gathered} {last : Framed} (m : Midway f h t₀ u₀ t u w g last) where
+    module _ {b : Box} {w′ : Walk} (step : stepped f w ≡ given (some (b, w′))) where
+      pub midway-other : is pseg b ≡ false → Midway f h t₀ u₀ t u w′ g last
+      midway-other other =
+          let (more, after, split) = known-next f w (m .left) step in
+          record {
+            before = m .before;
+            rest = more;
+            left = after;
+            decide = m .decide ∙ ap (λ (bs : List Box). segmentsFrom sourceLimit f h (m .before) bs) (ap (those pseg) split ∙ those-other pseg b more other);
+            gathered = m .gathered;
+            known = m .known;
+            segments = m .segments;
+            chunks = m .chunks;
+          }
+
+      module _ (kind : is pseg b ≡ true) where
+        next : (more : List Box) × (ahead f w′ ≡ given more) × (segmentsBy f h ≡ segmentsFrom sourceLimit f h (m .before) (b ∷ those pseg more))
+        next =
+            let (more, after, split) = known-next f w (m .left) step in
+            (more, after, m .decide ∙ ap (λ (bs : List Box). segmentsFrom sourceLimit f h (m .before) bs) (ap (those pseg) split ∙ those-one pseg b more kind))
+
+        pub midway-refused : {n : ℕ} → segment sourceLimit f h (m .before) b ≡ refused n → segmentsBy f h ≡ refused n
+        unfolding segmentsFrom
+        midway-refused fault = next .2 ∙ rw fault
+
+        pub midway-more : {t′ u′ : List ℕ} {g′ : Gathered} {last′ : Framed} → Segmented f h (m .before) b t t′ u u′ (SegmentRead.Given g′ last′) → Midway f h t₀ u₀ t′ u′ w′ g′ last′
+        unfolding Segmented segmentsFrom
+        midway-more told =
+            let (s, read, gathered, known, segment-row, chunk-rows) = told in
+            let (more, after, decide) = next in
+            record {
+              before = m .before ++ (s ∷ []);
+              rest = more;
+              left = after;
+              decide = decide ∙ rw read;
+              gathered = gathered;
+              known = known;
+              segments = segments-put (m .before) s (m .segments) segment-row;
+              chunks = chunks-put (m .before) s (m .chunks) chunk-rows;
+            }
+
+    pub midway-end : stepped f w ≡ given none → Gathers f h t₀ t u₀ u (Given g)
+    unfolding Gathers segmentsFrom
+    midway-end step =
+        let over = ap (λ (bs : List Box). segmentsFrom sourceLimit f h (m .before) bs) (ap (those pseg) (known-end f w (m .left) step) ∙ those-nil pseg) in
+        (m .before, m .decide ∙ over, m .gathered, m .segments, m .chunks)
+
+    pub midway-sound : {n : ℕ} → stepped f w ≡ refused n → ⊥
+    midway-sound step = known-sound f w (m .left) step

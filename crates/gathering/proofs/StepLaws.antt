@@ -1,0 +1,142 @@
+-- Laws of one segment: what its parts, its numbers and its chunks decide, and what is told of it when it was read.
+use Prim.Native.Nat.{ℕ, _+_, _-_, _*_, _<_, _≤_}
+use mathlib.Core.Bool.{Bool, true, false, _&&_}
+use mathlib.Core.List.{List, [], _∷_, _++_, map}
+use mathlib.Core.Path.{_≡_, refl, sym, ap, subst, _∙_}
+use native.Mathlib.Omega.{arith}
+use borrow.Author.Tests.{le-leb, lt-leb, eqb-true}
+use lib.Dec.{leb, eqb, lit<}
+use lib.ListN.{length}
+use Rattle.boxes.specs.Answer.{Answer, refused, given, _>>=_, hold}
+use Rattle.boxes.specs.Framing.{Box, boxesIn, boxOf}
+use Rattle.boxes.specs.Kinds.{pshd, ploc, surl, is, right, those, boxAt, firstOf}
+use Rattle.boxes.specs.declared.framing.Framed.{Framed}
+use Rattle.boxes.specs.declared.kinds.Container.the-variants.{Pseg}
+use Rattle.boxes.proofs.AnswerLaws.{both-given, held, given-same, then-then}
+use Rattle.boxes.proofs.KindLaws.{first-is}
+use Rattle.boxes.proofs.ToldLaws.{box-fields}
+use Rattle.partial.specs.Entries.{Ploc, plocHead, chunksFrom}
+use Rattle.partial.specs.Heading.{Heading}
+use Rattle.partial.specs.Limits.{chunkLimit, sourceLimit}
+use Rattle.partial.specs.Reading.{pshdRight, pshdFields, segment}
+use Rattle.partial.specs.Segments.{Chunk, Segment, chunksOf, endOf}
+use Rattle.partial.specs.Sequences.{sum}
+use Rattle.partial.specs.Tables.{segmentRow, chunkRowsOf}
+use Rattle.partial.proofs.Meaning.SequenceLaws.{both}
+use Rattle.segment.specs.Data.{Searched}
+use Rattle.segment.specs.Fields.{valuesOf}
+use Rattle.segment.specs.Location.{plocOf}
+use Rattle.segment.specs.declared.chunk.Cursor.{Cursor}
+use Rattle.segment.specs.declared.fields.Fields.{Fields}
+use Rattle.gathering.specs.Chunks.{chunksBy, Ran}
+use Rattle.gathering.specs.Gathered.{gatheredOf}
+use Rattle.gathering.specs.Parts.{Parts, headerIn, partsIn, partsOf}
+use Rattle.gathering.specs.Rows.{Put, rowBy}
+use Rattle.gathering.specs.Step.{Segmented}
+use Rattle.gathering.specs.declared.gathered.Gathered.{Gathered}
+use Rattle.gathering.specs.declared.parts.Parts.{Parts as CodeParts}
+use Rattle.gathering.specs.declared.step.SegmentRead.the-variants.{Given}
+use Rattle.gathering.proofs.GatheredLaws.{gathered-segments, gathered-chunks}
+use Rattle.gathering.proofs.RowLaws.{put-same}
+
+-- the `pshd` of a segment ends behind the start of its body
+pub header-whole : (f : List ℕ) (b : Box) {p : Parts} → partsIn f b ≡ given p → p .header .body ≤ p .header .end
+unfolding partsIn headerIn pshdRight pshdFields
+header-whole f b {p} e =
+    let (inner, _, e) = both-given (boxesIn Pseg f (b .body) (b .end)) _ e in
+    let (x, header, e) = both-given (headerIn f inner) _ e in
+    let (_, e) = held 15 (right Pseg ploc inner) _ e in
+    let (_, e) = held 16 (eqb (length (those surl inner)) 0) _ e in
+    let (l, _, e) = both-given (plocHead f (firstOf ploc inner)) _ e in
+    let (first, given-header) = held 14 (pshdRight f inner) _ header in
+    let b = boxAt 0 inner in
+    let (two, ends) = both (is pshd b && right Pseg pshd inner) (eqb (pshdFields f b .end) (b .end)) first in
+    let (kind, _) = both (is pshd b) (right Pseg pshd inner) two in
+    let whole : b .body ≤ b .end = omega (arith, eqb-true (pshdFields f b .end) (b .end) ends) in
+    let same : b ≡ p .header = sym (first-is pshd (lit< tt) inner kind) ∙ ap (λ (x : Box × Fields). x .0) (given-same given-header) ∙ ap (λ p. p .header) (given-same e) in
+    subst (λ (b : Box). b .body ≤ b .end) same whole
+
+-- a segment of these parts and chunks, whose box stands at a place
+abbrev pub built : ℕ → Parts → List Chunk → Segment
+built at p cs =
+    record {
+      place = at;
+      sourceOffset = p .fields .offset;
+      flags = p .fields .flags;
+      repairTime = p .fields .repair;
+      headerPlace = p .header .body;
+      headerLength = p .header .end - p .header .body;
+      chunks = cs;
+    }
+
+-- what is asked of a segment once its parts are known: 22, 23, its chunks
+abbrev judged : ℕ → List ℕ → Heading → List Segment → ℕ → Parts → Answer Segment
+judged limit f h before at p = do
+  _ ← hold 22 (leb (length (chunksOf before) + p .location .count) chunkLimit)
+  _ ← hold 23 (leb (p .fields .offset) limit)
+  cs ← chunksFrom limit f h at (p .location) (p .location .count) (record { at = p .location .first; start = p .fields .offset })
+  given (built at p cs)
+
+-- the same tests, grouped as the parts of a segment's box are
+regrouped : (header : Box × Fields) (next : Parts → Answer Segment) (x y z : Bool) (w : Answer Ploc)
+    → _>>=_ {B = Segment} (hold 14 x) (λ _. hold 15 y >>= λ _. hold 16 z >>= λ _. w >>= λ l. next (record { header = header .0; fields = header .1; location = l }))
+    ≡ _>>=_ {B = Segment} (_>>=_ {B = Parts} (hold 14 x >>= λ _. given header) (λ u. hold 15 y >>= λ _. hold 16 z >>= λ _. w >>= λ l. given (record { header = u .0; fields = u .1; location = l }))) next
+regrouped header next false y z w = refl
+regrouped header next true false z w = refl
+regrouped header next true true false w = refl
+regrouped header next true true true (refused n) = refl
+regrouped header next true true true (given l) = refl
+
+segment-parts : (limit : ℕ) (f : List ℕ) (h : Heading) (before : List Segment) (b : Box)
+    → segment limit f h before b ≡ (partsIn f b >>= judged limit f h before (b .at))
+unfolding segment partsIn headerIn
+segment-parts limit f h before b =
+    let next = judged limit f h before (b .at) in
+    (λ i. boxesIn Pseg f (b .body) (b .end) >>= λ inner. regrouped (firstOf pshd inner, valuesOf (pshdFields f (firstOf pshd inner))) next (pshdRight f inner) (right Pseg ploc inner) (eqb (length (those surl inner)) 0) (plocHead f (firstOf ploc inner)) i)
+    ∙ sym (then-then (boxesIn Pseg f (b .body) (b .end)) _ next)
+
+module _ (f : List ℕ) (h : Heading) (ss : List Segment) (b : Framed) where
+  by-parts : segment sourceLimit f h ss (boxOf b) ≡ (partsIn f (boxOf b) >>= judged sourceLimit f h ss (b .at .0))
+  by-parts = segment-parts sourceLimit f h ss (boxOf b) ∙ ap (λ (x : Box). partsIn f (boxOf b) >>= judged sourceLimit f h ss (x .at)) (box-fields b)
+
+  pub segment-fault : {n : ℕ} → partsIn f (boxOf b) ≡ refused n → segment sourceLimit f h ss (boxOf b) ≡ refused n
+  segment-fault e = by-parts ∙ rw e
+
+  module _ (p : CodeParts) (parts : partsIn f (boxOf b) ≡ given (partsOf p)) where
+    pub segment-crowded : chunkLimit - length (chunksOf ss) < p .location .count → segment sourceLimit f h ss (boxOf b) ≡ refused 22
+    segment-crowded many = by-parts ∙ rw (parts, lt-leb (length (chunksOf ss) + p .location .count) chunkLimit (omega arith))
+
+    module _ (few : length (chunksOf ss) + p .location .count ≤ chunkLimit) where
+      pub segment-far : sourceLimit < p .fields .offset → segment sourceLimit f h ss (boxOf b) ≡ refused 23
+      segment-far far = by-parts ∙ rw (parts, le-leb (length (chunksOf ss) + p .location .count) chunkLimit few, lt-leb (p .fields .offset) sourceLimit far)
+
+      module _ (near : p .fields .offset ≤ sourceLimit) (last : Framed) where
+        -- the cursor at the first entry
+        abbrev first : Cursor
+        first = record { at = p .location .first; start = record { 0 = p .fields .offset }; last = last }
+
+        by-chunks : segment sourceLimit f h ss (boxOf b) ≡ (chunksBy f h (b .at .0) (p .location) first >>= λ cs. given (built (b .at .0) (partsOf p) cs))
+        by-chunks = by-parts ∙ rw (parts, le-leb (length (chunksOf ss) + p .location .count) chunkLimit few, le-leb (p .fields .offset) sourceLimit near)
+
+        pub segment-cut : {n : ℕ} → chunksBy f h (b .at .0) (p .location) first ≡ refused n → segment sourceLimit f h ss (boxOf b) ≡ refused n
+        segment-cut e = by-chunks ∙ rw e
+
+        pub segment-read : {cs : List Chunk} → chunksBy f h (b .at .0) (p .location) first ≡ given cs → segment sourceLimit f h ss (boxOf b) ≡ given (built (b .at .0) (partsOf p) cs)
+        segment-read e = by-chunks ∙ rw e
+
+        pub segment-told : {before g : Gathered} {t₀ t u₀ u : List ℕ} {cs : List Chunk} {c : Cursor} → before ≡ gatheredOf ss
+            → chunksBy f h (b .at .0) (p .location) first ≡ given cs → length cs ≡ p .location .count → Ran f (h .boxes) first before u₀ cs c u
+            → Put t₀ (7 * before .segments) (rowBy (b .at .0) (p .fields) (p .location .count) (boxOf (p .header))) t
+            → ((s : Segment) → p .fields .flags ≡ s .flags → p .location .count ≡ length (s .chunks) → c .start .0 ≡ endOf s → g ≡ gatheredOf (ss ++ (s ∷ [])))
+            → Segmented f h ss (boxOf b) t₀ t u₀ u (Given g (c .last))
+        unfolding Segmented endOf segmentRow
+        segment-told {cs = cs} so-far e many ran put gathers =
+            let s = built (b .at .0) (partsOf p) cs in
+            let number = gathered-segments ss so-far in (
+              s,
+              segment-read e,
+              gathers s refl (sym many) (ran .ends),
+              ran .known,
+              put-same (ap (λ (n : ℕ). 7 * n) number) (ap (λ (n : ℕ). rowBy (b .at .0) (p .fields) n (boxOf (p .header))) (sym many)) put,
+              put-same (ap (λ (n : ℕ). 6 * n) (gathered-chunks ss so-far)) (ap (λ (n : ℕ). chunkRowsOf n 0 cs) number) (ran .rows),
+            )

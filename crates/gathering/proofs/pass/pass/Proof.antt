@@ -1,0 +1,179 @@
+-- `gathering::pass::pass` meets its contract. The loop's invariant: the segments so far were read, and the boxes that are left decide.
+use Prim.Native.Nat.{_+_, _≤_}
+use mathlib.Core.Path.{_≡_, refl, sym, ap, subst, _∙_}
+use native.Mathlib.Omega.{arith}
+use borrow.Author.Needs.{needs}
+use lib.ListN.{length}
+use Rattle.boxes.specs.Answer.{given}
+use Rattle.boxes.specs.Framing.{boxesIn, boxLimit}
+use Rattle.boxes.specs.Kinds.{pseg}
+use Rattle.boxes.specs.declared.kinds.Container.the-variants.{File}
+use Rattle.boxes.proofs.WalkLaws.{fewer, next-box, no-more, a-fault, walk-boxes, over-left}
+use Rattle.heading.proofs.FoundLaws.{is-kind, is-other}
+use Rattle.partial.specs.Heading.{Heading}
+use Rattle.partial.specs.Limits.{chunkLimit}
+use Rattle.partial.specs.Segments.{chunksOf}
+use Rattle.gathering.specs.Pass.{Gathers}
+use Rattle.gathering.specs.Step.{Counted, Segmented}
+use Rattle.gathering.proofs.GatheredLaws.{gathered-segments, gathered-chunks}
+use Rattle.gathering.proofs.PassLaws.{Midway, searched-none, midway-none, midway-other, midway-refused, midway-more, midway-end, midway-sound}
+use Rattle.gathering.proofs.pass.pass.Statement.{statement}
+use Rattle.gathering.proofs.pass.pass.Tie as tie
+
+abbrev Inv-loop : tie.InvT-loop
+Inv-loop file segments₀ chunks₀ walk₀ gathered₀ last₀ segments chunks walk gathered last =
+    (gathered .segments + walk .left ≤ 512)
+    × (gathered .chunks ≤ chunkLimit)
+    × (length segments ≡ length segments₀)
+    × (length chunks ≡ length chunks₀)
+    × ((h : Heading) → boxesIn File file 0 (length file) ≡ given (h .boxes) → Midway file h segments₀ chunks₀ segments chunks walk gathered last)
+
+abbrev μ-loop : tie.MeasureT-loop
+μ-loop file segments₀ chunks₀ walk₀ gathered₀ last₀ segments chunks walk gathered last = walk .left
+
+new-requires : tie.Need-new-requires Inv-loop μ-loop
+new-requires c κs = tt
+
+none-requires : tie.Need-none-requires Inv-loop μ-loop
+none-requires c κs = tt
+
+loop-holds : tie.Need-loop-holds Inv-loop μ-loop
+unfolding chunksOf
+loop-holds c =
+    let new = c .before .new .ensures in
+    let none = c .none .ensures in (
+      omega (arith, over-left new, gathered-segments _ none),
+      omega (arith, gathered-chunks _ none),
+      refl,
+      refl,
+      λ h known. midway-none _ h _ _ (sym (walk-boxes _ new) ∙ known) none (searched-none _ refl known),
+    )
+
+step-requires : tie.Need-step-requires Inv-loop μ-loop
+step-requires c κs = tt
+
+enum-known-b : tie.Need-enum-known-b Inv-loop μ-loop
+enum-known-b c = search needs
+
+segment-of-requires : tie.Need-segment-of-requires Inv-loop μ-loop
+unfolding boxLimit
+segment-of-requires c κs =
+    let inv = c .before .before .before .before .before .before .before .before .before .loop .inv in
+    (omega (arith, inv .0), inv .1)
+
+enum-known-n : tie.Need-enum-known-n Inv-loop μ-loop
+enum-known-n c = search needs
+
+same-length : tie.Need-same-length Inv-loop μ-loop
+same-length c = search needs
+
+same-length-2 : tie.Need-same-length-2 Inv-loop μ-loop
+same-length-2 c = search needs
+
+returns : tie.Need-returns Inv-loop μ-loop
+unfolding Gathers Segmented
+returns c = λ h known.
+    let met = c .before .before .before .before .before .before .before .before .before .before .before .before .before .before in
+    let so-far = met .before .before .before .loop .inv .4 h known in
+    let step = next-box (met .before .before .step .ensures) (met .b .given .1) in
+    let told = c .before .before .before .before .before .before .before .segment-of .ensures .1 h (so-far .before) (so-far .known) (so-far .gathered) in
+    midway-refused _ h _ _ so-far step (is-kind pseg _ (c .before .before .before .before .before .before .before .before .before .before .if1 .taken)) (subst (Segmented _ h _ _ _ _ _ _) (c .before .n .given .1) told)
+
+enum-known-more : tie.Need-enum-known-more Inv-loop μ-loop
+enum-known-more c = search needs
+
+loop-less : tie.Need-loop-less Inv-loop μ-loop
+loop-less c =
+    let met = c .before .before .before .before .before .before .before .before .before .before .before .before .before .before in
+    fewer _ _ (next-box (met .before .before .step .ensures) (met .b .given .1))
+
+loop-again : tie.Need-loop-again Inv-loop μ-loop
+unfolding Counted
+loop-again c =
+    let met = c .before .before .before .before .before .before .before .before .before .before .before .before .before .before in
+    let inv = met .before .before .before .loop .inv in
+    let step = next-box (met .before .before .step .ensures) (met .b .given .1) in
+    let read = c .before .before .before .before .before .before .before .segment-of .ensures in
+    let counted = subst (Counted _) (c .before .more .given .1) (read .0) in (
+      omega (arith, inv .0, counted .0, fewer _ _ step),
+      counted .1,
+      search needs,
+      search needs,
+      λ h known.
+          let so-far = inv .4 h known in
+          let told = read .1 h (so-far .before) (so-far .known) (so-far .gathered) in
+          midway-more _ h _ _ so-far step (is-kind pseg _ (c .before .before .before .before .before .before .before .before .before .before .if1 .taken)) (subst (Segmented _ h _ _ _ _ _ _) (c .before .more .given .1) told),
+    )
+
+loop-less-2 : tie.Need-loop-less-2 Inv-loop μ-loop
+loop-less-2 c =
+    let met = c .before .before .before .before in
+    fewer _ _ (next-box (met .before .before .step .ensures) (met .b .given .1))
+
+loop-again-2 : tie.Need-loop-again-2 Inv-loop μ-loop
+loop-again-2 c =
+    let met = c .before .before .before .before in
+    let inv = met .before .before .before .loop .inv in
+    let step = next-box (met .before .before .step .ensures) (met .b .given .1) in (
+      omega (arith, inv .0, fewer _ _ step),
+      inv .1,
+      inv .2,
+      inv .3,
+      λ h known. midway-other _ h _ _ (inv .4 h known) step (is-other pseg _ (c .if1 .left)),
+    )
+
+enum-told : tie.Need-enum-told Inv-loop μ-loop
+enum-told c = search needs
+
+same-length-3 : tie.Need-same-length-3 Inv-loop μ-loop
+same-length-3 c = search needs
+
+same-length-4 : tie.Need-same-length-4 Inv-loop μ-loop
+same-length-4 c = search needs
+
+returns-2 : tie.Need-returns-2 Inv-loop μ-loop
+returns-2 c = λ h known.
+    midway-end _ h _ _ (c .before .before .before .loop .inv .4 h known) (no-more (c .before .before .step .ensures) (c .enum-told .given .1))
+
+enum-known-n-2 : tie.Need-enum-known-n-2 Inv-loop μ-loop
+enum-known-n-2 c = search needs
+
+same-length-5 : tie.Need-same-length-5 Inv-loop μ-loop
+same-length-5 c = search needs
+
+same-length-6 : tie.Need-same-length-6 Inv-loop μ-loop
+same-length-6 c = search needs
+
+returns-3 : tie.Need-returns-3 Inv-loop μ-loop
+returns-3 c = λ h known.
+    absurd (midway-sound _ h _ _ (c .before .before .before .before .loop .inv .4 h known) (a-fault (c .before .before .before .step .ensures) (c .before .n2 .given .1)))
+
+pub pass-spec : {M : Type 1} → statement M
+pass-spec =
+    tie.close
+    (tie.spec
+    Inv-loop
+    μ-loop
+    new-requires
+    none-requires
+    loop-holds
+    step-requires
+    enum-known-b
+    segment-of-requires
+    enum-known-n
+    same-length
+    same-length-2
+    returns
+    enum-known-more
+    loop-less
+    loop-again
+    loop-less-2
+    loop-again-2
+    enum-told
+    same-length-3
+    same-length-4
+    returns-2
+    enum-known-n-2
+    same-length-5
+    same-length-6
+    returns-3)

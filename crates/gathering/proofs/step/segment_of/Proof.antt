@@ -1,0 +1,129 @@
+-- `gathering::step::segment_of` meets its contract: each test is one of the definition's.
+use Prim.Native.Nat.{ℕ, _+_, _≤_}
+use mathlib.Core.Path.{_≡_, refl, sym, ap, subst, _∙_}
+use native.Mathlib.Omega.{arith}
+use borrow.Author.Needs.{needs}
+use Rattle.boxes.specs.Answer.{given}
+use Rattle.boxes.specs.Framing.{boxLimit, boxOf}
+use Rattle.boxes.proofs.ToldLaws.{box-fields}
+use Rattle.partial.specs.Limits.{chunkLimit}
+use Rattle.gathering.specs.Chunks.{Chunked}
+use Rattle.gathering.specs.Parts.{partsIn, partsOf, partsAnswer}
+use Rattle.gathering.specs.Step.{Counted, Segmented}
+use Rattle.gathering.proofs.GatheredLaws.{gathered-chunks}
+use Rattle.gathering.proofs.StepLaws.{header-whole, segment-fault, segment-crowded, segment-far, segment-cut, segment-told}
+use Rattle.gathering.proofs.step.segment_of.Statement.{statement}
+use Rattle.gathering.proofs.step.segment_of.Tie as tie
+
+-- the numbers are within their limits, and stay so
+within : (c : tie.Else2) → c .before .before .before .before .before .before .before .before .before .before .before .before .before .before .before .before .args .before .segments ≤ boxLimit
+within c = search needs
+
+few : (c : tie.Else2) → c .before .before .before .before .before .before .before .before .before .before .before .before .before .before .before .before .args .before .chunks + c .before .before .before .before .before .before .before .before .before .p .given .0 .0 .location .count ≤ chunkLimit
+few c = omega arith
+
+parts-of-requires : tie.Need-parts-of-requires
+parts-of-requires c κs = search needs
+
+enum-known-n : tie.Need-enum-known-n
+enum-known-n c = search needs
+
+enum-known-p : tie.Need-enum-known-p
+enum-known-p c = search needs
+
+sub-if1 : tie.Need-sub-if1
+sub-if1 c = search needs
+
+returns : tie.Need-returns
+unfolding Counted Segmented partsAnswer
+returns c =
+    let met = c .before .before .before .before .before .before .before in
+    let parts = sym (met .before .before .parts-of .ensures) ∙ ap partsAnswer (met .p .given .1) in
+    (tt, λ h ss known so-far. segment-crowded _ h ss _ _ parts (omega (arith, gathered-chunks ss so-far)))
+
+returns-2 : tie.Need-returns-2
+unfolding Counted Segmented partsAnswer
+returns-2 c =
+    let met = c .before .before .before .before .before .before .before .before .before in
+    let parts = sym (met .before .before .parts-of .ensures) ∙ ap partsAnswer (met .p .given .1) in
+    (tt, λ h ss known so-far. segment-far _ h ss _ _ parts (omega (arith, gathered-chunks ss so-far)) (omega arith))
+
+chunks-of-requires : tie.Need-chunks-of-requires
+chunks-of-requires c κs = search needs
+
+enum-known-n-2 : tie.Need-enum-known-n-2
+enum-known-n-2 c = search needs
+
+enum-known-cursor : tie.Need-enum-known-cursor
+enum-known-cursor c = search needs
+
+put-segment-requires : tie.Need-put-segment-requires
+unfolding partsAnswer
+put-segment-requires c κs =
+    let met = c .before .before .before .before .before .before .before .before .before .before .before .before .before .before .before .before .before in
+    let parts = sym (met .before .before .parts-of .ensures) ∙ ap partsAnswer (met .p .given .1) in
+    (search needs, rw (box-fields _) at (header-whole _ _ parts))
+
+with-requires : tie.Need-with-requires
+with-requires c κs = (within (c .before .before .before .before .before .before .before .before .before .before .before .before .before), few (c .before .before .before .before .before .before .before .before .before .before .before .before .before))
+
+returns-3 : tie.Need-returns-3
+unfolding Counted Segmented partsAnswer
+returns-3 c =
+    (tt, λ h ss known so-far. segment-fault _ h ss _ (sym (c .before .before .before .parts-of .ensures) ∙ ap partsAnswer (c .before .n .given .1)))
+
+same-length : tie.Need-same-length
+same-length c = search needs
+
+returns-4 : tie.Need-returns-4
+unfolding Counted Segmented Chunked partsAnswer
+returns-4 c =
+    let near = c .before .before .before .before .before .before .before in
+    let met = near .before .before .before .before .before .before .before .before .before in
+    let parts = sym (met .before .before .parts-of .ensures) ∙ ap partsAnswer (met .p .given .1) in
+    let ran = c .before .before .before .before .before .chunks-of .ensures in
+    (tt, λ h ss known so-far. segment-cut _ h ss _ _ parts (omega (arith, few near, gathered-chunks ss so-far)) (omega arith) (near .before .before .before .before .before .before .before .before .before .before .before .before .before .before .before .before .args .last) (subst (Chunked _ h _ _ _ _ _ _) (c .before .n2 .given .1) (ran h known)))
+
+same-length-2 : tie.Need-same-length-2
+same-length-2 c = search needs
+
+same-length-3 : tie.Need-same-length-3
+same-length-3 c = search needs
+
+returns-5 : tie.Need-returns-5
+unfolding Counted Segmented Chunked partsAnswer
+returns-5 c =
+    let read = c .before .before .before .before .before .before .before .before in
+    let near = read .before .before .before .before .before .before in
+    let met = near .before .before .before .before .before .before .before .before .before in
+    let parts = sym (met .before .before .parts-of .ensures) ∙ ap partsAnswer (met .p .given .1) in
+    let ran = read .before .before .before .before .chunks-of .ensures in
+    let put = c .before .before .before .before .before .put-segment .ensures in
+    let more = c .with .ensures in (
+      (more .0, subst (λ (n : ℕ). n ≤ chunkLimit) (sym (more .1)) (few near)),
+      λ h ss known so-far.
+          let (cs, e, many, here) = subst (Chunked _ h _ _ _ _ _ _) (read .cursor .given .1) (ran h known) in
+          segment-told _ h ss _ _ parts (omega (arith, few near, gathered-chunks ss so-far)) (omega arith) (near .before .before .before .before .before .before .before .before .before .before .before .before .before .before .before .before .args .last) so-far e many here put (λ s. more .2 ss s so-far),
+    )
+
+pub segment-of-spec : {M : Type 1} → statement M
+segment-of-spec =
+    tie.close
+    (tie.spec
+    parts-of-requires
+    enum-known-n
+    enum-known-p
+    sub-if1
+    returns
+    returns-2
+    chunks-of-requires
+    enum-known-n-2
+    enum-known-cursor
+    put-segment-requires
+    with-requires
+    returns-3
+    same-length
+    returns-4
+    same-length-2
+    same-length-3
+    returns-5)

@@ -1,0 +1,51 @@
+// The chunks of a `ploc`: each is judged, and its row is put into the table.
+use crate::gathered::Gathered;
+use crate::rows::put_chunk;
+use boxes::place::Place;
+use partial::refusals::PLOC_WRONG;
+use segment::chunk::ChunkStep;
+use segment::chunk::Cursor;
+use segment::location::Location;
+ghost use Prim.Native.Nat.{_+_, _≤_};
+ghost use Rattle.boxes.specs.Framing.{boxOf};
+ghost use Rattle.partial.specs.Heading.{Heading};
+ghost use Rattle.partial.specs.Limits.{chunkLimit};
+ghost use Rattle.segment.specs.Data.{Searched};
+ghost use Rattle.gathering.specs.Chunks.{Chunked};
+
+// The cursor behind the last entry, or the number of a refusal.
+pub enum ChunksRead {
+    Refused(u64),
+    Given(Cursor),
+}
+
+// The chunks of a `ploc` in the `pseg` at a place, from its first entry on. No byte may be left over.
+pub(crate) fn chunks_of(
+    file: &[u8],
+    pseg: Place,
+    l: Location,
+    first: Cursor,
+    before: Gathered,
+    table: &mut [u64],
+) -> ChunksRead
+    requires { ⌜ before .chunks + l .count ≤ chunkLimit ⌝ }
+    ensures { λ r. ⌜ ((h : Heading) → Searched (now (file .entry)) (boxOf (first .last)) (h .boxes) → Chunked (now (file .entry)) h (pseg .0) l first before (now (table .entry)) (now (table .exit)) r) ⌝ }
+{
+    let end = l.end;
+    let mut cursor = first;
+    let mut i = 0;
+    while i < l.count {
+        match cursor.step(file, pseg, l) {
+            ChunkStep::Refused(n) => return ChunksRead::Refused(n),
+            ChunkStep::Given(chunk, next) => {
+                put_chunk(table, before.chunks + i, before.segments, i, chunk);
+                cursor = next;
+                i += 1;
+            }
+        }
+    }
+    if cursor.at.0 != end.0 {
+        return ChunksRead::Refused(PLOC_WRONG);
+    }
+    ChunksRead::Given(cursor)
+}

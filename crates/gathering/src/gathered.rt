@@ -1,0 +1,56 @@
+// What is gathered of the segments of a file, one after another.
+use crate::sizes::Sizes;
+use partial::header::SegmentHeader;
+use partial::position::Position;
+ghost use Prim.Native.Nat.{_+_, _≤_};
+ghost use mathlib.Core.List.{List, [], _∷_, _++_};
+ghost use mathlib.Core.Path.{_≡_};
+ghost use lib.ListN.{length};
+ghost use Rattle.boxes.specs.Framing.{boxLimit};
+ghost use Rattle.partial.specs.Limits.{chunkLimit};
+ghost use Rattle.partial.specs.Meaning.{givesSize};
+ghost use Rattle.partial.specs.Segments.{Segment, endOf};
+ghost use Rattle.gathering.specs.Gathered.{gatheredOf};
+
+// How many segments there are, how many chunks they have, and what their ends say of the size of the source.
+pub struct Gathered {
+    pub segments: u64,
+    pub chunks: u64,
+    pub sizes: Sizes,
+}
+
+// Whether a segment of these flags and so many chunks makes the size of the source known: it is the last, and not open.
+fn gives_size(flags: u64, count: u64) -> bool
+    ensures { λ r. ⌜ ((s : Segment) → flags ≡ s .flags → count ≡ length (s .chunks) → r ≡ givesSize s) ⌝ }
+{
+    if flags % 2 != SegmentHeader::LAST_SEGMENT as u64 {
+        return false;
+    }
+    count != 0
+}
+
+impl Gathered {
+    // Of no segment.
+    pub(crate) fn none() -> Self
+        ensures { λ r. ⌜ r ≡ gatheredOf [] ⌝ }
+    {
+        Gathered {
+            segments: 0,
+            chunks: 0,
+            sizes: Sizes::none(),
+        }
+    }
+
+    // With one segment more, of these flags and so many chunks, that ends there.
+    pub(crate) fn with(self, flags: u64, count: u64, end: Position) -> Self
+        requires { ⌜ (self .segments ≤ boxLimit) × (self .chunks + count ≤ chunkLimit) ⌝ }
+        ensures { λ r. ⌜ (r .segments ≡ self .segments + 1) × (r .chunks ≡ self .chunks + count) × ((ss : List Segment) (s : Segment) → self ≡ gatheredOf ss → flags ≡ s .flags → count ≡ length (s .chunks) → end .0 ≡ endOf s → r ≡ gatheredOf (ss ++ (s ∷ []))) ⌝ }
+    {
+        let sizes = self.sizes;
+        Gathered {
+            segments: self.segments + 1,
+            chunks: self.chunks + count,
+            sizes: sizes.with(end.0, gives_size(flags, count)),
+        }
+    }
+}

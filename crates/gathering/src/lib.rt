@@ -1,0 +1,9 @@
+// One pass over the segments of a file: each is judged beside those before it, its rows are put into the lent tables, and what all of them say is
+// gathered.
+mod chunks;
+pub mod gathered;
+mod parts;
+pub mod pass;
+mod rows;
+pub mod sizes;
+mod step;

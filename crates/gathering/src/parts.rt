@@ -1,0 +1,93 @@
+// The parts of a segment's box: refusals 14 to 16, and those of the head of its `ploc`.
+use boxes::framing::Framed;
+use boxes::framing::Header;
+use boxes::framing::header_at;
+use boxes::kinds::Container;
+use boxes::kinds::PLOC;
+use boxes::kinds::PSHD;
+use boxes::kinds::SURL;
+use boxes::rules::keeps;
+use boxes::rules::tally;
+use boxes::tally::Tally;
+use heading::find::first_of;
+use partial::refusals::PLOC_NOT_SINGLE;
+use partial::refusals::PSHD_WRONG;
+use partial::refusals::SURL_IN_SEGMENT;
+use segment::fields::Fields;
+use segment::fields::FieldsRead;
+use segment::fields::fields_of;
+use segment::location::Location;
+use segment::location::LocationRead;
+use segment::location::location_of;
+ghost use mathlib.Core.Path.{_≡_};
+ghost use mathlib.Core.List.{List};
+ghost use Rattle.boxes.specs.Answer.{given};
+ghost use Rattle.boxes.specs.Framing.{Box, boxOf, boxesIn};
+ghost use Rattle.boxes.specs.Rules.{tallyOf};
+ghost use Rattle.boxes.specs.declared.kinds.Container.the-variants.{Pseg};
+ghost use Rattle.gathering.specs.Parts.{headerIn, pshdAnswer, partsIn, partsAnswer};
+
+// Its `pshd`, the fields of that, and the head of its `ploc`.
+pub struct Parts {
+    pub header: Framed,
+    pub fields: Fields,
+    pub location: Location,
+}
+
+// What a segment's box holds, or the number of its refusal.
+pub enum PartsRead {
+    Refused(u64),
+    Given(Parts),
+}
+
+// The `pshd` of a segment's box and its fields, or the number of its refusal.
+pub enum HeaderRead {
+    Refused(u64),
+    Given(Framed, Fields),
+}
+
+// The `pshd`, which is first, single and as 5.1.4.2, of a box whose boxes were counted.
+fn header_of(file: &[u8], b: Framed, inner: Tally) -> HeaderRead
+    ensures { λ r. ⌜ ((bs : List Box) → boxesIn Pseg (now (file .entry)) (b .body .0) (b .end .0) ≡ given bs → inner ≡ tallyOf (given bs) → pshdAnswer r ≡ headerIn (now (file .entry)) bs) ⌝ }
+{
+    if !keeps(Container::Pseg, PSHD, inner.of(PSHD)) {
+        return HeaderRead::Refused(PSHD_WRONG);
+    }
+    let Header::Found(first) = header_at(file, b.body, b.end) else {
+        return HeaderRead::Refused(PSHD_WRONG);
+    };
+    if first.kind != PSHD.code {
+        return HeaderRead::Refused(PSHD_WRONG);
+    }
+    match fields_of(file, first) {
+        FieldsRead::Given(fields) => HeaderRead::Given(first, fields),
+        FieldsRead::Refused(n) => HeaderRead::Refused(n),
+    }
+}
+
+// The parts of the box of a segment.
+pub(crate) fn parts_of(file: &[u8], b: Framed) -> PartsRead
+    ensures { λ r. ⌜ partsAnswer r ≡ partsIn (now (file .entry)) (boxOf b) ⌝ }
+{
+    let inner = tally(file, Container::Pseg, b.body, b.end);
+    if inner.fault != 0 {
+        return PartsRead::Refused(inner.fault);
+    }
+    let HeaderRead::Given(header, fields) = header_of(file, b, inner) else {
+        return PartsRead::Refused(PSHD_WRONG);
+    };
+    if !keeps(Container::Pseg, PLOC, inner.of(PLOC)) {
+        return PartsRead::Refused(PLOC_NOT_SINGLE);
+    }
+    if inner.of(SURL) != 0 {
+        return PartsRead::Refused(SURL_IN_SEGMENT);
+    }
+    match location_of(file, first_of(file, PLOC, b.body, b.end)) {
+        LocationRead::Given(location) => PartsRead::Given(Parts {
+            header,
+            fields,
+            location,
+        }),
+        LocationRead::Refused(n) => PartsRead::Refused(n),
+    }
+}

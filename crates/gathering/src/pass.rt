@@ -1,0 +1,58 @@
+// The pass over the segments of a file whose framing is known to be right.
+use crate::gathered::Gathered;
+use crate::step::SegmentRead;
+use crate::step::segment_of;
+use boxes::framing::Framed;
+use boxes::kinds::Container;
+use boxes::kinds::PSEG;
+use boxes::place::Place;
+use boxes::walk::Step;
+use boxes::walk::Walk;
+ghost use mathlib.Core.Path.{_≡_};
+ghost use lib.ListN.{length};
+ghost use Rattle.boxes.specs.Answer.{given};
+ghost use Rattle.boxes.specs.Framing.{boxesIn};
+ghost use Rattle.boxes.specs.declared.kinds.Container.the-variants.{File};
+ghost use Rattle.partial.specs.Heading.{Heading};
+ghost use Rattle.gathering.specs.Pass.{Gathers};
+
+// What is gathered of all segments, or the number of a refusal.
+pub enum Passed {
+    Refused(u64),
+    Given(Gathered),
+}
+
+// No box held a chunk before the first.
+const NO_BOX: Framed = Framed {
+    kind: 0,
+    at: Place(0),
+    body: Place(0),
+    end: Place(0),
+};
+
+// Judges the segments of a file in their order, and puts the rows into the tables that have room for them all.
+pub fn pass(file: &[u8], segments: &mut [u64], chunks: &mut [u64]) -> Passed
+    ensures { λ r. ⌜ ((h : Heading) → boxesIn File (now (file .entry)) 0 (length (now (file .entry))) ≡ given (h .boxes) → Gathers (now (file .entry)) h (now (segments .entry)) (now (segments .exit)) (now (chunks .entry)) (now (chunks .exit)) r) ⌝ }
+{
+    let mut walk = Walk::new(Container::File, Place(0), Place(file.len() as u64));
+    let mut gathered = Gathered::none();
+    let mut last = NO_BOX;
+    loop {
+        match walk.step(file) {
+            Step::Next(b, next) => {
+                walk = next;
+                if b.kind == PSEG.code {
+                    match segment_of(file, b, gathered, last, segments, chunks) {
+                        SegmentRead::Refused(n) => return Passed::Refused(n),
+                        SegmentRead::Given(more, held) => {
+                            gathered = more;
+                            last = held;
+                        }
+                    }
+                }
+            }
+            Step::End => return Passed::Given(gathered),
+            Step::Refused(n) => return Passed::Refused(n),
+        }
+    }
+}

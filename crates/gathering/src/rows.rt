@@ -1,0 +1,66 @@
+// Rows of numbers, put into a lent table.
+use boxes::framing::Framed;
+use boxes::place::Place;
+use segment::chunk::Chunk;
+use segment::fields::Fields;
+ghost use Prim.Native.Nat.{_*_, _≤_};
+ghost use mathlib.Core.Path.{_≡_};
+ghost use Rattle.boxes.specs.Framing.{boxLimit, boxOf};
+ghost use Rattle.boxes.specs.Stored.{stored};
+ghost use Rattle.partial.specs.Limits.{chunkLimit};
+ghost use Rattle.partial.specs.Tables.{chunkRow};
+ghost use Rattle.segment.specs.Chunk.{chunkOf};
+ghost use Rattle.gathering.specs.Rows.{Put, rowBy};
+
+// Writes a row from that number of the table on, if there is room for it.
+fn put_row(table: &mut [u64], at: usize, row: &[u64])
+    ensures { λ _. ⌜ now (table .exit) ≡ stored (now (table .entry)) at (now (row .entry)) ⌝ }
+{
+    if table.len() < at {
+        return;
+    }
+    if table.len() - at < row.len() {
+        return;
+    }
+    let mut i = row.len();
+    while 0 < i {
+        i -= 1;
+        table[at + i] = row[i];
+    }
+}
+
+// Writes the row of a chunk behind so many others: the number of its segment, its index there, its start, size, state and place.
+pub(crate) fn put_chunk(table: &mut [u64], before: u64, segment: u64, index: u64, c: Chunk)
+    requires { ⌜ before ≤ chunkLimit ⌝ }
+    ensures { λ _. ⌜ Put (now (table .entry)) (6 * before) (chunkRow segment index (chunkOf c)) (now (table .exit)) ⌝ }
+{
+    let row = [segment, index, c.start.0, c.size, c.state, c.place.0];
+    put_row(table, (6 * before) as usize, &row);
+}
+
+// Writes the row of a segment behind so many others: the place of its box, the fields of its `pshd`, the number of its chunks, and the place and the
+// length of the body of its `pshd`.
+pub(crate) fn put_segment(
+    table: &mut [u64],
+    before: u64,
+    place: Place,
+    fields: Fields,
+    count: u64,
+    header: Framed,
+)
+    requires { ⌜ (before ≤ boxLimit) × (header .body .0 ≤ header .end .0) ⌝ }
+    ensures { λ _. ⌜ Put (now (table .entry)) (7 * before) (rowBy (place .0) fields count (boxOf header)) (now (table .exit)) ⌝ }
+{
+    let body = header.body;
+    let end = header.end;
+    let row = [
+        place.0,
+        fields.offset,
+        fields.flags,
+        fields.repair,
+        count,
+        body.0,
+        end.0 - body.0,
+    ];
+    put_row(table, (7 * before) as usize, &row);
+}

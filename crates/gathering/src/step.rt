@@ -1,0 +1,75 @@
+// The step of reading: one segment beside those before it, refusals 14 to 24.
+use crate::chunks::ChunksRead;
+use crate::chunks::chunks_of;
+use crate::gathered::Gathered;
+use crate::parts::PartsRead;
+use crate::parts::parts_of;
+use crate::rows::put_segment;
+use boxes::framing::Framed;
+use partial::limits::CHUNK_LIMIT;
+use partial::limits::SOURCE_LIMIT;
+use partial::position::Position;
+use partial::refusals::SOURCE_TOO_LONG;
+use partial::refusals::TOO_MANY_CHUNKS;
+use segment::chunk::Cursor;
+ghost use Prim.Native.Nat.{_≤_};
+ghost use mathlib.Core.List.{List};
+ghost use mathlib.Core.Path.{_≡_};
+ghost use Rattle.boxes.specs.Framing.{boxLimit, boxOf};
+ghost use Rattle.partial.specs.Heading.{Heading};
+ghost use Rattle.partial.specs.Limits.{chunkLimit};
+ghost use Rattle.partial.specs.Segments.{Segment};
+ghost use Rattle.segment.specs.Data.{Searched};
+ghost use Rattle.gathering.specs.Gathered.{gatheredOf};
+ghost use Rattle.gathering.specs.Step.{Counted, Segmented};
+
+// What is gathered with one segment more, and the data box that held the last chunk; or the number of a refusal.
+pub enum SegmentRead {
+    Refused(u64),
+    Given(Gathered, Framed),
+}
+
+// The segment of a `pseg` box, beside what was gathered before it.
+pub(crate) fn segment_of(
+    file: &[u8],
+    b: Framed,
+    before: Gathered,
+    last: Framed,
+    segments: &mut [u64],
+    chunks: &mut [u64],
+) -> SegmentRead
+    requires { ⌜ (before .segments ≤ boxLimit) × (before .chunks ≤ chunkLimit) ⌝ }
+    ensures { λ r. ⌜ Counted before r × ((h : Heading) (ss : List Segment) → Searched (now (file .entry)) (boxOf last) (h .boxes) → before ≡ gatheredOf ss → Segmented (now (file .entry)) h ss (boxOf b) (now (segments .entry)) (now (segments .exit)) (now (chunks .entry)) (now (chunks .exit)) r) ⌝ }
+{
+    let place = b.at;
+    match parts_of(file, b) {
+        PartsRead::Refused(n) => SegmentRead::Refused(n),
+        PartsRead::Given(p) => {
+            let fields = p.fields;
+            let location = p.location;
+            let header = p.header;
+            let at = location.first;
+            let count = location.count;
+            if CHUNK_LIMIT - before.chunks < count {
+                return SegmentRead::Refused(TOO_MANY_CHUNKS);
+            }
+            if SOURCE_LIMIT < fields.offset {
+                return SegmentRead::Refused(SOURCE_TOO_LONG);
+            }
+            let first = Cursor {
+                at,
+                start: Position(fields.offset),
+                last,
+            };
+            match chunks_of(file, place, location, first, before, chunks) {
+                ChunksRead::Refused(n) => SegmentRead::Refused(n),
+                ChunksRead::Given(cursor) => {
+                    put_segment(segments, before.segments, place, fields, count, header);
+                    let end = cursor.start;
+                    let held = cursor.last;
+                    SegmentRead::Given(before.with(fields.flags, count, end), held)
+                }
+            }
+        }
+    }
+}

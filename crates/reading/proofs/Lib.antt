@@ -1,3 +1,0 @@
-pub mod PartsLaws
-pub mod RowLaws
-pub mod SizeLaws
