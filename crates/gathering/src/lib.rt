@@ -4,6 +4,6 @@ mod chunks;
 pub mod gathered;
 mod parts;
 pub mod pass;
-mod rows;
+pub mod rows;
 pub mod sizes;
 mod step;

@@ -12,6 +12,11 @@ ghost use Rattle.partial.specs.Tables.{chunkRow};
 ghost use Rattle.segment.specs.Chunk.{chunkOf};
 ghost use Rattle.gathering.specs.Rows.{Put, rowBy};
 
+// The numbers of a segment's row.
+pub const SEGMENT_ROW: u64 = 7;
+// The numbers of a chunk's row.
+pub const CHUNK_ROW: u64 = 6;
+
 // Writes a row from that number of the table on, if there is room for it.
 fn put_row(table: &mut [u64], at: usize, row: &[u64])
     ensures { λ _. ⌜ now (table .exit) ≡ stored (now (table .entry)) at (now (row .entry)) ⌝ }
@@ -35,7 +40,7 @@ pub(crate) fn put_chunk(table: &mut [u64], before: u64, segment: u64, index: u64
     ensures { λ _. ⌜ Put (now (table .entry)) (6 * before) (chunkRow segment index (chunkOf c)) (now (table .exit)) ⌝ }
 {
     let row = [segment, index, c.start.0, c.size, c.state, c.place.0];
-    put_row(table, (6 * before) as usize, &row);
+    put_row(table, (CHUNK_ROW * before) as usize, &row);
 }
 
 // Writes the row of a segment behind so many others: the place of its box, the fields of its `pshd`, the number of its chunks, and the place and the
@@ -62,5 +67,5 @@ pub(crate) fn put_segment(
         body.0,
         end.0 - body.0,
     ];
-    put_row(table, (7 * before) as usize, &row);
+    put_row(table, (SEGMENT_ROW * before) as usize, &row);
 }

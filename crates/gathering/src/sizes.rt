@@ -57,7 +57,7 @@ impl Sizes {
     }
 
     // 25: whether no two known sizes differ, and nothing lies above the known size.
-    pub(crate) fn agree(self) -> bool
+    pub fn agree(self) -> bool
         ensures { λ r. ⌜ ((ss : List Segment) → self ≡ sizesOf ss → r ≡ agree ss) ⌝ }
     {
         if self.known {
@@ -72,7 +72,7 @@ impl Sizes {
     }
 
     // The described length.
-    pub(crate) fn described(self) -> u64
+    pub fn described(self) -> u64
         ensures { λ r. ⌜ ((ss : List Segment) → self ≡ sizesOf ss → r ≡ describedLength ss) ⌝ }
     {
         if self.known { self.size } else { self.largest }

@@ -7,17 +7,13 @@ use Rattle.boxes.specs.Answer.{given}
 use Rattle.boxes.specs.Framing.{Box, boxesIn}
 use Rattle.boxes.proofs.Determined.{OneResult, OneKnown}
 use Rattle.boxes.proofs.ToldLaws.{Tells, box-told}
-use Rattle.heading.specs.Facts.{Facts, partOf, headedAnswer}
-use Rattle.heading.specs.declared.answers.Head.{Head}
+use Rattle.heading.specs.Facts.{factsBy, headedAnswer}
 use Rattle.heading.specs.declared.answers.Headed.the-variants.{Refused, Found}
 use Rattle.heading.proofs.find.first_of.Reads as first-of
 use Rattle.heading.proofs.stages.heading_of.Reads as heading-of
 
 -- two heads that say the same are the same
-head-told : (g h : Head)
-    → _≡_ {A = Facts} (record { boxes = g .boxes; segments = g .segments; url = partOf (g .url); mime = partOf (g .mime) })
-    (record { boxes = h .boxes; segments = h .segments; url = partOf (h .url); mime = partOf (h .mime) })
-    → g ≡ h
+pub head-told : Tells factsBy
 head-told g h e =
     λ i. record {
       boxes = e i .boxes;

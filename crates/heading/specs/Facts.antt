@@ -6,6 +6,7 @@ use Rattle.boxes.specs.Answer.{Answer, refused, given, _>>=_}
 use Rattle.boxes.specs.Kinds.{surl, pseg, those, firstOf}
 use Rattle.partial.specs.Heading.{Part, Heading, url, mime}
 use Rattle.heading.specs.declared.answers.Part as Stated
+use Rattle.heading.specs.declared.answers.Head.{Head}
 use Rattle.heading.specs.declared.answers.Headed.{Headed}
 use Rattle.heading.specs.declared.answers.Headed.the-variants.{Refused, Found}
 
@@ -29,8 +30,11 @@ told f answer = answer >>= λ h. given (factsOf f h)
 abbrev pub partOf : Stated.Part → Part
 partOf p = record { place = p .place .0; size = p .size }
 
+-- what a head that was found says
+abbrev pub factsBy : Head → Facts
+factsBy h = record { boxes = h .boxes; segments = h .segments; url = partOf (h .url); mime = partOf (h .mime) }
+
 -- what an answer about a heading says
 unfoldable pub headedAnswer : Headed → Answer Facts
 headedAnswer (Refused n) = refused n
-headedAnswer (Found h) =
-    given (record { boxes = h .boxes; segments = h .segments; url = partOf (h .url); mime = partOf (h .mime) })
+headedAnswer (Found h) = given (factsBy h)

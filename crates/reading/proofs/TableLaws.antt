@@ -1,0 +1,89 @@
+-- Laws of reading into the tables: what each test decides, and what both passes leave.
+use Prim.Native.Nat.{ℕ, _*_, _≤_, _<_}
+use mathlib.Core.Bool.{true, false, and-false}
+use mathlib.Core.List.{List}
+use mathlib.Core.Path.{_≡_, refl, sym, ap, subst, _∙_}
+use native.Mathlib.Omega.{arith}
+use borrow.Author.Tests.{le-leb, lt-leb}
+use lib.ListN.{length}
+use Rattle.boxes.specs.Answer.{Answer, refused, given, _>>=_}
+use Rattle.boxes.proofs.AnswerLaws.{not-both, given-same}
+use Rattle.partial.specs.Answers.{readAnswer}
+use Rattle.partial.specs.Heading.{Heading}
+use Rattle.partial.specs.Limits.{sourceLimit}
+use Rattle.partial.specs.Meaning.{describedLength}
+use Rattle.partial.specs.Memory.{fits, filled, after}
+use Rattle.partial.specs.Reading.{reading}
+use Rattle.partial.specs.Segments.{Segment, chunksOf}
+use Rattle.partial.specs.Tables.{tabled, segmentRows, chunkRows, summary}
+use Rattle.partial.specs.declared.answers.Read.{Read}
+use Rattle.partial.specs.declared.answers.Read.the-variants as Read
+use Rattle.gathering.specs.Gathered.{gatheredOf}
+use Rattle.gathering.specs.Pass.{segmentsBy, Gathers}
+use Rattle.gathering.specs.Rows.{Put}
+use Rattle.gathering.specs.Sizes.{sizesOf}
+use Rattle.gathering.specs.declared.gathered.Gathered.{Gathered}
+use Rattle.gathering.specs.declared.pass.Passed.{Passed}
+use Rattle.gathering.specs.declared.pass.Passed.the-variants as Passed
+use Rattle.gathering.proofs.RowLaws.{segment-rows-long, all-rows-long, put-filled}
+use Rattle.reading.specs.Tables.{Reads}
+
+chunk-rows-all : (ss : List Segment) → length (chunkRows ss) ≡ 6 * length (chunksOf ss)
+unfolding chunkRows
+chunk-rows-all ss = all-rows-long 0 ss
+
+module _ (f a b : List ℕ) where
+  pub tabled-refused : {n : ℕ} → reading sourceLimit f ≡ refused n → tabled sourceLimit f a b ≡ refused n
+  unfolding tabled
+  tabled-refused e = rw e
+
+  module _ (ss : List Segment) (read : reading sourceLimit f ≡ given ss) where
+    pub segments-short : length a < 7 * length ss → tabled sourceLimit f a b ≡ refused 26
+    unfolding tabled fits
+    segments-short short = rw (read, lt-leb (length (segmentRows ss)) (length a) (omega (arith, segment-rows-long ss)))
+
+    pub chunks-short : length b < 6 * length (chunksOf ss) → tabled sourceLimit f a b ≡ refused 26
+    unfolding tabled fits
+    chunks-short short = rw (read, lt-leb (length (chunkRows ss)) (length b) (omega (arith, chunk-rows-all ss)), and-false)
+
+    pub tabled-given : 7 * length ss ≤ length a → 6 * length (chunksOf ss) ≤ length b → tabled sourceLimit f a b ≡ given ss
+    unfolding tabled fits
+    tabled-given one two =
+        rw (
+          read,
+          le-leb (length (segmentRows ss)) (length a) (omega (arith, segment-rows-long ss)),
+          le-leb (length (chunkRows ss)) (length b) (omega (arith, chunk-rows-all ss)),
+        )
+
+  -- after a refusal both tables are as they were
+  pub reads-refused : {n : ℕ} → tabled sourceLimit f a b ≡ refused n → Reads f a a b b (Read.Refused n)
+  unfolding readAnswer after
+  reads-refused e = record { answer = rw e; segmentTable = rw e; chunkTable = rw e }
+
+  -- of an accepted file they are filled
+  pub reads-given : {a′ b′ : List ℕ} {r : Read} (ss : List Segment) → tabled sourceLimit f a b ≡ given ss → readAnswer r ≡ given (summary ss)
+      → a′ ≡ filled (segmentRows ss) a → b′ ≡ filled (chunkRows ss) b → Reads f a a′ b b′ r
+  unfolding after
+  reads-given ss e answer one two = record { answer = rw e answer; segmentTable = rw e one; chunkTable = rw e two }
+
+-- what is gathered of segments is what is answered of them
+pub answered : {g : Gathered} (ss : List Segment) → g ≡ gatheredOf ss → {n : ℕ} → n ≡ describedLength ss
+    → readAnswer (Read.Tables (g .segments) (g .chunks) (record { 0 = n }) (g .sizes .known)) ≡ given (summary ss)
+unfolding readAnswer summary gatheredOf sizesOf
+answered ss e length = λ i. given (record { segments = e i .segments; chunks = e i .chunks; described = length i; closed = e i .sizes .known })
+
+-- the pass over a file whose segments are known puts their rows
+pub rows-put : (f : List ℕ) (h : Heading) {t₀ t u₀ u : List ℕ} (r : Passed) {ss : List Segment} → Gathers f h t₀ t u₀ u r → segmentsBy f h ≡ given ss
+    → Put t₀ 0 (segmentRows ss) t × Put u₀ 0 (chunkRows ss) u
+unfolding Gathers
+rows-put f h (Passed.Refused n) fault read = absurd (not-both (sym fault ∙ read))
+rows-put f h {t₀ = t₀} {t = t} {u₀ = u₀} {u = u} (Passed.Given g) (ss, read′, _, one, two) read =
+    let same = given-same (sym read′ ∙ read) in
+    (subst (λ (ss : List Segment). Put t₀ 0 (segmentRows ss) t) same one, subst (λ (ss : List Segment). Put u₀ 0 (chunkRows ss) u) same two)
+
+-- rows that fit fill a table
+pub segments-filled : (ss : List Segment) {a a′ : List ℕ} → Put a 0 (segmentRows ss) a′ → 7 * length ss ≤ length a → a′ ≡ filled (segmentRows ss) a
+segments-filled ss put room = put-filled (segmentRows ss) put (omega (arith, segment-rows-long ss))
+
+pub chunks-filled : (ss : List Segment) {b b′ : List ℕ} → Put b 0 (chunkRows ss) b′ → 6 * length (chunksOf ss) ≤ length b → b′ ≡ filled (chunkRows ss) b
+chunks-filled ss put room = put-filled (chunkRows ss) put (omega (arith, chunk-rows-all ss))

@@ -1,0 +1,70 @@
+-- `reading::judging::segments_of` meets its contract: 13, then the pass, then 25.
+use mathlib.Core.Path.{sym, ap, subst, _∙_}
+use native.Mathlib.Omega.{arith}
+use borrow.Author.Tests.{not-true, not-false}
+use Rattle.boxes.specs.Answer.{given}
+use Rattle.gathering.specs.Pass.{Gathers}
+use Rattle.gathering.proofs.GatheredLaws.{gathered-sizes}
+use Rattle.reading.specs.Judged.{gatheredAnswer}
+use Rattle.reading.proofs.JudgedLaws.{gathered-crowded, gathered-refused, gathered-differ, gathered-given}
+use borrow.Author.Needs.{needs}
+use Rattle.reading.proofs.judging.segments_of.Statement.{statement}
+use Rattle.reading.proofs.judging.segments_of.Tie as tie
+
+returns : tie.Need-returns
+unfolding gatheredAnswer
+returns c = λ h known count. sym (gathered-crowded _ h (omega (arith, count)))
+
+slice-aggregate-pass : tie.Need-slice-aggregate-pass
+slice-aggregate-pass c = search needs
+
+slice-aggregate-pass-2 : tie.Need-slice-aggregate-pass-2
+slice-aggregate-pass-2 c = search needs
+
+pass-requires : tie.Need-pass-requires
+pass-requires c κs = search needs
+
+enum-known-n : tie.Need-enum-known-n
+enum-known-n c = search needs
+
+enum-known-gathered : tie.Need-enum-known-gathered
+enum-known-gathered c = search needs
+
+agree-requires : tie.Need-agree-requires
+agree-requires c κs = search needs
+
+returns-2 : tie.Need-returns-2
+unfolding gatheredAnswer Gathers
+returns-2 c = λ h known count.
+    let met = c .before .before .before .before in
+    let (ss, read, same, _, _) = subst (Gathers _ h _ _ _ _) (met .gathered .given .1) (met .before .before .before .before .pass .ensures h known) in
+    let differ = sym (c .before .agree .ensures ss (gathered-sizes ss same)) ∙ not-true _ (c .if2 .taken) in
+    sym (gathered-differ _ h (omega (arith, count)) read differ)
+
+returns-3 : tie.Need-returns-3
+unfolding gatheredAnswer Gathers
+returns-3 c = λ h known count.
+    sym (gathered-refused _ h (omega (arith, count)) (subst (Gathers _ h _ _ _ _) (c .before .n .given .1) (c .before .before .before .before .before .pass .ensures h known)))
+
+returns-4 : tie.Need-returns-4
+unfolding gatheredAnswer Gathers
+returns-4 c = λ h known count.
+    let met = c .before .before .before .before in
+    let (ss, read, same, _, _) = subst (Gathers _ h _ _ _ _) (met .gathered .given .1) (met .before .before .before .before .pass .ensures h known) in
+    let agrees = sym (c .before .agree .ensures ss (gathered-sizes ss same)) ∙ not-false _ (c .if2 .left) in
+    ap given same ∙ sym (gathered-given _ h (omega (arith, count)) read agrees)
+
+pub segments-of-spec : {M : Type 1} → statement M
+segments-of-spec =
+    tie.close
+    (tie.spec
+    returns
+    slice-aggregate-pass
+    slice-aggregate-pass-2
+    pass-requires
+    enum-known-n
+    enum-known-gathered
+    agree-requires
+    returns-2
+    returns-3
+    returns-4)

@@ -1,0 +1,77 @@
+-- `reading::tables::read` meets its contract: the judgement, then 26, then the pass that fills the tables.
+use Prim.Native.Nat.{ℕ, _*_, _≤_}
+use mathlib.Core.Path.{_≡_, refl, sym, ap, _∙_}
+use native.Mathlib.Omega.{arith}
+use lib.ListN.{length}
+use Rattle.partial.specs.Segments.{chunksOf}
+use Rattle.partial.proofs.Reading.HeadingAppendLaws.{headed}
+use Rattle.gathering.proofs.GatheredLaws.{gathered-segments, gathered-chunks, gathered-sizes}
+use Rattle.reading.proofs.JudgedLaws.{accepted, read-refused, read-given, read-segments, judgement-refused, judgement-given}
+use Rattle.reading.proofs.TableLaws.{tabled-refused, segments-short, chunks-short, tabled-given, reads-refused, reads-given, answered, rows-put, segments-filled, chunks-filled}
+use borrow.Author.Needs.{needs}
+use Rattle.reading.proofs.tables.read.Statement.{statement}
+use Rattle.reading.proofs.tables.read.Tie as tie
+
+judge-requires : tie.Need-judge-requires
+judge-requires c κs = search needs
+
+enum-known-n : tie.Need-enum-known-n
+enum-known-n c = search needs
+
+enum-known-judged : tie.Need-enum-known-judged
+enum-known-judged c = search needs
+
+returns : tie.Need-returns
+returns c =
+    let met = c .before .before .before .before .before in
+    let a = accepted _ (judgement-given (met .before .before .judge .ensures) (met .judged .given .1)) in
+    reads-refused _ _ _ (segments-short _ _ _ (a .ss) (read-given _ a) (omega (arith, gathered-segments (a .ss) (a .gathered))))
+
+returns-2 : tie.Need-returns-2
+returns-2 c =
+    let met = c .before .before .before .before .before .before .before in
+    let a = accepted _ (judgement-given (met .before .before .judge .ensures) (met .judged .given .1)) in
+    reads-refused _ _ _ (chunks-short _ _ _ (a .ss) (read-given _ a) (omega (arith, gathered-chunks (a .ss) (a .gathered))))
+
+pass-requires : tie.Need-pass-requires
+pass-requires c κs = search needs
+
+described-requires : tie.Need-described-requires
+described-requires c κs = search needs
+
+returns-3 : tie.Need-returns-3
+returns-3 c =
+    reads-refused _ _ _ (tabled-refused _ _ _ (read-refused _ (judgement-refused (c .before .before .before .judge .ensures) (c .before .n .given .1))))
+
+same-length : tie.Need-same-length
+same-length c = search needs
+
+same-length-2 : tie.Need-same-length-2
+same-length-2 c = search needs
+
+returns-4 : tie.Need-returns-4
+returns-4 c =
+    let met = c .before .before .before .before .before .before .before .before .before .before .before .before .before .before .before in
+    let a = accepted _ (judgement-given (met .before .before .judge .ensures) (met .judged .given .1)) in
+    let args = c .before .before .before .before .before .before .before .before .before .before .before .before .before .before .before .before .before .before .before .before .before .args in
+    let segments : 7 * length (a .ss) ≤ length (args .segments .now) = omega (arith, gathered-segments (a .ss) (a .gathered)) in
+    let chunks : 6 * length (chunksOf (a .ss)) ≤ length (args .chunks .now) = omega (arith, gathered-chunks (a .ss) (a .gathered)) in
+    let (one, two) = rows-put _ (a .h) _ (c .before .before .before .before .before .pass .ensures (a .h) (headed _ (a .h) (a .head) .boxes)) (read-segments _ a) in
+    let answer = answered (a .ss) (a .gathered) (c .described .ensures (a .ss) (gathered-sizes (a .ss) (a .gathered))) in
+    reads-given _ _ _ (a .ss) (tabled-given _ _ _ (a .ss) (read-given _ a) segments chunks) answer (segments-filled (a .ss) one segments) (chunks-filled (a .ss) two chunks)
+
+pub read-spec : {M : Type 1} → statement M
+read-spec =
+    tie.close
+    (tie.spec
+    judge-requires
+    enum-known-n
+    enum-known-judged
+    returns
+    returns-2
+    pass-requires
+    described-requires
+    returns-3
+    same-length
+    same-length-2
+    returns-4)

@@ -1,0 +1,87 @@
+// Stages 1 to 25: what a file says, before any table is filled.
+use boxes::kinds::Container;
+use boxes::kinds::PSEG;
+use boxes::rules::keeps;
+use gathering::gathered::Gathered;
+use gathering::pass::Passed;
+use gathering::pass::pass;
+use heading::answers::Head;
+use heading::answers::Headed;
+use heading::stages::heading_of;
+use partial::limits::SEGMENT_LIMIT;
+use partial::refusals::NO_SEGMENT;
+use partial::refusals::SIZES_DIFFER;
+use partial::refusals::TOO_MANY_SEGMENTS;
+ghost use mathlib.Core.Path.{_≡_};
+ghost use lib.ListN.{length};
+ghost use Rattle.boxes.specs.Answer.{given};
+ghost use Rattle.boxes.specs.Framing.{boxesIn};
+ghost use Rattle.boxes.specs.Kinds.{pseg, those};
+ghost use Rattle.boxes.specs.declared.kinds.Container.the-variants.{File};
+ghost use Rattle.partial.specs.Heading.{Heading};
+ghost use Rattle.reading.specs.Judged.{gatheredIn, gatheredAnswer, judgedAnswer, earlierTold, readingTold};
+
+// What the heading of a file tells, and what is gathered of its segments.
+pub struct Judged {
+    pub head: Head,
+    pub gathered: Gathered,
+}
+
+// What a file says, or the number of its refusal.
+pub enum Judgement {
+    Refused(u64),
+    Given(Judged),
+}
+
+// Stages 13 to 25 of a file whose framing is right and that has so many `pseg` boxes.
+fn segments_of(file: &[u8], count: u64) -> Passed
+    ensures { λ r. ⌜ ((h : Heading) → boxesIn File (now (file .entry)) 0 (length (now (file .entry))) ≡ given (h .boxes) → count ≡ length (those pseg (h .boxes)) → gatheredAnswer r ≡ gatheredIn (now (file .entry)) h) ⌝ }
+{
+    if SEGMENT_LIMIT < count {
+        return Passed::Refused(TOO_MANY_SEGMENTS);
+    }
+    // Tables that hold no row: nothing is filled before the whole file is judged.
+    let mut no_segments = [0; 1];
+    let mut no_chunks = [0; 1];
+    match pass(file, &mut no_segments, &mut no_chunks) {
+        Passed::Refused(n) => Passed::Refused(n),
+        Passed::Given(gathered) => {
+            let sizes = gathered.sizes;
+            if !sizes.agree() {
+                return Passed::Refused(SIZES_DIFFER);
+            }
+            Passed::Given(gathered)
+        }
+    }
+}
+
+// What a file that append takes says: one that is acceptable, or whose only refusal is 12.
+pub fn earlier_of(file: &[u8]) -> Judgement
+    ensures { λ r. ⌜ judgedAnswer r ≡ earlierTold (now (file .entry)) ⌝ }
+{
+    match heading_of(file) {
+        Headed::Refused(n) => Judgement::Refused(n),
+        Headed::Found(head) => match segments_of(file, head.segments) {
+            Passed::Refused(n) => Judgement::Refused(n),
+            Passed::Given(gathered) => Judgement::Given(Judged { head, gathered }),
+        },
+    }
+}
+
+// What an acceptable file says.
+pub fn judge(file: &[u8]) -> Judgement
+    ensures { λ r. ⌜ judgedAnswer r ≡ readingTold (now (file .entry)) ⌝ }
+{
+    match heading_of(file) {
+        Headed::Refused(n) => Judgement::Refused(n),
+        Headed::Found(head) => {
+            if !keeps(Container::File, PSEG, head.segments) {
+                return Judgement::Refused(NO_SEGMENT);
+            }
+            match segments_of(file, head.segments) {
+                Passed::Refused(n) => Judgement::Refused(n),
+                Passed::Given(gathered) => Judgement::Given(Judged { head, gathered }),
+            }
+        }
+    }
+}

@@ -1,0 +1,37 @@
+// Reading into the two lent tables.
+use crate::judging::Judgement;
+use crate::judging::judge;
+use gathering::pass::pass;
+use gathering::rows::CHUNK_ROW;
+use gathering::rows::SEGMENT_ROW;
+use partial::answers::Read;
+use partial::position::Position;
+use partial::refusals::TABLE_TOO_SHORT;
+ghost use Rattle.reading.specs.Tables.{Reads};
+
+// Reads a file: its segments and its chunks in rows, how many there are, the described length, and whether the size of the source is known. After a
+// refusal both tables are as they were.
+pub fn read(file: &[u8], segments: &mut [u64], chunks: &mut [u64]) -> Read
+    ensures { λ r. ⌜ Reads (now (file .entry)) (now (segments .entry)) (now (segments .exit)) (now (chunks .entry)) (now (chunks .exit)) r ⌝ }
+{
+    match judge(file) {
+        Judgement::Refused(n) => Read::Refused(n),
+        Judgement::Given(judged) => {
+            let gathered = judged.gathered;
+            let sizes = gathered.sizes;
+            if segments.len() as u64 / SEGMENT_ROW < gathered.segments {
+                return Read::Refused(TABLE_TOO_SHORT);
+            }
+            if chunks.len() as u64 / CHUNK_ROW < gathered.chunks {
+                return Read::Refused(TABLE_TOO_SHORT);
+            }
+            pass(file, segments, chunks);
+            Read::Tables {
+                segments: gathered.segments,
+                chunks: gathered.chunks,
+                described: Position(sizes.described()),
+                closed: sizes.known,
+            }
+        }
+    }
+}
