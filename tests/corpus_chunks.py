@@ -80,7 +80,8 @@ def places_of_one_box():
     yield refused(24, "place 0", behind(PDAT, 1, -len(head() + PDAT)))
     yield refused(24, "place -1", behind(PDAT, 1, -len(head() + PDAT) - 1))
     yield refused(24, "a pdat whose end is the file's, past it", ahead(PDAT, 8, length_of(1) + 9))
-    yield refused(24, "counted from the body of pseg", behind(PDAT, 8, -16))
+    yield refused(24, "in a pdat if counted from the body of pseg", behind(PDAT, 4, -12))
+    yield refused(24, "in a pdat if counted from the body of ploc", behind(PDAT, 8, -48))
     yield refused(24, "damaged, just behind a pdat", behind(PDAT, 1, 0, flag_byte=DAMAGED))
     yield taken("damaged, whole of a pdat", behind(PDAT, 8, -8, flag_byte=DAMAGED))
 

@@ -58,7 +58,7 @@ def entry_with(faults):
     flag_byte = 0 if "neither bit" in faults else GOOD
     flag_byte += 1 if "reserved bit" in faults else 0
     size = 2 ** 40 if "end over its limit" in faults else 8
-    offset = -7 if "chunk in no pdat" in faults else -8
+    offset = 1000 if "chunk in no pdat" in faults else -8
     made = entry(flag_byte, 8, size, 2, offset)
     if "offset cut short" in faults:
         return made[:-1]
