@@ -1,0 +1,112 @@
+// The lines of the output.
+use crate::marks::kept;
+use libc::STDOUT_FILENO;
+use partial::answers::Read;
+
+fn text(s: &[u8]) {
+    io::write_all(STDOUT_FILENO, s);
+}
+
+fn number(n: u64) {
+    text(b" ");
+    io::print_decimal(STDOUT_FILENO, n);
+}
+
+pub fn title(name: &[u8]) {
+    text(b"= ");
+    text(name);
+    text(b"\n");
+}
+
+// A refusal, or the counts, the described length and the rows; then how the rest of each table was left.
+pub fn answer(r: Read, segment_table: &[u64], chunk_table: &[u64]) {
+    match r {
+        Read::Refused(n) => {
+            text(b"refused");
+            number(n);
+            text(b"\n");
+            rest(segment_table, 0);
+            rest(chunk_table, 0);
+        }
+        Read::Tables {
+            segments,
+            chunks,
+            described,
+            closed,
+        } => {
+            text(b"read");
+            number(segments);
+            number(chunks);
+            number(described.0);
+            known(closed);
+            rest(segment_table, rows(b"segment", segment_table, segments, 7));
+            rest(chunk_table, rows(b"chunk", chunk_table, chunks, 6));
+        }
+    }
+}
+
+fn known(closed: bool) {
+    if closed {
+        text(b" closed\n");
+    } else {
+        text(b" open\n");
+    }
+}
+
+// The rows that stand in a table, as many as are claimed and no more than it holds. How many numbers they are.
+fn rows(word: &[u8], table: &[u64], count: u64, width: usize) -> usize {
+    let mut left = count;
+    let mut at = 0;
+    while left > 0 {
+        if table.len() - at < width {
+            return at;
+        }
+        row(word, &table[at..at + width]);
+        at += width;
+        left -= 1;
+    }
+    at
+}
+
+fn row(word: &[u8], numbers: &[u64]) {
+    text(word);
+    let mut i = 0;
+    while i < numbers.len() {
+        number(numbers[i]);
+        i += 1;
+    }
+    text(b"\n");
+}
+
+// How many of the numbers behind the rows were left as they were, and how many there are.
+fn rest(table: &[u64], from: usize) {
+    text(b"kept");
+    number(kept(table, from));
+    text(b" of");
+    number(behind(table, from));
+    text(b"\n");
+}
+
+fn behind(table: &[u64], from: usize) -> u64 {
+    if from <= table.len() {
+        (table.len() - from) as u64
+    } else {
+        0
+    }
+}
+
+// A part of the file, byte by byte.
+pub fn part(word: &[u8], s: &[u8]) {
+    text(word);
+    let mut i = 0;
+    while i < s.len() {
+        byte(s[i]);
+        i += 1;
+    }
+    text(b"\n");
+}
+
+fn byte(b: u8) {
+    text(b" ");
+    io::print_hex(STDOUT_FILENO, b as u64, 2);
+}

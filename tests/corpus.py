@@ -1,0 +1,142 @@
+"""Writes the corpus of crates/reading_run and the model's answers to it, or says whether the ones there are these.
+
+usage: python3 tests/corpus.py [--check]
+
+A record of `stdin` is four numbers of two bytes, most significant first: the length of its name, the numbers lent for segment rows and
+for chunk rows, the length of its file. Then the name and the file. `stdout` is made of the model's answers alone.
+"""
+
+import os
+import sys
+from collections import Counter
+
+import corpus_boxes
+import corpus_chunks
+import corpus_orders
+import corpus_random
+import corpus_segments
+import corpus_tables
+import model
+from record import taken
+
+ROOT = os.path.join(os.path.dirname(os.path.abspath(__file__)), "..")
+CRATE = os.path.join(ROOT, "crates", "reading_run")
+LARGEST_FILE = 65_535
+MOST_BYTES = 400_000
+FULL_TABLES = (448, 6144)
+TO_SPARE = 3
+
+
+# The records.
+
+def sample():
+    with open(os.path.join(ROOT, "samples", "lesson.paff"), "rb") as file:
+        return taken("samples/lesson.paff", file.read())
+
+
+def records():
+    made = [sample()]
+    for part in (corpus_boxes, corpus_segments, corpus_chunks, corpus_orders, corpus_tables, corpus_random):
+        made += part.records()
+    return made
+
+
+# Their bytes.
+
+def rooms(record):
+    """How many numbers are lent for each table where none are stated: some to spare, and for a refused file full tables."""
+    answer = model.read(record.file)
+    ample = FULL_TABLES
+    if answer[0] == "read":
+        needed = (7 * len(answer[1]), 6 * len(answer[2]))
+        ample = [min(most, numbers + TO_SPARE) for most, numbers in zip(FULL_TABLES, needed)]
+    stated = (record.segment_room, record.chunk_room)
+    return [spare if room is None else room for spare, room in zip(ample, stated)]
+
+
+def encoded(record):
+    name = record.name.encode("ascii")
+    assert len(record.file) <= LARGEST_FILE
+    numbers = [len(name), *rooms(record), len(record.file)]
+    return b"".join(number.to_bytes(2, "big") for number in numbers) + name + record.file
+
+
+# What the program is to write.
+
+def line(word, *fields):
+    return " ".join([word, *[str(field) for field in fields]]) + "\n"
+
+
+def kept(room, rows, width):
+    """The line on the numbers that no row takes."""
+    rest = room - width * len(rows)
+    return line("kept", rest, "of", rest)
+
+
+def table(word, rows, room, width):
+    return "".join(line(word, *row) for row in rows) + kept(room, rows, width)
+
+
+def text(word, file, part):
+    place, length = part
+    return line(word, *["%02x" % byte for byte in file[place:place + length]])
+
+
+def answers(record):
+    file = record.file
+    lent = rooms(record)
+    answer = model.read(file, *lent)
+    if answer[0] == "refused":
+        front, rows = line("refused", answer[1]), ([], [])
+    else:
+        rows = answer[1:]
+        described, closed = model.length(file)[1:]
+        front = line("read", len(rows[0]), len(rows[1]), described, "closed" if closed else "open")
+    tables = table("segment", rows[0], lent[0], 7) + table("chunk", rows[1], lent[1], 6)
+    texts = text("url", file, model.url(file)) + text("mime", file, model.mime(file))
+    return line("=", record.name) + front + tables + texts
+
+
+# The command.
+
+def number_of(record):
+    answer = model.read(record.file, *rooms(record))
+    return answer[1] if answer[0] == "refused" else 0
+
+
+def checked(made):
+    """How many records have each number; each has the one that is wanted, and none is missing."""
+    for record in made:
+        assert record.wanted in (None, number_of(record)), (record.name, number_of(record))
+    names = Counter(record.name for record in made)
+    assert max(names.values()) == 1, names.most_common(3)
+    numbers = Counter(number_of(record) for record in made)
+    assert set(numbers) == {0} | set(range(2, 27)), sorted(numbers)
+    return numbers
+
+
+def differs(path, content):
+    with open(path, "rb") as file:
+        return file.read() != content
+
+
+def main():
+    made = records()
+    numbers = checked(made)
+    contents = {"stdin": b"".join(encoded(record) for record in made),
+                "stdout": "".join(answers(record) for record in made).encode("ascii")}
+    assert len(contents["stdin"]) <= MOST_BYTES, len(contents["stdin"])
+    paths = {os.path.join(CRATE, name): content for name, content in contents.items()}
+    if sys.argv[1:] == ["--check"]:
+        wrong = [path for path, content in paths.items() if differs(path, content)]
+        print("\n".join("differs: " + path for path in wrong) or f"{len(made)} records")
+        return 1 if wrong else 0
+    for path, content in paths.items():
+        with open(path, "wb") as file:
+            file.write(content)
+    print(f"{len(made)} records: " + ", ".join(f"{number}: {numbers[number]}" for number in sorted(numbers)))
+    return 0
+
+
+if __name__ == "__main__":
+    raise SystemExit(main())
