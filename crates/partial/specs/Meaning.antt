@@ -37,10 +37,14 @@ agree ss =
 unfoldable pub covers : ℕ → Chunk → Bool
 covers p c = within (c .start) (c .size) p
 
+-- whether a chunk is good and covers a position
+abbrev pub supplies : ℕ → Chunk → Bool
+supplies p c = eqb (c .state) good && covers p c
+
 -- the number of the first good chunk that covers a position; the number of all chunks where there is none
 unfoldable pub supplier : List Chunk → ℕ → ℕ
 supplier [] p = 0
-supplier (c ∷ cs) p = elim (eqb (c .state) good && covers p c) [ true ↦ 0 | false ↦ suc (supplier cs p) ]
+supplier (c ∷ cs) p = elim (supplies p c) [ true ↦ 0 | false ↦ suc (supplier cs p) ]
 
 -- whether some good chunk covers a position
 unfoldable pub supplied : List Segment → ℕ → Bool

@@ -30,7 +30,7 @@ use Rattle.reading.specs.declared.judging.Judgement.the-variants as Judg
 use Rattle.reading.specs.declared.judging.Judged.{Judged as CodeJudged}
 
 -- a refusal behind which nothing is refused stands before it
-first-refused : {A B : Type 0} (x : Answer A) (next : A → B) {n : ℕ} → (x >>= λ a. given (next a)) ≡ refused n → x ≡ refused n
+pub first-refused : {A B : Type 0} (x : Answer A) (next : A → B) {n : ℕ} → (x >>= λ a. given (next a)) ≡ refused n → x ≡ refused n
 first-refused (refused m) next e = ap refused (refused-same e)
 first-refused (given a) next e = absurd (not-both (sym e))
 

@@ -58,13 +58,13 @@ module _ (f a b : List ℕ) where
   -- after a refusal both tables are as they were
   pub reads-refused : {n : ℕ} → tabled sourceLimit f a b ≡ refused n → Reads f a a b b (Read.Refused n)
   unfolding readAnswer after
-  reads-refused e = record { answer = rw e; segmentTable = rw e; chunkTable = rw e }
+  reads-refused e = record { answer = rw e; tables = rw e (record { segmentTable = refl; chunkTable = refl }) }
 
   -- of an accepted file they are filled
   pub reads-given : {a′ b′ : List ℕ} {r : Read} (ss : List Segment) → tabled sourceLimit f a b ≡ given ss → readAnswer r ≡ given (summary ss)
       → a′ ≡ filled (segmentRows ss) a → b′ ≡ filled (chunkRows ss) b → Reads f a a′ b b′ r
   unfolding after
-  reads-given ss e answer one two = record { answer = rw e answer; segmentTable = rw e one; chunkTable = rw e two }
+  reads-given ss e answer one two = record { answer = rw e answer; tables = rw e (record { segmentTable = one; chunkTable = two }) }
 
 -- what is gathered of segments is what is answered of them
 pub answered : {g : Gathered} (ss : List Segment) → g ≡ gatheredOf ss → {n : ℕ} → n ≡ describedLength ss

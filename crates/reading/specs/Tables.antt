@@ -2,15 +2,20 @@
 use Prim.Native.Nat.{ℕ}
 use mathlib.Core.List.{List}
 use mathlib.Core.Path.{_≡_}
-use Rattle.boxes.specs.Answer.{given, _>>=_}
+use Rattle.boxes.specs.Answer.{Answer, given, _>>=_}
 use Rattle.partial.specs.Answers.{readAnswer}
 use Rattle.partial.specs.Limits.{sourceLimit}
 use Rattle.partial.specs.Memory.{after}
+use Rattle.partial.specs.Segments.{Segment}
 use Rattle.partial.specs.Tables.{tabled, segmentRows, chunkRows, summary}
 use Rattle.partial.specs.declared.answers.Read.{Read}
 
--- the answer, the segment table and the chunk table, each by what the file and both tables decide
+-- both tables at exit: filled by the rows of a file that was read into them, after a refusal as they were
+pub record Filled (read : Answer (List Segment)) (segments segments′ chunks chunks′ : List ℕ) : Type 0 where
+  pub segmentTable : segments′ ≡ after segmentRows read segments
+  pub chunkTable : chunks′ ≡ after chunkRows read chunks
+
+-- the answer and both tables, by what the file and both tables decide
 pub record Reads (f segments segments′ chunks chunks′ : List ℕ) (r : Read) : Type 0 where
   pub answer : readAnswer r ≡ (tabled sourceLimit f segments chunks >>= λ ss. given (summary ss))
-  pub segmentTable : segments′ ≡ after segmentRows (tabled sourceLimit f segments chunks) segments
-  pub chunkTable : chunks′ ≡ after chunkRows (tabled sourceLimit f segments chunks) chunks
+  pub tables : Filled (tabled sourceLimit f segments chunks) segments segments′ chunks chunks′

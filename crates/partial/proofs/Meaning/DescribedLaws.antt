@@ -11,10 +11,10 @@ use borrow.Author.Tests.{leb-true}
 use lib.Dec.{leb, eqb}
 use Rattle.partial.specs.Sequences.{someOf, allOf, sum, largest}
 use Rattle.partial.specs.Segments.{Chunk, Segment, endOf, chunksOf}
-use Rattle.partial.specs.Meaning.{givesSize, knownSize, describedLength, agree, covers, supplied}
+use Rattle.partial.specs.Meaning.{supplies, givesSize, knownSize, describedLength, agree, covers, supplied}
 use Rattle.partial.specs.Carried.{orElse}
 use Rattle.partial.proofs.Meaning.SequenceLaws.{which, both, past, some-append, largest-most, largest-append}
-use Rattle.partial.proofs.Meaning.SupplyLaws.{supplies, supplied-some}
+use Rattle.partial.proofs.Meaning.SupplyLaws.{supplied-some}
 
 -- chunks follow each other in the source from a position
 abbrev pub Follow : ℕ → List Chunk → Type 0

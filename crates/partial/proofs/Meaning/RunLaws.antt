@@ -11,11 +11,11 @@ use borrow.Author.Tests.{eq-eqb, ne-eqb, eqb-true, ltb-true, ltb-false, lt-ltb, 
 use lib.Dec.{ltb, eqb}
 use lib.ListN.{length}
 use Rattle.partial.specs.Segments.{Chunk, Segment, good, chunksOf}
-use Rattle.partial.specs.Meaning.{covers, supplier, supplied, describedLength, onward, servedRun, missingRun}
+use Rattle.partial.specs.Meaning.{covers, supplies, supplier, supplied, describedLength, onward, servedRun, missingRun}
 use Rattle.partial.specs.Ranges.{classOf}
 use Rattle.partial.proofs.Meaning.SequenceLaws.{which, both, inside, within-true}
 use Rattle.partial.proofs.Meaning.StretchLaws.{first-one, stretch-first}
-use Rattle.partial.proofs.Meaning.SupplyLaws.{supplies, supplier-here, supplier-on, supply}
+use Rattle.partial.proofs.Meaning.SupplyLaws.{supplier-here, supplier-on, supply}
 
 -- whether a good chunk begins after a position
 abbrev pub comes : ℕ → Chunk → Bool
@@ -38,35 +38,35 @@ pub record Run (cs : List Chunk) (p end e : ℕ) : Type 0 where
   pub differs : e < end → supplier cs e ≡ supplier cs p → ⊥
 
 module _ (c : Chunk) (p : ℕ) where
-  supplies-true : supplies p c ≡ true → (c .state ≡ good) × (c .start ≤ p) × (p < c .start + c .size)
+  pub supplies-true : supplies p c ≡ true → (c .state ≡ good) × (c .start ≤ p) × (p < c .start + c .size)
   unfolding covers
   supplies-true e =
       let (state, cover) = both (eqb (c .state) good) (covers p c) e in
       let (from, to) = within-true _ _ _ cover in
       (eqb-true _ _ state, from, to)
 
-  does-supply : c .state ≡ good → c .start ≤ p → p < c .start + c .size → supplies p c ≡ true
+  pub does-supply : c .state ≡ good → c .start ≤ p → p < c .start + c .size → supplies p c ≡ true
   unfolding covers
   does-supply state from to = simp (eq-eqb (c .state) good state, inside (c .start) (c .size) p from to)
 
-  not-supply : (c .state ≡ good → c .start ≤ p → p < c .start + c .size → ⊥) → supplies p c ≡ false
+  pub not-supply : (c .state ≡ good → c .start ≤ p → p < c .start + c .size → ⊥) → supplies p c ≡ false
   not-supply none =
       elim (which (supplies p c)) [
         | inl e ↦ let (state, from, to) = supplies-true e in absurd (none state from to)
         | inr e ↦ e
       ]
 
-  comes-true : comes p c ≡ true → (c .state ≡ good) × (p < c .start) × (0 < c .size)
+  pub comes-true : comes p c ≡ true → (c .state ≡ good) × (p < c .start) × (0 < c .size)
   comes-true e =
       let (state, place) = both (eqb (c .state) good) (ltb p (c .start) && ltb 0 (c .size)) e in
       let (from, some) = both (ltb p (c .start)) (ltb 0 (c .size)) place in
       (eqb-true _ _ state, ltb-true _ _ from, ltb-true _ _ some)
 
-  does-come : c .state ≡ good → p < c .start → 0 < c .size → comes p c ≡ true
+  pub does-come : c .state ≡ good → p < c .start → 0 < c .size → comes p c ≡ true
   does-come state from some = simp (eq-eqb (c .state) good state, lt-ltb p (c .start) from, lt-ltb 0 (c .size) some)
 
 -- a chunk that neither supplies a position nor begins after it supplies none from there on
-never : (c : Chunk) (p : ℕ) → supplies p c ≡ false → comes p c ≡ false → (q : ℕ) → p ≤ q → supplies q c ≡ false
+pub never : (c : Chunk) (p : ℕ) → supplies p c ≡ false → comes p c ≡ false → (q : ℕ) → p ≤ q → supplies q c ≡ false
 never c p miss none q on =
     not-supply c q
     (λ state from to.

@@ -14,14 +14,10 @@ use lib.ListN.{length, getD, length-append, List·getD-append}
 use lib.Seq.{getD-append-add}
 use Rattle.partial.specs.Sequences.{someOf}
 use Rattle.partial.specs.Segments.{Chunk, noChunk, Segment, good, chunksOf}
-use Rattle.partial.specs.Meaning.{covers, supplier, supplied, placeOfByte, served, chunkFor, chunkNo}
+use Rattle.partial.specs.Meaning.{covers, supplies, supplier, supplied, placeOfByte, served, chunkFor, chunkNo}
 use Rattle.partial.specs.Carried.{orElse}
 use Rattle.partial.proofs.Meaning.SequenceLaws.{which, both, inside, some-append}
 use Rattle.partial.proofs.Meaning.StretchLaws.{First, first-one}
-
--- whether a chunk is good and covers a position
-abbrev pub supplies : ℕ → Chunk → Bool
-supplies p c = eqb (c .state) good && covers p c
 
 -- the byte of the first chunk that supplies a position
 unfoldable pub byteFrom : List ℕ → List Chunk → ℕ → Option ℕ

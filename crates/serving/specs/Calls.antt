@@ -1,0 +1,26 @@
+-- Document 01, "Serving": what serving and asking answer, and what they leave in the lent tables.
+use Prim.Native.Nat.{ℕ, _+_, _-_}
+use mathlib.Core.List.{List}
+use mathlib.Core.Path.{_≡_}
+use Rattle.partial.specs.Answers.{askedAnswer}
+use Rattle.partial.specs.Heading.{Part}
+use Rattle.partial.specs.Limits.{sourceLimit}
+use Rattle.partial.specs.Segments.{Chunk}
+use Rattle.partial.specs.Tables.{tabled, servedPart, asked}
+use Rattle.partial.specs.declared.answers.Asked.{Asked}
+use Rattle.reading.specs.Parts.{HandedBack}
+use Rattle.reading.specs.Tables.{Filled}
+
+-- so many bytes of a chunk, from those of a position on: as far behind the chunk's place as the position is behind its start
+abbrev pub partAt : Chunk → ℕ → ℕ → Part
+partAt c p n = record { place = c .place + (p - c .start); size = n }
+
+-- serving a position hands back its part of the file
+pub record Serves (f : List ℕ) (file : ℕ × ℕ) (segments segments′ chunks chunks′ : List ℕ) (p : ℕ) (there : ℕ × ℕ) (bytes : List ℕ) : Type 0 where
+  pub part : HandedBack f file (servedPart (tabled sourceLimit f segments chunks) p) there bytes
+  pub tables : Filled (tabled sourceLimit f segments chunks) segments segments′ chunks chunks′
+
+-- asking of a position answers whether it is served or missing, and for how many
+pub record Asks (f segments segments′ chunks chunks′ : List ℕ) (p : ℕ) (r : Asked) : Type 0 where
+  pub answer : askedAnswer r ≡ asked (tabled sourceLimit f segments chunks) p
+  pub tables : Filled (tabled sourceLimit f segments chunks) segments segments′ chunks chunks′

@@ -1,0 +1,32 @@
+// The chunks of a table that reading filled, row by row.
+use boxes::place::Place;
+use gathering::rows::CHUNK_ROW;
+use partial::position::Position;
+use segment::chunk::Chunk;
+ghost use mathlib.Core.Path.{_≡_};
+ghost use Rattle.segment.specs.Chunk.{chunkOf};
+ghost use Rattle.serving.specs.Rows.{chunkIn};
+
+// What stands for the chunk of a row that is not there: a lost one of no size.
+const NO_CHUNK: Chunk = Chunk {
+    start: Position(0),
+    size: 0,
+    state: 0,
+    place: Place(0),
+};
+
+// The chunk of the row of that number, counted from 0.
+pub fn chunk_at(table: &[u64], n: u64) -> Chunk
+    ensures { λ r. ⌜ chunkOf r ≡ chunkIn (now (table .entry)) n ⌝ }
+{
+    if table.len() as u64 / CHUNK_ROW <= n {
+        return NO_CHUNK;
+    }
+    let at = (CHUNK_ROW * n) as usize;
+    Chunk {
+        start: Position(table[at + 2]),
+        size: table[at + 3],
+        state: table[at + 4],
+        place: Place(table[at + 5]),
+    }
+}

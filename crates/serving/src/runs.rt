@@ -1,0 +1,86 @@
+// Runs: which chunk supplies a position, and how many positions from there on have the same supplier, in one pass over the rows.
+use crate::rows::chunk_at;
+use partial::position::Position;
+use segment::chunk::Chunk;
+use segment::state::GOOD;
+ghost use Prim.Native.Nat.{_-_, min};
+ghost use mathlib.Core.Path.{_≡_};
+ghost use Rattle.partial.specs.Meaning.{supplies};
+ghost use Rattle.segment.specs.Chunk.{chunkOf};
+ghost use Rattle.serving.specs.Rows.{chunksIn};
+ghost use Rattle.serving.specs.Runs.{runIn, upTo};
+
+// The number of the chunk that supplies a position, or of all chunks where none does, and how many positions from there on are alike.
+pub struct Run {
+    pub supplier: u64,
+    pub length: u64,
+}
+
+// The smaller of two numbers.
+fn smaller(a: u64, b: u64) -> u64
+    ensures { λ r. ⌜ r ≡ min a b ⌝ }
+{
+    if a < b { a } else { b }
+}
+
+// How many numbers lie from one to another; none where the other is not above it.
+fn between(from: u64, to: u64) -> u64
+    ensures { λ r. ⌜ r ≡ to - from ⌝ }
+{
+    if from < to { to - from } else { 0 }
+}
+
+// Whether a chunk is good and covers a position.
+pub fn supplies(c: Chunk, p: Position) -> bool
+    ensures { λ r. ⌜ r ≡ supplies (p .0) (chunkOf c) ⌝ }
+{
+    let start = c.start;
+    if c.state != GOOD {
+        return false;
+    }
+    if p.0 < start.0 {
+        return false;
+    }
+    p.0 - start.0 < c.size
+}
+
+// How many of n positions from p on lie before the first that a chunk supplies which does not supply p.
+pub fn up_to(c: Chunk, p: Position, n: u64) -> u64
+    ensures { λ r. ⌜ r ≡ upTo (p .0) n (chunkOf c) ⌝ }
+{
+    let start = c.start;
+    if c.state != GOOD {
+        return n;
+    }
+    if start.0 <= p.0 {
+        return n;
+    }
+    if c.size == 0 {
+        return n;
+    }
+    smaller(n, start.0 - p.0)
+}
+
+// The run of a position, below an end, in a table of so many rows.
+pub fn run_at(table: &[u64], count: u64, p: Position, end: Position) -> Run
+    ensures { λ r. ⌜ r ≡ runIn (chunksIn (now (table .entry)) count) (p .0) (end .0) ⌝ }
+{
+    let mut n = between(p.0, end.0);
+    let mut k = 0;
+    while k < count {
+        let c = chunk_at(table, k);
+        if supplies(c, p) {
+            let left = c.size - (p.0 - c.start.0);
+            return Run {
+                supplier: k,
+                length: smaller(n, left),
+            };
+        }
+        n = up_to(c, p, n);
+        k += 1;
+    }
+    Run {
+        supplier: k,
+        length: n,
+    }
+}
