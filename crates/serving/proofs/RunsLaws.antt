@@ -13,10 +13,10 @@ use Rattle.partial.specs.Segments.{Chunk, good}
 use Rattle.partial.specs.Sequences.{within, stretch}
 use Rattle.partial.proofs.Meaning.SequenceLaws.{which}
 use Rattle.partial.proofs.Meaning.StretchLaws.{first-one, stretch-first}
-use Rattle.partial.proofs.Meaning.RunLaws.{comes, comes-true, supplies-true, runEnd, Run, run}
+use Rattle.partial.proofs.Meaning.RunLaws.{comes, supplies-true, runEnd, run}
 use Rattle.partial.proofs.Meaning.SupplyLaws.{supplier-here, supplier-on}
 use Rattle.serving.specs.Rows.{chunkIn, chunksFrom, chunksIn}
-use Rattle.serving.specs.Runs.{sameRun, runIn, upTo}
+use Rattle.serving.specs.Runs.{sameRun, runIn, clip}
 
 module _ (c : Chunk) (p : ℕ) where
   pub supplies-other : (c .state ≡ good → ⊥) → false ≡ supplies p c
@@ -35,36 +35,29 @@ module _ (c : Chunk) (p : ℕ) where
         | no to ↦ lt-ltb (p - c .start) (c .size) (omega arith) ∙ sym (lt-ltb p (c .start + c .size) (omega arith))
       ])
 
-  module _ (n : ℕ) where
-    pub up-to-other : (c .state ≡ good → ⊥) → n ≡ upTo p n c
-    unfolding upTo
-    up-to-other other = rw (upTo, ne-eqb (c .state) good other)
+  module _ (end : ℕ) where
+    pub clip-other : (c .state ≡ good → ⊥) → end ≡ clip p end c
+    unfolding clip
+    clip-other other = rw (clip, ne-eqb (c .state) good other)
 
-    pub up-to-begun : c .start ≤ p → n ≡ upTo p n c
-    unfolding upTo
-    up-to-begun begun = rw (upTo, le-ltb p (c .start) begun, and-false (eqb (c .state) good))
+    pub clip-begun : c .start ≤ p → end ≡ clip p end c
+    unfolding clip
+    clip-begun begun = rw (clip, le-ltb p (c .start) begun, and-false (eqb (c .state) good))
 
-    pub up-to-empty : c .size ≡ 0 → n ≡ upTo p n c
-    unfolding upTo
-    up-to-empty empty = rw (upTo, le-ltb 0 (c .size) (omega arith), and-false (ltb p (c .start)), and-false (eqb (c .state) good))
+    pub clip-empty : c .size ≡ 0 → end ≡ clip p end c
+    unfolding clip
+    clip-empty empty = rw (clip, le-ltb 0 (c .size) (omega arith), and-false (ltb p (c .start)), and-false (eqb (c .state) good))
 
-    pub up-to-begins : c .state ≡ good → p < c .start → (c .size ≡ 0 → ⊥) → min n (c .start - p) ≡ upTo p n c
-    unfolding upTo
-    up-to-begins state after some = rw (upTo, eq-eqb (c .state) good state, lt-ltb p (c .start) after, lt-ltb 0 (c .size) (omega arith))
+    pub clip-begins : c .state ≡ good → p < c .start → (c .size ≡ 0 → ⊥) → min end (c .start) ≡ clip p end c
+    unfolding clip
+    clip-begins state after some = rw (clip, eq-eqb (c .state) good state, lt-ltb p (c .start) after, lt-ltb 0 (c .size) (omega arith))
 
     -- the end of a run behind a chunk that does not supply the position
-    pub run-on : (cs : List Chunk) → supplies p c ≡ false → runEnd (c ∷ cs) p (p + n) ≡ runEnd cs p (p + upTo p n c)
-    unfolding runEnd upTo
-    run-on cs lacks =
-        elim (which (comes p c)) [
-          | inl begins ↦
-              let (_, after, _) = comes-true c p begins in
-              let here : min (p + n) (c .start) ≡ p + min n (c .start - p) = omega arith in
-              rw (runEnd, lacks, upTo, begins) (ap (λ (e : ℕ). runEnd cs p e) here)
-          | inr none ↦ rw (runEnd, lacks, upTo, none)
-        ]
+    run-on : (cs : List Chunk) → supplies p c ≡ false → runEnd (c ∷ cs) p end ≡ runEnd cs p (clip p end c)
+    unfolding runEnd clip
+    run-on cs lacks = rw (runEnd, lacks)
 
-  pub run-here : (cs : List Chunk) (end : ℕ) → supplies p c ≡ true → runEnd (c ∷ cs) p end ≡ min end (c .start + c .size)
+  run-here : (cs : List Chunk) (end : ℕ) → supplies p c ≡ true → runEnd (c ∷ cs) p end ≡ min end (c .start + c .size)
   unfolding runEnd
   run-here cs end e = rw (runEnd, e)
 
@@ -82,18 +75,17 @@ run-most (c ∷ cs) p end =
     ]
 
 -- how long a run is, by where it ends
-pub run-long : (cs : List Chunk) (p end : ℕ) → sameRun cs p end ≡ runEnd cs p (p + (end - p)) - p
+run-long : (cs : List Chunk) (p end : ℕ) → sameRun cs p end ≡ runEnd cs p end - p
 unfolding sameRun stretch
 run-long cs p end =
     elim (decLe end p) [
       | yes none ↦
           let nothing : end - p ≡ 0 = omega arith in
-          let most = run-most cs p (p + (end - p)) in
+          let most = run-most cs p end in
           ap (λ (n : ℕ). stretch (λ q. eqb (supplier cs q) (supplier cs p)) n p) nothing ∙ omega arith
       | no some ↦
-          let to : p + (end - p) ≡ end = omega arith in
-          let e = runEnd cs p (p + (end - p)) in
-          let r = run cs p (p + (end - p)) (omega arith) in
+          let e = runEnd cs p end in
+          let r = run cs p end (omega arith) in
           let on : p + (e - p) ≡ e = omega (arith, r .after) in
           first-one
           (stretch-first _ (end - p) p)
@@ -107,20 +99,28 @@ run-long cs p end =
 -- ---- a pass over the rows of a table
 
 -- the chunks before a row do not supply the position; those from there on decide
-pub record Midway (table : List ℕ) (count p n₀ k n : ℕ) : Type 0 where
+pub record Midway (table : List ℕ) (count p end k stop : ℕ) : Type 0 where
   pub number : supplier (chunksIn table count) p ≡ k + supplier (chunksFrom table (count - k) k) p
-  pub ends : runEnd (chunksIn table count) p (p + n₀) ≡ runEnd (chunksFrom table (count - k) k) p (p + n)
+  pub ends : runEnd (chunksIn table count) p end ≡ runEnd (chunksFrom table (count - k) k) p stop
 
-module _ (table : List ℕ) (count p n₀ : ℕ) where
-  pub midway-none : Midway table count p n₀ 0 n₀
+module _ (table : List ℕ) (count p end : ℕ) where
+  pub midway-none : Midway table count p end 0 end
   midway-none =
       let all : count ≡ count - 0 = omega arith in
       record {
         number = ap (λ (m : ℕ). supplier (chunksFrom table m 0) p) all ∙ omega arith;
-        ends = ap (λ (m : ℕ). runEnd (chunksFrom table m 0) p (p + n₀)) all;
+        ends = ap (λ (m : ℕ). runEnd (chunksFrom table m 0) p end) all;
       }
 
-  module _ {k n : ℕ} (m : Midway table count p n₀ k n) where
+  -- by the supplier and the end of its run
+  run-by : {k l : ℕ} → supplier (chunksIn table count) p ≡ k → runEnd (chunksIn table count) p end - p ≡ l
+      → record { supplier = k; length = l } ≡ runIn (chunksIn table count) p end
+  unfolding runIn
+  run-by number long =
+      let alike = sym (run-long (chunksIn table count) p end ∙ long) in
+      λ i. record { supplier = sym number i; length = alike i }
+
+  module _ {k stop : ℕ} (m : Midway table count p end k stop) where
     module _ (short : k < count) {c : Chunk} (row : c ≡ chunkIn table k) where
       left : chunksFrom table (count - k) k ≡ c ∷ chunksFrom table (count - (k + 1)) (k + 1)
       unfolding chunksFrom
@@ -129,35 +129,28 @@ module _ (table : List ℕ) (count p n₀ : ℕ) where
           let next : suc k ≡ k + 1 = omega arith in
           ap (λ (m : ℕ). chunksFrom table m k) one ∙ (λ i. sym row i ∷ chunksFrom table (count - (k + 1)) (next i))
 
-      pub midway-more : supplies p c ≡ false → Midway table count p n₀ (k + 1) (upTo p n c)
+      pub midway-more : supplies p c ≡ false → Midway table count p end (k + 1) (clip p stop c)
       midway-more lacks =
           let rest = chunksFrom table (count - (k + 1)) (k + 1) in
           let on = ap (λ (cs : List Chunk). supplier cs p) left ∙ supplier-on c rest p lacks in
           record {
             number = m .number ∙ omega (arith, on);
-            ends = m .ends ∙ ap (λ (cs : List Chunk). runEnd cs p (p + n)) left ∙ run-on c p n rest lacks;
+            ends = m .ends ∙ ap (λ (cs : List Chunk). runEnd cs p stop) left ∙ run-on c p stop rest lacks;
           }
 
-      pub midway-here : (end : ℕ) → n₀ ≡ end - p → supplies p c ≡ true → {l : ℕ} → l ≡ min n (c .size - (p - c .start))
+      pub midway-here : supplies p c ≡ true → {l : ℕ} → l ≡ min (stop - p) (c .size - (p - c .start))
           → record { supplier = k; length = l } ≡ runIn (chunksIn table count) p end
-      unfolding runIn
-      midway-here end whole here {l} long =
+      midway-here here {l} long =
           let rest = chunksFrom table (count - (k + 1)) (k + 1) in
           let (_, from, to) = supplies-true c p here in
           let on = ap (λ (cs : List Chunk). supplier cs p) left ∙ supplier-here c rest p here in
-          let number : k ≡ supplier (chunksIn table count) p = sym (m .number ∙ omega (arith, on)) in
-          let stops = m .ends ∙ ap (λ (cs : List Chunk). runEnd cs p (p + n)) left ∙ run-here c p rest (p + n) here in
-          let alike : l ≡ sameRun (chunksIn table count) p end =
-          sym (run-long (chunksIn table count) p end ∙ ap (λ (x : ℕ). runEnd (chunksIn table count) p (p + x) - p) (sym whole) ∙ omega (arith, stops)) in
-          λ i. record { supplier = number i; length = alike i }
+          let stops = m .ends ∙ ap (λ (cs : List Chunk). runEnd cs p stop) left ∙ run-here c p rest stop here in
+          run-by (m .number ∙ omega (arith, on)) (omega (arith, stops))
 
-    pub midway-end : count ≤ k → k ≤ count → (end : ℕ) → n₀ ≡ end - p → record { supplier = k; length = n } ≡ runIn (chunksIn table count) p end
-    unfolding runIn chunksFrom supplier runEnd
-    midway-end most least end whole =
+    pub midway-end : count ≤ k → k ≤ count → {l : ℕ} → l ≡ stop - p → record { supplier = k; length = l } ≡ runIn (chunksIn table count) p end
+    unfolding chunksFrom supplier runEnd
+    midway-end most least {l} long =
         let none : count - k ≡ 0 = omega arith in
         let on : supplier (chunksFrom table (count - k) k) p ≡ 0 = ap (λ (m : ℕ). supplier (chunksFrom table m k) p) none in
-        let stops : runEnd (chunksIn table count) p (p + n₀) ≡ p + n = m .ends ∙ ap (λ (m : ℕ). runEnd (chunksFrom table m k) p (p + n)) none in
-        let number : k ≡ supplier (chunksIn table count) p = sym (m .number ∙ omega (arith, on)) in
-        let alike : n ≡ sameRun (chunksIn table count) p end =
-        sym (run-long (chunksIn table count) p end ∙ ap (λ (x : ℕ). runEnd (chunksIn table count) p (p + x) - p) (sym whole) ∙ omega (arith, stops)) in
-        λ i. record { supplier = number i; length = alike i }
+        let stops : runEnd (chunksIn table count) p end ≡ stop = m .ends ∙ ap (λ (m : ℕ). runEnd (chunksFrom table m k) p stop) none in
+        run-by (m .number ∙ omega (arith, on)) (omega (arith, stops))

@@ -8,7 +8,7 @@ ghost use mathlib.Core.Path.{_≡_};
 ghost use Rattle.partial.specs.Meaning.{supplies};
 ghost use Rattle.segment.specs.Chunk.{chunkOf};
 ghost use Rattle.serving.specs.Rows.{chunksIn};
-ghost use Rattle.serving.specs.Runs.{runIn, upTo};
+ghost use Rattle.serving.specs.Runs.{runIn, clip};
 
 // The number of the chunk that supplies a position, or of all chunks where none does, and how many positions from there on are alike.
 pub struct Run {
@@ -17,7 +17,7 @@ pub struct Run {
 }
 
 // The smaller of two numbers.
-fn smaller(a: u64, b: u64) -> u64
+pub fn smaller(a: u64, b: u64) -> u64
     ensures { λ r. ⌜ r ≡ min a b ⌝ }
 {
     if a < b { a } else { b }
@@ -44,28 +44,28 @@ pub fn supplies(c: Chunk, p: Position) -> bool
     p.0 - start.0 < c.size
 }
 
-// How many of n positions from p on lie before the first that a chunk supplies which does not supply p.
-pub fn up_to(c: Chunk, p: Position, n: u64) -> u64
-    ensures { λ r. ⌜ r ≡ upTo (p .0) n (chunkOf c) ⌝ }
+// An end, or where a good chunk begins that comes before it and after a position: from there on it supplies what it covers.
+pub fn clip(c: Chunk, p: Position, end: u64) -> u64
+    ensures { λ r. ⌜ r ≡ clip (p .0) end (chunkOf c) ⌝ }
 {
     let start = c.start;
     if c.state != GOOD {
-        return n;
+        return end;
     }
     if start.0 <= p.0 {
-        return n;
+        return end;
     }
     if c.size == 0 {
-        return n;
+        return end;
     }
-    smaller(n, start.0 - p.0)
+    smaller(end, start.0)
 }
 
 // The run of a position, below an end, in a table of so many rows.
 pub fn run_at(table: &[u64], count: u64, p: Position, end: Position) -> Run
     ensures { λ r. ⌜ r ≡ runIn (chunksIn (now (table .entry)) count) (p .0) (end .0) ⌝ }
 {
-    let mut n = between(p.0, end.0);
+    let mut stop = end.0;
     let mut k = 0;
     while k < count {
         let c = chunk_at(table, k);
@@ -73,14 +73,14 @@ pub fn run_at(table: &[u64], count: u64, p: Position, end: Position) -> Run
             let left = c.size - (p.0 - c.start.0);
             return Run {
                 supplier: k,
-                length: smaller(n, left),
+                length: smaller(between(p.0, stop), left),
             };
         }
-        n = up_to(c, p, n);
+        stop = clip(c, p, stop);
         k += 1;
     }
     Run {
         supplier: k,
-        length: n,
+        length: between(p.0, stop),
     }
 }

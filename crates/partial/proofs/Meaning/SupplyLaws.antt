@@ -93,7 +93,7 @@ module _ (cs ds : List Chunk) (p : ℕ) where
       first-one (supply (cs ++ ds) p) here
 
 -- a position is supplied exactly if some chunk supplies it
-some-supplies : (cs : List Chunk) (p : ℕ) → ltb (supplier cs p) (length cs) ≡ someOf (supplies p) cs
+pub some-supplies : (cs : List Chunk) (p : ℕ) → ltb (supplier cs p) (length cs) ≡ someOf (supplies p) cs
 unfolding supplier someOf
 some-supplies [] p = refl
 some-supplies (c ∷ cs) p =
