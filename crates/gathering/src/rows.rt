@@ -18,7 +18,7 @@ pub const SEGMENT_ROW: u64 = 7;
 pub const CHUNK_ROW: u64 = 6;
 
 // Writes a row from that number of the table on, if there is room for it.
-fn put_row(table: &mut [u64], at: usize, row: &[u64])
+pub fn put_row(table: &mut [u64], at: usize, row: &[u64])
     ensures { λ _. ⌜ now (table .exit) ≡ stored (now (table .entry)) at (now (row .entry)) ⌝ }
 {
     if table.len() < at {

@@ -1,9 +1,9 @@
 -- Laws of a sweep over chunks: what one chunk more tells, and the maximal range that sweeps find.
-use Prim.Native.Nat.{ℕ, suc, _+_, _-_, _<_, _≤_, min}
+use Prim.Native.Nat.{ℕ, suc, _+_, _-_, _*_, _<_, _≤_, min}
 use mathlib.Core.Bool.{Bool, true, false, _||_, or-false, or-true}
 use mathlib.Core.List.{List, [], _∷_, _++_}
 use mathlib.Core.Logic.{inl, inr}
-use mathlib.Core.Path.{_≡_, refl, sym, ap, _∙_}
+use mathlib.Core.Path.{_≡_, refl, sym, ap, subst, _∙_}
 use native.Mathlib.Decide.{decLe}
 use native.Mathlib.Omega.{arith}
 use borrow.Author.Tests.{eq-eqb, ne-eqb}
@@ -17,8 +17,11 @@ use Rattle.partial.proofs.Meaning.RunLaws.{supplies-true, does-supply, not-supp
 use Rattle.partial.proofs.Meaning.SequenceLaws.{which, some-append}
 use Rattle.partial.proofs.Meaning.StretchLaws.{first-one, stretch-first}
 use Rattle.partial.proofs.Meaning.SupplyLaws.{some-supplies}
+use Rattle.serving.specs.Rows.{chunkIn, chunksIn}
 use Rattle.serving.specs.Runs.{clip}
-use Rattle.listing.specs.Ranges.{classIn, rangeIn, Swept}
+use Rattle.serving.proofs.RowsLaws.{rows-last}
+use Rattle.listing.specs.Ranges.{classIn, rangeIn, Swept, Sweeps, GoesOn}
+use Rattle.listing.specs.declared.ranges.Extent.{Extent}
 
 -- some of the chunks with one more supply a position
 module _ (cs : List Chunk) (c : Chunk) (q : ℕ) where
@@ -36,14 +39,17 @@ module _ (cs : List Chunk) (c : Chunk) (q : ℕ) where
   some-neither e f = some-more ∙ rw (e, f)
 
 -- of no chunk
-pub swept-none : (p end : ℕ) → p < end → Swept [] p end (record { reach = p; next = end })
+pub sweeps-none : (p end : ℕ) → p < end → Sweeps [] p end (record { reach = p; next = end })
 unfolding someOf
-swept-none p end some =
-    record { on = omega arith; most = omega arith; up = omega arith; had = λ q from to. absurd (omega arith); free = λ q from to. refl; begins = λ short. absurd (omega arith) }
+sweeps-none p end some =
+    record {
+      swept = record { on = omega arith; most = omega arith; up = omega arith; had = λ q from to. absurd (omega arith); free = λ q from to. refl; begins = λ short. absurd (omega arith) };
+      stays = λ here. some;
+    }
 
 module _ (cs : List Chunk) (c : Chunk) (p end reach next : ℕ) (s : Swept cs p end (record { reach = reach; next = next })) where
   -- a chunk that goes on from the reach
-  pub swept-on : supplies reach c ≡ true → {reach′ : ℕ} → reach′ ≡ reach + min (end - reach) (c .size - (reach - c .start))
+  swept-on : supplies reach c ≡ true → {reach′ : ℕ} → reach′ ≡ reach + min (end - reach) (c .size - (reach - c .start))
       → Swept (cs ++ (c ∷ [])) p end (record { reach = reach′; next = next })
   swept-on goes {reach′} to =
       let (state, from, over) = supplies-true c reach goes in
@@ -64,7 +70,7 @@ module _ (cs : List Chunk) (c : Chunk) (p end reach next : ℕ) (s : Swept cs p 
       }
 
   -- a chunk that does not
-  pub swept-past : supplies reach c ≡ false → Swept (cs ++ (c ∷ [])) p end (record { reach = reach; next = clip reach next c })
+  swept-past : supplies reach c ≡ false → Swept (cs ++ (c ∷ [])) p end (record { reach = reach; next = clip reach next c })
   unfolding clip
   swept-past lacks =
       let up = s .up in
@@ -102,7 +108,7 @@ module _ (cs : List Chunk) (c : Chunk) (p end reach next : ℕ) (s : Swept cs p 
       ]
 
   -- where the reach stays, the next lies behind it
-  pub past-stays : (reach ≡ p → p < next) → supplies reach c ≡ false → reach ≡ p → p < clip reach next c
+  past-stays : (reach ≡ p → p < next) → supplies reach c ≡ false → reach ≡ p → p < clip reach next c
   unfolding clip
   past-stays stays lacks here =
       elim (which (comes reach c)) [
@@ -117,9 +123,29 @@ module _ (cs : List Chunk) (c : Chunk) (p end reach next : ℕ) (s : Swept cs p 
             omega arith
       ]
 
+-- with one chunk more
+module _ (cs : List Chunk) (c : Chunk) (p end reach next : ℕ) (s : Sweeps cs p end (record { reach = reach; next = next })) where
+  pub sweeps-on : supplies reach c ≡ true → {reach′ : ℕ} → reach′ ≡ reach + min (end - reach) (c .size - (reach - c .start))
+      → Sweeps (cs ++ (c ∷ [])) p end (record { reach = reach′; next = next })
+  sweeps-on goes to = record { swept = swept-on cs c p end reach next (s .swept) goes to; stays = λ here. s .stays (omega (arith, s .swept .on)) }
+
+  pub sweeps-past : supplies reach c ≡ false → {next′ : ℕ} → next′ ≡ clip reach next c → Sweeps (cs ++ (c ∷ [])) p end (record { reach = reach; next = next′ })
+  sweeps-past lacks same =
+      rw same (record { swept = swept-past cs c p end reach next (s .swept) lacks; stays = past-stays cs c p end reach next (s .swept) (s .stays) lacks })
+
+-- with one row more, and with all of them
+module _ (table : List ℕ) (k p end : ℕ) {e : Extent} (s : Sweeps (chunksIn table k) p end e) where
+  pub sweeps-row : {c : Chunk} {r : Extent} → c ≡ chunkIn table k → GoesOn c end e r → Sweeps (chunksIn table (k + 1)) p end r
+  sweeps-row {r = r} row goes =
+      let all = rows-last table k ∙ ap (λ (x : Chunk). chunksIn table k ++ (x ∷ [])) (sym row) in
+      subst (λ (cs : List Chunk). Sweeps cs p end r) (sym all) (goes (chunksIn table k) p s)
+
+  pub sweeps-all : {count : ℕ} → k ≡ count → Sweeps (chunksIn table count) p end e
+  sweeps-all all = subst (λ (n : ℕ). Sweeps (chunksIn table n) p end e) all s
+
 -- a sweep from the reach of another goes on from it
-pub swept-again : (cs : List Chunk) (p end : ℕ) {r t : _} → Swept cs p end r → Swept cs (r .reach) end t → Swept cs p end t
-swept-again cs p end s t =
+pub swept-again : (cs : List Chunk) (p end : ℕ) {r t : Extent} → Swept cs p end r → Swept cs (r .reach) end t → Swept cs p end t
+swept-again cs p end {r} s t =
     let on = s .on in
     let more = t .on in
     record {
@@ -127,13 +153,26 @@ swept-again cs p end s t =
       most = t .most;
       up = t .up;
       had = λ q first last.
-          elim (decLe _ q) [
+          elim (decLe (r .reach) q) [
             | yes behind ↦ t .had q behind last
             | no before ↦ s .had q first (omega arith)
           ];
       free = t .free;
       begins = t .begins;
     }
+
+-- it reaches further, or its next lies behind the reach
+pub again-less : (cs : List Chunk) (end : ℕ) {r t : Extent} → Sweeps cs (r .reach) end t → r .next ≤ r .reach → r .reach < end
+    → 2 * (end - t .reach) + min 1 (suc (t .reach) - t .next) < 2 * (end - r .reach) + min 1 (suc (r .reach) - r .next)
+again-less cs end {r} {t} s near short =
+    let on = s .swept .on in
+    let most = s .swept .most in
+    elim (decLe (t .reach) (r .reach)) [
+      | yes same ↦
+          let after = s .stays (omega arith) in
+          omega arith
+      | no more ↦ omega arith
+    ]
 
 -- ---- the range that is found
 

@@ -1,7 +1,7 @@
 -- Document 01, "Lists": how far the positions from one on are of one class, and what one pass over the chunks tells of that.
 use Prim.Native.Nat.{ℕ, _-_, _<_, _≤_}
 use mathlib.Core.Bool.{true, false}
-use mathlib.Core.List.{List}
+use mathlib.Core.List.{List, [], _∷_, _++_}
 use mathlib.Core.Path.{_≡_}
 use lib.Dec.{ltb, eqb}
 use lib.ListN.{length}
@@ -29,3 +29,12 @@ pub record Swept (cs : List Chunk) (p end : ℕ) (r : Extent) : Type 0 where
   pub had : (q : ℕ) → p ≤ q → q < r .reach → someOf (supplies q) cs ≡ true
   pub free : (q : ℕ) → r .reach ≤ q → q < r .next → someOf (supplies q) cs ≡ false
   pub begins : r .next < end → someOf (supplies (r .next)) cs ≡ true
+
+-- a sweep from a position on: where its reach stays there, its next lies behind it
+pub record Sweeps (cs : List Chunk) (p end : ℕ) (r : Extent) : Type 0 where
+  pub swept : Swept cs p end r
+  pub stays : r .reach ≡ p → p < r .next
+
+-- a sweep goes on over one chunk more
+abbrev pub GoesOn : Chunk → ℕ → Extent → Extent → Type 0
+GoesOn c end e r = (cs : List Chunk) (p : ℕ) → Sweeps cs p end e → Sweeps (cs ++ (c ∷ [])) p end r

@@ -1,13 +1,15 @@
 // Maximal ranges: how far the positions from one on are all had, or all missing.
 use partial::position::Position;
+use segment::chunk::Chunk;
 use serving::rows::chunk_at;
 use serving::runs::clip;
 use serving::runs::smaller;
 use serving::runs::supplies;
-ghost use Prim.Native.Nat.{_<_};
+ghost use Prim.Native.Nat.{_<_, _≤_};
 ghost use mathlib.Core.Path.{_≡_};
+ghost use Rattle.segment.specs.Chunk.{chunkOf};
 ghost use Rattle.serving.specs.Rows.{chunksIn};
-ghost use Rattle.listing.specs.Ranges.{rangeIn, Swept};
+ghost use Rattle.listing.specs.Ranges.{rangeIn, Swept, Sweeps, GoesOn};
 
 // The class of the positions that no good chunk covers.
 pub const MISSING: u64 = 0;
@@ -27,25 +29,43 @@ pub struct Extent {
     pub next: u64,
 }
 
+impl Extent {
+    // With one chunk more: it goes on from the reach, up to an end, or it comes later.
+    fn with(self, c: Chunk, end: Position) -> Self
+        requires { ⌜ self .reach ≤ end .0 ⌝ }
+        ensures { λ r. ⌜ (r .reach ≤ end .0) × GoesOn (chunkOf c) (end .0) self r ⌝ }
+    {
+        let reach = self.reach;
+        let next = self.next;
+        if !supplies(c, Position(reach)) {
+            return Extent {
+                reach,
+                next: clip(c, Position(reach), next),
+            };
+        }
+        let left = c.size - (reach - c.start.0);
+        Extent {
+            reach: reach + smaller(end.0 - reach, left),
+            next,
+        }
+    }
+}
+
 // Sweeps over the rows, from a position to an end.
 fn sweep(table: &[u64], count: u64, p: Position, end: Position) -> Extent
     requires { ⌜ p .0 < end .0 ⌝ }
-    ensures { λ r. ⌜ Swept (chunksIn (now (table .entry)) count) (p .0) (end .0) r × (r .reach ≡ p .0 → p .0 < r .next) ⌝ }
+    ensures { λ r. ⌜ Sweeps (chunksIn (now (table .entry)) count) (p .0) (end .0) r ⌝ }
 {
-    let mut reach = p.0;
-    let mut next = end.0;
+    let mut extent = Extent {
+        reach: p.0,
+        next: end.0,
+    };
     let mut k = 0;
     while k < count {
-        let c = chunk_at(table, k);
-        if supplies(c, Position(reach)) {
-            let left = c.size - (reach - c.start.0);
-            reach += smaller(end.0 - reach, left);
-        } else {
-            next = clip(c, Position(reach), next);
-        }
+        extent = extent.with(chunk_at(table, k), end);
         k += 1;
     }
-    Extent { reach, next }
+    extent
 }
 
 // How far the positions from one on are had: sweep after sweep, as long as a chunk that was passed may go on from there.

@@ -72,6 +72,15 @@ module _ (f : List ℕ) (h : Heading) where
       unfolding gatheredIn segments
       gathered-given same = rw (le-leb (length (those pseg (h .boxes))) segmentLimit few, read, same)
 
+-- the segments, before they are held against each other
+pub segments-by : (f : List ℕ) (h : Heading) {ss : List Segment} → segments sourceLimit f h ≡ given ss → segmentsBy f h ≡ given ss
+unfolding segments
+segments-by f h e =
+    let (_, e) = held 13 (leb (length (those pseg (h .boxes))) segmentLimit) _ e in
+    let (ss, read, e) = both-given (segmentsFrom sourceLimit f h [] (those pseg (h .boxes))) _ e in
+    let (_, same) = held 25 (agree ss) _ e in
+    read ∙ same
+
 -- what each answer about the segments says
 module _ {r : Passed} {x : Answer Gathered} (answer : gatheredAnswer r ≡ x) where
   pub answer-refused : {n : ℕ} → r ≡ Passed.Refused n → x ≡ refused n
@@ -168,12 +177,7 @@ module _ (f : List ℕ) where
     read-given = rw (a .head, a .some, a .all)
 
     pub read-segments : segmentsBy f (a .h) ≡ given (a .ss)
-    unfolding segments
-    read-segments =
-        let (_, e) = held 13 (leb (length (those pseg (a .h .boxes))) segmentLimit) _ (a .all) in
-        let (ss, read, e) = both-given (segmentsFrom sourceLimit f (a .h) [] (those pseg (a .h .boxes))) _ e in
-        let (_, same) = held 25 (agree ss) _ e in
-        read ∙ same
+    read-segments = segments-by f (a .h) (a .all)
 
 -- what each answer about a file says
 module _ {r : Judgement} {x : Answer Judged} (answer : judgedAnswer r ≡ x) where

@@ -1,0 +1,123 @@
+-- Laws of listing: the lists of a file's chunks are those of the file, what each test decides, and what is left in the tables and lists.
+use Prim.Native.Nat.{ℕ, _*_, _<_, _≤_}
+use mathlib.Core.Bool.{true, false, and-false}
+use mathlib.Core.List.{List}
+use mathlib.Core.Path.{_≡_, refl, sym, ap, subst, _∙_}
+use native.Mathlib.Omega.{arith}
+use borrow.Author.Tests.{le-leb, lt-leb}
+use lib.ListN.{length}
+use Rattle.boxes.specs.Answer.{Answer, refused, given, _>>=_}
+use Rattle.partial.specs.Answers.{listedAnswer}
+use Rattle.partial.specs.Limits.{sourceLimit}
+use Rattle.partial.specs.Meaning.{supplied, describedLength}
+use Rattle.partial.specs.Memory.{fits, filled, after}
+use Rattle.partial.specs.Ranges.{ranges, classOf, rangesOf, hadList, missingList, total}
+use Rattle.partial.specs.Segments.{Chunk, Segment, chunksOf}
+use Rattle.partial.specs.Tables.{tabled, listed, segmentRows, chunkRows, rangeRows, hadRows, missingRows, totals}
+use Rattle.partial.specs.declared.answers.Listed.{Listed}
+use Rattle.partial.specs.declared.answers.Listed.the-variants as Listed
+use Rattle.partial.proofs.Reading.LimitLaws.{chunks-few}
+use Rattle.gathering.specs.Rows.{Put}
+use Rattle.gathering.proofs.GatheredLaws.{gathered-chunks}
+use Rattle.gathering.proofs.RowLaws.{put-filled}
+use Rattle.reading.specs.Judged.{Judged}
+use Rattle.reading.proofs.JudgedLaws.{Accepted}
+use Rattle.reading.proofs.TableLaws.{chunks-filled}
+use Rattle.serving.specs.Rows.{chunksIn}
+use Rattle.serving.proofs.RowsLaws.{filled-chunks}
+use Rattle.listing.specs.Calls.{Known, Counted, Listing}
+use Rattle.listing.specs.Lists.{Lists}
+use Rattle.listing.specs.Ranges.{classIn}
+use Rattle.listing.specs.declared.lists.Totals.{Totals}
+use Rattle.listing.proofs.ListLaws.{range-rows-long}
+
+-- what is known of an accepted file
+pub known-by : {f : List ℕ} {j : Judged} (a : Accepted f j) {described : ℕ} → described ≡ describedLength (a .ss) → Known f (j .gathered .chunks) described (a .ss)
+known-by a long = record { h = a .h; head = a .head; all = a .all; many = gathered-chunks (a .ss) (a .gathered); long = long }
+
+-- rows that were put into a table that has room for them hold the chunks
+pub rows-hold : {f : List ℕ} {count described : ℕ} {ss : List Segment} (k : Known f count described ss) {t₀ t : List ℕ} → Put t₀ 0 (chunkRows ss) t → 6 * count ≤ length t₀
+    → chunksIn t count ≡ chunksOf ss
+rows-hold {ss = ss} k {t₀} put room =
+    let full = chunks-filled ss put (omega (arith, k .many)) in
+    (λ i. chunksIn (full i) (k .many i)) ∙ filled-chunks ss t₀
+
+pub known-few : {f : List ℕ} {count described : ℕ} {ss : List Segment} → Known f count described ss → 6 * count ≤ 6144
+known-few {f = f} k = omega (arith, k .many, chunks-few sourceLimit f (k .h) (k .all))
+
+-- ---- the lists of a file
+
+ranges-by : (ss : List Segment) → ranges (classIn (chunksOf ss)) (describedLength ss) 0 ≡ rangesOf ss
+unfolding rangesOf classOf classIn supplied
+ranges-by ss = refl
+
+-- lists of the file's chunks are the file's
+pub record OfFile (ss : List Segment) (had₀ had₁ missing₀ missing₁ : List ℕ) (t : Totals) : Type 0 where
+  pub counts : Counted ss t
+  pub had : Put had₀ 0 (hadRows ss) had₁
+  pub missing : Put missing₀ 0 (missingRows ss) missing₁
+
+pub of-file : {cs : List Chunk} {end : ℕ} {had₀ had₁ missing₀ missing₁ : List ℕ} {t : Totals} (ss : List Segment) → cs ≡ chunksOf ss → end ≡ describedLength ss
+    → Lists cs end had₀ had₁ missing₀ missing₁ t
+    → OfFile ss had₀ had₁ missing₀ missing₁ t
+unfolding hadRows missingRows hadList missingList
+of-file ss chunks long s =
+    let all = (λ i. ranges (classIn (chunks i)) (long i) 0) ∙ ranges-by ss in
+    let s = rw all at s in
+    record {
+      counts = record { hadMany = s .hadMany; missingMany = s .missingMany; received = s .received; missed = s .missed };
+      had = s .hadRows;
+      missing = s .missingRows;
+    }
+
+-- ---- what each test decides
+
+had-long : (ss : List Segment) → length (hadRows ss) ≡ 2 * length (hadList ss)
+unfolding hadRows
+had-long ss = range-rows-long (hadList ss)
+
+missing-long : (ss : List Segment) → length (missingRows ss) ≡ 2 * length (missingList ss)
+unfolding missingRows
+missing-long ss = range-rows-long (missingList ss)
+
+module _ (f a b c d : List ℕ) where
+  pub listed-refused : {n : ℕ} → tabled sourceLimit f a b ≡ refused n → listed sourceLimit f a b c d ≡ refused n
+  unfolding listed
+  listed-refused e = rw e
+
+  module _ (ss : List Segment) (read : tabled sourceLimit f a b ≡ given ss) where
+    pub had-short : length c < 2 * length (hadList ss) → listed sourceLimit f a b c d ≡ refused 26
+    unfolding listed fits
+    had-short short = rw (read, lt-leb (length (hadRows ss)) (length c) (omega (arith, had-long ss)))
+
+    pub missing-short : length d < 2 * length (missingList ss) → listed sourceLimit f a b c d ≡ refused 26
+    unfolding listed fits
+    missing-short short = rw (read, lt-leb (length (missingRows ss)) (length d) (omega (arith, missing-long ss)), and-false)
+
+    pub listed-given : 2 * length (hadList ss) ≤ length c → 2 * length (missingList ss) ≤ length d → listed sourceLimit f a b c d ≡ given ss
+    unfolding listed fits
+    listed-given one two =
+        rw (
+          read,
+          le-leb (length (hadRows ss)) (length c) (omega (arith, had-long ss)),
+          le-leb (length (missingRows ss)) (length d) (omega (arith, missing-long ss)),
+        )
+
+  -- after a refusal all four are as they were
+  pub lists-refused : {n : ℕ} → listed sourceLimit f a b c d ≡ refused n → Listing f a a b b c c d d (Listed.Refused n)
+  unfolding listedAnswer after
+  lists-refused e = record { answer = rw e; tables = rw e (record { segmentTable = refl; chunkTable = refl }); hadTable = rw e; missingTable = rw e }
+
+  -- else they are filled
+  pub lists-given : {a′ b′ c′ d′ : List ℕ} {t : Totals} (ss : List Segment) → listed sourceLimit f a b c d ≡ given ss → Counted ss t
+      → a′ ≡ filled (segmentRows ss) a → b′ ≡ filled (chunkRows ss) b → Put c 0 (hadRows ss) c′ → Put d 0 (missingRows ss) d′
+      → 2 * length (hadList ss) ≤ length c → 2 * length (missingList ss) ≤ length d
+      → Listing f a a′ b b′ c c′ d d′ (Listed.Lists (t .had) (t .missing) (t .received) (t .missed))
+  unfolding listedAnswer after totals
+  lists-given ss e counts one two had missing room space =
+      record {
+        answer = rw e (λ i. given (record { hadRanges = counts .hadMany i; missingRanges = counts .missingMany i; receivedTotal = counts .received i; missingTotal = counts .missed i }));
+        tables = rw e (record { segmentTable = one; chunkTable = two });
+        hadTable = rw e (put-filled (hadRows ss) had (omega (arith, had-long ss)));
+        missingTable = rw e (put-filled (missingRows ss) missing (omega (arith, missing-long ss)));
+      }

@@ -1,0 +1,110 @@
+-- `listing::calls::list` meets its contract: the judgement, then 26 of the tables and of the lists, then both are filled.
+use Prim.Native.Nat.{_*_, _≤_}
+use native.Mathlib.Omega.{arith}
+use lib.ListN.{length}
+use Rattle.partial.specs.Ranges.{hadList, missingList}
+use Rattle.partial.specs.Segments.{chunksOf}
+use Rattle.partial.proofs.Reading.HeadingAppendLaws.{headed}
+use Rattle.gathering.proofs.GatheredLaws.{gathered-segments, gathered-chunks, gathered-sizes}
+use Rattle.reading.proofs.JudgedLaws.{accepted, read-refused, read-given, read-segments, judgement-refused, judgement-given}
+use Rattle.reading.proofs.TableLaws.{tabled-refused, segments-short, chunks-short, tabled-given, rows-put, segments-filled, chunks-filled}
+use Rattle.listing.proofs.CallsLaws.{known-by, rows-hold, of-file, listed-refused, had-short, missing-short, listed-given, lists-refused, lists-given}
+use borrow.Author.Needs.{needs}
+use Rattle.listing.proofs.calls.list.Statement.{statement}
+use Rattle.listing.proofs.calls.list.Tie as tie
+
+judge-requires : tie.Need-judge-requires
+judge-requires c κs = search needs
+
+enum-known-n : tie.Need-enum-known-n
+enum-known-n c = search needs
+
+enum-known-judged : tie.Need-enum-known-judged
+enum-known-judged c = search needs
+
+described-requires : tie.Need-described-requires
+described-requires c κs = search needs
+
+counted-requires : tie.Need-counted-requires
+counted-requires c κs = search needs
+
+returns : tie.Need-returns
+returns c =
+    let a = accepted _ (judgement-given (c .before .before .before .before .before .before .before .before .before .judge .ensures) (c .before .before .before .before .before .before .before .judged .given .1)) in
+    lists-refused _ _ _ _ _ (listed-refused _ _ _ _ _ (segments-short _ _ _ (a .ss) (read-given _ a) (omega (arith, gathered-segments (a .ss) (a .gathered)))))
+
+returns-2 : tie.Need-returns-2
+returns-2 c =
+    let a = accepted _ (judgement-given (c .before .before .before .before .before .before .before .before .before .before .before .judge .ensures) (c .before .before .before .before .before .before .before .before .before .judged .given .1)) in
+    lists-refused _ _ _ _ _ (listed-refused _ _ _ _ _ (chunks-short _ _ _ (a .ss) (read-given _ a) (omega (arith, gathered-chunks (a .ss) (a .gathered)))))
+
+returns-3 : tie.Need-returns-3
+returns-3 c =
+    let a = accepted _ (judgement-given (c .before .before .before .before .before .before .before .before .before .before .before .before .before .judge .ensures) (c .before .before .before .before .before .before .before .before .before .before .before .judged .given .1)) in
+    let counts = c .before .before .before .before .before .before .counted .ensures (a .ss) (known-by a (c .before .before .before .before .before .before .before .described .ensures (a .ss) (gathered-sizes (a .ss) (a .gathered)))) in
+    lists-refused _ _ _ _ _ (had-short _ _ _ _ _ (a .ss) (tabled-given _ _ _ (a .ss) (read-given _ a) (omega (arith, gathered-segments (a .ss) (a .gathered))) (omega (arith, gathered-chunks (a .ss) (a .gathered)))) (omega (arith, counts .hadMany)))
+
+returns-4 : tie.Need-returns-4
+returns-4 c =
+    let a = accepted _ (judgement-given (c .before .before .before .before .before .before .before .before .before .before .before .before .before .before .before .judge .ensures) (c .before .before .before .before .before .before .before .before .before .before .before .before .before .judged .given .1)) in
+    let counts = c .before .before .before .before .before .before .before .before .counted .ensures (a .ss) (known-by a (c .before .before .before .before .before .before .before .before .before .described .ensures (a .ss) (gathered-sizes (a .ss) (a .gathered)))) in
+    lists-refused _ _ _ _ _ (missing-short _ _ _ _ _ (a .ss) (tabled-given _ _ _ (a .ss) (read-given _ a) (omega (arith, gathered-segments (a .ss) (a .gathered))) (omega (arith, gathered-chunks (a .ss) (a .gathered)))) (omega (arith, counts .missingMany)))
+
+pass-requires : tie.Need-pass-requires
+pass-requires c κs = search needs
+
+put-lists-requires : tie.Need-put-lists-requires
+put-lists-requires c κs = search needs
+
+returns-5 : tie.Need-returns-5
+returns-5 c =
+    lists-refused _ _ _ _ _ (listed-refused _ _ _ _ _ (tabled-refused _ _ _ (read-refused _ (judgement-refused (c .before .before .before .judge .ensures) (c .before .n .given .1)))))
+
+same-length : tie.Need-same-length
+same-length c = search needs
+
+same-length-2 : tie.Need-same-length-2
+same-length-2 c = search needs
+
+same-length-3 : tie.Need-same-length-3
+same-length-3 c = search needs
+
+same-length-4 : tie.Need-same-length-4
+same-length-4 c = search needs
+
+returns-6 : tie.Need-returns-6
+returns-6 c =
+    let a = accepted _ (judgement-given (c .before .before .before .before .before .before .before .before .before .before .before .before .before .before .before .before .before .before .before .before .before .before .before .before .before .before .before .before .before .before .judge .ensures) (c .before .before .before .before .before .before .before .before .before .before .before .before .before .before .before .before .before .before .before .before .before .before .before .before .before .before .before .before .judged .given .1)) in
+    let counts = c .before .before .before .before .before .before .before .before .before .before .before .before .before .before .before .before .before .before .before .before .before .before .before .counted .ensures (a .ss) (known-by a (c .before .before .before .before .before .before .before .before .before .before .before .before .before .before .before .before .before .before .before .before .before .before .before .before .described .ensures (a .ss) (gathered-sizes (a .ss) (a .gathered)))) in
+    let args = c .before .before .before .before .before .before .before .before .before .before .before .before .before .before .before .before .before .before .before .before .before .before .before .before .before .before .before .before .before .before .before .before .before .before .before .before .args in
+    let segments : 7 * length (a .ss) ≤ length (args .segments .now) = omega (arith, gathered-segments (a .ss) (a .gathered)) in
+    let chunks : 6 * length (chunksOf (a .ss)) ≤ length (args .chunks .now) = omega (arith, gathered-chunks (a .ss) (a .gathered)) in
+    let had : 2 * length (hadList (a .ss)) ≤ length (args .had .now) = omega (arith, counts .hadMany) in
+    let missing : 2 * length (missingList (a .ss)) ≤ length (args .missing .now) = omega (arith, counts .missingMany) in
+    let read = tabled-given _ _ _ (a .ss) (read-given _ a) segments chunks in
+    let (one, two) = rows-put _ (a .h) _ (c .before .before .before .before .before .before .before .before .before .before .before .before .pass .ensures (a .h) (headed _ (a .h) (a .head) .boxes)) (read-segments _ a) in
+    let known = known-by a (c .before .before .before .before .before .before .before .before .before .before .before .before .before .before .before .before .before .before .before .before .before .before .before .before .described .ensures (a .ss) (gathered-sizes (a .ss) (a .gathered))) in
+    let lists = of-file (a .ss) (rows-hold known two (omega (arith, gathered-chunks (a .ss) (a .gathered)))) (known .long) (c .before .before .before .before .put-lists .ensures) in
+    lists-given _ _ _ _ _ (a .ss) (listed-given _ _ _ _ _ (a .ss) read had missing) counts (segments-filled (a .ss) one segments) (chunks-filled (a .ss) two chunks) (lists .had) (lists .missing) had missing
+
+pub list-spec : {M : Type 1} → statement M
+list-spec =
+    tie.close
+    (tie.spec
+    judge-requires
+    enum-known-n
+    enum-known-judged
+    described-requires
+    counted-requires
+    returns
+    returns-2
+    returns-3
+    returns-4
+    pass-requires
+    put-lists-requires
+    returns-5
+    same-length
+    same-length-2
+    same-length-3
+    same-length-4
+    returns-6)

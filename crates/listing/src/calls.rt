@@ -1,0 +1,69 @@
+// Listing into the two lent lists, after reading into the two lent tables.
+use crate::lists::RANGE_ROW;
+use crate::lists::Totals;
+use crate::lists::put_lists;
+use gathering::pass::pass;
+use gathering::rows::CHUNK_ROW;
+use gathering::rows::SEGMENT_ROW;
+use partial::answers::Listed;
+use partial::position::Position;
+use partial::refusals::TABLE_TOO_SHORT;
+use reading::judging::Judgement;
+use reading::judging::judge;
+ghost use mathlib.Core.List.{List};
+ghost use Rattle.partial.specs.Segments.{Segment};
+ghost use Rattle.listing.specs.Calls.{Known, Counted, Listing};
+
+// What the lists of an accepted file of so many chunks will hold. Its rows go into a table of our own, since nothing lent is touched before it is known
+// that both lists have room.
+fn counted(file: &[u8], count: u64, end: Position) -> Totals
+    ensures { λ t. ⌜ ((ss : List Segment) → Known (now (file .entry)) count (end .0) ss → Counted ss t) ⌝ }
+{
+    let mut no_segments = [0; 1];
+    let mut rows = [0; 6144];
+    let mut no_had = [0; 1];
+    let mut no_missing = [0; 1];
+    pass(file, &mut no_segments, &mut rows);
+    put_lists(&rows, count, end, &mut no_had, &mut no_missing)
+}
+
+// Lists the ranges of positions that a file has and of those that are missing, and reads it into both tables. After a refusal all four are as they were.
+pub fn list(
+    file: &[u8],
+    segments: &mut [u64],
+    chunks: &mut [u64],
+    had: &mut [u64],
+    missing: &mut [u64],
+) -> Listed
+    ensures { λ r. ⌜ Listing (now (file .entry)) (now (segments .entry)) (now (segments .exit)) (now (chunks .entry)) (now (chunks .exit)) (now (had .entry)) (now (had .exit)) (now (missing .entry)) (now (missing .exit)) r ⌝ }
+{
+    match judge(file) {
+        Judgement::Refused(n) => Listed::Refused(n),
+        Judgement::Given(judged) => {
+            let gathered = judged.gathered;
+            let sizes = gathered.sizes;
+            let end = Position(sizes.described());
+            let totals = counted(file, gathered.chunks, end);
+            if segments.len() as u64 / SEGMENT_ROW < gathered.segments {
+                return Listed::Refused(TABLE_TOO_SHORT);
+            }
+            if chunks.len() as u64 / CHUNK_ROW < gathered.chunks {
+                return Listed::Refused(TABLE_TOO_SHORT);
+            }
+            if had.len() as u64 / RANGE_ROW < totals.had {
+                return Listed::Refused(TABLE_TOO_SHORT);
+            }
+            if missing.len() as u64 / RANGE_ROW < totals.missing {
+                return Listed::Refused(TABLE_TOO_SHORT);
+            }
+            pass(file, segments, chunks);
+            put_lists(chunks, gathered.chunks, end, had, missing);
+            Listed::Lists {
+                had: totals.had,
+                missing: totals.missing,
+                received_total: totals.received,
+                missing_total: totals.missed,
+            }
+        }
+    }
+}
