@@ -5,3 +5,4 @@ pub mod GatheredLaws
 pub mod ChunksLaws
 pub mod StepLaws
 pub mod PassLaws
+pub mod Determined

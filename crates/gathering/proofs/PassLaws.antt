@@ -3,7 +3,7 @@ use Prim.Native.Nat.{ℕ, _+_, _*_}
 use mathlib.Core.Bool.{true, false, false≢true}
 use mathlib.Core.List.{List, [], _∷_, _++_}
 use mathlib.Core.Option.{none, some}
-use mathlib.Core.Path.{_≡_, refl, sym, ap, _∙_}
+use mathlib.Core.Path.{_≡_, refl, sym, ap, subst, _∙_}
 use native.Mathlib.Omega.{arith}
 use lib.Dec.{eqb}
 use lib.ListN.{length}
@@ -14,6 +14,7 @@ use Rattle.boxes.specs.Walk.{stepped}
 use Rattle.boxes.specs.declared.framing.Framed.{Framed}
 use Rattle.boxes.specs.declared.kinds.Container.the-variants.{File}
 use Rattle.boxes.specs.declared.walk.Walk.{Walk}
+use Rattle.boxes.proofs.AnswerLaws.{not-both, given-same}
 use Rattle.boxes.proofs.KindLaws.{is-eqb, those-nil, those-one, those-other}
 use Rattle.boxes.proofs.ToldLaws.{box-fields}
 use Rattle.boxes.proofs.WalkLaws.{ahead, known-next, known-end, known-sound}
@@ -28,7 +29,8 @@ use Rattle.gathering.specs.Pass.{segmentsBy, Gathers}
 use Rattle.gathering.specs.Rows.{Put}
 use Rattle.gathering.specs.Step.{Segmented}
 use Rattle.gathering.specs.declared.gathered.Gathered.{Gathered}
-use Rattle.gathering.specs.declared.pass.Passed.the-variants.{Given}
+use Rattle.gathering.specs.declared.pass.Passed.{Passed}
+use Rattle.gathering.specs.declared.pass.Passed.the-variants.{Refused, Given}
 use Rattle.gathering.specs.declared.step.SegmentRead.the-variants as SegmentRead
 use Rattle.gathering.proofs.RowLaws.{put-none, put-more, put-same, segment-rows-long, segment-rows-last, all-rows-long, all-rows-last}
 
@@ -125,3 +127,12 @@ module _ (f : List ℕ) (h : Heading) (t₀ u₀ : List ℕ) where
 
     pub midway-sound : {n : ℕ} → stepped f w ≡ refused n → ⊥
     midway-sound step = known-sound f w (m .left) step
+
+-- the pass over a file whose segments are known puts their rows
+pub rows-put : (f : List ℕ) (h : Heading) {t₀ t u₀ u : List ℕ} (r : Passed) {ss : List Segment} → Gathers f h t₀ t u₀ u r → segmentsBy f h ≡ given ss
+    → Put t₀ 0 (segmentRows ss) t × Put u₀ 0 (chunkRows ss) u
+unfolding Gathers
+rows-put f h (Refused n) fault read = absurd (not-both (sym fault ∙ read))
+rows-put f h {t₀ = t₀} {t = t} {u₀ = u₀} {u = u} (Given g) (ss, read′, _, one, two) read =
+    let same = given-same (sym read′ ∙ read) in
+    (subst (λ (ss : List Segment). Put t₀ 0 (segmentRows ss) t) same one, subst (λ (ss : List Segment). Put u₀ 0 (chunkRows ss) u) same two)

@@ -1,3 +1,4 @@
 pub mod JudgedLaws
 pub mod TableLaws
 pub mod TextLaws
+pub mod Determined

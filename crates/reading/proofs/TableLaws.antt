@@ -2,14 +2,12 @@
 use Prim.Native.Nat.{ℕ, _*_, _≤_, _<_}
 use mathlib.Core.Bool.{true, false, and-false}
 use mathlib.Core.List.{List}
-use mathlib.Core.Path.{_≡_, refl, sym, ap, subst, _∙_}
+use mathlib.Core.Path.{_≡_}
 use native.Mathlib.Omega.{arith}
 use borrow.Author.Tests.{le-leb, lt-leb}
 use lib.ListN.{length}
-use Rattle.boxes.specs.Answer.{Answer, refused, given, _>>=_}
-use Rattle.boxes.proofs.AnswerLaws.{not-both, given-same}
+use Rattle.boxes.specs.Answer.{refused, given}
 use Rattle.partial.specs.Answers.{readAnswer}
-use Rattle.partial.specs.Heading.{Heading}
 use Rattle.partial.specs.Limits.{sourceLimit}
 use Rattle.partial.specs.Meaning.{describedLength}
 use Rattle.partial.specs.Memory.{fits, filled, after}
@@ -19,12 +17,9 @@ use Rattle.partial.specs.Tables.{tabled, segmentRows, chunkRows, summary}
 use Rattle.partial.specs.declared.answers.Read.{Read}
 use Rattle.partial.specs.declared.answers.Read.the-variants as Read
 use Rattle.gathering.specs.Gathered.{gatheredOf}
-use Rattle.gathering.specs.Pass.{segmentsBy, Gathers}
 use Rattle.gathering.specs.Rows.{Put}
 use Rattle.gathering.specs.Sizes.{sizesOf}
 use Rattle.gathering.specs.declared.gathered.Gathered.{Gathered}
-use Rattle.gathering.specs.declared.pass.Passed.{Passed}
-use Rattle.gathering.specs.declared.pass.Passed.the-variants as Passed
 use Rattle.gathering.proofs.RowLaws.{segment-rows-long, all-rows-long, put-filled}
 use Rattle.reading.specs.Tables.{Reads}
 
@@ -71,15 +66,6 @@ pub answered : {g : Gathered} (ss : List Segment) → g ≡ gatheredOf ss → {n
     → readAnswer (Read.Tables (g .segments) (g .chunks) (record { 0 = n }) (g .sizes .known)) ≡ given (summary ss)
 unfolding readAnswer summary gatheredOf sizesOf
 answered ss e length = λ i. given (record { segments = e i .segments; chunks = e i .chunks; described = length i; closed = e i .sizes .known })
-
--- the pass over a file whose segments are known puts their rows
-pub rows-put : (f : List ℕ) (h : Heading) {t₀ t u₀ u : List ℕ} (r : Passed) {ss : List Segment} → Gathers f h t₀ t u₀ u r → segmentsBy f h ≡ given ss
-    → Put t₀ 0 (segmentRows ss) t × Put u₀ 0 (chunkRows ss) u
-unfolding Gathers
-rows-put f h (Passed.Refused n) fault read = absurd (not-both (sym fault ∙ read))
-rows-put f h {t₀ = t₀} {t = t} {u₀ = u₀} {u = u} (Passed.Given g) (ss, read′, _, one, two) read =
-    let same = given-same (sym read′ ∙ read) in
-    (subst (λ (ss : List Segment). Put t₀ 0 (segmentRows ss) t) same one, subst (λ (ss : List Segment). Put u₀ 0 (chunkRows ss) u) same two)
 
 -- rows that fit fill a table
 pub segments-filled : (ss : List Segment) {a a′ : List ℕ} → Put a 0 (segmentRows ss) a′ → 7 * length ss ≤ length a → a′ ≡ filled (segmentRows ss) a

@@ -6,8 +6,9 @@ use lib.ListN.{length}
 use Rattle.partial.specs.Segments.{chunksOf}
 use Rattle.partial.proofs.Reading.HeadingAppendLaws.{headed}
 use Rattle.gathering.proofs.GatheredLaws.{gathered-segments, gathered-chunks, gathered-sizes}
+use Rattle.gathering.proofs.PassLaws.{rows-put}
 use Rattle.reading.proofs.JudgedLaws.{accepted, read-refused, read-given, read-segments, judgement-refused, judgement-given}
-use Rattle.reading.proofs.TableLaws.{tabled-refused, segments-short, chunks-short, tabled-given, reads-refused, reads-given, answered, rows-put, segments-filled, chunks-filled}
+use Rattle.reading.proofs.TableLaws.{tabled-refused, segments-short, chunks-short, tabled-given, reads-refused, reads-given, answered, segments-filled, chunks-filled}
 use borrow.Author.Needs.{needs}
 use Rattle.reading.proofs.tables.read.Statement.{statement}
 use Rattle.reading.proofs.tables.read.Tie as tie

@@ -1,0 +1,71 @@
+-- Each public call's contract determines its answer: two that it allows of the same arguments are equal. The pass over a file is determined where
+-- the file's boxes are known, and what it leaves in a table where all rows fit; a call on what was gathered, where the segments are known of which it was.
+use Prim.Native.Nat.{ℕ, _≤_}
+use mathlib.Core.List.{List}
+use mathlib.Core.Path.{_≡_, sym, ap, _∙_}
+use native.Mathlib.Omega.{arith}
+use denote.Ref.{now}
+use lib.ListN.{length}
+use Rattle.boxes.specs.Answer.{given}
+use Rattle.boxes.specs.Framing.{boxesIn}
+use Rattle.boxes.specs.declared.kinds.Container.the-variants.{File}
+use Rattle.boxes.proofs.AnswerLaws.{not-both, refused-same, given-same}
+use Rattle.boxes.proofs.Determined.{OneKnown}
+use Rattle.partial.specs.Heading.{Heading}
+use Rattle.partial.specs.Segments.{Segment}
+use Rattle.partial.specs.Tables.{segmentRows, chunkRows}
+use Rattle.gathering.specs.Gathered.{gatheredOf}
+use Rattle.gathering.specs.Pass.{segmentsBy, Gathers}
+use Rattle.gathering.specs.Rows.{Put}
+use Rattle.gathering.specs.Sizes.{sizesOf}
+use Rattle.gathering.specs.declared.pass.Passed.{Passed}
+use Rattle.gathering.specs.declared.pass.Passed.the-variants.{Refused, Given}
+use Rattle.gathering.proofs.PassLaws.{rows-put}
+use Rattle.gathering.proofs.pass.pass.Reads as pass
+use Rattle.gathering.proofs.sizes.Sizes.agree.Reads as agree
+use Rattle.gathering.proofs.sizes.Sizes.described.Reads as described
+
+-- where something is known of the arguments, a contract allows one value of something that the call leaves behind
+module _ {L : Type 0} {A R E : L → Type 0} (post : (κs : L) → A κs → R κs → E κs → Type 0) where
+  abbrev pub OneLeftKnown : {X Y : Type 0} → ((κs : L) → A κs → X → Type 0) → ((κs : L) → E κs → Y) → Type 0
+  OneLeftKnown {X} known of =
+      (κs : L) (args : A κs) (what : X) → known κs args what → (x y : R κs) (after after′ : E κs)
+      → post κs args x after
+      → post κs args y after′
+      → of κs after ≡ of κs after′
+
+-- the boxes of a file are those of a heading
+abbrev Boxed : List ℕ → Heading → Type 0
+Boxed f h = boxesIn File f 0 (length f) ≡ given (h .boxes)
+
+-- and of its segments these are the rows, for which a table has room
+abbrev Fits : (List Segment → List ℕ) → List ℕ → List ℕ → Heading × List Segment → Type 0
+Fits rows f table (h, ss) = Boxed f h × (segmentsBy f h ≡ given ss) × (length (rows ss) ≤ length table)
+
+module _ (f : List ℕ) (h : Heading) (t₀ t t′ u₀ u u′ : List ℕ) where
+  one-passed : (x y : Passed) → Gathers f h t₀ t u₀ u x → Gathers f h t₀ t′ u₀ u′ y → x ≡ y
+  unfolding Gathers
+  one-passed (Refused n) (Refused m) p q = ap Refused (refused-same (sym p ∙ q))
+  one-passed (Refused n) (Given g) p (ss, read, _, _, _) = absurd (not-both (sym p ∙ read))
+  one-passed (Given g) (Refused m) (ss, read, _, _, _) q = absurd (not-both (sym q ∙ read))
+  one-passed (Given g) (Given g′) (ss, read, of, _, _) (ss′, read′, of′, _, _) = ap Given (of ∙ ap gatheredOf (given-same (sym read ∙ read′)) ∙ sym of′)
+
+one-put : {before rows t t′ : List ℕ} → length rows ≤ length before → Put before 0 rows t → Put before 0 rows t′ → t ≡ t′
+one-put room p q = p .held (omega arith) ∙ sym (q .held (omega arith))
+
+pass-result : OneKnown pass.Post (λ κs args (h : Heading). Boxed (now (args .0)) h)
+pass-result κs args h known x y after after′ p q = one-passed _ h _ _ _ _ _ _ x y (p h known) (q h known)
+
+pass-segments : OneLeftKnown pass.Post (λ κs args. Fits segmentRows (now (args .0)) (now (args .1 .0))) (λ κs after. now (after .1 .0))
+pass-segments κs args (h, ss) (known, read, room) x y after after′ p q =
+    one-put room (rows-put _ h x (p h known) read .0) (rows-put _ h y (q h known) read .0)
+
+pass-chunks : OneLeftKnown pass.Post (λ κs args. Fits chunkRows (now (args .0)) (now (args .1 .1 .0))) (λ κs after. now (after .1 .1 .0))
+pass-chunks κs args (h, ss) (known, read, room) x y after after′ p q =
+    one-put room (rows-put _ h x (p h known) read .1) (rows-put _ h y (q h known) read .1)
+
+agree-result : OneKnown agree.Post (λ κs args (ss : List Segment). args .0 ≡ sizesOf ss)
+agree-result κs args ss known x y after after′ p q = p ss known ∙ sym (q ss known)
+
+described-result : OneKnown described.Post (λ κs args (ss : List Segment). args .0 ≡ sizesOf ss)
+described-result κs args ss known x y after after′ p q = p ss known ∙ sym (q ss known)

@@ -1,0 +1,77 @@
+-- Each public call's contract determines its answer, and what it leaves in the lent tables: two that it allows of the same arguments are equal. A part of
+-- the lent file is determined by where it lies and by its bytes.
+use Prim.Native.Nat.{ℕ}
+use mathlib.Core.List.{List}
+use mathlib.Core.Path.{_≡_, sym, ap, _∙_}
+use denote.Ref.{now, ptr}
+use Rattle.boxes.proofs.Determined.{OneResult, OneLeft}
+use Rattle.boxes.proofs.ToldLaws.{Tells}
+use Rattle.heading.specs.Facts.{factsBy}
+use Rattle.heading.proofs.Determined.{head-told}
+use Rattle.partial.specs.Answers.{readAnswer}
+use Rattle.partial.specs.Heading.{Part}
+use Rattle.partial.specs.Tables.{Summary}
+use Rattle.partial.specs.declared.answers.Read.the-variants as Read
+use Rattle.reading.specs.Judged.{Judged, judgedAnswer}
+use Rattle.reading.specs.Parts.{HandedBack}
+use Rattle.reading.specs.declared.judging.Judgement.the-variants as Judgement
+use Rattle.reading.proofs.judging.earlier_of.Reads as earlier-of
+use Rattle.reading.proofs.judging.judge.Reads as judge
+use Rattle.reading.proofs.tables.read.Reads as read
+use Rattle.reading.proofs.texts.mime.Reads as mime
+use Rattle.reading.proofs.texts.url.Reads as url
+
+-- a contract allows one value of something of the result
+module _ {L : Type 0} {A R E : L → Type 0} (post : (κs : L) → A κs → R κs → E κs → Type 0) where
+  abbrev pub OneOf : {X : Type 0} → ((κs : L) → R κs → X) → Type 0
+  OneOf of =
+      (κs : L) (args : A κs) (x y : R κs) (after after′ : E κs) → post κs args x after → post κs args y after′ → of κs x ≡ of κs y
+
+judged-told : Tells judgedAnswer
+unfolding judgedAnswer
+judged-told (Judgement.Refused n) (Judgement.Refused m) e = cc
+judged-told (Judgement.Refused n) (Judgement.Given k) e = cc
+judged-told (Judgement.Given j) (Judgement.Refused m) e = cc
+judged-told (Judgement.Given j) (Judgement.Given k) e =
+    let same : _≡_ {A = Judged} (record { facts = factsBy (j .head); gathered = j .gathered }) (record { facts = factsBy (k .head); gathered = k .gathered }) = cc in
+    let head = head-told (j .head) (k .head) (ap (λ (x : Judged). x .facts) same) in
+    ap Judgement.Given (λ i. record { head = head i; gathered = same i .gathered })
+
+read-told : Tells readAnswer
+unfolding readAnswer
+read-told (Read.Refused n) (Read.Refused m) e = cc
+read-told (Read.Refused n) (Read.Tables a b c d) e = cc
+read-told (Read.Tables a b c d) (Read.Refused m) e = cc
+read-told (Read.Tables a b c d) (Read.Tables a′ b′ c′ d′) e =
+    let same : _≡_ {A = Summary} (record { segments = a; chunks = b; described = c .0; closed = d }) (record { segments = a′; chunks = b′; described = c′ .0; closed = d′ }) = cc in
+    λ i. Read.Tables (same i .segments) (same i .chunks) (record { 0 = same i .described }) (same i .closed)
+
+one-part : {f : List ℕ} {file : ℕ × ℕ} {part : Part} {there there′ : ℕ × ℕ} {bytes bytes′ : List ℕ} → HandedBack f file part there bytes
+    → HandedBack f file part there′ bytes′
+    → _≡_ {A = (ℕ × ℕ) × List ℕ} (there, bytes) (there′, bytes′)
+one-part p q =
+    let memory = p .memory ∙ sym (q .memory) in
+    let place = p .place ∙ sym (q .place) in
+    let holds = p .holds ∙ sym (q .holds) in
+    λ i. ((memory i, place i), holds i)
+
+earlier-of-result : OneResult earlier-of.Post
+earlier-of-result κs args x y after after′ p q = judged-told x y (p ∙ sym q)
+
+judge-result : OneResult judge.Post
+judge-result κs args x y after after′ p q = judged-told x y (p ∙ sym q)
+
+read-result : OneResult read.Post
+read-result κs args x y after after′ p q = read-told x y (p .answer ∙ sym (q .answer))
+
+read-segments : OneLeft read.Post (λ κs after. now (after .1 .0))
+read-segments κs args x y after after′ p q = p .segmentTable ∙ sym (q .segmentTable)
+
+read-chunks : OneLeft read.Post (λ κs after. now (after .1 .1 .0))
+read-chunks κs args x y after after′ p q = p .chunkTable ∙ sym (q .chunkTable)
+
+url-part : OneOf url.Post {X = (ℕ × ℕ) × List ℕ} (λ κs r. (ptr r, now r))
+url-part κs args x y after after′ p q = one-part p q
+
+mime-part : OneOf mime.Post {X = (ℕ × ℕ) × List ℕ} (λ κs r. (ptr r, now r))
+mime-part κs args x y after after′ p q = one-part p q
