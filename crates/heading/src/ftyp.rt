@@ -6,6 +6,7 @@ use boxes::numbers::unsigned;
 use boxes::place::Place;
 use boxes::rules::keeps;
 use boxes::tally::Tally;
+use partial::brand::PAFF;
 ghost use Prim.Native.Nat.{_≤_};
 ghost use mathlib.Core.List.{List};
 ghost use mathlib.Core.Path.{_≡_};
@@ -16,9 +17,6 @@ ghost use Rattle.boxes.specs.Kinds.{boxAt};
 ghost use Rattle.boxes.specs.Rules.{tallyOf};
 ghost use Rattle.partial.specs.Heading.{ftypRight, brandRight};
 ghost use Rattle.heading.specs.Steps.{Within};
-
-// The brand of partial files.
-const PAFF: u64 = 0x70616666;
 
 // The bytes of the major brand and the minor version, which stand before the compatible brands.
 const BRANDS_FROM: u64 = 8;

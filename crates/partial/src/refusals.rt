@@ -42,3 +42,13 @@ pub const OUTSIDE_DATA: u64 = 24;
 pub const SIZES_DIFFER: u64 = 25;
 // The file is acceptable, but a lent table or list is too short.
 pub const TABLE_TOO_SHORT: u64 = 26;
+// The stated length of a file exceeds its lent buffer.
+pub const LENGTH_OVER_BUFFER: u64 = 30;
+// The chunk list is of odd length, or has a size 0 or a state that is not 0, 1 or 2.
+pub const CHUNK_LIST_WRONG: u64 = 31;
+// The data bytes are not equal in number to the sizes of states 1 and 2.
+pub const DATA_WRONG: u64 = 32;
+// The lent buffer is too short for the result.
+pub const BUFFER_TOO_SHORT: u64 = 33;
+// A zero byte stands in a URL or MIME text.
+pub const ZERO_IN_TEXT: u64 = 34;

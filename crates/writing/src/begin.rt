@@ -1,0 +1,55 @@
+// Beginning a file in a lent buffer.
+use crate::ftyp::FTYP_SIZE;
+use crate::ftyp::put_ftyp;
+use crate::pfil::PFIL_SIZE;
+use crate::pfil::put_pfil;
+use crate::texts::is_text;
+use boxes::place::Place;
+use partial::answers::Written;
+use partial::limits::FILE_LIMIT;
+use partial::refusals::BUFFER_TOO_SHORT;
+use partial::refusals::FILE_TOO_LONG;
+use partial::refusals::ZERO_IN_TEXT;
+ghost use Prim.Native.Nat.{_+_, min};
+ghost use mathlib.Core.List.{[]};
+ghost use mathlib.Core.Path.{_≡_};
+ghost use lib.ListN.{length};
+ghost use Rattle.partial.specs.Begin.{beginning};
+ghost use Rattle.partial.specs.Limits.{fileLimit};
+ghost use Rattle.writing.specs.Begin.{Begins};
+
+// The bytes of a file with two empty texts.
+const EMPTY_SIZE: u64 = FTYP_SIZE + PFIL_SIZE;
+
+// The bytes of a file whose texts have so many, or one more than a file may have: past that the sum might wrap.
+fn size_with(texts: u64) -> u64
+    ensures { λ r. ⌜ r ≡ min (length (beginning [] []) + texts) (fileLimit + 1) ⌝ }
+{
+    if FILE_LIMIT - EMPTY_SIZE < texts {
+        FILE_LIMIT + 1
+    } else {
+        EMPTY_SIZE + texts
+    }
+}
+
+// Begins a file: `ftyp`, then `pfil` holding `pfhd` and one `surl`. Answers its length; after a refusal the buffer is as it was.
+pub fn begin(buffer: &mut [u8], url: &[u8], mime: &[u8]) -> Written
+    ensures { λ r. ⌜ Begins (now (url .entry)) (now (mime .entry)) (now (buffer .entry)) (now (buffer .exit)) r ⌝ }
+{
+    if !is_text(url) {
+        return Written::Refused(ZERO_IN_TEXT);
+    }
+    if !is_text(mime) {
+        return Written::Refused(ZERO_IN_TEXT);
+    }
+    let size = size_with(url.len() as u64 + mime.len() as u64);
+    if FILE_LIMIT < size {
+        return Written::Refused(FILE_TOO_LONG);
+    }
+    if (buffer.len() as u64) < size {
+        return Written::Refused(BUFFER_TOO_SHORT);
+    }
+    let pfil = put_ftyp(buffer, Place(0));
+    let end = put_pfil(buffer, pfil, url, mime);
+    Written::Length(end.0)
+}
