@@ -65,10 +65,10 @@ read-result : OneResult read.Post
 read-result κs args x y after after′ p q = read-told x y (p .answer ∙ sym (q .answer))
 
 read-segments : OneLeft read.Post (λ κs after. now (after .1 .0))
-read-segments κs args x y after after′ p q = p .segmentTable ∙ sym (q .segmentTable)
+read-segments κs args x y after after′ p q = p .tables .segmentTable ∙ sym (q .tables .segmentTable)
 
 read-chunks : OneLeft read.Post (λ κs after. now (after .1 .1 .0))
-read-chunks κs args x y after after′ p q = p .chunkTable ∙ sym (q .chunkTable)
+read-chunks κs args x y after after′ p q = p .tables .chunkTable ∙ sym (q .tables .chunkTable)
 
 url-part : OneOf url.Post {X = (ℕ × ℕ) × List ℕ} (λ κs r. (ptr r, now r))
 url-part κs args x y after after′ p q = one-part p q

@@ -1,7 +1,7 @@
 -- `listing::calls::counted` meets its contract.
 use Rattle.partial.proofs.Reading.HeadingAppendLaws.{headed}
 use Rattle.reading.proofs.JudgedLaws.{segments-by}
-use Rattle.reading.proofs.TableLaws.{rows-put}
+use Rattle.gathering.proofs.PassLaws.{rows-put}
 use Rattle.listing.proofs.CallsLaws.{rows-hold, known-few, of-file}
 use borrow.Author.Needs.{needs}
 use Rattle.listing.proofs.calls.counted.Statement.{statement}

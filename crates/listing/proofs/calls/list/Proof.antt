@@ -6,8 +6,9 @@ use Rattle.partial.specs.Ranges.{hadList, missingList}
 use Rattle.partial.specs.Segments.{chunksOf}
 use Rattle.partial.proofs.Reading.HeadingAppendLaws.{headed}
 use Rattle.gathering.proofs.GatheredLaws.{gathered-segments, gathered-chunks, gathered-sizes}
+use Rattle.gathering.proofs.PassLaws.{rows-put}
 use Rattle.reading.proofs.JudgedLaws.{accepted, read-refused, read-given, read-segments, judgement-refused, judgement-given}
-use Rattle.reading.proofs.TableLaws.{tabled-refused, segments-short, chunks-short, tabled-given, rows-put, segments-filled, chunks-filled}
+use Rattle.reading.proofs.TableLaws.{tabled-refused, segments-short, chunks-short, tabled-given, segments-filled, chunks-filled}
 use Rattle.listing.proofs.CallsLaws.{known-by, rows-hold, of-file, listed-refused, had-short, missing-short, listed-given, lists-refused, lists-given}
 use borrow.Author.Needs.{needs}
 use Rattle.listing.proofs.calls.list.Statement.{statement}
