@@ -6,7 +6,7 @@ import shutil
 import subprocess
 
 TOP = os.path.dirname(os.path.dirname(os.path.abspath(__file__)))
-OURS = ["boxes", "partial"]
+OURS = ["numerals", "boxes", "partial"]
 LISTS = """use Prim.Native.Nat.{ℕ, zero, suc}
 use mathlib.Core.Bool.{Bool, true, false}
 use mathlib.Core.List.{List, [], _∷_, _++_}
@@ -21,7 +21,7 @@ use mathlib.Core.Option.{Option, none, some}
 use lib.ListN.{length}
 use lib.Dec.{leb, eqb}
 use Rattle.boxes.specs.Answer.{Answer, refused, given}
-use Rattle.boxes.specs.Numbers.{bytesOf}
+use Rattle.numerals.specs.Numbers.{bytesOf}
 use Rattle.partial.specs.Limits.{sourceLimit}
 use Rattle.partial.specs.Segments.{Segment}
 use Rattle.partial.specs.Heading.{url, mime}
@@ -179,7 +179,7 @@ unfolding computing
 mapOfInput input = mapText sourceLimit input
 """
 
-BATCH_USES = """use Rattle.boxes.specs.Numbers.{bytesOf}
+BATCH_USES = """use Rattle.numerals.specs.Numbers.{bytesOf}
 use Rattle.computed.specs.Computed.{readOf, tablesOf, listsOf, begunOf, appendedOf, demandsOf, mappedOf, againOf, mapOfInput}
 """
 
@@ -242,7 +242,7 @@ def write_crate(folder, name, modules):
 
 def write_all(folder, batches):
     """A repository with copies of our crates, one crate with what is computed, and one for each batch."""
-    lines = ["computed: boxes partial"]
+    lines = ["computed: " + " ".join(OURS)]
     for line in open(os.path.join(TOP, "crates.txt"), encoding="utf-8"):
         if line.split(":")[0].strip() in OURS:
             lines.append(line.strip())
@@ -250,7 +250,7 @@ def write_all(folder, batches):
         shutil.copytree(os.path.join(TOP, "crates", crate), os.path.join(folder, "crates", crate))
     write_crate(folder, "computed", {"Computed": COMPUTED % {"lists": LISTS}, "TooLong": TOO_LONG % {"lists": LISTS}})
     for number, cases in enumerate(batches):
-        lines.append("batch%d: computed boxes partial" % number)
+        lines.append("batch%d: computed %s" % (number, " ".join(OURS)))
         write_crate(folder, "batch%d" % number, {"Batch": batch(cases)})
     write(os.path.join(folder, "crates.txt"), "\n".join(lines) + "\n")
 

@@ -7,13 +7,13 @@ use native.Mathlib.Nat.{add-zero, add-assoc}
 use native.Mathlib.Omega.{arith}
 use lib.ListN.{length, getD, length-append}
 use Rattle.boxes.specs.Answer.{given}
-use Rattle.boxes.specs.Numbers.{number, bytesOf, holds}
+use Rattle.numerals.specs.Numbers.{number, bytesOf, holds}
 use Rattle.boxes.specs.Framing.{Box, header, frontSize, front, boxed, boxesIn, boxLimit}
 use Rattle.boxes.specs.declared.kinds.Container.{Container}
 use Rattle.boxes.proofs.ContainerLaws.{box-limit, boxes-end, boxes-next, boxes-stand, boxes-appended}
 use Rattle.boxes.proofs.HeaderLaws.{sized-fits, header-short, moved}
-use Rattle.boxes.proofs.NumberLaws.{length-bytesOf, number-bytesOf, bytesOf-joined}
-use Rattle.boxes.proofs.WidthLaws.{below-holds, over-holds}
+use Rattle.numerals.proofs.NumberLaws.{length-bytesOf, number-bytesOf, bytesOf-joined}
+use Rattle.numerals.proofs.WidthLaws.{below-holds, over-holds}
 
 -- a header as we write it is one number
 pub front-bytes : (kind n : ℕ) → kind < 2 ^ 32 → bytesOf 8 ((8 + n) * 0x1_0000_0000 + kind) ≡ front kind n

@@ -10,10 +10,10 @@ use borrow.Author.Tests.{le-leb, lt-leb, ne-eqb, leb-true, eqb-true, eqb-false, 
 use lib.Dec.{leb, eqb, lit≤}
 use lib.ListN.{getD}
 use Rattle.boxes.specs.Answer.{refused, given, _>>=_}
-use Rattle.boxes.specs.Numbers.{number}
+use Rattle.numerals.specs.Numbers.{number}
 use Rattle.boxes.specs.Framing.{Box, sized, large, header}
 use Rattle.boxes.proofs.AnswerLaws.{held, given-same, Only, only-given, only-held, only-either}
-use Rattle.boxes.proofs.NumberLaws.{number-same}
+use Rattle.numerals.proofs.NumberLaws.{number-same}
 
 -- what the tests decide
 module _ (s : List ℕ) (at end : ℕ) where

@@ -4,10 +4,6 @@ pub mod ContainerLaws
 pub mod Determined
 pub mod HeaderLaws
 pub mod KindLaws
-pub mod NumberLaws
-pub mod OffsetLaws
 pub mod RuleLaws
-pub mod StoredLaws
 pub mod ToldLaws
 pub mod WalkLaws
-pub mod WidthLaws

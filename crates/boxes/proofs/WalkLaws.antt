@@ -14,7 +14,7 @@ use Rattle.boxes.specs.Framing.{Box, boxOf, header, boxesFrom, boxesIn, 
 use Rattle.boxes.specs.Walk.{walkOver, stepped, stepAnswer}
 use Rattle.boxes.specs.declared.framing.Framed.{Framed}
 use Rattle.boxes.specs.declared.kinds.Container.{Container}
-use Rattle.boxes.specs.declared.place.Place.{Place}
+use Rattle.numerals.specs.declared.place.Place.{Place}
 use Rattle.boxes.specs.declared.walk.Step.{Step}
 use Rattle.boxes.specs.declared.walk.Step.the-variants as Step
 use Rattle.boxes.specs.declared.walk.Walk.{Walk}

@@ -5,7 +5,7 @@ use mathlib.Core.List.{List, [], _∷_, _++_}
 use lib.ListN.{length}
 use lib.Dec.{leb, eqb}
 use Rattle.boxes.specs.Answer.{Answer, refused, given, _>>=_, hold}
-use Rattle.boxes.specs.Numbers.{number, bytesOf}
+use Rattle.numerals.specs.Numbers.{number, bytesOf}
 use Rattle.boxes.specs.declared.framing.Framed.{Framed}
 use Rattle.boxes.specs.declared.framing.Header.{Header}
 use Rattle.boxes.specs.declared.framing.Header.the-variants.{Found, Refused}

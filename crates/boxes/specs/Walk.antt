@@ -7,7 +7,7 @@ use lib.Dec.{leb}
 use Rattle.boxes.specs.Answer.{Answer, refused, given, _>>=_, hold}
 use Rattle.boxes.specs.Framing.{Box, header, boxLimit, boxOf}
 use Rattle.boxes.specs.declared.kinds.Container.{Container}
-use Rattle.boxes.specs.declared.place.Place.{Place}
+use Rattle.numerals.specs.declared.place.Place.{Place}
 use Rattle.boxes.specs.declared.walk.Walk.{Walk}
 use Rattle.boxes.specs.declared.walk.Step.{Step}
 use Rattle.boxes.specs.declared.walk.Step.the-variants as Step

@@ -1,16 +1,16 @@
 // Box headers, read and written: where a box starts, where its body starts and where it ends.
-use crate::numbers::put_number;
-use crate::numbers::unsigned;
-use crate::place::Place;
 use crate::refusals::BOX_PAST_END;
 use crate::refusals::HEADER_CUT;
 use crate::refusals::SIZE_UNDER_HEADER;
 use crate::refusals::SIZE_ZERO;
+use numerals::numbers::put_number;
+use numerals::numbers::unsigned;
+use numerals::place::Place;
 ghost use Prim.Native.Nat.{_+_, _-_, _≤_};
 ghost use mathlib.Core.Path.{_≡_};
 ghost use Rattle.boxes.specs.Framing.{header, large, sized, headerAnswer, frontSize, front};
-ghost use Rattle.boxes.specs.Numbers.{holds};
-ghost use Rattle.boxes.specs.Stored.{Stores};
+ghost use Rattle.numerals.specs.Numbers.{holds};
+ghost use Rattle.numerals.specs.Stored.{Stores};
 
 // A box that was read: its kind, its first byte, the first byte of its body, and the first byte after it.
 pub struct Framed {

@@ -1,10 +1,8 @@
-// The box layer: numbers of any width, box headers, the walk over one container, the table of the eight kinds, and
+// The box layer: box headers, the walk over one container, the table of the eight kinds, and
 // counts by it.
 pub mod framing;
 pub mod kinds;
 pub mod limits;
-pub mod numbers;
-pub mod place;
 pub mod refusals;
 pub mod rules;
 pub mod tally;

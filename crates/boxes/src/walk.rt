@@ -4,8 +4,8 @@ use crate::framing::Header;
 use crate::framing::header_at;
 use crate::kinds::Container;
 use crate::limits::BOX_LIMIT;
-use crate::place::Place;
 use crate::refusals::TOO_MANY_BOXES;
+use numerals::place::Place;
 ghost use mathlib.Core.Path.{_≡_};
 ghost use Rattle.boxes.specs.Walk.{walkOver, stepped, stepAnswer};
 

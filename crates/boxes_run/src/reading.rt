@@ -1,7 +1,7 @@
 // Headers of every form and size, at the ends of containers and of the numbers themselves.
 use crate::report::header;
 use boxes::framing::header_at;
-use boxes::place::Place;
+use numerals::place::Place;
 
 const LAST: u64 = 0xffff_ffff_ffff_ffff;
 

@@ -10,7 +10,7 @@ use Rattle.boxes.specs.Answer.{given}
 use Rattle.boxes.specs.Framing.{boxesIn}
 use Rattle.boxes.specs.declared.kinds.Container.the-variants.{File}
 use Rattle.boxes.proofs.AnswerLaws.{not-both, refused-same, given-same}
-use Rattle.boxes.proofs.Determined.{OneKnown}
+use Rattle.numerals.proofs.Determined.{OneKnown}
 use Rattle.partial.specs.Heading.{Heading}
 use Rattle.partial.specs.Segments.{Segment}
 use Rattle.partial.specs.Tables.{segmentRows, chunkRows}

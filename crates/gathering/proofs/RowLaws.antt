@@ -7,8 +7,8 @@ use native.Mathlib.Nat.{add-zero}
 use native.Mathlib.Omega.{arith}
 use lib.ListN.{length, take, drop, set, getD, take-append-drop, length-append}
 use lib.Seq.{take-suc, length-take-le}
-use Rattle.boxes.specs.Stored.{stored}
-use Rattle.boxes.proofs.StoredLaws.{stored-more, stored-room, stored-none, stored-append, length-stored}
+use Rattle.numerals.specs.Stored.{stored}
+use Rattle.numerals.proofs.StoredLaws.{stored-more, stored-room, stored-none, stored-append, length-stored}
 use Rattle.partial.specs.Memory.{filled}
 use Rattle.partial.specs.Segments.{Chunk, Segment, chunksOf}
 use Rattle.partial.specs.Tables.{chunkRow, chunkRowsOf, chunkRowsFrom, chunkRows, segmentRow, segmentRows}

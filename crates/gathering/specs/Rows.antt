@@ -4,7 +4,7 @@ use mathlib.Core.List.{List, [], _∷_}
 use mathlib.Core.Path.{_≡_}
 use lib.ListN.{length}
 use Rattle.boxes.specs.Framing.{Box}
-use Rattle.boxes.specs.Stored.{stored}
+use Rattle.numerals.specs.Stored.{stored}
 use Rattle.segment.specs.declared.fields.Fields.{Fields}
 
 -- a table is as long as it was and, where there was room for them all, holds these numbers from that one on, and else what it held

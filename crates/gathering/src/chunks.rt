@@ -1,7 +1,7 @@
 // The chunks of a `ploc`: each is judged, and its row is put into the table.
 use crate::gathered::Gathered;
 use crate::rows::put_chunk;
-use boxes::place::Place;
+use numerals::place::Place;
 use partial::refusals::PLOC_WRONG;
 use segment::chunk::ChunkStep;
 use segment::chunk::Cursor;

@@ -1,12 +1,12 @@
 // Rows of numbers, put into a lent table.
 use boxes::framing::Framed;
-use boxes::place::Place;
+use numerals::place::Place;
 use segment::chunk::Chunk;
 use segment::fields::Fields;
 ghost use Prim.Native.Nat.{_*_, _≤_};
 ghost use mathlib.Core.Path.{_≡_};
 ghost use Rattle.boxes.specs.Framing.{boxLimit, boxOf};
-ghost use Rattle.boxes.specs.Stored.{stored};
+ghost use Rattle.numerals.specs.Stored.{stored};
 ghost use Rattle.partial.specs.Limits.{chunkLimit};
 ghost use Rattle.partial.specs.Tables.{chunkRow};
 ghost use Rattle.segment.specs.Chunk.{chunkOf};

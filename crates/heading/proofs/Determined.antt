@@ -5,7 +5,7 @@ use mathlib.Core.List.{List}
 use denote.Ref.{now}
 use Rattle.boxes.specs.Answer.{given}
 use Rattle.boxes.specs.Framing.{Box, boxesIn}
-use Rattle.boxes.proofs.Determined.{OneResult, OneKnown}
+use Rattle.numerals.proofs.Determined.{OneResult, OneKnown}
 use Rattle.boxes.proofs.ToldLaws.{Tells, box-told}
 use Rattle.heading.specs.Facts.{factsBy, headedAnswer}
 use Rattle.heading.specs.declared.answers.Headed.the-variants.{Refused, Found}

@@ -16,7 +16,7 @@ use Rattle.boxes.specs.Walk.{walkOver, stepped}
 use Rattle.boxes.specs.declared.framing.Framed.{Framed}
 use Rattle.boxes.specs.declared.kinds.Container.{Container}
 use Rattle.boxes.specs.declared.kinds.Kind.{Kind}
-use Rattle.boxes.specs.declared.place.Place.{Place}
+use Rattle.numerals.specs.declared.place.Place.{Place}
 use Rattle.boxes.specs.declared.walk.Walk.{Walk}
 use Rattle.boxes.proofs.KindLaws.{boxAt-getD, boxAt-second, is-eqb, those-nil, firstOf-those}
 use Rattle.boxes.proofs.ToldLaws.{box-fields}

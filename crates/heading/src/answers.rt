@@ -1,5 +1,5 @@
 // The answer of the heading's call.
-use boxes::place::Place;
+use numerals::place::Place;
 
 // A part of the file: its place and its size.
 pub struct Part {

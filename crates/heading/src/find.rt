@@ -2,9 +2,9 @@
 use boxes::framing::Framed;
 use boxes::kinds::Container;
 use boxes::kinds::Kind;
-use boxes::place::Place;
 use boxes::walk::Step;
 use boxes::walk::Walk;
+use numerals::place::Place;
 ghost use mathlib.Core.List.{List};
 ghost use mathlib.Core.Path.{_≡_};
 ghost use lib.ListN.{length};

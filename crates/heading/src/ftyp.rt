@@ -2,10 +2,10 @@
 use boxes::framing::Framed;
 use boxes::kinds::Container;
 use boxes::kinds::FTYP;
-use boxes::numbers::unsigned;
-use boxes::place::Place;
 use boxes::rules::keeps;
 use boxes::tally::Tally;
+use numerals::numbers::unsigned;
+use numerals::place::Place;
 use partial::brand::PAFF;
 ghost use Prim.Native.Nat.{_≤_};
 ghost use mathlib.Core.List.{List};

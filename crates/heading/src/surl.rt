@@ -1,8 +1,8 @@
 // The `surl` box: its URL, its MIME text and its form.
 use crate::answers::Part;
 use boxes::framing::Framed;
-use boxes::numbers::unsigned;
-use boxes::place::Place;
+use numerals::numbers::unsigned;
+use numerals::place::Place;
 ghost use Prim.Native.Nat.{_≤_};
 ghost use mathlib.Core.Path.{_≡_};
 ghost use lib.ListN.{length};

@@ -14,13 +14,16 @@ ghost use mathlib.Core.List.{List};
 ghost use Rattle.partial.specs.Segments.{Segment};
 ghost use Rattle.listing.specs.Calls.{Known, Counted, Listing};
 
+// The numbers of the rows of as many chunks as a file may have.
+const ALL_ROWS: usize = 6144;
+
 // What the lists of an accepted file of so many chunks will hold. Its rows go into a table of our own, since nothing lent is touched before it is known
 // that both lists have room.
 fn counted(file: &[u8], count: u64, end: Position) -> Totals
     ensures { λ t. ⌜ ((ss : List Segment) → Known (now (file .entry)) count (end .0) ss → Counted ss t) ⌝ }
 {
     let mut no_segments = [0; 1];
-    let mut rows = [0; 6144];
+    let mut rows = [0; ALL_ROWS];
     let mut no_had = [0; 1];
     let mut no_missing = [0; 1];
     pass(file, &mut no_segments, &mut rows);

@@ -1,5 +1,5 @@
 -- Which definitions are opened where the checker computes them: `unfolding computing` opens all of them.
-use Rattle.boxes.specs.Numbers
+use Rattle.numerals.specs.Numbers
 use Rattle.boxes.specs.Framing
 use Rattle.boxes.specs.Kinds
 use Rattle.partial.specs.Sequences

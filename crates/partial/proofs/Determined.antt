@@ -1,6 +1,6 @@
 -- Each public call's contract determines its answer: two that it allows of the same arguments are equal.
 use mathlib.Core.Path.{sym, _∙_}
-use Rattle.boxes.proofs.Determined.{OneResult}
+use Rattle.numerals.proofs.Determined.{OneResult}
 use Rattle.partial.proofs.header.SegmentHeader.writable.Reads as writable
 
 writable-result : OneResult writable.Post

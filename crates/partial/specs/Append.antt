@@ -6,11 +6,11 @@ use mathlib.Core.Option.{Option·getD}
 use lib.ListN.{length, take}
 use lib.Dec.{leb}
 use Rattle.boxes.specs.Answer.{Answer, given, _>>=_, hold}
-use Rattle.boxes.specs.Numbers.{bytesOf, twosComplement, holds, holdsOffset, leastWidth}
+use Rattle.numerals.specs.Numbers.{bytesOf, twosComplement, holds, holdsOffset, leastWidth}
 use Rattle.boxes.specs.Framing.{frontSize, boxed, boxLimit}
 use Rattle.boxes.specs.Kinds.{pseg, pshd, ploc, pdat}
-use Rattle.boxes.specs.declared.numbers.Offset.{Offset}
-use Rattle.boxes.specs.declared.numbers.Offset.the-variants.{Ahead, Back}
+use Rattle.numerals.specs.declared.numbers.Offset.{Offset}
+use Rattle.numerals.specs.declared.numbers.Offset.the-variants.{Ahead, Back}
 use Rattle.partial.specs.Limits.{fileLimit}
 use Rattle.partial.specs.Sequences.{allOf}
 use Rattle.partial.specs.Segments.{Chunk, Segment, present, corrupted, hasPlace}

@@ -5,7 +5,7 @@ use mathlib.Core.List.{List, [], _∷_, _++_}
 use lib.ListN.{length}
 use lib.Dec.{leb, eqb}
 use Rattle.boxes.specs.Answer.{Answer, given, _>>=_, hold}
-use Rattle.boxes.specs.Numbers.{bytesOf}
+use Rattle.numerals.specs.Numbers.{bytesOf}
 use Rattle.boxes.specs.Framing.{boxed}
 use Rattle.boxes.specs.Kinds.{ftyp, pfil, pfhd, surl}
 use Rattle.partial.specs.Limits.{fileLimit}

@@ -6,11 +6,11 @@ use mathlib.Core.Option.{Option, none, some}
 use lib.ListN.{getD}
 use lib.Dec.{leb, ltb, eqb}
 use Rattle.boxes.specs.Answer.{Answer, refused, given, _>>=_, hold}
-use Rattle.boxes.specs.Numbers.{number, signed}
+use Rattle.numerals.specs.Numbers.{number, signed}
 use Rattle.boxes.specs.Framing.{Box}
 use Rattle.boxes.specs.Kinds.{pdat, is}
-use Rattle.boxes.specs.declared.numbers.Offset.{Offset}
-use Rattle.boxes.specs.declared.numbers.Offset.the-variants.{Ahead, Back}
+use Rattle.numerals.specs.declared.numbers.Offset.{Offset}
+use Rattle.numerals.specs.declared.numbers.Offset.the-variants.{Ahead, Back}
 use Rattle.partial.specs.Sequences.{someOf}
 use Rattle.partial.specs.Segments.{Chunk, good, damaged, lost, present, hasPlace}
 use Rattle.partial.specs.Heading.{Heading}

@@ -8,10 +8,10 @@ use mathlib.Core.Path.{_≡_}
 use lib.ListN.{length, drop, replicate}
 use lib.IntN.{ℤ, pos, negsuc}
 use Rattle.boxes.specs.Answer.{Answer, refused, given, _>>=_, hold}
-use Rattle.boxes.specs.Numbers.{number, bytesOf, valueOf, signed, holdsOffset, leastWidth}
+use Rattle.numerals.specs.Numbers.{number, bytesOf, valueOf, signed, holdsOffset, leastWidth}
 use Rattle.boxes.specs.Framing.{header, boxed}
 use Rattle.boxes.specs.Kinds.{pdat, pseg, pshd, ploc, is}
-use Rattle.boxes.specs.declared.numbers.Offset.the-variants.{Back}
+use Rattle.numerals.specs.declared.numbers.Offset.the-variants.{Back}
 use Rattle.partial.specs.Limits.{sourceLimit}
 use Rattle.partial.specs.Entries.{plocHead, entry}
 use Rattle.partial.specs.Meaning.{describedLength, isClosed, served}

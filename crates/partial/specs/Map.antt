@@ -9,7 +9,7 @@ use lib.ListN.{length}
 use lib.Dec.{leb, ltb, eqb}
 use Rattle.io.specs.Digits.{digits}
 use Rattle.boxes.specs.Answer.{Answer, refused, given, _>>=_, hold}
-use Rattle.boxes.specs.Numbers.{least}
+use Rattle.numerals.specs.Numbers.{least}
 use Rattle.partial.specs.Limits.{programLimit}
 use Rattle.partial.specs.Segments.{Segment}
 use Rattle.partial.specs.Meaning.{describedLength, isClosed}

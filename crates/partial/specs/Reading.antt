@@ -5,7 +5,7 @@ use mathlib.Core.List.{List, [], _∷_, _++_}
 use lib.ListN.{length}
 use lib.Dec.{leb, eqb}
 use Rattle.boxes.specs.Answer.{Answer, given, _>>=_, hold}
-use Rattle.boxes.specs.Numbers.{number}
+use Rattle.numerals.specs.Numbers.{number}
 use Rattle.boxes.specs.Framing.{Box, boxesIn}
 use Rattle.boxes.specs.declared.kinds.Container.the-variants.{File, Pseg}
 use Rattle.boxes.specs.Kinds.{pseg, pshd, ploc, surl, is, right, those, boxAt, firstOf}

@@ -4,7 +4,7 @@ use Prim.Native.Nat.{ℕ}
 use mathlib.Core.List.{List}
 use mathlib.Core.Path.{_≡_, sym, ap, _∙_}
 use denote.Ref.{now, ptr}
-use Rattle.boxes.proofs.Determined.{OneResult, OneLeft}
+use Rattle.numerals.proofs.Determined.{OneResult, OneLeft}
 use Rattle.boxes.proofs.ToldLaws.{Tells}
 use Rattle.heading.specs.Facts.{factsBy}
 use Rattle.heading.proofs.Determined.{head-told}

@@ -10,7 +10,7 @@ use lib.ListN.{length}
 use Rattle.boxes.specs.Answer.{refused, given}
 use Rattle.boxes.specs.Framing.{Box}
 use Rattle.boxes.specs.Kinds.{pfil, surl, is, right, those, boxAt, firstOf}
-use Rattle.boxes.specs.Numbers.{number}
+use Rattle.numerals.specs.Numbers.{number}
 use Rattle.boxes.specs.declared.kinds.Container.the-variants.{File, Pfil}
 use Rattle.boxes.proofs.KindLaws.{is-there, right-some, firstOf-those}
 use Rattle.partial.specs.Heading.{Part, Heading, heading, pfilRight, surlRight, surlFormed, text, url, mime}

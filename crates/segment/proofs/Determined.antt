@@ -3,7 +3,7 @@
 use mathlib.Core.Path.{sym, _∙_}
 use denote.Ref.{now}
 use Rattle.boxes.specs.Framing.{boxOf}
-use Rattle.boxes.proofs.Determined.{OneResult, OneKnown}
+use Rattle.numerals.proofs.Determined.{OneResult, OneKnown}
 use Rattle.partial.specs.Heading.{Heading}
 use Rattle.segment.specs.Data.{Searched}
 use Rattle.segment.proofs.ChunkLaws.{one-step}

@@ -7,9 +7,9 @@ use native.Mathlib.Omega.{arith}
 use borrow.Author.Tests.{lt-ltb, le-ltb, ne-eqb}
 use lib.Dec.{leb}
 use Rattle.boxes.specs.Answer.{refused, given, _>>=_}
-use Rattle.boxes.specs.Numbers.{number, signed}
-use Rattle.boxes.specs.declared.numbers.Offset.{Offset}
-use Rattle.boxes.proofs.NumberLaws.{number-byte}
+use Rattle.numerals.specs.Numbers.{number, signed}
+use Rattle.numerals.specs.declared.numbers.Offset.{Offset}
+use Rattle.numerals.proofs.NumberLaws.{number-byte}
 use Rattle.partial.specs.Segments.{present}
 use Rattle.partial.specs.Entries.{Ploc, stateOf, entry}
 use Rattle.segment.specs.Entry.{offsetBytes, entryRest}

@@ -7,7 +7,7 @@ use native.Mathlib.Omega.{arith}
 use borrow.Author.Tests.{eq-eqb, ne-eqb}
 use lib.Dec.{eqb}
 use Rattle.boxes.specs.Answer.{Answer, refused, given}
-use Rattle.boxes.specs.Numbers.{number}
+use Rattle.numerals.specs.Numbers.{number}
 use Rattle.boxes.specs.Framing.{Box}
 use Rattle.partial.specs.Reading.{offsetWidth, pshdFields}
 use Rattle.segment.specs.Fields.{fieldsOf, fieldsAnswer}

@@ -11,9 +11,9 @@ use lib.ListN.{length}
 use Rattle.boxes.specs.Answer.{refused, given}
 use Rattle.boxes.specs.Framing.{Box, boxOf}
 use Rattle.boxes.specs.declared.framing.Framed.{Framed}
-use Rattle.boxes.specs.declared.numbers.Offset.{Offset}
-use Rattle.boxes.specs.declared.numbers.Offset.the-variants.{Ahead, Back}
-use Rattle.boxes.specs.declared.place.Place.{Place}
+use Rattle.numerals.specs.declared.numbers.Offset.{Offset}
+use Rattle.numerals.specs.declared.numbers.Offset.the-variants.{Ahead, Back}
+use Rattle.numerals.specs.declared.place.Place.{Place}
 use Rattle.partial.specs.Entries.{Entry, mayLie, offsetPlace, placeOf}
 use Rattle.partial.specs.Heading.{Heading}
 use Rattle.partial.specs.Segments.{present, hasPlace}

@@ -4,7 +4,7 @@ use mathlib.Core.Bool.{true, false}
 use mathlib.Core.List.{List}
 use lib.Dec.{leb}
 use Rattle.boxes.specs.Answer.{Answer, refused, given, _>>=_, hold}
-use Rattle.boxes.specs.Numbers.{number, signed}
+use Rattle.numerals.specs.Numbers.{number, signed}
 use Rattle.partial.specs.Segments.{present}
 use Rattle.partial.specs.Entries.{Ploc, Entry}
 use Rattle.segment.specs.declared.entry.Entry.{Entry as CodeEntry}

@@ -6,8 +6,8 @@ use mathlib.Core.Path.{_≡_}
 use Rattle.boxes.specs.Answer.{Answer, refused, given}
 use Rattle.boxes.specs.Framing.{Box, boxOf}
 use Rattle.boxes.specs.declared.framing.Framed.{Framed}
-use Rattle.boxes.specs.declared.numbers.Offset.{Offset}
-use Rattle.boxes.specs.declared.place.Place.{Place}
+use Rattle.numerals.specs.declared.numbers.Offset.{Offset}
+use Rattle.numerals.specs.declared.place.Place.{Place}
 use Rattle.partial.specs.Entries.{Entry, offsetPlace, placeOf}
 use Rattle.partial.specs.Heading.{Heading}
 use Rattle.partial.specs.Segments.{hasPlace}

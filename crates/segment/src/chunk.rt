@@ -6,7 +6,7 @@ use crate::placed::Placed;
 use crate::placed::placed_at;
 use crate::sums::ends_by;
 use boxes::framing::Framed;
-use boxes::place::Place;
+use numerals::place::Place;
 use partial::limits::SOURCE_LIMIT;
 use partial::position::Position;
 use partial::refusals::SOURCE_TOO_LONG;

@@ -1,7 +1,7 @@
 // The fields of a `pshd`.
 use boxes::framing::Framed;
-use boxes::numbers::unsigned;
-use boxes::place::Place;
+use numerals::numbers::unsigned;
+use numerals::place::Place;
 use partial::refusals::PSHD_WRONG;
 ghost use mathlib.Core.Path.{_≡_};
 ghost use Rattle.boxes.specs.Framing.{boxOf};

@@ -1,8 +1,8 @@
 // The head of a `ploc`.
 use crate::sums::ends_by;
 use boxes::framing::Framed;
-use boxes::numbers::unsigned;
-use boxes::place::Place;
+use numerals::numbers::unsigned;
+use numerals::place::Place;
 use partial::refusals::DATA_ELSEWHERE;
 use partial::refusals::PLOC_WRONG;
 use partial::refusals::WIDTH_WRONG;

@@ -1,3 +1,4 @@
 pub mod RowsLaws
 pub mod RunsLaws
 pub mod CallsLaws
+pub mod AgreeLaws

@@ -2,9 +2,11 @@
 use Prim.Native.Nat.{ℕ, _+_, _-_}
 use mathlib.Core.List.{List}
 use mathlib.Core.Path.{_≡_}
+use Rattle.boxes.specs.Answer.{Answer, refused, given}
 use Rattle.partial.specs.Answers.{askedAnswer}
 use Rattle.partial.specs.Heading.{Part}
 use Rattle.partial.specs.Limits.{sourceLimit}
+use Rattle.partial.specs.Meaning.{Reply, servedFor, missingFor, notBelow}
 use Rattle.partial.specs.Segments.{Chunk}
 use Rattle.partial.specs.Tables.{tabled, servedPart, asked}
 use Rattle.partial.specs.declared.answers.Asked.{Asked}
@@ -24,3 +26,10 @@ pub record Serves (f : List ℕ) (file : ℕ × ℕ) (segments segments′ chunk
 pub record Asks (f segments segments′ chunks chunks′ : List ℕ) (p : ℕ) (r : Asked) : Type 0 where
   pub answer : askedAnswer r ≡ asked (tabled sourceLimit f segments chunks) p
   pub tables : Filled (tabled sourceLimit f segments chunks) segments segments′ chunks chunks′
+
+-- how many positions an answer says are served: none where it says anything else
+unfoldable pub servedCount : Answer Reply → ℕ
+servedCount (refused n) = 0
+servedCount (given (servedFor n)) = n
+servedCount (given (missingFor n)) = 0
+servedCount (given notBelow) = 0

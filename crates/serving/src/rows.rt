@@ -1,6 +1,6 @@
 // The chunks of a table that reading filled, row by row.
-use boxes::place::Place;
 use gathering::rows::CHUNK_ROW;
+use numerals::place::Place;
 use partial::position::Position;
 use segment::chunk::Chunk;
 ghost use mathlib.Core.Path.{_≡_};

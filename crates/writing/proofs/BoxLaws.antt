@@ -4,9 +4,9 @@ use mathlib.Core.List.{List, [], _∷_, _++_}
 use mathlib.Core.Path.{_≡_, refl, ap, _∙_}
 use native.Mathlib.Omega.{arith}
 use lib.ListN.{length, length-append}
-use Rattle.boxes.specs.Numbers.{bytesOf}
+use Rattle.numerals.specs.Numbers.{bytesOf}
 use Rattle.boxes.proofs.BoxedLaws.{front-size, length-boxed}
-use Rattle.boxes.proofs.NumberLaws.{length-bytesOf}
+use Rattle.numerals.proofs.NumberLaws.{length-bytesOf}
 use Rattle.partial.specs.Begin.{versionAndFlags, beginning}
 use Rattle.partial.specs.Heading.{paff}
 use Rattle.writing.specs.Boxes.{ftypBox, pfhdBox, surlBox, pfilBox}

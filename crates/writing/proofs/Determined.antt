@@ -1,7 +1,7 @@
 -- Each public call's contract determines its answer and what it leaves in the buffer: two that it allows of the same arguments are equal.
 use mathlib.Core.Path.{sym, _∙_}
 use denote.Ref.{now}
-use Rattle.boxes.proofs.Determined.{OneResult, OneLeft}
+use Rattle.numerals.proofs.Determined.{OneResult, OneLeft}
 use Rattle.boxes.proofs.ToldLaws.{Tells}
 use Rattle.partial.specs.Answers.{writtenAnswer}
 use Rattle.partial.specs.declared.answers.Written.the-variants.{Refused, Length}

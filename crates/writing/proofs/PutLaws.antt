@@ -6,11 +6,11 @@ use native.Mathlib.Omega.{arith}
 use lib.ListN.{length, take, drop, set, getD, length-append}
 use lib.Seq.{take-suc, length-take-le, set-split}
 use Rattle.boxes.specs.Framing.{front, boxed}
-use Rattle.boxes.specs.Numbers.{bytesOf}
-use Rattle.boxes.specs.Stored.{stored}
+use Rattle.numerals.specs.Numbers.{bytesOf}
+use Rattle.numerals.specs.Stored.{stored}
 use Rattle.boxes.proofs.BoxedLaws.{front-size, length-front, boxed-parts}
-use Rattle.boxes.proofs.NumberLaws.{length-bytesOf}
-use Rattle.boxes.proofs.StoredLaws.{stored-room, stored-append, length-stored}
+use Rattle.numerals.proofs.NumberLaws.{length-bytesOf}
+use Rattle.numerals.proofs.StoredLaws.{stored-room, stored-append, length-stored}
 use Rattle.gathering.specs.Rows.{Put}
 use Rattle.gathering.proofs.RowLaws.{put-stored, put-more}
 use Rattle.writing.specs.Puts.{Puts}

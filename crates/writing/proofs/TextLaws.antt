@@ -7,7 +7,7 @@ use mathlib.Core.Path.{_≡_, refl, sym, ap, _∙_}
 use borrow.Author.Tests.{eq-eqb, ne-eqb}
 use lib.Dec.{eqb}
 use lib.ListN.{length, getD, length-append}
-use Rattle.boxes.specs.Numbers.{bytesOf}
+use Rattle.numerals.specs.Numbers.{bytesOf}
 use Rattle.partial.specs.Begin.{isText}
 use Rattle.writing.specs.Puts.{Puts}
 use Rattle.partial.proofs.Meaning.SequenceLaws.{which, all-at, all-by}

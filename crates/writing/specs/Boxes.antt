@@ -1,7 +1,7 @@
 -- Document 01, "Begin": the boxes that it writes, one by one.
 use Prim.Native.Nat.{ℕ}
 use mathlib.Core.List.{List, [], _∷_, _++_}
-use Rattle.boxes.specs.Numbers.{bytesOf}
+use Rattle.numerals.specs.Numbers.{bytesOf}
 use Rattle.boxes.specs.Framing.{boxed}
 use Rattle.boxes.specs.Kinds.{ftyp, pfil, pfhd, surl}
 use Rattle.partial.specs.Begin.{versionAndFlags}

@@ -4,7 +4,7 @@ use crate::ftyp::put_ftyp;
 use crate::pfil::PFIL_SIZE;
 use crate::pfil::put_pfil;
 use crate::texts::is_text;
-use boxes::place::Place;
+use numerals::place::Place;
 use partial::answers::Written;
 use partial::limits::FILE_LIMIT;
 use partial::refusals::BUFFER_TOO_SHORT;

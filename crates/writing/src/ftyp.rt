@@ -3,7 +3,7 @@ use crate::puts::put_field;
 use crate::puts::put_front;
 use boxes::framing::FRONT_SIZE;
 use boxes::kinds::FTYP;
-use boxes::place::Place;
+use numerals::place::Place;
 use partial::brand::PAFF;
 ghost use Prim.Native.Nat.{_+_, _≤_};
 ghost use lib.ListN.{length};

@@ -6,7 +6,7 @@ use boxes::framing::FRONT_SIZE;
 use boxes::kinds::PFHD;
 use boxes::kinds::PFIL;
 use boxes::kinds::SURL;
-use boxes::place::Place;
+use numerals::place::Place;
 ghost use Prim.Native.Nat.{_+_, _≤_};
 ghost use lib.ListN.{length};
 ghost use Rattle.partial.specs.Limits.{fileLimit};

@@ -1,14 +1,14 @@
 // Bytes, numbers and box headers, put into a lent buffer one behind the other: each put hands on the place behind what it put.
 use boxes::framing::FRONT_SIZE;
 use boxes::framing::put_header;
-use boxes::numbers::put_number;
-use boxes::place::Place;
+use numerals::numbers::put_number;
+use numerals::place::Place;
 ghost use Prim.Native.Nat.{_+_, _≤_};
 ghost use mathlib.Core.Bool.{true};
 ghost use mathlib.Core.Path.{_≡_};
 ghost use lib.ListN.{length};
 ghost use Rattle.boxes.specs.Framing.{frontSize, front};
-ghost use Rattle.boxes.specs.Numbers.{bytesOf, holds};
+ghost use Rattle.numerals.specs.Numbers.{bytesOf, holds};
 ghost use Rattle.partial.specs.Limits.{fileLimit};
 ghost use Rattle.writing.specs.Puts.{Puts};
 

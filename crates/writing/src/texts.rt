@@ -1,7 +1,7 @@
 // The two texts of a source: what may be one, and how it is written.
 use crate::puts::put_bytes;
 use crate::puts::put_field;
-use boxes::place::Place;
+use numerals::place::Place;
 ghost use Prim.Native.Nat.{_+_, _<_};
 ghost use mathlib.Core.List.{[], _∷_, _++_};
 ghost use mathlib.Core.Path.{_≡_};

@@ -8,7 +8,7 @@ use borrow.Author.Tests.{le-leb, leb-true, eqb-true}
 use lib.Dec.{leb, eqb, lit<}
 use lib.ListN.{length, getD, List·getD-append}
 use Rattle.boxes.specs.Answer.{given}
-use Rattle.boxes.specs.Numbers.{number}
+use Rattle.numerals.specs.Numbers.{number}
 use Rattle.boxes.specs.Framing.{Box, boxesIn, boxLimit}
 use Rattle.boxes.specs.Kinds.{ftyp, pfil, pfhd, surl, is, right, those, boxAt, firstOf, noBox}
 use Rattle.boxes.specs.declared.kinds.Kind.{Kind}
@@ -17,7 +17,7 @@ use Rattle.boxes.specs.declared.kinds.Container.the-variants.{Pfil, File}
 use Rattle.boxes.proofs.AnswerLaws.{both-given, held, given-same}
 use Rattle.boxes.proofs.HeaderLaws.{moved}
 use Rattle.boxes.proofs.ContainerLaws.{boxes-kept, boxes-appended, boxes-standing}
-use Rattle.boxes.proofs.NumberLaws.{number-append}
+use Rattle.numerals.proofs.NumberLaws.{number-append}
 use Rattle.boxes.proofs.KindLaws.{boxAt-getD, is-there, firstOf-those, those-nth, right-one, boxAt-first, right-append}
 use Rattle.partial.specs.Limits.{fileLimit}
 use Rattle.partial.specs.Sequences.{allOf, stretch}

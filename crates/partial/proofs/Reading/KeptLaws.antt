@@ -10,13 +10,13 @@ use borrow.Author.Tests.{leb-true, ltb-true, eqb-true}
 use lib.Dec.{leb, ltb, eqb, lit<}
 use lib.ListN.{length, getD, List·getD-append}
 use Rattle.boxes.specs.Answer.{Answer, refused, given, _>>=_, hold}
-use Rattle.boxes.specs.Numbers.{number}
+use Rattle.numerals.specs.Numbers.{number}
 use Rattle.boxes.specs.Framing.{Box, boxesIn}
 use Rattle.boxes.specs.Kinds.{pshd, ploc, surl, is, right, those, boxAt, firstOf}
 use Rattle.boxes.specs.declared.kinds.Container.the-variants.{Pseg}
 use Rattle.boxes.proofs.AnswerLaws.{both-given, held, given-same}
 use Rattle.boxes.proofs.ContainerLaws.{boxes-kept}
-use Rattle.boxes.proofs.NumberLaws.{number-append}
+use Rattle.numerals.proofs.NumberLaws.{number-append}
 use Rattle.boxes.proofs.KindLaws.{is-there, right-one, first-is}
 use Rattle.partial.specs.Limits.{chunkLimit}
 use Rattle.partial.specs.Sequences.{allOf}

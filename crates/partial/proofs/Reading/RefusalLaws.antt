@@ -10,7 +10,7 @@ use native.Mathlib.Decide.{decLe}
 use lib.Dec.{T, leb, ltb, eqb, lit≤}
 use lib.ListN.{length, getD, take, drop-of-length-le}
 use Rattle.boxes.specs.Answer.{Answer, refused, given, _>>=_, hold}
-use Rattle.boxes.specs.Numbers.{number}
+use Rattle.numerals.specs.Numbers.{number}
 use Rattle.boxes.specs.Framing.{Box, boxesIn, boxLimit}
 use Rattle.boxes.specs.Kinds.{pseg, pshd, ploc, surl, right, those, boxAt, firstOf}
 use Rattle.boxes.specs.declared.kinds.Container.{Container}

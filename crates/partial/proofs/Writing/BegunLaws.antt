@@ -11,12 +11,12 @@ use lib.Dec.{leb, eqb, lit<, T}
 use lib.ListN.{length, getD, drop, length-append}
 use lib.Seq.{take-at}
 use Rattle.boxes.specs.Answer.{given}
-use Rattle.boxes.specs.Numbers.{number, bytesOf}
+use Rattle.numerals.specs.Numbers.{number, bytesOf}
 use Rattle.boxes.specs.Framing.{Box, frontSize, boxed, boxesIn}
 use Rattle.boxes.specs.Kinds.{ftyp, pfil, pfhd, surl, those, boxAt, firstOf, pseg}
 use Rattle.boxes.specs.declared.kinds.Container.the-variants.{File, Pfil}
 use Rattle.boxes.proofs.AnswerLaws.{held, given-same}
-use Rattle.boxes.proofs.NumberLaws.{length-bytesOf, number-byte, bytesOf-zero}
+use Rattle.numerals.proofs.NumberLaws.{length-bytesOf, number-byte, bytesOf-zero}
 use Rattle.boxes.proofs.BoxedLaws.{boxedAt, length-boxed, boxed-stand}
 use Rattle.boxes.proofs.KindLaws.{some-right, firstOf-those, one-right, is-eqb, boxAt-getD, first-is}
 use Rattle.partial.specs.Limits.{fileLimit}

@@ -12,13 +12,13 @@ use borrow.Author.Tests.{le-leb, lt-leb, lt-ltb, eq-eqb, eqb-true}
 use lib.Dec.{leb, eqb}
 use lib.ListN.{length, length-append}
 use Rattle.boxes.specs.Answer.{given, _>>=_, hold}
-use Rattle.boxes.specs.Numbers.{number, bytesOf, signed, twosComplement, holds, holdsOffset}
-use Rattle.boxes.specs.declared.numbers.Offset.{Offset}
-use Rattle.boxes.specs.declared.numbers.Offset.the-variants.{Ahead, Back}
+use Rattle.numerals.specs.Numbers.{number, bytesOf, signed, twosComplement, holds, holdsOffset}
+use Rattle.numerals.specs.declared.numbers.Offset.{Offset}
+use Rattle.numerals.specs.declared.numbers.Offset.the-variants.{Ahead, Back}
 use Rattle.boxes.proofs.AnswerLaws.{then-then}
-use Rattle.boxes.proofs.NumberLaws.{length-bytesOf, number-none}
-use Rattle.boxes.proofs.OffsetLaws.{signed-twosComplement, twosComplement-below, signed-none}
-use Rattle.boxes.proofs.WidthLaws.{holds-below}
+use Rattle.numerals.proofs.NumberLaws.{length-bytesOf, number-none}
+use Rattle.numerals.proofs.OffsetLaws.{signed-twosComplement, twosComplement-below, signed-none}
+use Rattle.numerals.proofs.WidthLaws.{holds-below}
 use Rattle.partial.specs.Sequences.{allOf, sum}
 use Rattle.partial.specs.Segments.{good, damaged, lost, isState, present, corrupted, hasPlace}
 use Rattle.partial.specs.Heading.{Heading}

@@ -8,10 +8,10 @@ use borrow.Author.Tests.{le-leb}
 use lib.Dec.{lit<}
 use lib.ListN.{length, length-append}
 use Rattle.boxes.specs.Answer.{given}
-use Rattle.boxes.specs.Numbers.{bytesOf, holds, holdsOffset}
+use Rattle.numerals.specs.Numbers.{bytesOf, holds, holdsOffset}
 use Rattle.boxes.specs.Framing.{Box}
-use Rattle.boxes.proofs.NumberLaws.{length-bytesOf}
-use Rattle.boxes.proofs.WidthLaws.{leastWidth-within, leastWidth-passes, holds-below, below-holds}
+use Rattle.numerals.proofs.NumberLaws.{length-bytesOf}
+use Rattle.numerals.proofs.WidthLaws.{leastWidth-within, leastWidth-passes, holds-below, below-holds}
 use Rattle.partial.specs.Sequences.{allOf, sum}
 use Rattle.partial.specs.Entries.{Ploc, plocHead}
 use Rattle.partial.specs.Reading.{offsetWidth, pshdFields}

@@ -10,7 +10,7 @@ use borrow.Author.Tests.{le-leb, lt-leb, eq-eqb}
 use lib.Dec.{leb, lit<}
 use lib.ListN.{length}
 use Rattle.boxes.specs.Answer.{Answer, refused, given, _>>=_, hold}
-use Rattle.boxes.specs.Numbers.{holds}
+use Rattle.numerals.specs.Numbers.{holds}
 use Rattle.boxes.specs.Framing.{Box, frontSize, boxed}
 use Rattle.boxes.specs.Kinds.{pseg, pshd, ploc, right, boxAt, firstOf, those, surl}
 use Rattle.boxes.specs.declared.kinds.Container.the-variants.{Pseg}

@@ -9,9 +9,9 @@ use native.Mathlib.Omega.{arith}
 use borrow.Author.Tests.{le-leb, lt-ltb, eqb-false, not-true}
 use lib.Dec.{ltb, eqb, lit<}
 use lib.ListN.{length}
-use Rattle.boxes.specs.Numbers.{holdsOffset}
-use Rattle.boxes.specs.declared.numbers.Offset.the-variants.{Ahead, Back}
-use Rattle.boxes.proofs.WidthLaws.{within-back, below-ahead}
+use Rattle.numerals.specs.Numbers.{holdsOffset}
+use Rattle.numerals.specs.declared.numbers.Offset.the-variants.{Ahead, Back}
+use Rattle.numerals.proofs.WidthLaws.{within-back, below-ahead}
 use Rattle.partial.specs.Sequences.{allOf, sum}
 use Rattle.partial.specs.Segments.{isState, present, hasPlace}
 use Rattle.partial.specs.Heading.{Heading}

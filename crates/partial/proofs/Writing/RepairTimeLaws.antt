@@ -7,11 +7,11 @@ use mathlib.Core.Option.{Option, none, some}
 use mathlib.Core.Path.{_≡_, refl, ap, ap₂, _∙_}
 use lib.Dec.{leb, eqb}
 use lib.ListN.{length}
-use Rattle.boxes.specs.Numbers.{bytesOf}
+use Rattle.numerals.specs.Numbers.{bytesOf}
 use Rattle.boxes.specs.Framing.{boxed, boxLimit}
 use Rattle.boxes.specs.Kinds.{pseg, pshd, ploc}
 use Rattle.boxes.specs.Answer.{Answer, _>>=_, hold, given}
-use Rattle.boxes.proofs.NumberLaws.{bytesOf-mod}
+use Rattle.numerals.proofs.NumberLaws.{bytesOf-mod}
 use Rattle.partial.specs.Limits.{fileLimit, segmentLimit, chunkLimit}
 use Rattle.partial.specs.Sequences.{allOf}
 use Rattle.partial.specs.Segments.{Segment, isOpen, endOf, chunksOf}

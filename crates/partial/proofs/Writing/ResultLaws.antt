@@ -10,10 +10,10 @@ use lib.Dec.{T, leb, ltb, lit<}
 use lib.ListN.{length, take, length-append}
 use lib.Seq.{length-take-le}
 use Rattle.boxes.specs.Answer.{Answer, refused, given, _>>=_, hold}
-use Rattle.boxes.specs.Numbers.{holds}
+use Rattle.numerals.specs.Numbers.{holds}
 use Rattle.boxes.specs.Framing.{boxLimit}
 use Rattle.boxes.proofs.AnswerLaws.{both-given}
-use Rattle.boxes.proofs.WidthLaws.{below-holds}
+use Rattle.numerals.proofs.WidthLaws.{below-holds}
 use Rattle.partial.specs.Limits.{fileLimit, segmentLimit, chunkLimit}
 use Rattle.partial.specs.Sequences.{allOf}
 use Rattle.partial.specs.Segments.{Segment, chunksOf}

@@ -6,8 +6,8 @@ use native.Mathlib.Nat.{add-assoc, add-zero, zero-add}
 use native.Mathlib.Omega.{arith}
 use lib.ListN.{length, getD, length-append, List·getD-append, take, drop, length-take, length-drop}
 use lib.Seq.{getD-append-add, ext-getD, getD-take, getD-drop}
-use Rattle.boxes.specs.Numbers.{number, bytesOf}
-use Rattle.boxes.proofs.NumberLaws.{number-same, number-bytesOf, length-bytesOf, number-byte}
+use Rattle.numerals.specs.Numbers.{number, bytesOf}
+use Rattle.numerals.proofs.NumberLaws.{number-same, number-bytesOf, length-bytesOf, number-byte}
 
 -- the bytes of s stand in g from a place on
 abbrev pub Stands : List ℕ → ℕ → List ℕ → Type 0

@@ -4,8 +4,8 @@ use Prim.Native.Nat.{_+_, _*_}
 use mathlib.Core.Path.{sym, _∙_}
 use native.Mathlib.Omega.{arith}
 use Rattle.boxes.proofs.BoxedLaws.{front-bytes, size-held, size-unheld}
-use Rattle.boxes.proofs.StoredLaws.{stores-unheld, stores-same}
-use Rattle.boxes.proofs.WidthLaws.{below-holds}
+use Rattle.numerals.proofs.StoredLaws.{stores-unheld, stores-same}
+use Rattle.numerals.proofs.WidthLaws.{below-holds}
 use Rattle.boxes.proofs.framing.put_header.Statement.{statement}
 use Rattle.boxes.proofs.framing.put_header.Tie as tie
 

@@ -3,7 +3,7 @@ use mathlib.Core.Path.{sym}
 use borrow.Author.Needs.{needs}
 use native.Mathlib.Omega.{arith}
 use Rattle.boxes.specs.Framing.{headerAnswer, boxOf}
-use Rattle.boxes.proofs.NumberLaws.{number-below}
+use Rattle.numerals.proofs.NumberLaws.{number-below}
 use Rattle.boxes.proofs.HeaderLaws.{sized-under, sized-past, sized-fits}
 use Rattle.boxes.proofs.framing.sized_at.Statement.{statement}
 use Rattle.boxes.proofs.framing.sized_at.Tie as tie

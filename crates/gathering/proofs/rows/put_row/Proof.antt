@@ -5,8 +5,8 @@ use native.Mathlib.Omega.{arith}
 use borrow.Author.Needs.{needs}
 use lib.ListN.{length, take}
 use lib.Seq.{take-length}
-use Rattle.boxes.specs.Stored.{stored}
-use Rattle.boxes.proofs.StoredLaws.{stored-none}
+use Rattle.numerals.specs.Stored.{stored}
+use Rattle.numerals.proofs.StoredLaws.{stored-none}
 use Rattle.gathering.proofs.RowLaws.{row-more, row-none}
 use Rattle.gathering.proofs.rows.put_row.Statement.{statement}
 use Rattle.gathering.proofs.rows.put_row.Tie as tie

@@ -1,7 +1,7 @@
 -- `segment::entry::entry_at` meets its contract: the flags decide the state, and `rest_of` reads the rest.
 use mathlib.Core.Path.{sym, _∙_}
 use native.Mathlib.Omega.{arith}
-use Rattle.boxes.proofs.NumberLaws.{number-below}
+use Rattle.numerals.proofs.NumberLaws.{number-below}
 use Rattle.segment.specs.Entry.{entryAnswer}
 use Rattle.segment.proofs.EntryLaws.{entry-cut, entry-refused, entry-known}
 use borrow.Author.Needs.{needs}

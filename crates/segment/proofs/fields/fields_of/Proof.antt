@@ -3,7 +3,7 @@ use mathlib.Core.Path.{_≡_, sym, ap, _∙_}
 use denote.Ref.{now}
 use borrow.Author.Needs.{needs}
 use native.Mathlib.Omega.{arith}
-use Rattle.boxes.specs.Numbers.{number}
+use Rattle.numerals.specs.Numbers.{number}
 use Rattle.boxes.proofs.ToldLaws.{box-fields}
 use Rattle.partial.specs.Reading.{offsetWidth}
 use Rattle.segment.specs.Fields.{fieldsAnswer}

@@ -4,7 +4,7 @@ use native.Mathlib.Omega.{arith}
 use borrow.Author.Needs.{needs}
 use Rattle.boxes.specs.Kinds.{ftyp}
 use Rattle.boxes.proofs.BoxedLaws.{front-size}
-use Rattle.boxes.proofs.WidthLaws.{below-holds}
+use Rattle.numerals.proofs.WidthLaws.{below-holds}
 use Rattle.writing.proofs.BoxLaws.{brands-long, ftyp-long}
 use Rattle.writing.proofs.PutLaws.{field-end, front-end, puts-more, puts-box}
 use Rattle.writing.proofs.ftyp.put_ftyp.Statement.{statement}

@@ -4,8 +4,8 @@ use native.Mathlib.Omega.{arith}
 use borrow.Author.Needs.{needs}
 use Rattle.boxes.specs.Kinds.{pfhd}
 use Rattle.boxes.proofs.BoxedLaws.{front-size}
-use Rattle.boxes.proofs.NumberLaws.{length-bytesOf}
-use Rattle.boxes.proofs.WidthLaws.{below-holds}
+use Rattle.numerals.proofs.NumberLaws.{length-bytesOf}
+use Rattle.numerals.proofs.WidthLaws.{below-holds}
 use Rattle.writing.proofs.BoxLaws.{pfhd-long}
 use Rattle.writing.proofs.PutLaws.{front-end, puts-box}
 use Rattle.writing.proofs.pfil.put_pfhd.Statement.{statement}

@@ -7,7 +7,7 @@ use native.Mathlib.Omega.{arith}
 use borrow.Author.Needs.{needs}
 use lib.ListN.{length, take, set, getD}
 use lib.Seq.{take-length}
-use Rattle.boxes.specs.Stored.{stored}
+use Rattle.numerals.specs.Stored.{stored}
 use Rattle.gathering.proofs.RowLaws.{row-none}
 use Rattle.writing.proofs.PutLaws.{copied-more, puts-stored}
 use Rattle.writing.proofs.puts.put_bytes.Statement.{statement}

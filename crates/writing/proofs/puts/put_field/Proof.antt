@@ -4,10 +4,10 @@ use mathlib.Core.Path.{_≡_, ap, _∙_}
 use native.Mathlib.Nat.{min-eq-left}
 use native.Mathlib.Omega.{arith}
 use borrow.Author.Needs.{needs}
-use Rattle.boxes.specs.Numbers.{bytesOf, holds}
-use Rattle.boxes.specs.Stored.{stored}
-use Rattle.boxes.proofs.NumberLaws.{length-bytesOf}
-use Rattle.boxes.proofs.StoredLaws.{held-stored}
+use Rattle.numerals.specs.Numbers.{bytesOf, holds}
+use Rattle.numerals.specs.Stored.{stored}
+use Rattle.numerals.proofs.NumberLaws.{length-bytesOf}
+use Rattle.numerals.proofs.StoredLaws.{held-stored}
 use Rattle.writing.proofs.PutLaws.{puts-stored}
 use Rattle.writing.proofs.puts.put_field.Statement.{statement}
 use Rattle.writing.proofs.puts.put_field.Tie as tie

@@ -2,7 +2,7 @@
 use native.Mathlib.Omega.{arith}
 use borrow.Author.Needs.{needs}
 use Rattle.boxes.proofs.BoxedLaws.{size-held}
-use Rattle.boxes.proofs.StoredLaws.{held-stored}
+use Rattle.numerals.proofs.StoredLaws.{held-stored}
 use Rattle.writing.proofs.PutLaws.{front-long, puts-stored}
 use Rattle.writing.proofs.puts.put_front.Statement.{statement}
 use Rattle.writing.proofs.puts.put_front.Tie as tie

@@ -1,7 +1,7 @@
 -- `writing::texts::put_text` meets its contract: the zero byte is a number of one byte.
 use native.Mathlib.Omega.{arith}
 use borrow.Author.Needs.{needs}
-use Rattle.boxes.proofs.WidthLaws.{below-holds}
+use Rattle.numerals.proofs.WidthLaws.{below-holds}
 use Rattle.writing.proofs.PutLaws.{puts-same, puts-more}
 use Rattle.writing.proofs.TextLaws.{closing}
 use Rattle.writing.proofs.texts.put_text.Statement.{statement}

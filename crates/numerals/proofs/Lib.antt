@@ -1,0 +1,5 @@
+pub mod Determined
+pub mod NumberLaws
+pub mod OffsetLaws
+pub mod StoredLaws
+pub mod WidthLaws

@@ -1,0 +1,62 @@
+-- Serving and asking agree: a part is handed back exactly where asking answers served, and it is as long as that answer says.
+use Prim.Native.Nat.{ℕ}
+use mathlib.Core.Bool.{false}
+use mathlib.Core.List.{List}
+use mathlib.Core.Logic.{inl, inr}
+use mathlib.Core.Path.{_≡_, refl, sym, ap, _∙_}
+use native.Mathlib.Decide.{decLe}
+use native.Mathlib.Omega.{arith}
+use lib.ListN.{length}
+use Rattle.boxes.specs.Answer.{Answer, refused, given}
+use Rattle.partial.specs.Answers.{askedAnswer}
+use Rattle.partial.specs.Limits.{sourceLimit}
+use Rattle.partial.specs.Meaning.{supplied, describedLength, Reply, reply}
+use Rattle.partial.specs.Segments.{Segment}
+use Rattle.partial.specs.Tables.{tabled, servedPart, asked, bytesIn, nowhere}
+use Rattle.partial.specs.declared.answers.Asked.{Asked}
+use Rattle.partial.proofs.Meaning.SequenceLaws.{which}
+use Rattle.partial.proofs.Reading.PartLaws.{headed-read, tabled-read}
+use Rattle.partial.proofs.Reading.ReadingLaws.{read-mapped}
+use Rattle.serving.specs.Calls.{servedCount, Serves, Asks}
+
+-- of the definitions: after a refusal, and by what is replied of an accepted file
+agrees-refused : (f : List ℕ) (p n : ℕ) → length (bytesIn f (servedPart (refused n) p)) ≡ servedCount (asked (refused n) p)
+unfolding servedPart bytesIn nowhere asked servedCount
+agrees-refused f p n = refl
+
+agrees-by : (f : List ℕ) (p : ℕ) (ss : List Segment) {x : Reply} {n : ℕ} → reply ss p ≡ x → length (bytesIn f (servedPart (given ss) p)) ≡ n → servedCount (given x) ≡ n
+    → length (bytesIn f (servedPart (given ss) p)) ≡ servedCount (asked (given ss) p)
+unfolding asked
+agrees-by f p ss told long count = long ∙ sym count ∙ sym (ap (λ (x : Reply). servedCount (given x)) told)
+
+-- a part that is not served is empty
+empty : (f : List ℕ) (p : ℕ) (ss : List Segment) → supplied ss p ≡ false → length (bytesIn f (servedPart (given ss) p)) ≡ 0
+unfolding servedPart bytesIn nowhere
+empty f p ss lacks = rw (servedPart, lacks)
+
+agrees : (f a b : List ℕ) (p : ℕ) → length (bytesIn f (servedPart (tabled sourceLimit f a b) p)) ≡ servedCount (asked (tabled sourceLimit f a b) p)
+unfolding servedCount
+agrees f a b p = go (tabled sourceLimit f a b) refl
+  where
+    go : (x : Answer (List Segment)) → tabled sourceLimit f a b ≡ x → length (bytesIn f (servedPart x p)) ≡ servedCount (asked x p)
+    go (refused n) e = agrees-refused f p n
+    go (given ss) e =
+        let read = tabled-read sourceLimit f a b e in
+        let (h, head) = headed-read sourceLimit f read in
+        let mapped = read-mapped sourceLimit f head read in
+        elim (which (supplied ss p)) [
+          | inl there ↦
+              let s = mapped .serving p (rw there tt) in
+              agrees-by f p ss (s .told) (s .long) refl
+          | inr lacks ↦
+              elim (decLe (describedLength ss) p) [
+                | yes past ↦ agrees-by f p ss (mapped .beyond p past) (empty f p ss lacks) refl
+                | no below ↦ agrees-by f p ss (mapped .missing p (omega arith) lacks .told) (empty f p ss lacks) refl
+              ]
+        ]
+
+-- of the calls: what serving hands back is as long as asking says
+pub serve-ask : {f segments segments₁ segments₂ chunks chunks₁ chunks₂ bytes : List ℕ} {file there : ℕ × ℕ} {p : ℕ} {r : Asked}
+    → Serves f file segments segments₁ chunks chunks₁ p there bytes → Asks f segments segments₂ chunks chunks₂ p r
+    → length bytes ≡ servedCount (askedAnswer r)
+serve-ask {f} {segments = segments} {chunks = chunks} {p = p} s a = ap length (s .part .holds) ∙ agrees f segments chunks p ∙ sym (ap servedCount (a .answer))
