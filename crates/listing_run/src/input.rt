@@ -1,0 +1,111 @@
+// The records of standard input. Seven numbers of two bytes, most significant first: the length of the name, the length of the file, the numbers lent for
+// segment rows, for chunk rows, for the list of what is had and for that of what is missing, and how many positions are asked. Then the name, the file, and
+// the positions, eight bytes each.
+use crate::lent;
+use crate::lent::Rooms;
+use crate::report;
+use libc::STDIN_FILENO;
+use partial::position::Position;
+ghost use Prim.Native.Nat.{_<_};
+
+// The numbers of the next record.
+enum Head {
+    End,
+    Given {
+        name: usize,
+        file: usize,
+        rooms: Rooms,
+        positions: usize,
+    },
+}
+
+// Takes the next record, and prints its name and the answers. Whether there was one.
+pub fn record() -> bool {
+    match next() {
+        Head::End => false,
+        Head::Given {
+            name,
+            file,
+            rooms,
+            positions,
+        } => {
+            title(name);
+            answers(file, rooms, positions);
+            true
+        }
+    }
+}
+
+fn next() -> Head {
+    let mut bytes = [0u8; 14];
+    if io::read_full(STDIN_FILENO, &mut bytes) < 14 {
+        return Head::End;
+    }
+    let rooms = Rooms {
+        segments: pair(bytes[4], bytes[5]),
+        chunks: pair(bytes[6], bytes[7]),
+        had: pair(bytes[8], bytes[9]),
+        missing: pair(bytes[10], bytes[11]),
+    };
+    Head::Given {
+        name: pair(bytes[0], bytes[1]),
+        file: pair(bytes[2], bytes[3]),
+        rooms,
+        positions: pair(bytes[12], bytes[13]),
+    }
+}
+
+fn pair(high: u8, low: u8) -> usize {
+    256 * (high as usize) + (low as usize)
+}
+
+fn title(length: usize) {
+    let mut space = io::buffer();
+    name_in(&mut space, length);
+}
+
+fn name_in(space: &mut [u8], length: usize) {
+    if length <= space.len() {
+        let name = &mut space[0..length];
+        io::read_full(STDIN_FILENO, name);
+        report::title(name);
+    }
+}
+
+fn answers(length: usize, rooms: Rooms, positions: usize) {
+    let mut space = io::large_buffer();
+    file_in(&mut space, length, rooms, positions);
+}
+
+fn file_in(space: &mut [u8], length: usize, rooms: Rooms, positions: usize) {
+    if length <= space.len() {
+        let file = &mut space[0..length];
+        io::read_full(STDIN_FILENO, file);
+        lent::listed(file, rooms);
+        asked(file, rooms, positions);
+    }
+}
+
+// Takes so many positions, and asks of each and has it served.
+fn asked(file: &[u8], rooms: Rooms, positions: usize) {
+    let mut left = positions;
+    while left > 0 {
+        let p = position();
+        lent::asked(file, rooms, p);
+        lent::served(file, rooms, p);
+        left -= 1;
+    }
+}
+
+fn position() -> Position {
+    let mut bytes = [0u8; 8];
+    io::read_full(STDIN_FILENO, &mut bytes);
+    let high = four(bytes[0], bytes[1], bytes[2], bytes[3]);
+    Position(4294967296 * high + four(bytes[4], bytes[5], bytes[6], bytes[7]))
+}
+
+fn four(a: u8, b: u8, c: u8, d: u8) -> u64
+    ensures { λ r. ⌜ r < 4294967296 ⌝ }
+{
+    16777216 * (a as u64) + 65536 * (b as u64) + 256 * (c as u64) + (d as u64)
+}

@@ -1,0 +1,112 @@
+"""Makes records on the paper's files, on open and empty ones, on chunks of size 0, many small ranges, long parts, and the limits."""
+
+from boxes import box, entry, head, lost_segment, open_segment, ploc, pshd
+from foreign import DAMAGED, GOOD, LIMIT, LOST
+from lists_record import assembled, file_of, listed
+from plan import Data, Entry, Other, Segment
+
+LAST = 1
+
+
+def of_the_paper():
+    ninth = (0, "good 4, lost 6", LAST)
+    yield listed("paper", "P9", file_of(ninth), [(0, 4)], [(4, 6)])
+    yield listed("paper", "P10", file_of(ninth, (2, "good 5")), [(0, 7)], [(7, 3)])
+    yield listed("paper", "P10 with its segments turned", file_of((2, "good 5"), ninth), [(0, 7)], [(7, 3)])
+    yield listed("paper", "P11", file_of((100, "")), [], [(0, 100)])
+    yield listed("paper", "P11 and an end above", file_of((100, ""), (98, "good 4")), [(98, 4)], [(0, 98)])
+
+
+def open_and_closed():
+    good = (2, "good 3")
+    yield listed("open", "no segment is last", file_of(good), [(2, 3)], [(0, 2)])
+    yield listed("open", "an open last segment is no end", file_of((9, "", LAST), good), [(2, 3)], [(0, 2), (5, 4)])
+    yield listed("open", "an open last segment below the end", file_of((3, "", LAST), good), [(2, 3)], [(0, 2)])
+    yield listed("open", "an open segment at the end", file_of(good, (5, "")), [(2, 3)], [(0, 2)])
+    yield listed("open", "an open segment behind the end", file_of(good, (6, "")), [(2, 3)], [(0, 2), (5, 1)])
+    yield listed("closed", "closed by a lost chunk", file_of(good, (5, "lost 2", LAST)), [(2, 3)], [(0, 2), (5, 2)])
+    yield listed("closed", "closed by a good chunk", file_of((2, "good 3", LAST)), [(2, 3)], [(0, 2)])
+    yield listed("closed", "closed by an empty chunk", file_of(good, (8, "good 0", LAST)), [(2, 3)], [(0, 2), (5, 3)])
+    twice = file_of((0, "lost 6", LAST), good, (6, ""), (6, "lost 0", LAST))
+    yield listed("closed", "closed twice, and an open one", twice, [(2, 3)], [(0, 2), (5, 1)])
+    yield listed("empty", "described length 0, open", file_of((0, "")), [], [])
+    yield listed("empty", "described length 0, open and last", file_of((0, "", LAST), (0, "")), [], [])
+    yield listed("empty", "described length 0, closed", file_of((0, "lost 0", LAST)), [], [])
+    yield listed("empty", "described length 0, chunks of each state", file_of((0, "good 0, damaged 0, lost 0, good 0")), [], [])
+
+
+def of_size_0():
+    yield listed("size 0", "between good ones", file_of((0, "good 2, good 0, lost 0, damaged 0, good 2")), [(0, 4)], [])
+    yield listed("size 0", "between missing ones", file_of((0, "lost 2, good 0, damaged 2")), [], [(0, 4)])
+    yield listed("size 0", "in front and behind", file_of((3, "good 0, good 2, good 0", LAST)), [(3, 2)], [(0, 3)])
+    yield listed("size 0", "inside a good one", file_of((4, "good 0"), (0, "good 8, good 0")), [(0, 8)], [])
+    yield listed("size 0", "inside a missing one", file_of((4, "good 0"), (0, "lost 8")), [], [(0, 8)])
+    yield listed("size 0", "only, at 5", file_of((5, "good 0, damaged 0")), [], [(0, 5)])
+    nowhere = box(b"pseg", pshd(3), ploc(1, 1, [entry(GOOD, 1, 0, 1, 127), entry(DAMAGED, 1, 0, 1, -128), entry(LOST, 1, 4)]))
+    yield listed("size 0", "at no place", head() + nowhere, [], [(0, 7)])
+
+
+def alternating(pairs, front, back):
+    """One segment of so many pairs of chunks of one position, all good ones in one pdat."""
+    data = Data(bytes(range(251)))
+    entries = []
+    for at in range(pairs):
+        entries += [Entry(GOOD, 1, data, at % 251) if state == "good" else Entry(LOST, 1) for state in (front, back)]
+    return assembled([data, Segment(0, entries)])
+
+
+def singles(pairs):
+    """The even positions and the odd ones, each a range of its own."""
+    return [(2 * at, 1) for at in range(pairs)], [(2 * at + 1, 1) for at in range(pairs)]
+
+
+def many_pairs():
+    for pairs in (5, 40, 512):
+        even, odd = singles(pairs)
+        some = None if pairs == 5 else [0, 1, 2, 3, 2 * pairs - 2, 2 * pairs - 1, 2 * pairs]
+        yield listed("many", f"{pairs} pairs, good first", alternating(pairs, "good", "lost"), even, odd, positions=some)
+        yield listed("many", f"{pairs} pairs, lost first", alternating(pairs, "lost", "good"), odd, even, positions=some)
+    yield listed("many", "512 pairs, all exact", alternating(512, "good", "lost"), *singles(512), (7, 6144, 1024, 1024), [1023])
+    yield listed("many", "512 pairs, good alone", alternating(512, "good", "good"), [(0, 1024)], [], positions=[0, 511, 1023, 1024])
+
+
+def many_segments():
+    turned = [(4 * at + 1, "good 2") for at in reversed(range(64))]
+    yield listed("many", "64 segments turned, with gaps", file_of(*turned), [(4 * at + 1, 2) for at in range(64)],
+                 [(0, 1)] + [(4 * at + 3, 2) for at in range(63)], positions=[0, 1, 2, 3, 4, 5, 128, 129, 253, 254, 255])
+    row = [(4 * at, "good 4") for at in reversed(range(64))]
+    yield listed("many", "64 segments turned, touching", file_of(*row), [(0, 256)], [], positions=[0, 3, 4, 252, 255, 256])
+    over = [(3 * at, "good 5") for at in range(64)]
+    yield listed("many", "64 segments, each over the next", file_of(*over), [(0, 194)], [], positions=[0, 2, 3, 4, 5, 6, 191, 192, 193, 194])
+
+
+def long_parts():
+    yield listed("long", "500 in one chunk", file_of((0, "good 500")), [(0, 500)], [])
+    yield listed("long", "300 and then 400 over them", file_of((0, "good 300"), (100, "good 400")), [(0, 500)], [])
+    yield listed("long", "400 and a hole that is repaired", file_of((0, "good 100, lost 200, good 100"), (50, "good 300")), [(0, 400)], [])
+    yield listed("long", "13 and 12", file_of((0, "good 13, lost 1, good 12")), [(0, 13), (14, 12)], [(13, 1)])
+
+
+def places():
+    data, other = Data(bytes(range(10, 20))), Data(bytes(range(80, 90)), large=True)
+    shared = [Segment(0, [Entry(GOOD, 5, data, 5), Entry(DAMAGED, 4, other, 0), Entry(GOOD, 5, other, 5)]),
+              Segment(3, [Entry(GOOD, 10, data, 0)])]
+    for name, items in [("before", [data, other] + shared), ("behind", shared + [other, data]),
+                        ("between", [shared[0], data, shared[1], Other(box(b"free", b"abc")), other])]:
+        yield listed("places", f"shared data {name} the segments", assembled(items), [(0, 14)], [])
+    same = [Segment(4 * at, [Entry(GOOD, 3, data, 2), Entry(LOST, 1)]) for at in range(3)]
+    yield listed("places", "one place for three chunks", assembled([data] + same), [(0, 3), (4, 3), (8, 3)], [(3, 1), (7, 1), (11, 1)])
+
+
+def limits():
+    yield listed("limits", "all lost, to 4294967295", head() + lost_segment(0, [LIMIT], flags=LAST), [], [(0, LIMIT)])
+    yield listed("limits", "open at 4294967295", head() + open_segment(LIMIT), [], [(0, LIMIT)])
+    yield listed("limits", "the last position of all", file_of((LIMIT - 1, "good 1", LAST)), [(LIMIT - 1, 1)], [(0, LIMIT - 1)])
+    yield listed("limits", "the first and the last", file_of((LIMIT - 3, "good 3", LAST), (0, "good 2")),
+                 [(0, 2), (LIMIT - 3, 3)], [(2, LIMIT - 5)])
+    yield listed("limits", "an empty chunk at 4294967295", file_of((LIMIT, "good 0", LAST)), [], [(0, LIMIT)])
+
+
+def records():
+    for made in (of_the_paper, open_and_closed, of_size_0, many_pairs, many_segments, long_parts, places, limits):
+        yield from made()

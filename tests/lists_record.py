@@ -1,0 +1,51 @@
+"""Holds one record of the corpus of lists: a file with its name, what is wanted of it, the room of what is lent, and the positions to ask."""
+
+from collections import namedtuple
+
+from boxes import ftyp, pfhd, surl
+from foreign import DAMAGED, GOOD, LOST
+from plan import Data, Entry, Plan, Segment
+
+# `wanted` is the number of the refusal, the pair of lists, or None where only the model says. A room of None is one to spare, and positions of None
+# are those that `lists.py` chooses.
+Record = namedtuple("Record", "kind name wanted file rooms positions", defaults=((None, None, None, None), None))
+
+STATES = {"good": GOOD, "damaged": DAMAGED, "lost": LOST}
+
+
+def listed(kind, name, file, had, missing, rooms=(None, None, None, None), positions=None):
+    return Record(kind, name, (had, missing), file, rooms, positions)
+
+
+def refused(kind, number, name, file, rooms=(None, None, None, None), positions=None):
+    return Record(kind, name, number, file, rooms, positions)
+
+
+def chunks(words):
+    """The states and sizes of "good 4, lost 6"."""
+    return [(word.split()[0], int(word.split()[1])) for word in words.split(",") if word.strip()]
+
+
+def segment(number, offset, words, flags):
+    """A pdat that holds all that is present, each byte its own, and the segment."""
+    given = chunks(words)
+    kept = sum(size for state, size in given if state != "lost")
+    data = Data(bytes((61 * number + 7 * at + 1) % 256 for at in range(kept)))
+    entries, at = [], 0
+    for state, size in given:
+        entries.append(Entry(LOST, size) if state == "lost" else Entry(STATES[state], size, data, at))
+        at += 0 if state == "lost" else size
+    made = Segment(offset, entries, flags)
+    return [data, made] if any(state != "lost" for state, size in given) else [made]
+
+
+def assembled(items):
+    return Plan(ftyp(), [pfhd(), surl()], items).assemble()
+
+
+def file_of(*segments):
+    """A file of segments, each an offset, its chunks in words (none: open), and its flags where it has any."""
+    items = []
+    for number, given in enumerate(segments):
+        items += segment(number, given[0], given[1], given[2] if len(given) == 3 else 0)
+    return assembled(items)
