@@ -3,9 +3,10 @@
 // the positions, eight bytes each.
 use crate::lent;
 use crate::lent::Rooms;
-use crate::report;
 use libc::STDIN_FILENO;
 use partial::position::Position;
+use printing::records;
+use printing::records::pair;
 ghost use Prim.Native.Nat.{_<_};
 
 // The numbers of the next record.
@@ -29,7 +30,7 @@ pub fn record() -> bool {
             rooms,
             positions,
         } => {
-            title(name);
+            records::name(name);
             answers(file, rooms, positions);
             true
         }
@@ -52,23 +53,6 @@ fn next() -> Head {
         file: pair(bytes[2], bytes[3]),
         rooms,
         positions: pair(bytes[12], bytes[13]),
-    }
-}
-
-fn pair(high: u8, low: u8) -> usize {
-    256 * (high as usize) + (low as usize)
-}
-
-fn title(length: usize) {
-    let mut space = io::buffer();
-    name_in(&mut space, length);
-}
-
-fn name_in(space: &mut [u8], length: usize) {
-    if length <= space.len() {
-        let name = &mut space[0..length];
-        io::read_full(STDIN_FILENO, name);
-        report::title(name);
     }
 }
 

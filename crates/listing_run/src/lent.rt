@@ -1,8 +1,8 @@
 // The calls, with tables and lists of as many numbers as a record says.
-use crate::marks::mark;
 use crate::report;
 use listing::calls::list;
 use partial::position::Position;
+use printing::marks::mark;
 use serving::calls::ask;
 use serving::calls::serve;
 

@@ -2,7 +2,6 @@
 // `stdout`, the answers of the model.
 mod input;
 mod lent;
-mod marks;
 mod report;
 mod sums;
 

@@ -1,28 +1,16 @@
 // The lines of the output.
-use crate::marks::kept;
 use crate::sums;
-use libc::STDOUT_FILENO;
 use partial::answers::Asked;
 use partial::answers::Listed;
 use partial::position::Position;
+use printing::lines::bytes;
+use printing::lines::kept_of;
+use printing::lines::number;
+use printing::lines::rest;
+use printing::lines::text;
 
 // The longest part of a file that is printed byte by byte.
 const SHORT: usize = 12;
-
-fn text(s: &[u8]) {
-    io::write_all(STDOUT_FILENO, s);
-}
-
-fn number(n: u64) {
-    text(b" ");
-    io::print_decimal(STDOUT_FILENO, n);
-}
-
-pub fn title(name: &[u8]) {
-    text(b"= ");
-    text(name);
-    text(b"\n");
-}
 
 // A refusal, or the counts and totals and the ranges of both lists; then how the rest of each list was left.
 pub fn listed(r: Listed, had_list: &[u64], missing_list: &[u64]) {
@@ -74,30 +62,11 @@ fn range(word: &[u8], first: u64, length: u64) {
     text(b"\n");
 }
 
-// How many of the numbers behind the ranges were left as they were, and how many there are.
-fn rest(list: &[u64], from: usize) {
-    text(b"kept");
-    number(kept(list, from));
-    text(b" of");
-    number(behind(list, from));
-    text(b"\n");
-}
-
-fn behind(list: &[u64], from: usize) -> u64 {
-    if from <= list.len() {
-        (list.len() - from) as u64
-    } else {
-        0
-    }
-}
-
 // How many numbers of a table were left as they were, how many it has, and their sum.
 pub fn table(word: &[u8], numbers: &[u64]) {
     text(word);
-    text(b" kept");
-    number(kept(numbers, 0));
-    text(b" of");
-    number(behind(numbers, 0));
+    text(b" ");
+    kept_of(numbers, 0);
     text(b" sum");
     number(sums::numbers(0, numbers) % sums::MODULUS);
     text(b"\n");
@@ -138,17 +107,4 @@ pub fn served(p: Position, part: &[u8]) {
         text(b" sum");
         number(sums::bytes(part) % sums::MODULUS);
     }
-}
-
-fn bytes(part: &[u8]) {
-    let mut i = 0;
-    while i < part.len() {
-        byte(part[i]);
-        i += 1;
-    }
-}
-
-fn byte(b: u8) {
-    text(b" ");
-    io::print_hex(STDOUT_FILENO, b as u64, 2);
 }

@@ -1,8 +1,9 @@
 // The records of standard input. Four numbers of two bytes, most significant first: the length of the name, the numbers lent for segment rows
 // and for chunk rows, the length of the file. Then the name and the file.
 use crate::lent;
-use crate::report;
 use libc::STDIN_FILENO;
+use printing::records;
+use printing::records::pair;
 
 // The four numbers of the next record.
 enum Head {
@@ -25,7 +26,7 @@ pub fn record() -> bool {
             chunks,
             file,
         } => {
-            title(name);
+            records::name(name);
             answers(file, segments, chunks);
             true
         }
@@ -42,23 +43,6 @@ fn next() -> Head {
         segments: pair(bytes[2], bytes[3]),
         chunks: pair(bytes[4], bytes[5]),
         file: pair(bytes[6], bytes[7]),
-    }
-}
-
-fn pair(high: u8, low: u8) -> usize {
-    256 * (high as usize) + (low as usize)
-}
-
-fn title(length: usize) {
-    let mut space = io::buffer();
-    name_in(&mut space, length);
-}
-
-fn name_in(space: &mut [u8], length: usize) {
-    if length <= space.len() {
-        let name = &mut space[0..length];
-        io::read_full(STDIN_FILENO, name);
-        report::title(name);
     }
 }
 

@@ -1,6 +1,6 @@
 // The calls, with tables of as many numbers as a record says.
-use crate::marks::mark;
 use crate::report;
+use printing::marks::mark;
 use reading::tables::read;
 use reading::texts::mime;
 use reading::texts::url;

@@ -1,22 +1,9 @@
 // The lines of the output.
-use crate::marks::kept;
-use libc::STDOUT_FILENO;
 use partial::answers::Read;
-
-fn text(s: &[u8]) {
-    io::write_all(STDOUT_FILENO, s);
-}
-
-fn number(n: u64) {
-    text(b" ");
-    io::print_decimal(STDOUT_FILENO, n);
-}
-
-pub fn title(name: &[u8]) {
-    text(b"= ");
-    text(name);
-    text(b"\n");
-}
+use printing::lines::bytes;
+use printing::lines::number;
+use printing::lines::rest;
+use printing::lines::text;
 
 // A refusal, or the counts, the described length and the rows; then how the rest of each table was left.
 pub fn answer(r: Read, segment_table: &[u64], chunk_table: &[u64]) {
@@ -78,35 +65,9 @@ fn row(word: &[u8], numbers: &[u64]) {
     text(b"\n");
 }
 
-// How many of the numbers behind the rows were left as they were, and how many there are.
-fn rest(table: &[u64], from: usize) {
-    text(b"kept");
-    number(kept(table, from));
-    text(b" of");
-    number(behind(table, from));
-    text(b"\n");
-}
-
-fn behind(table: &[u64], from: usize) -> u64 {
-    if from <= table.len() {
-        (table.len() - from) as u64
-    } else {
-        0
-    }
-}
-
 // A part of the file, byte by byte.
 pub fn part(word: &[u8], s: &[u8]) {
     text(word);
-    let mut i = 0;
-    while i < s.len() {
-        byte(s[i]);
-        i += 1;
-    }
+    bytes(s);
     text(b"\n");
-}
-
-fn byte(b: u8) {
-    text(b" ");
-    io::print_hex(STDOUT_FILENO, b as u64, 2);
 }

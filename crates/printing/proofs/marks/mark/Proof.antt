@@ -1,11 +1,11 @@
--- `reading_run::marks::mark` keeps to its table, whose length it does not change, and ends.
+-- `printing::marks::mark` keeps to its table, whose length it does not change, and ends.
 use Prim.Native.Nat.{_-_}
 use mathlib.Core.Path.{_≡_}
 use borrow.Author.Needs.{needs}
 use native.Mathlib.Omega.{arith}
 use lib.ListN.{length, length-set}
-use Rattle.reading_run.proofs.marks.mark.Statement.{statement}
-use Rattle.reading_run.proofs.marks.mark.Tie as tie
+use Rattle.printing.proofs.marks.mark.Statement.{statement}
+use Rattle.printing.proofs.marks.mark.Tie as tie
 
 abbrev Inv-loop : tie.InvT-loop
 Inv-loop table₀ i₀ table i = length table ≡ length table₀

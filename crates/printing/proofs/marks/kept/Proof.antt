@@ -1,11 +1,11 @@
--- `reading_run::marks::kept` keeps to its table and ends.
+-- `printing::marks::kept` keeps to its table and ends.
 use Prim.Native.Nat.{_-_, _≤_}
 use mathlib.Core.Logic.{⊎-elim}
 use borrow.Author.Needs.{needs}
 use native.Mathlib.Omega.{arith}
 use lib.ListN.{length}
-use Rattle.reading_run.proofs.marks.kept.Statement.{statement}
-use Rattle.reading_run.proofs.marks.kept.Tie as tie
+use Rattle.printing.proofs.marks.kept.Statement.{statement}
+use Rattle.printing.proofs.marks.kept.Tie as tie
 
 abbrev Inv-loop : tie.InvT-loop
 Inv-loop table from n₀ i₀ n i = n ≤ i

@@ -1,9 +1,9 @@
--- `listing_run::report::bytes` keeps to its slice and ends.
+-- `printing::lines::bytes` keeps to its slice and ends.
 use Prim.Native.Nat.{_-_}
 use borrow.Author.Needs.{needs}
 use lib.ListN.{length}
-use Rattle.listing_run.proofs.report.bytes.Statement.{statement}
-use Rattle.listing_run.proofs.report.bytes.Tie as tie
+use Rattle.printing.proofs.lines.bytes.Statement.{statement}
+use Rattle.printing.proofs.lines.bytes.Tie as tie
 
 abbrev Inv-loop : tie.InvT-loop
 Inv-loop part i₀ i = Unit {0}

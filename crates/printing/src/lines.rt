@@ -1,0 +1,54 @@
+// The parts of a line of output.
+use crate::marks::kept;
+use libc::STDOUT_FILENO;
+
+pub fn text(s: &[u8]) {
+    io::write_all(STDOUT_FILENO, s);
+}
+
+pub fn number(n: u64) {
+    text(b" ");
+    io::print_decimal(STDOUT_FILENO, n);
+}
+
+pub fn title(name: &[u8]) {
+    text(b"= ");
+    text(name);
+    text(b"\n");
+}
+
+// How many numbers of a table, from one on, still hold their mark, and how many there are.
+pub fn kept_of(table: &[u64], from: usize) {
+    text(b"kept");
+    number(kept(table, from));
+    text(b" of");
+    number(behind(table, from));
+}
+
+// The line of what was left behind the rows.
+pub fn rest(table: &[u64], from: usize) {
+    kept_of(table, from);
+    text(b"\n");
+}
+
+fn behind(table: &[u64], from: usize) -> u64 {
+    if from <= table.len() {
+        (table.len() - from) as u64
+    } else {
+        0
+    }
+}
+
+// Bytes of a file, in two hexadecimal digits each.
+pub fn bytes(part: &[u8]) {
+    let mut i = 0;
+    while i < part.len() {
+        byte(part[i]);
+        i += 1;
+    }
+}
+
+fn byte(b: u8) {
+    text(b" ");
+    io::print_hex(STDOUT_FILENO, b as u64, 2);
+}
