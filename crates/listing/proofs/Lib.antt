@@ -1,3 +1,4 @@
 pub mod SweepLaws
 pub mod ListLaws
 pub mod CallsLaws
+pub mod Determined

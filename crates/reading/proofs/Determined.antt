@@ -46,7 +46,7 @@ read-told (Read.Tables a b c d) (Read.Tables a′ b′ c′ d′) e =
     let same : _≡_ {A = Summary} (record { segments = a; chunks = b; described = c .0; closed = d }) (record { segments = a′; chunks = b′; described = c′ .0; closed = d′ }) = cc in
     λ i. Read.Tables (same i .segments) (same i .chunks) (record { 0 = same i .described }) (same i .closed)
 
-one-part : {f : List ℕ} {file : ℕ × ℕ} {part : Part} {there there′ : ℕ × ℕ} {bytes bytes′ : List ℕ} → HandedBack f file part there bytes
+pub one-part : {f : List ℕ} {file : ℕ × ℕ} {part : Part} {there there′ : ℕ × ℕ} {bytes bytes′ : List ℕ} → HandedBack f file part there bytes
     → HandedBack f file part there′ bytes′
     → _≡_ {A = (ℕ × ℕ) × List ℕ} (there, bytes) (there′, bytes′)
 one-part p q =

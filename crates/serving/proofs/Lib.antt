@@ -1,4 +1,5 @@
+pub mod AgreeLaws
+pub mod CallsLaws
+pub mod Determined
 pub mod RowsLaws
 pub mod RunsLaws
-pub mod CallsLaws
-pub mod AgreeLaws
