@@ -10,7 +10,7 @@ use Rattle.boxes.specs.Answer.{given}
 use Rattle.boxes.specs.Framing.{boxesIn}
 use Rattle.boxes.specs.declared.kinds.Container.the-variants.{File}
 use Rattle.boxes.proofs.AnswerLaws.{not-both, refused-same, given-same}
-use Rattle.numerals.proofs.Determined.{OneKnown}
+use Rattle.numerals.proofs.Determined.{OneLeft, OneKnown}
 use Rattle.partial.specs.Heading.{Heading}
 use Rattle.partial.specs.Segments.{Segment}
 use Rattle.partial.specs.Tables.{segmentRows, chunkRows}
@@ -22,6 +22,7 @@ use Rattle.gathering.specs.declared.pass.Passed.{Passed}
 use Rattle.gathering.specs.declared.pass.Passed.the-variants.{Refused, Given}
 use Rattle.gathering.proofs.PassLaws.{rows-put}
 use Rattle.gathering.proofs.pass.pass.Reads as pass
+use Rattle.gathering.proofs.rows.put_row.Reads as put-row
 use Rattle.gathering.proofs.sizes.Sizes.agree.Reads as agree
 use Rattle.gathering.proofs.sizes.Sizes.described.Reads as described
 
@@ -33,6 +34,9 @@ module _ {L : Type 0} {A R E : L → Type 0} (post : (κs : L) → A κs → R �
       → post κs args x after
       → post κs args y after′
       → of κs after ≡ of κs after′
+
+put-row-table : OneLeft put-row.Post (λ κs after. now (after .0))
+put-row-table κs args x y after after′ p q = p ∙ sym q
 
 -- the boxes of a file are those of a heading
 abbrev Boxed : List ℕ → Heading → Type 0
