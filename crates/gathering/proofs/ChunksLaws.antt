@@ -2,7 +2,6 @@
 use Prim.Native.Nat.{ℕ, zero, suc, _+_, _-_, _*_, _<_, _≤_}
 use mathlib.Core.List.{List, [], _∷_, _++_, append-nil, append-assoc, map}
 use mathlib.Core.Path.{_≡_, refl, sym, ap, _∙_}
-use native.Mathlib.Nat.{add-zero}
 use native.Mathlib.Omega.{arith}
 use borrow.Author.Tests.{eq-eqb, ne-eqb}
 use lib.ListN.{length, length-append}
@@ -24,7 +23,7 @@ use Rattle.segment.specs.declared.chunk.Cursor.{Cursor}
 use Rattle.segment.specs.declared.location.Location.{Location}
 use Rattle.gathering.specs.Chunks.{chunksBy, Ran, Chunked}
 use Rattle.gathering.specs.Rows.{Put}
-use Rattle.gathering.specs.declared.chunks.ChunksRead.the-variants.{Refused, Given}
+use Rattle.gathering.specs.declared.chunks.ChunksRead.the-variants.{Given}
 use Rattle.gathering.specs.declared.gathered.Gathered.{Gathered}
 use Rattle.gathering.proofs.RowLaws.{put-none, put-more, chunk-rows-long, chunk-rows-last}
 

@@ -1,5 +1,5 @@
 -- Laws of rows: those that are stored into a table number by number, from the last to the first, those that are put behind others, and how long they are.
-use Prim.Native.Nat.{ℕ, zero, suc, _+_, _*_, _≤_, _<_}
+use Prim.Native.Nat.{ℕ, suc, _+_, _*_, _≤_, _<_}
 use mathlib.Core.List.{List, [], _∷_, _++_, append-nil, append-assoc}
 use mathlib.Core.Path.{_≡_, refl, sym, ap, subst, _∙_}
 use native.Mathlib.Decide.{decLe}
@@ -11,7 +11,7 @@ use Rattle.numerals.specs.Stored.{stored}
 use Rattle.numerals.proofs.StoredLaws.{stored-more, stored-room, stored-none, stored-append, length-stored}
 use Rattle.partial.specs.Memory.{filled}
 use Rattle.partial.specs.Segments.{Chunk, Segment, chunksOf}
-use Rattle.partial.specs.Tables.{chunkRow, chunkRowsOf, chunkRowsFrom, chunkRows, segmentRow, segmentRows}
+use Rattle.partial.specs.Tables.{chunkRow, chunkRowsOf, chunkRowsFrom, segmentRow, segmentRows}
 use Rattle.gathering.specs.Rows.{Put}
 
 -- a number that is set is one more to store

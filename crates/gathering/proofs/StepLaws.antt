@@ -1,7 +1,7 @@
 -- Laws of one segment: what its parts, its numbers and its chunks decide, and what is told of it when it was read.
 use Prim.Native.Nat.{ℕ, _+_, _-_, _*_, _<_, _≤_}
 use mathlib.Core.Bool.{Bool, true, false, _&&_}
-use mathlib.Core.List.{List, [], _∷_, _++_, map}
+use mathlib.Core.List.{List, [], _∷_, _++_}
 use mathlib.Core.Path.{_≡_, refl, sym, ap, subst, _∙_}
 use native.Mathlib.Omega.{arith}
 use borrow.Author.Tests.{le-leb, lt-leb, eqb-true}
@@ -20,12 +20,9 @@ use Rattle.partial.specs.Heading.{Heading}
 use Rattle.partial.specs.Limits.{chunkLimit, sourceLimit}
 use Rattle.partial.specs.Reading.{pshdRight, pshdFields, segment}
 use Rattle.partial.specs.Segments.{Chunk, Segment, chunksOf, endOf}
-use Rattle.partial.specs.Sequences.{sum}
 use Rattle.partial.specs.Tables.{segmentRow, chunkRowsOf}
 use Rattle.partial.proofs.Meaning.SequenceLaws.{both}
-use Rattle.segment.specs.Data.{Searched}
 use Rattle.segment.specs.Fields.{valuesOf}
-use Rattle.segment.specs.Location.{plocOf}
 use Rattle.segment.specs.declared.chunk.Cursor.{Cursor}
 use Rattle.segment.specs.declared.fields.Fields.{Fields}
 use Rattle.gathering.specs.Chunks.{chunksBy, Ran}

@@ -1,19 +1,19 @@
 -- Laws of listing: the lists of a file's chunks are those of the file, what each test decides, and what is left in the tables and lists.
 use Prim.Native.Nat.{ℕ, _*_, _<_, _≤_}
-use mathlib.Core.Bool.{true, false, and-false}
+use mathlib.Core.Bool.{and-false}
 use mathlib.Core.List.{List}
-use mathlib.Core.Path.{_≡_, refl, sym, ap, subst, _∙_}
+use mathlib.Core.Path.{_≡_, refl, _∙_}
 use native.Mathlib.Omega.{arith}
 use borrow.Author.Tests.{le-leb, lt-leb}
 use lib.ListN.{length}
-use Rattle.boxes.specs.Answer.{Answer, refused, given, _>>=_}
+use Rattle.boxes.specs.Answer.{refused, given}
 use Rattle.partial.specs.Answers.{listedAnswer}
 use Rattle.partial.specs.Limits.{sourceLimit}
 use Rattle.partial.specs.Meaning.{supplied, describedLength}
 use Rattle.partial.specs.Memory.{fits, filled, after}
-use Rattle.partial.specs.Ranges.{ranges, classOf, rangesOf, hadList, missingList, total}
+use Rattle.partial.specs.Ranges.{ranges, classOf, rangesOf, hadList, missingList}
 use Rattle.partial.specs.Segments.{Chunk, Segment, chunksOf}
-use Rattle.partial.specs.Tables.{tabled, listed, segmentRows, chunkRows, rangeRows, hadRows, missingRows, totals}
+use Rattle.partial.specs.Tables.{tabled, listed, segmentRows, chunkRows, hadRows, missingRows, totals}
 use Rattle.partial.specs.declared.answers.Listed.{Listed}
 use Rattle.partial.specs.declared.answers.Listed.the-variants as Listed
 use Rattle.partial.proofs.Reading.LimitLaws.{chunks-few}

@@ -2,7 +2,7 @@
 -- The range of a position is determined where the position is below the end, and what is put into a list where all its ranges fit.
 use Prim.Native.Nat.{ℕ, _<_, _≤_}
 use mathlib.Core.List.{List}
-use mathlib.Core.Path.{_≡_, sym, ap, _∙_}
+use mathlib.Core.Path.{_≡_, sym, _∙_}
 use denote.Ref.{now}
 use lib.ListN.{length}
 use Rattle.numerals.proofs.Determined.{OneResult, OneLeft, OneKnown}

@@ -1,7 +1,7 @@
 -- Laws of the two lists: with one range more, and that ranges found one after another are all of them.
-use Prim.Native.Nat.{ℕ, zero, suc, _+_, _-_, _*_, _<_, _≤_}
-use mathlib.Core.Bool.{true, false, false≢true}
-use mathlib.Core.List.{List, [], _∷_, _++_, append-nil, append-assoc, map}
+use Prim.Native.Nat.{ℕ, _+_, _-_, _*_, _<_, _≤_}
+use mathlib.Core.Bool.{false≢true}
+use mathlib.Core.List.{List, [], _∷_, _++_, append-nil, append-assoc}
 use mathlib.Core.Logic.{inl, inr}
 use mathlib.Core.Path.{_≡_, refl, sym, ap, _∙_}
 use native.Mathlib.Decide.{decLe}
@@ -19,7 +19,7 @@ use Rattle.partial.proofs.Meaning.SequenceLaws.{which}
 use Rattle.partial.proofs.Meaning.StretchLaws.{stretch-first}
 use Rattle.gathering.specs.Rows.{Put}
 use Rattle.gathering.proofs.RowLaws.{put-none, put-more, put-same}
-use Rattle.listing.specs.Lists.{Stands, Lists, Bounded, Proper, Joins}
+use Rattle.listing.specs.Lists.{Stands, Lists, Joins}
 use Rattle.listing.specs.Ranges.{classIn, rangeIn}
 use Rattle.listing.specs.declared.lists.Totals.{Totals}
 use Rattle.listing.specs.declared.ranges.Range.{Range}
@@ -61,7 +61,7 @@ total-last [] r = omega arith
 total-last (x ∷ rs) r = omega (arith, total-last rs r)
 
 -- a list of one class, with one range more of that class
-module _ {t₀ t t′ : List ℕ} (rs : List Stretch) (r : Stretch) (n m : ℕ) where
+module _ {t₀ t t′ : List ℕ} (rs : List Stretch) (r : Stretch) (n : ℕ) where
   put-last : n ≡ length rs → Put t₀ 0 (rangeRows rs) t → Put t (2 * n) (r .first ∷ r .length ∷ []) t′ → Put t₀ 0 (rangeRows (rs ++ (r ∷ []))) t′
   put-last many p q =
       let here : 2 * n ≡ 0 + length (rangeRows rs) = omega (arith, range-rows-long rs) in
@@ -82,7 +82,7 @@ module _ (p : ℕ) (r : Range) (rs : List Stretch) {had₀ had₁ missing₀ mis
         missingMany = rw others (s .missingMany);
         received = omega (arith, s .received, ap total mine, total-last (ofClass had rs) listed);
         missed = rw others (s .missed);
-        hadRows = rw mine (put-last (ofClass had rs) listed (t .had) 0 (s .hadMany) (s .hadRows) put);
+        hadRows = rw mine (put-last (ofClass had rs) listed (t .had) (s .hadMany) (s .hadRows) put);
         missingRows = rw others (s .missingRows);
       }
 
@@ -97,7 +97,7 @@ module _ (p : ℕ) (r : Range) (rs : List Stretch) {had₀ had₁ missing₀ mis
         received = rw others (s .received);
         missed = omega (arith, s .missed, ap total mine, total-last (ofClass missing rs) listed);
         hadRows = rw others (s .hadRows);
-        missingRows = rw mine (put-last (ofClass missing rs) listed (t .missing) 0 (s .missingMany) (s .missingRows) put);
+        missingRows = rw mine (put-last (ofClass missing rs) listed (t .missing) (s .missingMany) (s .missingRows) put);
       }
 
 -- ---- ranges one after another

@@ -9,10 +9,10 @@ use native.Mathlib.Omega.{arith}
 use borrow.Author.Tests.{eq-eqb, ne-eqb}
 use lib.Dec.{eqb}
 use lib.ListN.{length}
-use Rattle.partial.specs.Meaning.{supplies, supplier}
+use Rattle.partial.specs.Meaning.{supplies}
 use Rattle.partial.specs.Ranges.{missing, had}
 use Rattle.partial.specs.Segments.{Chunk}
-use Rattle.partial.specs.Sequences.{someOf, stretch}
+use Rattle.partial.specs.Sequences.{someOf}
 use Rattle.partial.proofs.Meaning.RunLaws.{supplies-true, does-supply, not-supply, comes, comes-true, never}
 use Rattle.partial.proofs.Meaning.SequenceLaws.{which, some-append}
 use Rattle.partial.proofs.Meaning.StretchLaws.{first-one, stretch-first}

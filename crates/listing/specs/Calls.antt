@@ -1,5 +1,5 @@
 -- Document 01, "Lists" and refusal 26: what listing answers, and what it leaves in the lent tables and lists.
-use Prim.Native.Nat.{ℕ, _≤_}
+use Prim.Native.Nat.{ℕ}
 use mathlib.Core.List.{List}
 use mathlib.Core.Path.{_≡_}
 use lib.ListN.{length}

@@ -4,7 +4,7 @@ use crate::ranges::Range;
 use crate::ranges::range_at;
 use gathering::rows::put_row;
 use partial::position::Position;
-ghost use Prim.Native.Nat.{_+_, _*_, _≤_};
+ghost use Prim.Native.Nat.{_+_, _*_};
 ghost use mathlib.Core.List.{[], _∷_};
 ghost use Rattle.gathering.specs.Rows.{Put};
 ghost use Rattle.serving.specs.Rows.{chunksIn};

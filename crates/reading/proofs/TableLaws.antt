@@ -1,6 +1,6 @@
 -- Laws of reading into the tables: what each test decides, and what both passes leave.
 use Prim.Native.Nat.{ℕ, _*_, _≤_, _<_}
-use mathlib.Core.Bool.{true, false, and-false}
+use mathlib.Core.Bool.{and-false}
 use mathlib.Core.List.{List}
 use mathlib.Core.Path.{_≡_, refl}
 use native.Mathlib.Omega.{arith}

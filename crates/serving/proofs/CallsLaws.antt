@@ -2,21 +2,18 @@
 use Prim.Native.Nat.{ℕ, zero, suc, _+_, _-_, _<_, _≤_}
 use mathlib.Core.Bool.{true, false}
 use mathlib.Core.List.{List, []}
-use mathlib.Core.Path.{_≡_, refl, sym, ap, subst, _∙_}
+use mathlib.Core.Path.{_≡_, sym, ap, _∙_}
 use native.Mathlib.Omega.{arith}
 use borrow.Author.Tests.{lt-ltb, le-ltb}
-use lib.Dec.{T, ltb}
 use lib.ListN.{length, getD, take, drop, length-take, length-drop}
-use Rattle.boxes.specs.Answer.{refused, given, _>>=_}
+use Rattle.boxes.specs.Answer.{refused, given}
 use Rattle.boxes.proofs.AnswerLaws.{given-same, both-given}
-use Rattle.partial.specs.Answers.{readAnswer, askedAnswer}
+use Rattle.partial.specs.Answers.{readAnswer}
 use Rattle.partial.specs.Limits.{sourceLimit}
-use Rattle.partial.specs.Meaning.{supplier, supplied, describedLength, isClosed, chunkFor, placeOfByte, servedRun, onward, reply, servedFor, missingFor, notBelow}
-use Rattle.partial.specs.Memory.{after, filled}
+use Rattle.partial.specs.Meaning.{supplier, supplied, describedLength, chunkFor, placeOfByte, servedRun, onward, reply, servedFor, missingFor, notBelow}
+use Rattle.partial.specs.Memory.{after}
 use Rattle.partial.specs.Segments.{Chunk, noChunk, Segment, chunksOf}
 use Rattle.partial.specs.Tables.{tabled, chunkRows, summary, Summary, servedPart, asked, bytesIn, nowhere}
-use Rattle.partial.specs.declared.answers.Asked.{Asked}
-use Rattle.partial.specs.declared.answers.Asked.the-variants as Asked
 use Rattle.partial.specs.declared.answers.Read.{Read}
 use Rattle.partial.specs.declared.answers.Read.the-variants as Read
 use Rattle.partial.specs.declared.position.Position.{Position}
@@ -24,8 +21,7 @@ use Rattle.partial.proofs.Meaning.RunLaws.{missing-run}
 use Rattle.partial.proofs.Meaning.ServingLaws.{beyond}
 use Rattle.partial.proofs.Reading.PartLaws.{headed-read, tabled-read}
 use Rattle.partial.proofs.Reading.ReadingLaws.{read-mapped}
-use Rattle.reading.specs.Parts.{HandedBack}
-use Rattle.reading.specs.Tables.{Filled, Reads}
+use Rattle.reading.specs.Tables.{Reads}
 use Rattle.reading.proofs.JudgedLaws.{first-refused}
 use Rattle.serving.specs.Calls.{partAt}
 use Rattle.serving.specs.Rows.{chunkIn, chunksFrom, chunksIn}

@@ -2,7 +2,7 @@
 -- the lent file is determined by where it lies and by its bytes.
 use Prim.Native.Nat.{ℕ}
 use mathlib.Core.List.{List}
-use mathlib.Core.Path.{_≡_, sym, ap, _∙_}
+use mathlib.Core.Path.{sym, _∙_}
 use denote.Ref.{now, ptr}
 use Rattle.numerals.proofs.Determined.{OneResult, OneLeft}
 use Rattle.boxes.proofs.ToldLaws.{Tells}

@@ -1,6 +1,6 @@
 -- `gathering::pass::pass` meets its contract. The loop's invariant: the segments so far were read, and the boxes that are left decide.
 use Prim.Native.Nat.{_+_, _≤_}
-use mathlib.Core.Path.{_≡_, refl, sym, ap, subst, _∙_}
+use mathlib.Core.Path.{_≡_, refl, sym, subst, _∙_}
 use native.Mathlib.Omega.{arith}
 use borrow.Author.Needs.{needs}
 use lib.ListN.{length}

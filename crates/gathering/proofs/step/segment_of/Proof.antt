@@ -1,14 +1,14 @@
 -- `gathering::step::segment_of` meets its contract: each test is one of the definition's.
 use Prim.Native.Nat.{ℕ, _+_, _≤_}
-use mathlib.Core.Path.{_≡_, refl, sym, ap, subst, _∙_}
+use mathlib.Core.Path.{sym, ap, subst, _∙_}
 use native.Mathlib.Omega.{arith}
 use borrow.Author.Needs.{needs}
 use Rattle.boxes.specs.Answer.{given}
-use Rattle.boxes.specs.Framing.{boxLimit, boxOf}
+use Rattle.boxes.specs.Framing.{boxLimit}
 use Rattle.boxes.proofs.ToldLaws.{box-fields}
 use Rattle.partial.specs.Limits.{chunkLimit}
 use Rattle.gathering.specs.Chunks.{Chunked}
-use Rattle.gathering.specs.Parts.{partsIn, partsOf, partsAnswer}
+use Rattle.gathering.specs.Parts.{partsAnswer}
 use Rattle.gathering.specs.Step.{Counted, Segmented}
 use Rattle.gathering.proofs.GatheredLaws.{gathered-chunks}
 use Rattle.gathering.proofs.StepLaws.{header-whole, segment-fault, segment-crowded, segment-far, segment-cut, segment-told}

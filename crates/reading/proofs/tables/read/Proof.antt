@@ -1,6 +1,5 @@
 -- `reading::tables::read` meets its contract: the judgement, then 26, then the pass that fills the tables.
-use Prim.Native.Nat.{ℕ, _*_, _≤_}
-use mathlib.Core.Path.{_≡_, refl, sym, ap, _∙_}
+use Prim.Native.Nat.{_*_, _≤_}
 use native.Mathlib.Omega.{arith}
 use lib.ListN.{length}
 use Rattle.partial.specs.Segments.{chunksOf}
