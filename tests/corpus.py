@@ -120,27 +120,26 @@ def differs(path, content):
         return file.read() != content
 
 
-def command(crate, contents, count, kinds):
+def command(crate, made, kinds, encoded, answers, most_bytes):
     """Writes what a crate is run on and is to write, or compares them; the exit status."""
-    paths = {os.path.join(crate, name): content for name, content in contents.items()}
+    stdin = b"".join(encoded(record) for record in made)
+    assert len(stdin) <= most_bytes, len(stdin)
+    stdout = "".join(answers(record) for record in made).encode("ascii")
+    paths = {os.path.join(crate, "stdin"): stdin, os.path.join(crate, "stdout"): stdout}
     if sys.argv[1:] == ["--check"]:
         wrong = [path for path, content in paths.items() if differs(path, content)]
-        print("\n".join("differs: " + path for path in wrong) or f"{count} records")
+        print("\n".join("differs: " + path for path in wrong) or f"{len(made)} records")
         return 1 if wrong else 0
     for path, content in paths.items():
         with open(path, "wb") as file:
             file.write(content)
-    print(f"{count} records: " + ", ".join(f"{kind}: {kinds[kind]}" for kind in sorted(kinds)))
+    print(f"{len(made)} records: " + ", ".join(f"{kind}: {kinds[kind]}" for kind in sorted(kinds)))
     return 0
 
 
 def main():
     made = records()
-    numbers = checked(made)
-    contents = {"stdin": b"".join(encoded(record) for record in made),
-                "stdout": "".join(answers(record) for record in made).encode("ascii")}
-    assert len(contents["stdin"]) <= MOST_BYTES, len(contents["stdin"])
-    return command(CRATE, contents, len(made), numbers)
+    return command(CRATE, made, checked(made), encoded, answers, MOST_BYTES)
 
 
 if __name__ == "__main__":

@@ -176,11 +176,7 @@ def checked(made):
 
 def main():
     made = records()
-    kinds = checked(made)
-    contents = {"stdin": b"".join(encoded(record) for record in made),
-                "stdout": "".join(answers(record) for record in made).encode("ascii")}
-    assert len(contents["stdin"]) <= MOST_BYTES, len(contents["stdin"])
-    return command(CRATE, contents, len(made), kinds)
+    return command(CRATE, made, checked(made), encoded, answers, MOST_BYTES)
 
 
 if __name__ == "__main__":
