@@ -1,4 +1,5 @@
 pub mod PartsLaws
+pub mod PutsLaws
 pub mod RowLaws
 pub mod SizeLaws
 pub mod GatheredLaws

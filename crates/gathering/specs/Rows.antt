@@ -12,6 +12,11 @@ pub record Put (before : List ℕ) (at : ℕ) (rows : List ℕ) (table : List �
   pub long : length table ≡ length before
   pub held : at + length rows ≤ length before → table ≡ stored before at rows
 
+-- numbers are put from one on, and they end at the next
+pub record Puts (before : List ℕ) (at : ℕ) (rows : List ℕ) (after : List ℕ) (next : ℕ) : Type 0 where
+  pub put : Put before at rows after
+  pub end : next ≡ at + length rows
+
 -- the row of a segment by the place of its box, the fields of its `pshd`, the number of its chunks, and its `pshd`
 abbrev pub rowBy : ℕ → Fields → ℕ → Box → List ℕ
 rowBy place fields count header =

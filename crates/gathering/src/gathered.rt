@@ -20,7 +20,7 @@ pub struct Gathered {
 }
 
 // Whether a segment of these flags and so many chunks makes the size of the source known: it is the last, and not open.
-fn gives_size(flags: u64, count: u64) -> bool
+pub fn gives_size(flags: u64, count: u64) -> bool
     ensures { λ r. ⌜ ((s : Segment) → flags ≡ s .flags → count ≡ length (s .chunks) → r ≡ givesSize s) ⌝ }
 {
     if flags % 2 != SegmentHeader::LAST_SEGMENT as u64 {

@@ -35,7 +35,7 @@ impl Sizes {
     }
 
     // With one segment more, that ends there and makes the size known or not.
-    pub(crate) fn with(self, end: u64, gives: bool) -> Self
+    pub fn with(self, end: u64, gives: bool) -> Self
         ensures { λ r. ⌜ ((ss : List Segment) (s : Segment) → self ≡ sizesOf ss → end ≡ endOf s → gives ≡ givesSize s → r ≡ sizesOf (ss ++ (s ∷ []))) ⌝ }
     {
         let mut sizes = self;

@@ -47,7 +47,7 @@ known-few {f = f} k = omega (arith, k .many, chunks-few sourceLimit f (k .h) (k 
 
 -- ---- the lists of a file
 
-ranges-by : (ss : List Segment) → ranges (classIn (chunksOf ss)) (describedLength ss) 0 ≡ rangesOf ss
+pub ranges-by : (ss : List Segment) → ranges (classIn (chunksOf ss)) (describedLength ss) 0 ≡ rangesOf ss
 unfolding rangesOf classOf classIn supplied
 ranges-by ss = refl
 

@@ -137,7 +137,7 @@ module _ (cs : List Chunk) (p end : ℕ) (some : p < end) {r : Range} (found : r
   pub found-class : r .class ≤ had
   found-class = omega (arith, kind, class-two cs p)
 
-  found-next : ranges (classIn cs) (end - p) p ≡ record { class = r .class; first = p; length = r .length } ∷ ranges (classIn cs) (end - (p + r .length)) (p + r .length)
+  pub found-next : ranges (classIn cs) (end - p) p ≡ record { class = r .class; first = p; length = r .length } ∷ ranges (classIn cs) (end - (p + r .length)) (p + r .length)
   found-next =
       let f = stretch-first (λ q. eqb (classIn cs q) (classIn cs p)) (end - p) p in
       let left : (end - p) - r .length ≡ end - (p + r .length) = omega arith in

@@ -15,7 +15,7 @@ ghost use Rattle.partial.specs.Segments.{Segment};
 ghost use Rattle.listing.specs.Calls.{Known, Counted, Listing};
 
 // The numbers of the rows of as many chunks as a file may have.
-const ALL_ROWS: usize = 6144;
+pub const ALL_ROWS: usize = 6144;
 
 // What the lists of an accepted file of so many chunks will hold. Its rows go into a table of our own, since nothing lent is touched before it is known
 // that both lists have room.

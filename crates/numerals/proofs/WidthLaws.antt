@@ -24,7 +24,7 @@ module _ (test : ℕ → Bool) where
   least-next more from h = rw (h, least)
 
   -- a number that passes, where no lesser one does, is the least; so is the last one
-  least-is : (more from w : ℕ) → from ≤ w → w ≤ from + more → ((k : ℕ) → from ≤ k → k < w → test k ≡ false)
+  pub least-is : (more from w : ℕ) → from ≤ w → w ≤ from + more → ((k : ℕ) → from ≤ k → k < w → test k ≡ false)
       → (w < from + more → test w ≡ true)
       → least test more from ≡ w
   unfolding least

@@ -8,3 +8,5 @@ pub const SEGMENT_LIMIT: u64 = 64;
 pub const CHUNK_LIMIT: u64 = 1_024;
 // The highest source position or end.
 pub const SOURCE_LIMIT: u64 = 4_294_967_295;
+// The most bytes that the map program takes.
+pub const PROGRAM_LIMIT: u64 = 65_536;

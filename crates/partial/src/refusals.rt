@@ -42,6 +42,8 @@ pub const OUTSIDE_DATA: u64 = 24;
 pub const SIZES_DIFFER: u64 = 25;
 // The file is acceptable, but a lent table or list is too short.
 pub const TABLE_TOO_SHORT: u64 = 26;
+// The input of the map program is over its limit.
+pub const INPUT_TOO_LONG: u64 = 27;
 // The stated length of a file exceeds its lent buffer.
 pub const LENGTH_OVER_BUFFER: u64 = 30;
 // The chunk list is of odd length, or has a size 0 or a state that is not 0, 1 or 2.

@@ -14,7 +14,9 @@ use Rattle.segment.proofs.data.held_at.Reads as held-at
 use Rattle.segment.proofs.entry.entry_at.Reads as entry-at
 use Rattle.segment.proofs.fields.fields_of.Reads as fields-of
 use Rattle.segment.proofs.location.location_of.Reads as location-of
+use Rattle.segment.proofs.state.present.Reads as present
 use Rattle.segment.proofs.state.state_of.Reads as state-of
+use Rattle.segment.proofs.sums.ends_by.Reads as ends-by
 
 fields-of-result : OneResult fields-of.Post
 fields-of-result κs args x y after after′ p q = fields-told x y (p ∙ sym q)
@@ -24,6 +26,12 @@ location-of-result κs args x y after after′ p q = location-told x y (p ∙ sy
 
 state-of-result : OneResult state-of.Post
 state-of-result κs args x y after after′ p q = state-told x y (p ∙ sym q)
+
+present-result : OneResult present.Post
+present-result κs args x y after after′ p q = p ∙ sym q
+
+ends-by-result : OneResult ends-by.Post
+ends-by-result κs args x y after after′ p q = p ∙ sym q
 
 entry-at-result : OneResult entry-at.Post
 entry-at-result κs args x y after after′ p q = entry-told x y (p ∙ sym q)

@@ -6,4 +6,4 @@ pub mod fields;
 pub mod location;
 mod placed;
 pub mod state;
-mod sums;
+pub mod sums;

@@ -35,7 +35,7 @@ pub fn state_of(flags: u8) -> StateRead
 }
 
 // Whether a chunk of that state is present.
-pub(crate) fn present(state: u64) -> bool
+pub fn present(state: u64) -> bool
     ensures { λ r. ⌜ r ≡ present state ⌝ }
 {
     if state == GOOD {

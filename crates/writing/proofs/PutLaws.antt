@@ -1,65 +1,26 @@
--- Laws of bytes that are put one behind the other: byte by byte, number by number, box by box.
-use Prim.Native.Nat.{ℕ, suc, _+_, _≤_, _<_}
-use mathlib.Core.List.{List, [], _∷_, _++_}
+-- Laws of bytes that are put one behind the other: number by number, box by box.
+use Prim.Native.Nat.{ℕ, _+_}
+use mathlib.Core.List.{List, _++_}
 use mathlib.Core.Path.{_≡_, sym, ap, subst, _∙_}
-use native.Mathlib.Omega.{arith}
-use lib.ListN.{length, take, drop, set, getD, length-append}
-use lib.Seq.{take-suc, length-take-le, set-split}
+use lib.ListN.{length}
 use Rattle.boxes.specs.Framing.{front, boxed}
 use Rattle.numerals.specs.Numbers.{bytesOf}
-use Rattle.numerals.specs.Stored.{stored}
 use Rattle.boxes.proofs.BoxedLaws.{front-size, length-front, boxed-parts}
 use Rattle.numerals.proofs.NumberLaws.{length-bytesOf}
-use Rattle.numerals.proofs.StoredLaws.{stored-room, stored-append, length-stored}
-use Rattle.gathering.specs.Rows.{Put}
-use Rattle.gathering.proofs.RowLaws.{put-stored, put-more}
-use Rattle.writing.specs.Puts.{Puts}
+use Rattle.gathering.specs.Rows.{Puts}
+use Rattle.gathering.proofs.PutsLaws.{puts-more}
 
 -- a header has eight bytes
 pub front-long : (kind n : ℕ) → length (front kind n) ≡ 8
 front-long kind n = length-front kind n ∙ front-size
 
--- a byte that is set is one byte stored
-set-stored : (s : List ℕ) (i d : ℕ) → i < length s → set s i d ≡ stored s i (d ∷ [])
-set-stored s i d inside =
-    let one : i + length (d ∷ []) ≡ suc i = omega arith in
-    set-split s i d inside ∙ sym (stored-room s i (d ∷ []) (omega arith) ∙ ap (λ (n : ℕ). take i s ++ (d ∷ drop n s)) one)
-
--- the step of a loop that copies bytes from the first to the last
-pub copied-more : (s : List ℕ) (at : ℕ) (bytes : List ℕ) (i : ℕ) → i < length bytes → at + length bytes ≤ length s
-    → set (stored s at (take i bytes)) (at + i) (getD bytes i 0) ≡ stored s at (take (suc i) bytes)
-copied-more s at bytes i less room =
-    let long : length (take i bytes) ≡ i = length-take-le i bytes (omega arith) in
-    let inside : at + length (take i bytes) ≤ length s = omega arith in
-    let same : length (stored s at (take i bytes)) ≡ length s = length-stored s at (take i bytes) inside in
-    set-stored (stored s at (take i bytes)) (at + i) (getD bytes i 0) (omega arith)
-    ∙ ap (λ (n : ℕ). stored (stored s at (take i bytes)) (at + n) (getD bytes i 0 ∷ [])) (sym long)
-    ∙ stored-append s at (take i bytes) (getD bytes i 0 ∷ []) (omega arith)
-    ∙ ap (stored s at) (sym (take-suc bytes i 0 less))
-
 module _ {s t : List ℕ} {at m : ℕ} where
-  -- bytes that are stored are put
-  pub puts-stored : (bytes : List ℕ) → t ≡ stored s at bytes → m ≡ at + length bytes → Puts s at bytes t m
-  puts-stored bytes e end = record { put = put-stored s at bytes e; end = end }
-
   -- where a number and a header end
   pub field-end : (w n : ℕ) → Puts s at (bytesOf w n) t m → m ≡ at + w
   field-end w n p = p .end ∙ rw length-bytesOf
 
   pub front-end : (kind n : ℕ) → Puts s at (front kind n) t m → m ≡ at + 8
   front-end kind n p = p .end ∙ rw front-long
-
-  -- the same bytes
-  pub puts-same : {a b : List ℕ} → a ≡ b → Puts s at a t m → Puts s at b t m
-  puts-same e p = subst (λ (bytes : List ℕ). Puts s at bytes t m) e p
-
-  -- bytes that are put behind others are put with them
-  pub puts-more : {a b : List ℕ} {u : List ℕ} {n : ℕ} → Puts s at a t m → Puts t m b u n → Puts s at (a ++ b) u n
-  puts-more {a} {b} {u} {n} p q =
-      record {
-        put = put-more at a b (p .put) (subst (λ (k : ℕ). Put t k b u) (p .end) (q .put));
-        end = q .end ∙ ap (λ (k : ℕ). k + length b) (p .end) ∙ omega (arith, length-append a b);
-      }
 
   -- a body that is put behind its header is put as a box
   pub puts-box : (kind : ℕ) {n : ℕ} {body : List ℕ} {u : List ℕ} {k : ℕ} → Puts s at (front kind n) t m → n ≡ length body → Puts t m body u k

@@ -1,3 +1,3 @@
-pub mod Puts
 pub mod Boxes
 pub mod Begin
+pub mod Append

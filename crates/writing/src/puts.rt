@@ -10,7 +10,7 @@ ghost use lib.ListN.{length};
 ghost use Rattle.boxes.specs.Framing.{frontSize, front};
 ghost use Rattle.numerals.specs.Numbers.{bytesOf, holds};
 ghost use Rattle.partial.specs.Limits.{fileLimit};
-ghost use Rattle.writing.specs.Puts.{Puts};
+ghost use Rattle.gathering.specs.Rows.{Puts};
 
 // Copies bytes to a place, from the first to the last, which the compiler makes one block copy.
 pub(crate) fn put_bytes(buffer: &mut [u8], at: Place, bytes: &[u8]) -> Place

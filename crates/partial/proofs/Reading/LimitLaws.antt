@@ -1,7 +1,9 @@
--- Laws of the limits: an accepted file has no more chunks than its limit.
+-- Laws of the limits: an accepted file has no more chunks than its limit, and its described length is no higher than the source may be.
 use Prim.Native.Nat.{ℕ, zero, suc, _+_, _≤_}
-use mathlib.Core.Bool.{true}
-use mathlib.Core.List.{List, [], _∷_, _++_}
+use mathlib.Core.Bool.{Bool, true, false}
+use mathlib.Core.List.{List, [], _∷_, _++_, map}
+use mathlib.Core.Logic.{⊎-elim}
+use mathlib.Core.Option.{some, Option·getD}
 use mathlib.Core.Path.{_≡_, sym, ap, _∙_}
 use native.Mathlib.Omega.{arith}
 use borrow.Author.Tests.{leb-true}
@@ -11,12 +13,15 @@ use Rattle.boxes.specs.Answer.{given}
 use Rattle.boxes.specs.Framing.{Box}
 use Rattle.boxes.specs.Kinds.{pseg, those}
 use Rattle.boxes.proofs.AnswerLaws.{given-same, both-given, held}
-use Rattle.partial.specs.Entries.{Ploc, Cursor, chunkStep, chunksFrom}
+use Rattle.partial.specs.Entries.{Ploc, Cursor, entry, placeOf, chunkStep, chunksFrom}
 use Rattle.partial.specs.Heading.{Heading}
 use Rattle.partial.specs.Limits.{segmentLimit, chunkLimit}
-use Rattle.partial.specs.Meaning.{agree}
+use Rattle.partial.specs.Meaning.{givesSize, knownSize, describedLength, isClosed, agree}
 use Rattle.partial.specs.Reading.{segment, segmentsFrom, segments}
-use Rattle.partial.specs.Segments.{Chunk, Segment, chunksOf}
+use Rattle.partial.specs.Segments.{Chunk, Segment, chunksOf, endOf}
+use Rattle.partial.specs.Sequences.{largest, sum}
+use Rattle.partial.proofs.Meaning.KnownLaws.{largest-both, described-open, described-closed}
+use Rattle.partial.proofs.Meaning.SequenceLaws.{which}
 use Rattle.partial.proofs.Meaning.SupplyLaws.{chunks-append}
 use Rattle.partial.proofs.Reading.KeptLaws.{stepped}
 
@@ -57,3 +62,71 @@ chunks-few limit f h e =
     let (ss, read, e) = both-given (segmentsFrom limit f h [] (those pseg (h .boxes))) _ e in
     let (_, same) = held 25 (agree ss) _ e in
     omega (arith, segments-few limit f h [] (those pseg (h .boxes)) (omega arith) read, ap (λ (ss : List Segment). length (chunksOf ss)) (given-same same))
+
+-- ---- no end is higher than the limit
+
+-- a chunk ends where the cursor stands behind it
+step-low : (limit : ℕ) (f : List ℕ) (h : Heading) (from : ℕ) (l : Ploc) (c : Cursor) {met : Chunk × Cursor} → chunkStep limit f h from l c ≡ given met
+    → (met .1 .start ≡ c .start + met .0 .size) × (met .1 .start ≤ limit)
+unfolding chunkStep
+step-low limit f h from l c e =
+    let (x, _, e) = both-given (entry f l (c .at)) _ e in
+    let (low, e) = held 23 (leb (c .start + x .size) limit) _ e in
+    let (_, _, e) = both-given (placeOf h from x) _ e in
+    let same = given-same e in
+    let ends = ap (λ (m : Chunk × Cursor). m .1 .start) same in
+    let size = ap (λ (m : Chunk × Cursor). m .0 .size) same in
+    (omega arith, omega (arith, leb-true (c .start + x .size) limit low))
+
+chunks-low : (limit : ℕ) (f : List ℕ) (h : Heading) (from : ℕ) (l : Ploc) (n : ℕ) (c : Cursor) {cs : List Chunk} → c .start ≤ limit
+    → chunksFrom limit f h from l n c ≡ given cs
+    → c .start + sum (map (λ c. c .size) cs) ≤ limit
+unfolding chunksFrom sum
+chunks-low limit f h from l zero c low e =
+    omega (arith, ap (λ (cs : List Chunk). sum (map (λ c. c .size) cs)) (given-same (held 17 (eqb (c .at) (l .end)) _ e .1)))
+chunks-low limit f h from l (suc n) c low e =
+    let (met, read, e) = both-given (chunkStep limit f h from l c) _ e in
+    let (rest, others, e) = both-given (chunksFrom limit f h from l n (met .1)) _ e in
+    let (ends, below) = step-low limit f h from l c read in
+    omega (arith, chunks-low limit f h from l n (met .1) below others, ap (λ (cs : List Chunk). sum (map (λ c. c .size) cs)) (given-same e))
+
+segment-low : (limit : ℕ) (f : List ℕ) (h : Heading) (before : List Segment) (b : Box) {s : Segment} → segment limit f h before b ≡ given s → endOf s ≤ limit
+unfolding endOf
+segment-low limit f h before b e =
+    let (inner, l, cs, t, same) = stepped limit f h before b e in
+    let all = chunks-low limit f h (b .at) l (l .count) _ (leb-true _ limit (t .low)) (t .chunks) in
+    omega (arith, all, ap endOf same)
+
+segments-low : (limit : ℕ) (f : List ℕ) (h : Heading) (before : List Segment) (bs : List Box) {ss : List Segment} → largest (map endOf before) ≤ limit
+    → segmentsFrom limit f h before bs ≡ given ss
+    → largest (map endOf ss) ≤ limit
+unfolding segmentsFrom largest
+segments-low limit f h before [] low e = omega (arith, ap (λ (ss : List Segment). largest (map endOf ss)) (given-same e))
+segments-low limit f h before (b ∷ bs) low e =
+    let (s, read, e) = both-given (segment limit f h before b) _ e in
+    let one = segment-low limit f h before b read in
+    let with = largest-both endOf before (s ∷ []) in
+    segments-low limit f h (before ++ (s ∷ [])) bs (omega arith) e
+
+-- a known size is the end of some segment
+known-most : (ss : List Segment) → Option·getD (knownSize ss) 0 ≤ largest (map endOf ss)
+unfolding knownSize largest
+known-most [] = omega arith
+known-most (s ∷ ss) = go (givesSize s) (known-most ss)
+  where
+    go : (gives : Bool) → Option·getD (knownSize ss) 0 ≤ largest (map endOf ss) → Option·getD {A = ℕ} (elim gives [ true ↦ some (endOf s) | false ↦ knownSize ss ]) 0 ≤ largest (map endOf (s ∷ ss))
+    go true low = omega arith
+    go false low = omega arith
+
+described-most : (ss : List Segment) → describedLength ss ≤ largest (map endOf ss)
+described-most ss =
+    ⊎-elim (λ closed. omega (arith, described-closed ss closed, known-most ss)) (λ not-known. omega (arith, described-open ss not-known)) (which (isClosed ss))
+
+pub described-low : (limit : ℕ) (f : List ℕ) (h : Heading) {ss : List Segment} → segments limit f h ≡ given ss → describedLength ss ≤ limit
+unfolding segments largest
+described-low limit f h {ss = all} e =
+    let (_, e) = held 13 (leb (length (those pseg (h .boxes))) segmentLimit) _ e in
+    let (ss, read, e) = both-given (segmentsFrom limit f h [] (those pseg (h .boxes))) _ e in
+    let (_, same) = held 25 (agree ss) _ e in
+    let low = segments-low limit f h [] (those pseg (h .boxes)) (omega arith) read in
+    omega (arith, low, described-most all, ap (λ (ss : List Segment). largest (map endOf ss)) (given-same same))

@@ -9,7 +9,7 @@ use lib.ListN.{length, take, set, getD}
 use lib.Seq.{take-length}
 use Rattle.numerals.specs.Stored.{stored}
 use Rattle.gathering.proofs.RowLaws.{row-none}
-use Rattle.writing.proofs.PutLaws.{copied-more, puts-stored}
+use Rattle.gathering.proofs.PutsLaws.{copied-more, puts-stored}
 use Rattle.writing.proofs.puts.put_bytes.Statement.{statement}
 use Rattle.writing.proofs.puts.put_bytes.Tie as tie
 
