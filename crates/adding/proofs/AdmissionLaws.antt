@@ -1,0 +1,158 @@
+-- Laws of what append is refused by what was read of the file and counted of the addition: each test, and the answer by the first that fails.
+use Prim.Native.Nat.{ℕ, _+_, _-_, _%_, _^_, _≤_, _<_, min}
+use mathlib.Core.Bool.{Bool, true, false}
+use mathlib.Core.List.{List, [], _∷_, _++_, map}
+use mathlib.Core.Logic.{inl, inr}
+use mathlib.Core.Path.{_≡_, refl, sym, ap, ap₂, _∙_}
+use native.Mathlib.Nat.{mod-lt}
+use native.Mathlib.Decide.{decLe}
+use native.Mathlib.Omega.{arith}
+use borrow.Author.Tests.{le-leb, lt-leb, leb-true, eqb-true, eqb-false}
+use lib.Dec.{leb, lit<}
+use lib.ListN.{length}
+use Rattle.boxes.specs.Answer.{refused, given}
+use Rattle.boxes.specs.Framing.{boxLimit}
+use Rattle.partial.specs.Addition.{Addition, Item, items, flagsFor, anyPresent}
+use Rattle.partial.specs.Append.{added, addedBoxes, newSegment, psegPlace, admission}
+use Rattle.partial.specs.Heading.{Heading}
+use Rattle.partial.specs.Limits.{fileLimit, segmentLimit, chunkLimit, sourceLimit}
+use Rattle.partial.specs.Meaning.{agree}
+use Rattle.partial.specs.Reading.{admitted}
+use Rattle.partial.specs.Segments.{Segment, isLast, present, endOf, chunksOf}
+use Rattle.partial.specs.Sequences.{someOf, sum}
+use Rattle.partial.specs.declared.header.SegmentHeader.{SegmentHeader}
+use Rattle.partial.proofs.Meaning.SequenceLaws.{which}
+use Rattle.partial.proofs.Writing.NewSegmentLaws.{length-new, end-new}
+use Rattle.gathering.proofs.GatheredLaws.{gathered-segments, gathered-chunks}
+use Rattle.reading.specs.declared.judging.Judged.{Judged}
+use Rattle.adding.specs.Admission.{Beside, Asked, admittedLength}
+use Rattle.adding.specs.Counts.{presentOf, Counted}
+use Rattle.adding.specs.declared.counts.Counts.{Counts}
+use Rattle.adding.proofs.CountLaws.{counted-items, counted-present, counted-sum}
+
+-- a sum ends by a limit or not, also where a part of it is cut above the limit
+pub capped-ends : (n m limit top : ℕ) → limit < top → leb (n + min m top) limit ≡ leb (n + m) limit
+capped-ends n m limit top above =
+    elim (decLe (n + m) limit) [
+      | yes low ↦ le-leb (n + min m top) limit (omega arith) ∙ sym (le-leb (n + m) limit low)
+      | no over ↦ lt-leb (n + min m top) limit (omega arith) ∙ sym (lt-leb (n + m) limit (omega arith))
+    ]
+
+-- whether any is present, by how many are
+none-present : (is : List Item) → presentOf is ≡ 0 → someOf (λ i. present (i .state)) is ≡ false
+unfolding presentOf someOf sum
+none-present [] none = refl
+none-present (i ∷ is) none =
+    elim (which (present (i .state))) [
+      | inl e ↦ absurd (omega (arith, rw e at none))
+      | inr e ↦ rw e (none-present is (omega (arith, rw e at none)))
+    ]
+
+some-present : (is : List Item) → (presentOf is ≡ 0 → ⊥) → someOf (λ i. present (i .state)) is ≡ true
+unfolding presentOf someOf sum
+some-present [] some = absurd (some refl)
+some-present (i ∷ is) some =
+    elim (which (present (i .state))) [
+      | inl e ↦ rw e
+      | inr e ↦ rw e (some-present is (λ h. (rw e at some) (omega arith)))
+    ]
+
+module _ {a : Addition} {c : Counts} (counted : Counted a c) where
+  pub boxes-none : c .present ≡ 0 → 1 ≡ addedBoxes a
+  unfolding addedBoxes anyPresent
+  boxes-none none = sym (rw (addedBoxes, anyPresent, none-present (items (a .list)) (sym (counted-present (items (a .list)) (counted .items .counts)) ∙ none)))
+
+  pub boxes-some : (c .present ≡ 0 → ⊥) → 2 ≡ addedBoxes a
+  unfolding addedBoxes anyPresent
+  boxes-some some = sym (rw (addedBoxes, anyPresent, some-present (items (a .list)) (λ h. some (counted-present (items (a .list)) (counted .items .counts) ∙ h))))
+
+-- the flags of a header that asks for last_segment or not, but for its other flags
+flags-last : (flags : ℕ) (last : Bool) → isLast flags ≡ last → flags % 2 ≡ flagsFor last
+unfolding isLast
+flags-last flags true e = eqb-true (flags % 2) 1 e
+flags-last flags false e = even (flags % 2) (mod-lt flags (lit< tt)) (eqb-false (flags % 2) 1 e)
+  where
+    even : (m : ℕ) → m < 2 → (m ≡ 1 → ⊥) → m ≡ 0
+    even m small other = omega (arith, other)
+
+-- the segment that an addition to a file of n bytes makes
+abbrev pub new : ℕ → Addition → Segment
+new n a = newSegment (psegPlace n a) a
+
+-- the tests, by what the code has at hand
+module _ {h : Heading} {ss : List Segment} {j : Judged} {a : Addition} {header : SegmentHeader} {c : Counts} (n : ℕ) (beside : Beside h ss j) (asked : Asked a header c) where
+  pub file-test : {size : ℕ} {b : Bool} → size ≡ min (length (added a)) (fileLimit + 1) → b ≡ leb (n + size) fileLimit
+      → b ≡ leb (n + length (added a)) fileLimit
+  file-test size test =
+      test ∙ ap (λ (m : ℕ). leb (n + m) fileLimit) size ∙ capped-ends n (length (added a)) fileLimit (fileLimit + 1) (omega arith)
+
+  pub size-whole : {size : ℕ} → size ≡ min (length (added a)) (fileLimit + 1) → true ≡ leb (n + length (added a)) fileLimit → size ≡ length (added a)
+  size-whole size test = omega (arith, leb-true (n + length (added a)) fileLimit (sym test))
+
+  pub box-test : {more : ℕ} {b : Bool} → more ≡ addedBoxes a → b ≡ leb (j .head .boxes + more) 512 → b ≡ leb (length (h .boxes) + addedBoxes a) boxLimit
+  unfolding boxLimit
+  box-test more test = test ∙ ap₂ (λ (n m : ℕ). leb (n + m) 512) (beside .boxes) more
+
+  pub segments-full : segmentLimit ≤ j .gathered .segments → leb (length ss + 1) segmentLimit ≡ false
+  segments-full full = lt-leb (length ss + 1) segmentLimit (omega (arith, gathered-segments ss (beside .segments)))
+
+  pub segments-few : j .gathered .segments < segmentLimit → leb (length ss + 1) segmentLimit ≡ true
+  segments-few few = le-leb (length ss + 1) segmentLimit (omega (arith, gathered-segments ss (beside .segments)))
+
+  pub items-new : c .items ≡ length (new n a .chunks)
+  items-new = counted-items (items (a .list)) (asked .counted .items .counts) ∙ sym (length-new (psegPlace n a) a)
+
+  pub chunk-test : {b : Bool} → b ≡ leb (j .gathered .chunks + c .items) chunkLimit → b ≡ leb (length (chunksOf ss) + length (new n a .chunks)) chunkLimit
+  chunk-test test = test ∙ ap₂ (λ (n m : ℕ). leb (n + m) chunkLimit) (gathered-chunks ss (beside .segments)) items-new
+
+  sum-of : c .sum ≡ min (sum (map (λ i. i .size) (items (a .list)))) (2 ^ 64 - 1)
+  sum-of = counted-sum (items (a .list)) (asked .counted .items .counts)
+
+  pub source-test : {b : Bool} → b ≡ leb (header .offset .0 + c .sum) sourceLimit → b ≡ leb (endOf (new n a)) sourceLimit
+  source-test test =
+      test
+      ∙ ap₂ (λ (n m : ℕ). leb (n + m) sourceLimit) (asked .offset) sum-of
+      ∙ capped-ends (a .sourceOffset) (sum (map (λ i. i .size) (items (a .list)))) sourceLimit (2 ^ 64 - 1) (omega arith)
+      ∙ ap (λ (m : ℕ). leb m sourceLimit) (sym (end-new (psegPlace n a) a))
+
+  pub source-end : true ≡ leb (header .offset .0 + c .sum) sourceLimit → header .offset .0 + c .sum ≡ endOf (new n a)
+  source-end test = omega (arith, leb-true (header .offset .0 + c .sum) sourceLimit (sym test), asked .offset, sum-of, end-new (psegPlace n a) a)
+
+  pub flags-new : header .flags % 2 ≡ new n a .flags
+  unfolding newSegment
+  flags-new = flags-last (header .flags) (a .last) (asked .last)
+
+-- the answer, by the first test that fails
+module _ (h : Heading) (ss : List Segment) (n : ℕ) (a : Addition) where
+  pub admission-1 : false ≡ leb (n + length (added a)) fileLimit → refused 1 ≡ admittedLength h ss n a
+  unfolding admittedLength admission
+  admission-1 over = rw (← over)
+
+  module _ (small : true ≡ leb (n + length (added a)) fileLimit) where
+    pub admission-6 : false ≡ leb (length (h .boxes) + addedBoxes a) boxLimit → refused 6 ≡ admittedLength h ss n a
+    unfolding admittedLength admission
+    admission-6 over = rw (← small, ← over)
+
+    module _ (boxes : true ≡ leb (length (h .boxes) + addedBoxes a) boxLimit) where
+      pub admission-13 : leb (length ss + 1) segmentLimit ≡ false → refused 13 ≡ admittedLength h ss n a
+      unfolding admittedLength admission admitted
+      admission-13 over = rw (← small, ← boxes, over)
+
+      module _ (few : leb (length ss + 1) segmentLimit ≡ true) where
+        pub admission-22 : false ≡ leb (length (chunksOf ss) + length (new n a .chunks)) chunkLimit → refused 22 ≡ admittedLength h ss n a
+        unfolding admittedLength admission admitted
+        admission-22 over = rw (← small, ← boxes, few, ← over)
+
+        module _ (chunks : true ≡ leb (length (chunksOf ss) + length (new n a .chunks)) chunkLimit) where
+          pub admission-23 : false ≡ leb (endOf (new n a)) sourceLimit → refused 23 ≡ admittedLength h ss n a
+          unfolding admittedLength admission admitted
+          admission-23 over = rw (← small, ← boxes, few, ← chunks, ← over)
+
+          module _ (low : true ≡ leb (endOf (new n a)) sourceLimit) where
+            pub admission-25 : false ≡ agree (ss ++ (new n a ∷ [])) → refused 25 ≡ admittedLength h ss n a
+            unfolding admittedLength admission admitted
+            admission-25 differ = rw (← small, ← boxes, few, ← chunks, ← low, ← differ)
+
+            pub admission-given : true ≡ agree (ss ++ (new n a ∷ [])) → given (n + length (added a)) ≡ admittedLength h ss n a
+            unfolding admittedLength admission admitted
+            admission-given same = rw (← small, ← boxes, few, ← chunks, ← low, ← same)

@@ -1,0 +1,156 @@
+-- Laws of the lengths of what append adds: the entries and the body of a `ploc`, the body of a `pseg`, the data; and where they are cut.
+use Prim.Native.Nat.{ℕ, _+_, _*_, _≤_, min}
+use mathlib.Core.Bool.{Bool, true, false}
+use mathlib.Core.List.{List, [], _∷_, _++_}
+use mathlib.Core.Logic.{inl, inr}
+use mathlib.Core.Path.{_≡_, refl, sym, ap, _∙_}
+use native.Mathlib.Nat.{zero-add}
+use native.Mathlib.Omega.{arith}
+use borrow.Author.Tests.{leb-true, leb-false}
+use lib.Dec.{leb}
+use lib.ListN.{length, length-append}
+use Rattle.numerals.proofs.NumberLaws.{length-bytesOf}
+use Rattle.numerals.specs.Numbers.{bytesOf, twosComplement}
+use Rattle.boxes.specs.Framing.{boxed}
+use Rattle.boxes.specs.Kinds.{pdat}
+use Rattle.boxes.proofs.BoxedLaws.{front-size, length-boxed}
+use Rattle.partial.specs.Sequences.{someOf, sum}
+use Rattle.partial.specs.Segments.{present}
+use Rattle.partial.specs.Limits.{fileLimit}
+use Rattle.partial.specs.Reading.{offsetWidth}
+use Rattle.partial.specs.Addition.{Addition, Item, items, anyPresent}
+use Rattle.partial.specs.Append.{Placed, placed, flagByte, entryBytes, lengthSize, offsetSize, plocBody, versionFor, psegBody, dataBox}
+use Rattle.partial.proofs.Meaning.SequenceLaws.{which}
+use Rattle.partial.proofs.Writing.FieldsBackLaws.{length-pshd}
+use Rattle.adding.specs.Counts.{presentOf, countsOf, Whole}
+use Rattle.adding.specs.declared.counts.Counts.{Counts}
+use Rattle.adding.proofs.CountLaws.{present-most}
+
+-- of no item, and with one more
+present-none : presentOf [] ≡ 0
+unfolding presentOf sum
+present-none = refl
+
+module _ (i : Item) (is : List Item) where
+  pub present-there : present (i .state) ≡ true → presentOf (i ∷ is) ≡ 1 + presentOf is
+  unfolding presentOf sum
+  present-there e = rw e
+
+  pub present-lost : present (i .state) ≡ false → presentOf (i ∷ is) ≡ presentOf is
+  unfolding presentOf sum
+  present-lost e = rw e (zero-add _)
+
+-- one entry of a `ploc`
+entry-parts : (flag : ℕ) (s t more : List ℕ) → length (flag ∷ (s ++ (t ++ more))) ≡ 1 + length s + length t + length more
+entry-parts flag s t more = simp (length-append) (omega arith)
+
+module _ (l o : ℕ) (p : Placed) (ps : List Placed) where
+  abbrev entryWith : Bool → List ℕ
+  entryWith there =
+      flagByte (p .state)
+      ∷ (bytesOf l (p .size) ++ (elim there [ true ↦ bytesOf o (twosComplement o (p .offset)) | false ↦ [] ] ++ entryBytes l o ps))
+
+  entry-there : present (p .state) ≡ true → length (entryBytes l o (p ∷ ps)) ≡ 1 + l + o + length (entryBytes l o ps)
+  unfolding entryBytes
+  entry-there e =
+      ap (λ (there : Bool). length (entryWith there)) e
+      ∙ entry-parts (flagByte (p .state)) (bytesOf l (p .size)) (bytesOf o (twosComplement o (p .offset))) (entryBytes l o ps)
+      ∙ omega (arith, length-bytesOf l (p .size), length-bytesOf o (twosComplement o (p .offset)))
+
+  entry-lost : present (p .state) ≡ false → length (entryBytes l o (p ∷ ps)) ≡ 1 + l + length (entryBytes l o ps)
+  unfolding entryBytes
+  entry-lost e =
+      ap (λ (there : Bool). length (entryWith there)) e
+      ∙ entry-parts (flagByte (p .state)) (bytesOf l (p .size)) [] (entryBytes l o ps)
+      ∙ omega (arith, length-bytesOf l (p .size))
+
+-- the entries: a flag byte and a size for each item, an offset for each that is present
+pub entries-long : (l o : ℕ) (is : List Item) → length (entryBytes l o (placed is)) ≡ length is * (1 + l) + presentOf is * o
+unfolding entryBytes placed
+entries-long l o [] = rw present-none (omega arith)
+entries-long l o (i ∷ is) =
+    let rest = entries-long l o is in
+    elim (which (present (i .state))) [
+      | inl e ↦ rw (present-there i is e) (entry-there l o _ (placed is) e ∙ omega (arith, rest))
+      | inr e ↦ rw (present-lost i is e) (entry-lost l o _ (placed is) e ∙ omega (arith, rest))
+    ]
+
+-- the body of a `ploc`
+pub ploc-long : (is : List Item) → length (plocBody (placed is)) ≡ 9 + (length is * (1 + lengthSize (placed is)) + presentOf is * offsetSize (placed is))
+unfolding plocBody
+ploc-long is = simp (length-append, length-bytesOf, entries-long) (omega arith)
+
+-- where the items are cut, so is the whole: each has a byte
+pub ploc-cut : (n p l o : ℕ) → p ≤ n
+    → min (9 + min n (fileLimit + 1) * (1 + l) + min p (fileLimit + 1) * o) (fileLimit + 1) ≡ min (9 + (n * (1 + l) + p * o)) (fileLimit + 1)
+ploc-cut n p l o few =
+    elim (which (leb n (fileLimit + 1))) [
+      | inl e ↦
+          let low = leb-true n (fileLimit + 1) e in
+          let all : min n (fileLimit + 1) ≡ n = omega arith in
+          let those : min p (fileLimit + 1) ≡ p = omega arith in
+          rw (all, those) (omega arith)
+      | inr e ↦
+          let high = leb-false n (fileLimit + 1) e in
+          let all : min n (fileLimit + 1) ≡ fileLimit + 1 = omega arith in
+          rw all (omega arith)
+    ]
+
+-- the body of a `pseg`
+pub pseg-long : (a : Addition) → length (psegBody a) ≡ 28 + offsetWidth (versionFor (a .sourceOffset)) + length (plocBody (placed (items (a .list))))
+unfolding psegBody
+pseg-long a = simp (length-append, length-boxed, front-size, length-pshd) (omega arith)
+
+-- whether any item is present
+any-none : (is : List Item) → presentOf is ≡ 0 → someOf (λ i. present (i .state)) is ≡ false
+unfolding someOf
+any-none [] none = refl
+any-none (i ∷ is) none =
+    elim (which (present (i .state))) [
+      | inl e ↦ absurd (omega (arith, present-there i is e))
+      | inr e ↦ rw (someOf, e) (any-none is (sym (present-lost i is e) ∙ none))
+    ]
+
+any-some : (is : List Item) → (presentOf is ≡ 0 → ⊥) → someOf (λ i. present (i .state)) is ≡ true
+unfolding someOf
+any-some [] some = absurd (some present-none)
+any-some (i ∷ is) some =
+    elim (which (present (i .state))) [
+      | inl e ↦ rw (someOf, e)
+      | inr e ↦ rw (someOf, e) (any-some is (λ none. some (present-lost i is e ∙ none)))
+    ]
+
+-- the box with the data
+module _ (a : Addition) where
+  abbrev dataWith : Bool → List ℕ
+  dataWith there = elim there [ true ↦ boxed (pdat .code) (a .bytes) | false ↦ [] ]
+
+  pub data-none : presentOf (items (a .list)) ≡ 0 → length (dataBox a) ≡ 0
+  unfolding dataBox anyPresent
+  data-none none = ap (λ (there : Bool). length (dataWith there)) (any-none (items (a .list)) none)
+
+  pub data-some : (presentOf (items (a .list)) ≡ 0 → ⊥) → length (dataBox a) ≡ 8 + length (a .bytes)
+  unfolding dataBox anyPresent
+  data-some some =
+      ap (λ (there : Bool). length (dataWith there)) (any-some (items (a .list)) some)
+      ∙ length-boxed (pdat .code) (a .bytes)
+      ∙ omega (arith, front-size)
+
+-- how many there are and are present, by what was counted
+module _ (is : List Item) (c : Counts) (whole : Whole is c) where
+  pub items-counted : c .items ≡ length is
+  unfolding countsOf
+  items-counted = ap (λ (x : Counts). x .items) (whole .counts)
+
+  pub present-counted : c .present ≡ presentOf is
+  unfolding countsOf
+  present-counted = ap (λ (x : Counts). x .present) (whole .counts)
+
+  -- the body of a `ploc`, by the counts cut and the widths
+  pub ploc-counted : (n p l o : ℕ) → n ≡ min (c .items) (fileLimit + 1) → p ≡ min (c .present) (fileLimit + 1)
+      → l ≡ lengthSize (placed is)
+      → o ≡ offsetSize (placed is)
+      → min (9 + n * (1 + l) + p * o) (fileLimit + 1) ≡ min (length (plocBody (placed is))) (fileLimit + 1)
+  ploc-counted n p l o n-is p-is l-is o-is =
+      rw (n-is, p-is, l-is, o-is, items-counted, present-counted, ploc-long is)
+      (ploc-cut (length is) (presentOf is) (lengthSize (placed is)) (offsetSize (placed is)) (present-most is))

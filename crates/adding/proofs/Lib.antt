@@ -1,0 +1,6 @@
+pub mod AdmissionLaws
+pub mod CountLaws
+pub mod Determined
+pub mod LengthLaws
+pub mod SizesDetermined
+pub mod WidthLaws

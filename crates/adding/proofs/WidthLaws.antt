@@ -1,0 +1,109 @@
+-- Laws of the widths that append writes: the least that holds the largest size, and the least that holds all data.
+use Prim.Native.Nat.{ℕ, _+_, _≤_, _<_, _^_, max}
+use mathlib.Core.Bool.{false, _&&_}
+use mathlib.Core.List.{List, [], _∷_, map}
+use mathlib.Core.Logic.{inl, inr}
+use mathlib.Core.Path.{_≡_, refl, sym, ap, _∙_}
+use native.Mathlib.Nat.{zero-add}
+use native.Mathlib.Omega.{arith}
+use borrow.Author.Tests.{ltb-false}
+use lib.Dec.{eqb}
+use Rattle.numerals.specs.Numbers.{holds, holdsOffset, leastWidth}
+use Rattle.numerals.specs.declared.numbers.Offset.the-variants.{Back}
+use Rattle.numerals.proofs.NumberLaws.{power-pos}
+use Rattle.numerals.proofs.WidthLaws.{leastWidth-same, below-holds, over-holds, holds-below, below-ahead, within-back, back-within}
+use Rattle.partial.specs.Sequences.{allOf, largest, sum}
+use Rattle.partial.specs.Segments.{present}
+use Rattle.partial.specs.Reading.{offsetWidth}
+use Rattle.partial.specs.Addition.{Item, dataSize}
+use Rattle.partial.specs.Append.{placed, lengthSize, offsetSize, versionFor}
+use Rattle.partial.proofs.Meaning.SequenceLaws.{which}
+use Rattle.partial.proofs.Writing.PlacedLaws.{data-on}
+use Rattle.adding.specs.Counts.{Whole, countsOf}
+use Rattle.adding.specs.declared.counts.Counts.{Counts}
+
+holds-over : (w n : ℕ) → holds w n ≡ false → 256 ^ w ≤ n
+unfolding holds
+holds-over w n h = ltb-false n (256 ^ w) h
+
+-- w bytes hold two numbers where they hold the larger
+holds-max : (w a b : ℕ) → (holds w a && holds w b) ≡ holds w (max a b)
+holds-max w a b =
+    elim (which (holds w a)) [
+      | inl e ↦
+          elim (which (holds w b)) [
+            | inl f ↦ rw (e, f) (sym (below-holds w (max a b) (omega (arith, holds-below w a e, holds-below w b f))))
+            | inr f ↦ rw (e, f) (sym (over-holds w (max a b) (omega (arith, holds-over w b f))))
+          ]
+      | inr e ↦ rw e (sym (over-holds w (max a b) (omega (arith, holds-over w a e))))
+    ]
+
+-- w bytes hold every size where they hold the largest
+pub sizes-hold : (w : ℕ) (is : List Item) → allOf (λ p. holds w (p .size)) (placed is) ≡ holds w (largest (map (λ i. i .size) is))
+unfolding allOf placed largest
+sizes-hold w [] = sym (below-holds w 0 (power-pos w))
+sizes-hold w (i ∷ is) = rw (sizes-hold w is) (holds-max w (i .size) (largest (map (λ i. i .size) is)))
+
+-- what holds data holds less
+back-less : (w n m : ℕ) → m ≤ n → (holdsOffset w (Back n) && holdsOffset w (Back m)) ≡ holdsOffset w (Back n)
+back-less w n m less =
+    elim (which (holdsOffset w (Back n))) [
+      | inl e ↦ rw (e, within-back w m (omega (arith, back-within w n e)))
+      | inr e ↦ rw e
+    ]
+
+-- no item has no data, and one without data adds none
+data-nothing : dataSize [] ≡ 0
+unfolding dataSize sum
+data-nothing = refl
+
+pub data-lost : (i : Item) (is : List Item) → present (i .state) ≡ false → dataSize (i ∷ is) ≡ dataSize is
+unfolding dataSize sum
+data-lost i is e = rw e (zero-add _)
+
+-- w bytes hold every offset where they hold that of all data
+pub offsets-hold : (w : ℕ) (is : List Item) → allOf (λ p. holdsOffset w (p .offset)) (placed is) ≡ holdsOffset w (Back (dataSize is))
+unfolding allOf placed
+offsets-hold w [] = sym (within-back w (dataSize []) (omega (arith, data-nothing)))
+offsets-hold w (i ∷ is) =
+    let rest = offsets-hold w is in
+    elim (which (present (i .state))) [
+      | inl e ↦ rw (placed, e, allOf, rest) (back-less w (dataSize (i ∷ is)) (dataSize is) (data-on i is .0))
+      | inr e ↦ rw (placed, e, allOf, below-ahead w 0 (power-pos w), rest) (ap (λ (n : ℕ). holdsOffset w (Back n)) (sym (data-lost i is e)))
+    ]
+
+-- the widths, by what was counted
+module _ (is : List Item) (c : Counts) (whole : Whole is c) where
+  pub length-wide : leastWidth (λ w. holds w (c .largest)) ≡ lengthSize (placed is)
+  unfolding lengthSize countsOf
+  length-wide = leastWidth-same _ _ (λ k _. ap (λ (x : Counts). holds k (x .largest)) (whole .counts) ∙ sym (sizes-hold k is))
+
+  pub offset-wide : leastWidth (λ w. holdsOffset w (Back (c .bytes))) ≡ offsetSize (placed is)
+  unfolding offsetSize
+  offset-wide = leastWidth-same _ _ (λ k _. ap (λ (n : ℕ). holdsOffset k (Back n)) (whole .bytes) ∙ sym (offsets-hold k is))
+
+-- the bytes of a source offset, by the version that it needs
+module _ (n : ℕ) where
+  pub offset-near : n ≤ 0xffff_ffff → offsetWidth (versionFor n) ≡ 4
+  unfolding versionFor offsetWidth
+  offset-near h = rw (versionFor, below-holds 4 n (omega arith))
+
+  pub offset-far : 0xffff_ffff < n → offsetWidth (versionFor n) ≡ 8
+  unfolding versionFor offsetWidth
+  offset-far h = rw (versionFor, over-holds 4 n (omega arith))
+
+offset-most : (version : ℕ) → offsetWidth version ≤ 8
+unfolding offsetWidth
+offset-most version =
+    elim (which (eqb version 0)) [
+      | inl e ↦ rw (offsetWidth, e) (omega arith)
+      | inr e ↦ rw (offsetWidth, e) (omega arith)
+    ]
+
+-- the body of a `pshd` is short
+module _ (n version : ℕ) where
+  pub offset-short : n ≡ offsetWidth version → n ≤ 8
+  offset-short e = rw e (offset-most version)
+
+  pub pshd-short : n ≡ 12 + offsetWidth version → n ≤ 20
+  pshd-short e = omega (arith, e, offset-most version)

@@ -1,0 +1,33 @@
+-- Document 01, "Append": "1, 6, 13, 22, 23 or 25 if the result would have it", by what was read of the file and counted of the addition.
+use Prim.Native.Nat.{ℕ, _+_}
+use mathlib.Core.List.{List}
+use mathlib.Core.Path.{_≡_}
+use lib.ListN.{length}
+use Rattle.boxes.specs.Answer.{Answer, given, _>>=_}
+use Rattle.partial.specs.Addition.{Addition}
+use Rattle.partial.specs.Append.{added, admission}
+use Rattle.partial.specs.Heading.{Heading}
+use Rattle.partial.specs.Limits.{sourceLimit}
+use Rattle.partial.specs.Segments.{Segment, isLast}
+use Rattle.partial.specs.declared.header.SegmentHeader.{SegmentHeader}
+use Rattle.gathering.specs.Gathered.{gatheredOf}
+use Rattle.reading.specs.declared.judging.Judged.{Judged}
+use Rattle.adding.specs.Counts.{Counted}
+use Rattle.adding.specs.declared.counts.Counts.{Counts}
+
+-- what was read of a file: how many boxes it has, and what its segments say together
+pub record Beside (h : Heading) (ss : List Segment) (j : Judged) : Type 0 where
+  pub boxes : j .head .boxes ≡ length (h .boxes)
+  pub segments : j .gathered ≡ gatheredOf ss
+
+-- what is asked of append, by the header and the counts of the chunk list
+pub record Asked (a : Addition) (header : SegmentHeader) (c : Counts) : Type 0 where
+  pub offset : header .offset .0 ≡ a .sourceOffset
+  pub last : isLast (header .flags) ≡ a .last
+  pub counted : Counted a c
+
+-- the length of a file of n bytes with the addition, or its refusal
+unfoldable pub admittedLength : Heading → List Segment → ℕ → Addition → Answer ℕ
+admittedLength h ss n a = do
+  _ ← admission sourceLimit h ss n a
+  given (n + length (added a))
