@@ -1,0 +1,22 @@
+-- `mapping::lines::put_total` meets its contract.
+use Rattle.gathering.proofs.PutsLaws.{puts-same}
+use Rattle.mapping.proofs.TextLaws.{total-words}
+use borrow.Author.Needs.{needs}
+use Rattle.mapping.proofs.lines.put_total.Statement.{statement}
+use Rattle.mapping.proofs.lines.put_total.Tie as tie
+
+slice-aggregate-put-numbers : tie.Need-slice-aggregate-put-numbers
+slice-aggregate-put-numbers c = search needs
+
+put-numbers-requires : tie.Need-put-numbers-requires
+put-numbers-requires c κs = search needs
+
+same-length : tie.Need-same-length
+same-length c = search needs
+
+returns : tie.Need-returns
+returns c = λ ss counts. puts-same (total-words ss _ counts) (c .before .before .put-numbers .ensures .0)
+
+pub put-total-spec : {M : Type 1} → statement M
+put-total-spec =
+    tie.close (tie.spec slice-aggregate-put-numbers put-numbers-requires same-length returns)

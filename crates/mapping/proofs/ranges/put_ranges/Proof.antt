@@ -1,0 +1,71 @@
+-- `mapping::ranges::put_ranges` meets its contract. The loop's invariant: the ranges so far have their lines, and those from here on are left. A line has no
+-- more bytes than its range has positions, fifty times.
+use Prim.Native.Nat.{_+_, _-_, _*_, _≤_}
+use mathlib.Core.Path.{_≡_, refl, _∙_}
+use native.Mathlib.Omega.{arith}
+use borrow.Author.Needs.{needs}
+use lib.ListN.{length}
+use Rattle.listing.proofs.ListLaws.{found-some, found-most}
+use Rattle.partial.specs.Limits.{sourceLimit}
+use Rattle.serving.specs.Rows.{chunksIn}
+use Rattle.mapping.proofs.RangesLaws.{Midway, midway-none, midway-more, midway-end}
+use Rattle.mapping.proofs.ranges.put_ranges.Statement.{statement}
+use Rattle.mapping.proofs.ranges.put_ranges.Tie as tie
+
+abbrev Inv-loop : tie.InvT-loop
+Inv-loop buffer₀ at table count end next₀ p₀ buffer next p =
+    (p ≤ end .0) × (next ≤ 50 + 50 * p) × (length buffer ≡ length buffer₀) × Midway (chunksIn table count) (end .0) buffer₀ at buffer next p
+
+abbrev μ-loop : tie.MeasureT-loop
+μ-loop buffer₀ at table count end next₀ p₀ buffer next p = end .0 - p
+
+loop-holds : tie.Need-loop-holds Inv-loop μ-loop
+loop-holds c = (omega arith, omega arith, refl, midway-none _ _ _ _)
+
+range-at-requires : tie.Need-range-at-requires Inv-loop μ-loop
+range-at-requires c κs = tt
+
+put-range-requires : tie.Need-put-range-requires Inv-loop μ-loop
+put-range-requires c κs = omega arith
+
+add-p : tie.Need-add-p Inv-loop μ-loop
+add-p c = omega (arith, found-most _ _ _ (omega arith) (c .before .before .before .before .before .range-at .ensures (omega arith)))
+
+loop-less : tie.Need-loop-less Inv-loop μ-loop
+loop-less c =
+    let found = c .before .before .before .before .before .range-at .ensures (omega arith) in
+    omega (arith, found-most _ _ _ (omega arith) found, found-some _ _ _ (omega arith) found)
+
+loop-again : tie.Need-loop-again Inv-loop μ-loop
+loop-again c =
+    let inv = c .before .before .before .before .before .before .before .before .loop .inv in
+    let found = c .before .before .before .before .before .range-at .ensures (omega arith) in
+    let (puts, low) = c .before .before .before .put-range .ensures in (
+      omega (arith, found-most _ _ _ (omega arith) found),
+      omega (arith, found-some _ _ _ (omega arith) found),
+      puts .put .long ∙ inv .2,
+      midway-more _ _ _ _ (inv .3) (omega arith) found puts,
+    )
+
+same-length : tie.Need-same-length Inv-loop μ-loop
+same-length c = search needs
+
+returns : tie.Need-returns Inv-loop μ-loop
+returns c =
+    let inv = c .before .before .loop .inv in
+    (midway-end _ _ _ _ (inv .3) (omega arith), omega arith)
+
+pub put-ranges-spec : {M : Type 1} → statement M
+put-ranges-spec =
+    tie.close
+    (tie.spec
+    Inv-loop
+    μ-loop
+    loop-holds
+    range-at-requires
+    put-range-requires
+    add-p
+    loop-less
+    loop-again
+    same-length
+    returns)

@@ -1,0 +1,81 @@
+// The map of a file as text.
+use crate::lines::put_refused;
+use crate::lines::put_source;
+use crate::lines::put_total;
+use crate::ranges::put_ranges;
+use gathering::pass::pass;
+use listing::calls::ALL_ROWS;
+use listing::lists::put_lists;
+use partial::answers::Written;
+use partial::limits::PROGRAM_LIMIT;
+use partial::position::Position;
+use partial::refusals::BUFFER_TOO_SHORT;
+use partial::refusals::INPUT_TOO_LONG;
+use reading::judging::Judgement;
+use reading::judging::judge;
+ghost use Prim.Native.Nat.{_≤_};
+ghost use mathlib.Core.List.{List};
+ghost use mathlib.Core.Path.{_≡_};
+ghost use Rattle.gathering.specs.Rows.{Puts};
+ghost use Rattle.listing.specs.Calls.{Known};
+ghost use Rattle.partial.specs.Limits.{sourceLimit};
+ghost use Rattle.partial.specs.Map.{mapOf, mapText};
+ghost use Rattle.partial.specs.Meaning.{describedLength, isClosed};
+ghost use Rattle.partial.specs.Segments.{Segment, chunksOf};
+ghost use Rattle.serving.specs.Rows.{chunksIn};
+ghost use Rattle.mapping.specs.Call.{Maps};
+
+// Puts the map of the chunks in a table of so many rows.
+fn put_rows(buffer: &mut [u8], table: &[u64], count: u64, end: Position, closed: bool) -> u64
+    requires { ⌜ end .0 ≤ sourceLimit ⌝ }
+    ensures { λ r. ⌜ ((ss : List Segment) → chunksIn (now (table .entry)) count ≡ chunksOf ss → end .0 ≡ describedLength ss → closed ≡ isClosed ss → Puts (now (buffer .entry)) 0 (mapOf ss) (now (buffer .exit)) r) ⌝ }
+{
+    let mut no_had = [0; 1];
+    let mut no_missing = [0; 1];
+    let totals = put_lists(table, count, end, &mut no_had, &mut no_missing);
+    let first = put_source(buffer, end, closed);
+    let last = put_ranges(buffer, first, table, count, end);
+    put_total(buffer, last, totals)
+}
+
+// Puts the map of an accepted file. Its rows go into a table of our own.
+fn put_accepted(buffer: &mut [u8], file: &[u8], count: u64, end: Position, closed: bool) -> u64
+    requires { ⌜ end .0 ≤ sourceLimit ⌝ }
+    ensures { λ r. ⌜ ((ss : List Segment) → Known (now (file .entry)) count (end .0) ss → closed ≡ isClosed ss → Puts (now (buffer .entry)) 0 (mapOf ss) (now (buffer .exit)) r) ⌝ }
+{
+    let mut no_segments = [0; 1];
+    let mut rows = [0; ALL_ROWS];
+    pass(file, &mut no_segments, &mut rows);
+    put_rows(buffer, &rows, count, end, closed)
+}
+
+// Puts what the map program prints for a file.
+fn put_map(buffer: &mut [u8], file: &[u8]) -> u64
+    ensures { λ r. ⌜ Puts (now (buffer .entry)) 0 (mapText sourceLimit (now (file .entry))) (now (buffer .exit)) r ⌝ }
+{
+    if PROGRAM_LIMIT < file.len() as u64 {
+        return put_refused(buffer, INPUT_TOO_LONG);
+    }
+    match judge(file) {
+        Judgement::Refused(n) => put_refused(buffer, n),
+        Judgement::Given(judged) => {
+            let gathered = judged.gathered;
+            let sizes = gathered.sizes;
+            let end = Position(sizes.described());
+            put_accepted(buffer, file, gathered.chunks, end, sizes.known)
+        }
+    }
+}
+
+// Writes the map of a file, or the line of its refusal, and answers how long it is. Where the buffer is too short for it, it is as it was.
+pub fn map(file: &[u8], buffer: &mut [u8]) -> Written
+    ensures { λ r. ⌜ Maps (now (file .entry)) (now (buffer .entry)) (now (buffer .exit)) r ⌝ }
+{
+    let mut no_room = [0; 1];
+    let size = put_map(&mut no_room, file);
+    if (buffer.len() as u64) < size {
+        return Written::Refused(BUFFER_TOO_SHORT);
+    }
+    put_map(buffer, file);
+    Written::Length(size)
+}
