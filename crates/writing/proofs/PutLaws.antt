@@ -1,7 +1,8 @@
 -- Laws of bytes that are put one behind the other: number by number, box by box.
 use Prim.Native.Nat.{ℕ, _+_}
-use mathlib.Core.List.{List, _++_}
+use mathlib.Core.List.{List, [], _++_}
 use mathlib.Core.Path.{_≡_, sym, ap, subst, _∙_}
+use native.Mathlib.Nat.{add-zero}
 use lib.ListN.{length}
 use Rattle.boxes.specs.Framing.{front, boxed}
 use Rattle.numerals.specs.Numbers.{bytesOf}
@@ -9,10 +10,15 @@ use Rattle.boxes.proofs.BoxedLaws.{front-size, length-front, boxed-parts}
 use Rattle.numerals.proofs.NumberLaws.{length-bytesOf}
 use Rattle.gathering.specs.Rows.{Puts}
 use Rattle.gathering.proofs.PutsLaws.{puts-more}
+use Rattle.gathering.proofs.RowLaws.{put-none}
 
 -- a header has eight bytes
 pub front-long : (kind n : ℕ) → length (front kind n) ≡ 8
 front-long kind n = length-front kind n ∙ front-size
+
+-- nothing is put
+pub puts-none : (s : List ℕ) (at : ℕ) → Puts s at [] s at
+puts-none s at = record { put = put-none s at; end = sym (add-zero at) }
 
 module _ {s t : List ℕ} {at m : ℕ} where
   -- where a number and a header end

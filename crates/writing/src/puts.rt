@@ -1,14 +1,17 @@
 // Bytes, numbers and box headers, put into a lent buffer one behind the other: each put hands on the place behind what it put.
 use boxes::framing::FRONT_SIZE;
 use boxes::framing::put_header;
+use numerals::numbers::Offset;
 use numerals::numbers::put_number;
+use numerals::numbers::put_offset;
 use numerals::place::Place;
 ghost use Prim.Native.Nat.{_+_, _≤_};
 ghost use mathlib.Core.Bool.{true};
 ghost use mathlib.Core.Path.{_≡_};
 ghost use lib.ListN.{length};
 ghost use Rattle.boxes.specs.Framing.{frontSize, front};
-ghost use Rattle.numerals.specs.Numbers.{bytesOf, holds};
+ghost use Rattle.numerals.specs.Numbers.{bytesOf, twosComplement, holds, holdsOffset};
+ghost use Rattle.numerals.specs.declared.numbers.Offset.the-variants.{Back};
 ghost use Rattle.partial.specs.Limits.{fileLimit};
 ghost use Rattle.gathering.specs.Rows.{Puts};
 
@@ -32,6 +35,15 @@ pub(crate) fn put_field(buffer: &mut [u8], at: Place, width: usize, n: u64) -> P
     ensures { λ r. ⌜ Puts (now (buffer .entry)) (at .0) (bytesOf width n) (now (buffer .exit)) (r .0) ⌝ }
 {
     put_number(buffer, at, width, n);
+    Place(at.0 + width as u64)
+}
+
+// Writes an offset so many back, which its width holds.
+pub(crate) fn put_back(buffer: &mut [u8], at: Place, width: usize, n: u64) -> Place
+    requires { ⌜ (width ≤ 8) × (holdsOffset width (Back n) ≡ true) × (at .0 + width ≤ length (now buffer)) ⌝ }
+    ensures { λ r. ⌜ Puts (now (buffer .entry)) (at .0) (bytesOf width (twosComplement width (Back n))) (now (buffer .exit)) (r .0) ⌝ }
+{
+    put_offset(buffer, at, width, Offset::Back(n));
     Place(at.0 + width as u64)
 }
 

@@ -1,0 +1,219 @@
+-- Laws of appending a segment: what each test decides, and what the call leaves.
+use Prim.Native.Nat.{ℕ, _+_, _%_, _^_, _≤_, _<_}
+use mathlib.Core.Bool.{true, false, not, _&&_, and-false}
+use mathlib.Core.List.{List, _++_, append-assoc}
+use mathlib.Core.Path.{_≡_, refl, sym, ap, _∙_}
+use native.Mathlib.Omega.{arith}
+use borrow.Author.Tests.{le-leb, lt-leb, eq-eqb, ne-eqb}
+use lib.Dec.{leb, eqb}
+use lib.ListN.{length, take, drop, length-append}
+use lib.Seq.{length-take-le}
+use Rattle.boxes.specs.Answer.{Answer, refused, given, _>>=_, hold}
+use Rattle.boxes.proofs.AnswerLaws.{refused-same, given-same, both-given}
+use Rattle.numerals.proofs.StoredLaws.{stored-room}
+use Rattle.partial.specs.Addition.{Addition, asks, items, listRight, dataSize, dataRight}
+use Rattle.partial.specs.Answers.{writtenAnswer}
+use Rattle.partial.specs.Append.{added, admission, appended, result}
+use Rattle.partial.specs.Heading.{Heading, heading}
+use Rattle.partial.specs.Limits.{fileLimit, sourceLimit}
+use Rattle.partial.specs.Memory.{after, filled}
+use Rattle.partial.specs.Reading.{segments, earlierSegments}
+use Rattle.partial.specs.Segments.{Segment, isState}
+use Rattle.partial.specs.Sequences.{allOf}
+use Rattle.partial.specs.declared.answers.Written.{Written}
+use Rattle.partial.specs.declared.answers.Written.the-variants as Written
+use Rattle.partial.specs.declared.header.SegmentHeader.{SegmentHeader}
+use Rattle.partial.proofs.Writing.AddedBoxesLaws.{data-low, length-added}
+use Rattle.partial.proofs.Writing.ReadsBackLaws.{Offered, Admits, admits, earlier-of}
+use Rattle.partial.proofs.Writing.ReasonLaws.{list-wrong, data-wrong}
+use Rattle.partial.proofs.Writing.ResultLaws.{appended-offered}
+use Rattle.heading.specs.Facts.{factsOf, factsBy}
+use Rattle.gathering.specs.Gathered.{gatheredOf}
+use Rattle.gathering.specs.Rows.{Put}
+use Rattle.reading.specs.Judged.{gatheredIn, judgedIn, earlierTold}
+use Rattle.reading.specs.declared.judging.Judged.{Judged}
+use Rattle.reading.proofs.JudgedLaws.{first-refused}
+use Rattle.adding.specs.Admission.{Beside, Asked, admittedLength}
+use Rattle.adding.specs.Counts.{countsOf, Counted}
+use Rattle.adding.specs.declared.counts.Counts.{Counts}
+use Rattle.adding.proofs.CountLaws.{counted-bytes}
+use Rattle.writing.specs.Append.{Fits, Appends}
+
+-- ---- what the call leaves
+
+module _ (buffer : List ℕ) (n : ℕ) (a : Addition) where
+  -- after a refusal the buffer is as it was
+  pub appends-refused : {k : ℕ} → appended sourceLimit buffer n a ≡ refused k → Appends buffer buffer n a (Written.Refused k)
+  unfolding writtenAnswer after
+  appends-refused e = record { answer = rw e; left = rw e }
+
+  -- a file with the addition fills it
+  pub appends-given : {buffer′ : List ℕ} {m : ℕ} → appended sourceLimit buffer n a ≡ given m → buffer′ ≡ filled (result buffer n a) buffer
+      → Appends buffer buffer′ n a (Written.Length m)
+  unfolding writtenAnswer after
+  appends-given e full = record { answer = rw e; left = rw e full }
+
+  -- what is put behind the file is put with it
+  pub put-result : {buffer′ : List ℕ} → n + length (added a) ≤ length buffer → Put buffer n (added a) buffer′ → buffer′ ≡ filled (result buffer n a) buffer
+  unfolding result filled
+  put-result room p =
+      let long : length (take n buffer ++ added a) ≡ n + length (added a) =
+      length-append (take n buffer) (added a) ∙ ap (λ (k : ℕ). k + length (added a)) (length-take-le n buffer (omega arith)) in
+      p .held room
+      ∙ stored-room buffer n (added a) room
+      ∙ sym (append-assoc (take n buffer) (added a) (drop (n + length (added a)) buffer))
+      ∙ ap (λ (k : ℕ). (take n buffer ++ added a) ++ drop k buffer) (sym long)
+
+-- ---- the chunk list and the data
+
+module _ (list : List ℕ) where
+  pub list-odd : (length list % 2 ≡ 0 → ⊥) → listRight list ≡ false
+  unfolding listRight
+  list-odd odd = rw (ne-eqb (length list % 2) 0 odd)
+
+  module _ {c : Counts} (counts : c ≡ countsOf (items list)) where
+    right-of : c .right ≡ allOf (λ i. not (eqb (i .size) 0) && isState (i .state)) (items list)
+    unfolding countsOf
+    right-of = ap (λ (c : Counts). c .right) counts
+
+    pub list-unright : c .right ≡ false → listRight list ≡ false
+    unfolding listRight
+    list-unright wrong = rw (sym right-of ∙ wrong, and-false)
+
+    pub list-right : length list % 2 ≡ 0 → c .right ≡ true → listRight list ≡ true
+    unfolding listRight
+    list-right even right = rw (eq-eqb (length list % 2) 0 even, sym right-of ∙ right)
+
+module _ (header : SegmentHeader) (list bytes : List ℕ) {c : Counts} where
+  module _ (counts : c ≡ countsOf (items list)) (few : length bytes < 2 ^ 63) where
+    -- a sum that was cut is longer than any data
+    pub data-differs : (length bytes ≡ c .bytes → ⊥) → dataRight (asks header list bytes) ≡ false
+    unfolding dataRight asks
+    data-differs other =
+        ne-eqb (length bytes) (dataSize (items list))
+        (λ same.
+        let cut = counted-bytes (items list) counts in
+        other (omega arith))
+
+    pub counted-of : length bytes ≡ c .bytes → Counted (asks header list bytes) c
+    unfolding asks
+    counted-of same =
+        let cut = counted-bytes (items list) counts in
+        record { items = record { counts = counts; bytes = omega arith }; bytes = sym same }
+
+  pub data-right : Counted (asks header list bytes) c → dataRight (asks header list bytes) ≡ true
+  unfolding dataRight asks
+  data-right counted = eq-eqb (length bytes) (dataSize (items list)) (sym (counted .bytes) ∙ counted .items .bytes)
+
+-- ---- the file
+
+-- a refusal of what is told of it is a refusal of its segments
+pub earlier-refused : (f : List ℕ) {k : ℕ} → earlierTold f ≡ refused k → earlierSegments sourceLimit f ≡ refused k
+unfolding earlierTold judgedIn gatheredIn earlierSegments
+earlier-refused f {k} e = go (heading f) e
+  where
+    go : (x : Answer Heading) → (x >>= judgedIn f) ≡ refused k → (x >>= segments sourceLimit f) ≡ refused k
+    go (refused m) e = ap refused (refused-same e)
+    go (given h) e = first-refused (segments sourceLimit f h) gatheredOf (first-refused (gatheredIn f h) _ e)
+
+-- a file that append takes: its heading and its segments, of which all is told
+pub record Earlier (f : List ℕ) (j : Judged) : Type 0 where
+  pub h : Heading
+  pub ss : List Segment
+  pub head : heading f ≡ given h
+  pub read : segments sourceLimit f h ≡ given ss
+  pub beside : Beside h ss j
+
+pub earlier : (f : List ℕ) (j : Judged) → earlierTold f ≡ given (record { facts = factsBy (j .head); gathered = j .gathered }) → Earlier f j
+unfolding earlierTold judgedIn gatheredIn factsOf
+earlier f j e =
+    let (h, head, e) = both-given (heading f) _ e in
+    let (g, gathered, e) = both-given (gatheredIn f h) _ e in
+    let (ss, read, same) = both-given (segments sourceLimit f h) _ gathered in
+    record {
+      h = h;
+      ss = ss;
+      head = head;
+      read = read;
+      beside = record {
+        boxes = sym (ap (λ x. x .facts .boxes) (given-same e));
+        segments = sym (given-same same ∙ ap (λ x. x .gathered) (given-same e));
+      };
+    }
+
+-- ---- the tests, in their order
+
+module _ (buffer : List ℕ) (n : ℕ) (header : SegmentHeader) (list bytes : List ℕ) (fits : n ≤ length buffer) (j : Judged) (file : Earlier (take n buffer) j) where
+  stands : earlierSegments sourceLimit (take n buffer) ≡ given (file .ss)
+  stands = earlier-of sourceLimit (take n buffer) (file .h) (file .ss) (file .head) (file .read)
+
+  pub wrong-list : listRight list ≡ false → appended sourceLimit buffer n (asks header list bytes) ≡ refused 31
+  unfolding asks
+  wrong-list wrong = list-wrong sourceLimit buffer n (asks header list bytes) fits stands wrong
+
+  module _ (right : listRight list ≡ true) where
+    pub wrong-data : dataRight (asks header list bytes) ≡ false → appended sourceLimit buffer n (asks header list bytes) ≡ refused 32
+    unfolding asks
+    wrong-data wrong = data-wrong sourceLimit buffer n (asks header list bytes) fits stands right wrong
+
+    module _ {c : Counts} (counted : Counted (asks header list bytes) c) where
+      offered : Offered sourceLimit (take n buffer) (file .h) (file .ss) (asks header list bytes)
+      unfolding asks
+      offered = record { headed = file .head; before = file .read; list = right; carried = data-right header list bytes counted }
+
+      by-admission : appended sourceLimit buffer n (asks header list bytes)
+          ≡ (admission sourceLimit (file .h) (file .ss) n (asks header list bytes)
+          >>= λ _. hold 33 (leb (n + length (added (asks header list bytes))) (length buffer)) >>= λ _. given (n + length (added (asks header list bytes))))
+      by-admission = appended-offered sourceLimit buffer n (asks header list bytes) (file .h) (file .ss) fits offered
+
+      asked : Asked (asks header list bytes) header c
+      unfolding asks
+      asked = record { offset = refl; last = refl; counted = counted }
+
+      module _ (r : Written)
+          (answer : (h : Heading) (ss : List Segment) (a : Addition) → Beside h ss j → Asked a header c → writtenAnswer r ≡ admittedLength h ss n a) where
+        told : writtenAnswer r ≡ admittedLength (file .h) (file .ss) n (asks header list bytes)
+        told = answer (file .h) (file .ss) (asks header list bytes) (file .beside) asked
+
+        pub not-admitted : {k : ℕ} → r ≡ Written.Refused k → appended sourceLimit buffer n (asks header list bytes) ≡ refused k
+        unfolding writtenAnswer admittedLength
+        not-admitted e =
+            by-admission
+            ∙ rw (first-refused (admission sourceLimit (file .h) (file .ss) n (asks header list bytes)) _ (sym told ∙ ap writtenAnswer e))
+
+        module _ {m : ℕ} (e : r ≡ Written.Length m) where
+          taken : (ts : List Segment)
+              × (admission sourceLimit (file .h) (file .ss) n (asks header list bytes) ≡ given ts)
+              × (given (n + length (added (asks header list bytes))) ≡ given m)
+          unfolding writtenAnswer admittedLength
+          taken = both-given (admission sourceLimit (file .h) (file .ss) n (asks header list bytes)) _ (sym told ∙ ap writtenAnswer e)
+
+          pub new-length : m ≡ n + length (added (asks header list bytes))
+          new-length = sym (given-same (taken .2))
+
+          all-held : Admits sourceLimit (file .h) (file .ss) n (asks header list bytes)
+          all-held = admits sourceLimit (file .h) (file .ss) n (asks header list bytes) (taken .1) .0
+
+          pub added-small : length (added (asks header list bytes)) ≤ fileLimit
+          added-small = omega (arith, all-held .small)
+
+          pub items-fit : Fits (items list)
+          unfolding asks
+          items-fit =
+              let held = all-held in
+              record {
+                count = omega (arith, held .chunks);
+                sizes = omega (arith, held .low);
+                offsets = omega (arith, held .small, length-added (asks header list bytes), data-low (asks header list bytes) (data-right header list bytes counted));
+              }
+
+          pub too-short : length buffer < m → appended sourceLimit buffer n (asks header list bytes) ≡ refused 33
+          too-short short =
+              let long = new-length in
+              by-admission ∙ rw (taken .1, lt-leb (n + length (added (asks header list bytes))) (length buffer) (omega arith))
+
+          pub appended-given : {end : ℕ} → m ≤ length buffer → end ≡ n + length (added (asks header list bytes))
+              → appended sourceLimit buffer n (asks header list bytes) ≡ given end
+          appended-given room ends =
+              let long = new-length in
+              by-admission ∙ rw (taken .1, le-leb (n + length (added (asks header list bytes))) (length buffer) (omega arith), ends)

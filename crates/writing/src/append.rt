@@ -1,0 +1,98 @@
+// Appending a segment to a file in a lent buffer.
+use crate::pdat::put_pdat;
+use crate::pseg::put_pseg;
+use adding::admission::admission;
+use adding::counts::Counts;
+use adding::counts::counts_of;
+use numerals::place::Place;
+use partial::answers::Written;
+use partial::header::SegmentHeader;
+use partial::refusals::BUFFER_TOO_SHORT;
+use partial::refusals::CHUNK_LIST_WRONG;
+use partial::refusals::DATA_WRONG;
+use partial::refusals::LENGTH_OVER_BUFFER;
+use reading::judging::Judged;
+use reading::judging::Judgement;
+use reading::judging::earlier_of;
+ghost use Prim.Native.Nat.{_+_, _≤_};
+ghost use mathlib.Core.Path.{_≡_};
+ghost use lib.ListN.{length, take};
+ghost use Rattle.boxes.specs.Answer.{given};
+ghost use Rattle.partial.specs.Addition.{asks, items};
+ghost use Rattle.partial.specs.Append.{added};
+ghost use Rattle.partial.specs.Limits.{fileLimit};
+ghost use Rattle.heading.specs.Facts.{factsBy};
+ghost use Rattle.reading.specs.Judged.{earlierTold};
+ghost use Rattle.adding.specs.Counts.{Counted};
+ghost use Rattle.gathering.specs.Rows.{Puts};
+ghost use Rattle.writing.specs.Append.{Fits, Appends};
+
+// Writes all that append adds: the data, then the `pseg`.
+fn put_added(
+    buffer: &mut [u8],
+    at: Place,
+    header: SegmentHeader,
+    counts: Counts,
+    list: &[u64],
+    bytes: &[u8],
+) -> Place
+    requires { ⌜ Counted (asks header (now list) (now bytes)) counts × Fits (items (now list)) × (at .0 + length (added (asks header (now list) (now bytes))) ≤ length (now buffer)) × (length (added (asks header (now list) (now bytes))) ≤ fileLimit) ⌝ }
+    ensures { λ r. ⌜ Puts (now (buffer .entry)) (at .0) (added (asks header (now (list .entry)) (now (bytes .entry)))) (now (buffer .exit)) (r .0) ⌝ }
+{
+    let pseg = put_pdat(buffer, at, counts.present, bytes);
+    put_pseg(buffer, pseg, header, counts, list)
+}
+
+// Appends to the file in the first n bytes of the buffer, by what was read of it.
+fn append_to(
+    buffer: &mut [u8],
+    n: u64,
+    judged: Judged,
+    header: SegmentHeader,
+    list: &[u64],
+    bytes: &[u8],
+) -> Written
+    requires { ⌜ (n ≤ length (now buffer)) × (earlierTold (take n (now buffer)) ≡ given (record { facts = factsBy (judged .head); gathered = judged .gathered })) ⌝ }
+    ensures { λ r. ⌜ Appends (now (buffer .entry)) (now (buffer .exit)) n (asks header (now (list .entry)) (now (bytes .entry))) r ⌝ }
+{
+    if list.len() % 2 != 0 {
+        return Written::Refused(CHUNK_LIST_WRONG);
+    }
+    let counts = counts_of(list);
+    if !counts.right {
+        return Written::Refused(CHUNK_LIST_WRONG);
+    }
+    if bytes.len() as u64 != counts.bytes {
+        return Written::Refused(DATA_WRONG);
+    }
+    match admission(judged, n, header, counts) {
+        Written::Refused(k) => Written::Refused(k),
+        Written::Length(size) => {
+            if (buffer.len() as u64) < size {
+                return Written::Refused(BUFFER_TOO_SHORT);
+            }
+            let end = put_added(buffer, Place(n), header, counts, list, bytes);
+            Written::Length(end.0)
+        }
+    }
+}
+
+// Appends a segment to the file in the first bytes of the buffer: one `pdat` with the data, if any chunk is present, and a `pseg`. Answers the new
+// length; after a refusal the buffer is as it was.
+pub fn append(
+    buffer: &mut [u8],
+    length: u64,
+    header: SegmentHeader,
+    list: &[u64],
+    data: &[u8],
+) -> Written
+    ensures { λ r. ⌜ Appends (now (buffer .entry)) (now (buffer .exit)) length (asks header (now (list .entry)) (now («data» .entry))) r ⌝ }
+{
+    if (buffer.len() as u64) < length {
+        return Written::Refused(LENGTH_OVER_BUFFER);
+    }
+    match earlier_of(&buffer[..length as usize]) {
+        Judgement::Refused(n) => Written::Refused(n),
+        Judgement::Given(judged) => append_to(buffer, length, judged, header, list, data),
+    }
+}
