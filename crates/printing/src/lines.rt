@@ -19,10 +19,15 @@ pub fn title(name: &[u8]) {
 
 // How many numbers of a table, from one on, still hold their mark, and how many there are.
 pub fn kept_of(table: &[u64], from: usize) {
+    kept_behind(kept(table, from), table.len(), from);
+}
+
+// How many behind a place of something so long still hold their mark, and how many there are.
+pub fn kept_behind(kept: u64, length: usize, from: usize) {
     text(b"kept");
-    number(kept(table, from));
+    number(kept);
     text(b" of");
-    number(behind(table, from));
+    number(behind(length, from));
 }
 
 // The line of what was left behind the rows.
@@ -31,9 +36,9 @@ pub fn rest(table: &[u64], from: usize) {
     text(b"\n");
 }
 
-fn behind(table: &[u64], from: usize) -> u64 {
-    if from <= table.len() {
-        (table.len() - from) as u64
+fn behind(length: usize, from: usize) -> u64 {
+    if from <= length {
+        (length - from) as u64
     } else {
         0
     }

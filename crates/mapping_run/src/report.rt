@@ -1,0 +1,18 @@
+// The lines of the output.
+use crate::marks::kept;
+use printing::lines::kept_behind;
+use printing::lines::number;
+use printing::lines::text;
+
+// What is answered: a word and a number.
+pub fn answer(word: &[u8], n: u64) {
+    text(word);
+    number(n);
+    text(b"\n");
+}
+
+// The line of what was left of a buffer behind a place.
+pub fn rest(buffer: &[u8], from: usize) {
+    kept_behind(kept(buffer, from), buffer.len(), from);
+    text(b"\n");
+}

@@ -1,0 +1,158 @@
+"""Writes the corpus of crates/mapping_run and the model's answers to it, or says whether the ones there are these.
+
+usage: python3 tests/maps.py [--check]
+
+A record of `stdin` is three numbers, most significant byte first: the length of its name in two bytes, then the length of its file and that of the lent
+buffer in three bytes each. Then the name and the file. `stdout` is made of the model's answers alone.
+"""
+
+import os
+from collections import Counter, namedtuple
+
+import corpus
+import lists
+import model
+from boxes import box
+from corpus import ROOT, TO_SPARE, command, line
+from foreign import DAMAGED, GOOD, LOST
+from lists_record import assembled
+from plan import Data, Entry, Other, Segment
+
+CRATE = os.path.join(ROOT, "crates", "mapping_run")
+MOST_BYTES = 400_000
+LARGEST_FILE = 65_537
+LARGEST_BUFFER = 65_600
+LAST = 1
+BUFFER_TOO_SHORT = 33
+
+# A file with the lists that are stated of it, None where only the model says, and a file with a buffer of so many bytes.
+File = namedtuple("File", "kind name content stated")
+Record = namedtuple("Record", "name file room")
+
+
+# The files.
+
+def of_lists():
+    """The files of the corpus of lists, without what is lent there."""
+    for record in lists.records():
+        lent = record.kind == "lent"
+        name = record.name.partition(" in ")[0] if lent else record.name
+        yield File(record.kind, name, record.file, None if lent else record.wanted)
+
+
+def refused_shortest():
+    """Of the files that the corpus of reading has for each refusal of a file, the shortest."""
+    made = {}
+    for record in corpus.records():
+        number = refusal_in(model.map_text(record.file))
+        if number and (number not in made or len(record.file) < len(made[number].file)):
+            made[number] = record
+    for number, record in sorted(made.items()):
+        yield File("refused", f"shortest with {number}, {record.name}", record.file, number)
+
+
+def of_size(size):
+    """A file of so many bytes, nearly all of them in a box between its data and the segment that points back to them."""
+    data = Data(bytes(range(7, 16)))
+    entries = [Entry(GOOD, 4, data, 0), Entry(LOST, 3), Entry(DAMAGED, 2, data, 4), Entry(GOOD, 3, data, 6)]
+
+    def around(free):
+        return assembled([data, Other(box(b"free", bytes(free))), Segment(1, entries, LAST)])
+
+    near = size - 1000
+    return around(near + size - len(around(near)))
+
+
+def largest():
+    most = model.LIMITS["program input"]
+    yield File("largest", f"a file of {most} bytes", of_size(most), ([(1, 4), (10, 3)], [(0, 1), (5, 5)]))
+    yield File("largest", f"a file of {most + 1} bytes", of_size(most + 1), 27)
+
+
+def files():
+    """All of them, each once."""
+    made = {}
+    for file in [*of_lists(), *refused_shortest(), *largest()]:
+        made.setdefault(file.content, file)
+    return list(made.values())
+
+
+# Their buffers.
+
+def rooms(file, turn):
+    """An exact buffer for all files, and one of the others; all of them for the paper's."""
+    needed = len(model.map_text(file.content))
+    if file.kind == "largest":
+        return [LARGEST_BUFFER if file.stated != 27 else needed]
+    others = [needed - 1, needed + 1, 0, needed + TO_SPARE]
+    if file.kind == "paper":
+        return [needed, *others, LARGEST_BUFFER]
+    return [needed, others[turn % len(others)]]
+
+
+def records():
+    made = []
+    for turn, file in enumerate(files()):
+        made += [Record(f"{file.name}, in {room} bytes", file, room) for room in rooms(file, turn)]
+    return made
+
+
+def encoded(record):
+    name, content = record.name.encode("ascii"), record.file.content
+    assert len(content) <= LARGEST_FILE and record.room <= LARGEST_BUFFER
+    return len(name).to_bytes(2, "big") + len(content).to_bytes(3, "big") + record.room.to_bytes(3, "big") + name + content
+
+
+# What the program is to write.
+
+def answers(record):
+    """The text where the buffer holds it; what lies behind it, or else all of the buffer, is as it was."""
+    text = model.map_text(record.file.content)
+    if len(text) > record.room:
+        front, rest = line("refused", BUFFER_TOO_SHORT), record.room
+    else:
+        front, rest = line("length", len(text)) + text.decode("ascii"), record.room - len(text)
+    return line("=", record.name) + front + line("kept", rest, "of", rest)
+
+
+# The command.
+
+def refusal_in(text):
+    """The number in the line of a refusal, 0 for a map."""
+    word, number = text.split()[:2]
+    return int(number) if word == b"refused" else 0
+
+
+def ranges_in(text, word):
+    fields = [one.split(b"\t") for one in text.splitlines() if one.startswith(word)]
+    return [(int(first), int(length)) for found, first, length in fields]
+
+
+def stated_in(text):
+    """What a text says, in the form in which a file's lists are stated."""
+    return refusal_in(text) or (ranges_in(text, b"have"), ranges_in(text, b"miss"))
+
+
+def number_of(record):
+    text = model.map_text(record.file.content)
+    return refusal_in(text) if len(text) <= record.room else BUFFER_TOO_SHORT
+
+
+def checked(made):
+    """How many records have each number, 0 for a map; each text says what is stated, and no number is missing."""
+    for file in {record.file.name: record.file for record in made}.values():
+        assert file.stated in (None, stated_in(model.map_text(file.content))), file.name
+    names = Counter(record.name for record in made)
+    assert max(names.values()) == 1, names.most_common(3)
+    numbers = Counter(number_of(record) for record in made)
+    assert set(numbers) == {0, 27, BUFFER_TOO_SHORT} | set(range(2, 26)), sorted(numbers)
+    return numbers
+
+
+def main():
+    made = records()
+    return command(CRATE, made, checked(made), encoded, answers, MOST_BYTES)
+
+
+if __name__ == "__main__":
+    raise SystemExit(main())
