@@ -16,6 +16,7 @@ import lists_overlaps
 import model
 from corpus import LARGEST_FILE, ROOT, TO_SPARE, command, line
 from lists_record import listed
+from sums import sum_of
 
 CRATE = os.path.join(ROOT, "crates", "listing_run")
 MOST_BYTES = 300_000
@@ -24,7 +25,6 @@ SMALL = 24
 SHORT = 12
 OF_A_REFUSED_FILE = (0, 1, 2 ** 64 - 1)
 FAR = (2 ** 32 - 1, 2 ** 32, 2 ** 64 - 1)
-MODULUS = 16_777_213
 
 
 # The records.
@@ -92,13 +92,6 @@ def filled(rows, room):
 
 def kept(table):
     return sum(1 for place, number in enumerate(table) if number == mark_at(place))
-
-
-def sum_of(numbers):
-    total = 0
-    for number in numbers:
-        total = (251 * total + number) % MODULUS
-    return total
 
 
 def sum_of_tables(*tables):

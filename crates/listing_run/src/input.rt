@@ -6,8 +6,8 @@ use crate::lent::Rooms;
 use libc::STDIN_FILENO;
 use partial::position::Position;
 use printing::records;
+use printing::records::eight;
 use printing::records::pair;
-ghost use Prim.Native.Nat.{_<_};
 
 // The numbers of the next record.
 enum Head {
@@ -74,22 +74,9 @@ fn file_in(space: &mut [u8], length: usize, rooms: Rooms, positions: usize) {
 fn asked(file: &[u8], rooms: Rooms, positions: usize) {
     let mut left = positions;
     while left > 0 {
-        let p = position();
+        let p = Position(eight());
         lent::asked(file, rooms, p);
         lent::served(file, rooms, p);
         left -= 1;
     }
-}
-
-fn position() -> Position {
-    let mut bytes = [0u8; 8];
-    io::read_full(STDIN_FILENO, &mut bytes);
-    let high = four(bytes[0], bytes[1], bytes[2], bytes[3]);
-    Position(4294967296 * high + four(bytes[4], bytes[5], bytes[6], bytes[7]))
-}
-
-fn four(a: u8, b: u8, c: u8, d: u8) -> u64
-    ensures { λ r. ⌜ r < 4294967296 ⌝ }
-{
-    16777216 * (a as u64) + 65536 * (b as u64) + 256 * (c as u64) + (d as u64)
 }

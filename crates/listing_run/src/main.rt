@@ -3,7 +3,6 @@
 mod input;
 mod lent;
 mod report;
-mod sums;
 
 // A proved loop has to end, and nothing says that the input does: so it counts down, from more records than there are.
 fn main() {

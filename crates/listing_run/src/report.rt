@@ -1,13 +1,14 @@
 // The lines of the output.
-use crate::sums;
 use partial::answers::Asked;
 use partial::answers::Listed;
 use partial::position::Position;
 use printing::lines::bytes;
 use printing::lines::kept_of;
 use printing::lines::number;
+use printing::lines::refused;
 use printing::lines::rest;
 use printing::lines::text;
+use printing::sums;
 
 // The longest part of a file that is printed byte by byte.
 const SHORT: usize = 12;
@@ -16,9 +17,7 @@ const SHORT: usize = 12;
 pub fn listed(r: Listed, had_list: &[u64], missing_list: &[u64]) {
     match r {
         Listed::Refused(n) => {
-            text(b"refused");
-            number(n);
-            text(b"\n");
+            refused(n);
             rest(had_list, 0);
             rest(missing_list, 0);
         }

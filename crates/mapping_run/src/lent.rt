@@ -1,9 +1,9 @@
 // The call, with a buffer of as many bytes as a record says.
-use crate::marks::mark;
 use crate::report;
 use mapping::call::map;
 use partial::answers::Written;
 use printing::lines::text;
+use printing::marks::mark_bytes;
 
 // More bytes than the longest file has.
 const LARGEST_BUFFER: usize = 65_600;
@@ -17,7 +17,7 @@ pub fn mapped(file: &[u8], length: usize) {
 }
 
 fn mapped_in(file: &[u8], buffer: &mut [u8]) {
-    mark(buffer);
+    mark_bytes(buffer);
     match map(file, buffer) {
         Written::Refused(n) => {
             report::answer(b"refused", n);

@@ -1,8 +1,8 @@
 // The lines of the output.
-use crate::marks::kept;
 use printing::lines::kept_behind;
 use printing::lines::number;
 use printing::lines::text;
+use printing::marks::kept_bytes;
 
 // What is answered: a word and a number.
 pub fn answer(word: &[u8], n: u64) {
@@ -13,6 +13,6 @@ pub fn answer(word: &[u8], n: u64) {
 
 // The line of what was left of a buffer behind a place.
 pub fn rest(buffer: &[u8], from: usize) {
-    kept_behind(kept(buffer, from), buffer.len(), from);
+    kept_behind(kept_bytes(buffer, from), buffer.len(), from);
     text(b"\n");
 }

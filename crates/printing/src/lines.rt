@@ -17,6 +17,22 @@ pub fn title(name: &[u8]) {
     text(b"\n");
 }
 
+// The line of a refusal.
+pub fn refused(n: u64) {
+    text(b"refused");
+    number(n);
+    text(b"\n");
+}
+
+// The end of a line: whether the size of the source is known.
+pub fn known(closed: bool) {
+    if closed {
+        text(b" closed\n");
+    } else {
+        text(b" open\n");
+    }
+}
+
 // How many numbers of a table, from one on, still hold their mark, and how many there are.
 pub fn kept_of(table: &[u64], from: usize) {
     kept_behind(kept(table, from), table.len(), from);

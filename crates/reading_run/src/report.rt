@@ -1,7 +1,9 @@
 // The lines of the output.
 use partial::answers::Read;
 use printing::lines::bytes;
+use printing::lines::known;
 use printing::lines::number;
+use printing::lines::refused;
 use printing::lines::rest;
 use printing::lines::text;
 
@@ -9,9 +11,7 @@ use printing::lines::text;
 pub fn answer(r: Read, segment_table: &[u64], chunk_table: &[u64]) {
     match r {
         Read::Refused(n) => {
-            text(b"refused");
-            number(n);
-            text(b"\n");
+            refused(n);
             rest(segment_table, 0);
             rest(chunk_table, 0);
         }
@@ -29,14 +29,6 @@ pub fn answer(r: Read, segment_table: &[u64], chunk_table: &[u64]) {
             rest(segment_table, rows(b"segment", segment_table, segments, 7));
             rest(chunk_table, rows(b"chunk", chunk_table, chunks, 6));
         }
-    }
-}
-
-fn known(closed: bool) {
-    if closed {
-        text(b" closed\n");
-    } else {
-        text(b" open\n");
     }
 }
 

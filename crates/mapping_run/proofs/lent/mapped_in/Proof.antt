@@ -6,8 +6,8 @@ use Rattle.mapping.proofs.CallLaws.{maps-within}
 use Rattle.mapping_run.proofs.lent.mapped_in.Statement.{statement}
 use Rattle.mapping_run.proofs.lent.mapped_in.Tie as tie
 
-mark-requires : tie.Need-mark-requires
-mark-requires c κs = search needs
+mark-bytes-requires : tie.Need-mark-bytes-requires
+mark-bytes-requires c κs = search needs
 
 map-requires : tie.Need-map-requires
 map-requires c κs = search needs
@@ -62,7 +62,7 @@ pub mapped-in-spec : {M : Type 1} → statement M
 mapped-in-spec =
     tie.close
     (tie.spec
-    mark-requires
+    mark-bytes-requires
     map-requires
     enum-known-n
     slice-aggregate-answer

@@ -1,26 +1,29 @@
--- `mapping_run::marks::mark` keeps to its buffer, whose length it does not change, and ends.
+-- `writing_run::list::take` keeps to its list, whose length it does not change, and ends.
 use Prim.Native.Nat.{_-_}
 use mathlib.Core.Path.{_≡_}
 use borrow.Author.Needs.{needs}
 use native.Mathlib.Omega.{arith}
 use lib.ListN.{length, length-set}
-use Rattle.mapping_run.proofs.marks.mark.Statement.{statement}
-use Rattle.mapping_run.proofs.marks.mark.Tie as tie
+use Rattle.writing_run.proofs.list.take.Statement.{statement}
+use Rattle.writing_run.proofs.list.take.Tie as tie
 
 abbrev Inv-loop : tie.InvT-loop
-Inv-loop buffer₀ i₀ buffer i = length buffer ≡ length buffer₀
+Inv-loop list₀ i₀ list i = length list ≡ length list₀
 
 abbrev μ-loop : tie.MeasureT-loop
-μ-loop buffer₀ i₀ buffer i = length buffer₀ - i
+μ-loop list₀ i₀ list i = length list₀ - i
 
 loop-holds : tie.Need-loop-holds Inv-loop μ-loop
 loop-holds c = search needs
 
-mark-at-requires : tie.Need-mark-at-requires Inv-loop μ-loop
-mark-at-requires c κs = search needs
+eight-requires : tie.Need-eight-requires Inv-loop μ-loop
+eight-requires c κs = search needs
 
-slice-write-buffer : tie.Need-slice-write-buffer Inv-loop μ-loop
-slice-write-buffer c = search needs
+mul-list : tie.Need-mul-list Inv-loop μ-loop
+mul-list c = search needs
+
+slice-write-list : tie.Need-slice-write-list Inv-loop μ-loop
+slice-write-list c = search needs
 
 add-i : tie.Need-add-i Inv-loop μ-loop
 add-i c = search needs
@@ -37,15 +40,16 @@ same-length c = search needs
 returns : tie.Need-returns Inv-loop μ-loop
 returns c = search needs
 
-pub mark-spec : {M : Type 1} → statement M
-mark-spec =
+pub take-spec : {M : Type 1} → statement M
+take-spec =
     tie.close
     (tie.spec
     Inv-loop
     μ-loop
     loop-holds
-    mark-at-requires
-    slice-write-buffer
+    eight-requires
+    mul-list
+    slice-write-list
     add-i
     loop-less
     loop-again

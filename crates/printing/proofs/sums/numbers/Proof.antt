@@ -1,9 +1,9 @@
--- `listing_run::sums::numbers` keeps to its table and ends.
+-- `printing::sums::numbers` keeps to its table and ends.
 use Prim.Native.Nat.{_-_}
 use borrow.Author.Needs.{needs}
 use lib.ListN.{length}
-use Rattle.listing_run.proofs.sums.numbers.Statement.{statement}
-use Rattle.listing_run.proofs.sums.numbers.Tie as tie
+use Rattle.printing.proofs.sums.numbers.Statement.{statement}
+use Rattle.printing.proofs.sums.numbers.Tie as tie
 
 abbrev Inv-loop : tie.InvT-loop
 Inv-loop sum table s₀ i₀ s i = Unit {0}

@@ -1,11 +1,11 @@
--- `mapping_run::marks::kept` keeps to its buffer and ends.
+-- `printing::marks::kept_bytes` keeps to its buffer and ends.
 use Prim.Native.Nat.{_-_, _≤_}
 use mathlib.Core.Logic.{⊎-elim}
 use borrow.Author.Needs.{needs}
 use native.Mathlib.Omega.{arith}
 use lib.ListN.{length}
-use Rattle.mapping_run.proofs.marks.kept.Statement.{statement}
-use Rattle.mapping_run.proofs.marks.kept.Tie as tie
+use Rattle.printing.proofs.marks.kept_bytes.Statement.{statement}
+use Rattle.printing.proofs.marks.kept_bytes.Tie as tie
 
 abbrev Inv-loop : tie.InvT-loop
 Inv-loop buffer from n₀ i₀ n i = n ≤ i
@@ -19,8 +19,8 @@ loop-holds c = search needs
 shared-slice-read-if1 : tie.Need-shared-slice-read-if1 Inv-loop μ-loop
 shared-slice-read-if1 c = search needs
 
-mark-at-requires : tie.Need-mark-at-requires Inv-loop μ-loop
-mark-at-requires c κs = search needs
+byte-at-requires : tie.Need-byte-at-requires Inv-loop μ-loop
+byte-at-requires c κs = search needs
 
 add-n : tie.Need-add-n Inv-loop μ-loop
 add-n c = search needs
@@ -37,15 +37,15 @@ loop-again c = ⊎-elim (λ w. omega arith) (λ w. omega arith) (c .if1 .came)
 returns : tie.Need-returns Inv-loop μ-loop
 returns c = search needs
 
-pub kept-spec : {M : Type 1} → statement M
-kept-spec =
+pub kept-bytes-spec : {M : Type 1} → statement M
+kept-bytes-spec =
     tie.close
     (tie.spec
     Inv-loop
     μ-loop
     loop-holds
     shared-slice-read-if1
-    mark-at-requires
+    byte-at-requires
     add-n
     add-i
     loop-less

@@ -1,4 +1,4 @@
-// Sums that change with any number that they are made of, and with the order. `tests/lists.py` makes the same.
+// Sums that change with any number that they are made of, and with the order. `tests/sums.py` makes the same.
 
 // What a sum is taken by before a number more goes into it.
 pub const MODULUS: u64 = 16777213;

@@ -1,9 +1,9 @@
--- `listing_run::sums::bytes` keeps to its slice and ends.
+-- `printing::sums::bytes` keeps to its slice and ends.
 use Prim.Native.Nat.{_-_}
 use borrow.Author.Needs.{needs}
 use lib.ListN.{length}
-use Rattle.listing_run.proofs.sums.bytes.Statement.{statement}
-use Rattle.listing_run.proofs.sums.bytes.Tie as tie
+use Rattle.printing.proofs.sums.bytes.Statement.{statement}
+use Rattle.printing.proofs.sums.bytes.Tie as tie
 
 abbrev Inv-loop : tie.InvT-loop
 Inv-loop part s₀ i₀ s i = Unit {0}

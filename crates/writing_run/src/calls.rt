@@ -1,0 +1,98 @@
+// The calls of a run. A begin is three numbers of two bytes, 0 and the lengths of the URL and of the MIME text, and the two texts. An append is 1, how
+// many numbers of its chunk list are given, and the length of its data; then five numbers of eight bytes, the stated length of the file, source
+// offset, repair time, flags, and the length of the list; then those numbers and the data.
+use crate::list;
+use crate::report;
+use libc::STDIN_FILENO;
+use partial::answers::Written;
+use partial::header::SegmentHeader;
+use partial::position::Position;
+use printing::records::eight;
+use printing::records::pair;
+use writing::append::append;
+use writing::begin::begin;
+
+// Makes so many calls on the buffer, in which a file of some length stands. The length of the file that they leave.
+pub fn all(buffer: &mut [u8], list: &mut [u64], bytes: &mut [u8], count: usize, file: u64) -> u64 {
+    let mut length = file;
+    let mut left = count;
+    while left > 0 {
+        length = call(buffer, list, bytes, length);
+        left -= 1;
+    }
+    length
+}
+
+// Makes the next call, and prints its answer. The length of the file after it.
+fn call(buffer: &mut [u8], list: &mut [u64], bytes: &mut [u8], length: u64) -> u64 {
+    let mut front = [0u8; 6];
+    io::read_full(STDIN_FILENO, &mut front);
+    let first = pair(front[2], front[3]);
+    let second = pair(front[4], front[5]);
+    if pair(front[0], front[1]) == 0 {
+        begins(buffer, bytes, first, second, length)
+    } else {
+        appends(buffer, list, bytes, first, second, length)
+    }
+}
+
+// A call for which there is no room, here and below, is not made.
+fn begins(buffer: &mut [u8], bytes: &mut [u8], url: usize, mime: usize, length: u64) -> u64 {
+    if url > bytes.len() {
+        return length;
+    }
+    if mime > bytes.len() - url {
+        return length;
+    }
+    let end = url + mime;
+    io::read_full(STDIN_FILENO, &mut bytes[0..end]);
+    let answer = begin(buffer, &bytes[0..url], &bytes[url..end]);
+    report::written(b"begin", buffer, 0, answer);
+    after(answer, length)
+}
+
+fn appends(
+    buffer: &mut [u8],
+    list: &mut [u64],
+    bytes: &mut [u8],
+    given: usize,
+    size: usize,
+    length: u64,
+) -> u64 {
+    let stated = eight();
+    let header = header();
+    let count = eight() as usize;
+    if count > list.len() {
+        return length;
+    }
+    if size > bytes.len() {
+        return length;
+    }
+    let list = &mut list[0..count];
+    list::fill(list, given);
+    let data = &mut bytes[0..size];
+    io::read_full(STDIN_FILENO, data);
+    let answer = append(buffer, stated, header, list, data);
+    report::written(b"append", buffer, stated, answer);
+    after(answer, length)
+}
+
+// A header as it is given: flags that the writer does not set are left in it.
+fn header() -> SegmentHeader {
+    let offset = Position(eight());
+    let repair = eight();
+    let flags = (eight() % 4294967296) as u32;
+    SegmentHeader {
+        offset,
+        repair,
+        flags,
+    }
+}
+
+// The length of the file after a call on one of that length.
+fn after(r: Written, length: u64) -> u64 {
+    match r {
+        Written::Refused(_) => length,
+        Written::Length(n) => n,
+    }
+}

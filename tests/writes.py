@@ -1,0 +1,121 @@
+"""Writes the corpus of crates/writing_run and the model's answers to it, or says whether the ones there are these.
+
+usage: python3 tests/writes.py [--check]
+
+A record of `stdin` is a run. Four numbers of two bytes, most significant first: the length of its name, the bytes lent as the buffer, the length
+of the file that stands in it at first, and how many calls are made; then the name, the file and the calls. A begin is three numbers of two bytes,
+0 and the lengths of the URL and of the MIME text, and the two texts. An append is 1, how many numbers of its chunk list are given, and the length of
+its data; then five numbers of eight bytes, the stated length, source offset, repair time, flags, and the length of the list, which goes on with the
+same numbers again; then those numbers and the data. `stdout` is made of the model's answers alone.
+
+Refusal 1 is not met: it takes a file of over 1,073,741,824 bytes.
+"""
+
+import os
+from collections import Counter
+
+import model
+import writes_limits
+import writes_random
+import writes_refusals
+from corpus import ROOT, command, line
+from sums import sum_of
+from writes_run import Append, Begin, length_after, performed
+
+CRATE = os.path.join(ROOT, "crates", "writing_run")
+MOST_BYTES = 500_000
+SHORT = 96
+OF_BEGIN = {33, 34}
+OF_APPEND = set(range(2, 26)) - {12} | {30, 31, 32, 33}
+
+
+def runs():
+    return [run for part in (writes_refusals, writes_limits, writes_random) for run in part.runs()]
+
+
+# Their bytes.
+
+def numbers(width, *given):
+    return b"".join(number.to_bytes(width, "big") for number in given)
+
+
+def encoded_call(call):
+    if isinstance(call, Begin):
+        return numbers(2, 0, len(call.url), len(call.mime)) + call.url + call.mime
+    front = numbers(2, 1, len(call.given), len(call.data))
+    return front + numbers(8, call.stated, call.offset, call.repair, call.flags, call.count, *call.given) + call.data
+
+
+def encoded(run):
+    name = run.name.encode("ascii")
+    front = numbers(2, len(name), run.lent, len(run.file), len(run.calls))
+    return front + name + run.file + b"".join(encoded_call(call) for call in run.calls)
+
+
+# What the program is to write.
+
+def call_line(call, answer, buffer):
+    """The answer, the sum of the whole buffer, and the new bytes where they are few."""
+    begun = isinstance(call, Begin)
+    fields = [*answer, "sum", sum_of(buffer)]
+    start = 0 if begun else call.stated
+    if answer[0] == "length" and answer[1] - start <= SHORT:
+        fields += ["bytes", *["%02x" % byte for byte in buffer[start:answer[1]]]]
+    return line("begin" if begun else "append", *fields)
+
+
+def read_line(file):
+    answer = model.read(file)
+    if answer[0] == "refused":
+        return line(*answer)
+    described, closed = model.length(file)[1:]
+    return line("read", len(answer[1]), len(answer[2]), described, "closed" if closed else "open")
+
+
+def answers(run):
+    lines, length, buffer = [line("=", run.name)], len(run.file), run.file
+    for call, answer, buffer in performed(run.file, run.lent, run.calls):
+        lines.append(call_line(call, answer, buffer))
+        length = length_after(answer, length)
+    return "".join(lines) + read_line(buffer[:length])
+
+
+# The command.
+
+def number_of(answer):
+    return answer[1] if answer[0] == "refused" else 0
+
+
+def agrees(wanted, found):
+    return wanted is None or len(wanted) == len(found) and all(number in (None, other) for number, other in zip(wanted, found))
+
+
+def checked(made):
+    """How many calls of each kind have each number; each has the one that is wanted, and none is missing."""
+    counts = {Begin: Counter(), Append: Counter()}
+    for run in made:
+        calls = performed(run.file, run.lent, run.calls)
+        found = [number_of(answer) for call, answer, buffer in calls]
+        assert agrees(run.wanted, found), (run.kind, run.name, found)
+        for (call, answer, buffer), number in zip(calls, found):
+            counts[type(call)][number] += 1
+    names = Counter((run.kind, run.name) for run in made)
+    assert max(names.values()) == 1, names.most_common(3)
+    assert set(counts[Begin]) == OF_BEGIN | {0} and set(counts[Append]) == OF_APPEND | {0}, counts
+    return counts
+
+
+def told(word, counts):
+    refused = ", ".join(f"{number}: {counts[number]}" for number in sorted(counts) if number)
+    return f"{word} {sum(counts.values())}, taken {counts[0]}, refused {refused}"
+
+
+def main():
+    made = runs()
+    counts = checked(made)
+    print(told("begins", counts[Begin]) + "; " + told("appends", counts[Append]))
+    return command(CRATE, made, Counter(run.kind for run in made), encoded, answers, MOST_BYTES)
+
+
+if __name__ == "__main__":
+    raise SystemExit(main())
