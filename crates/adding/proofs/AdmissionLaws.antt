@@ -2,8 +2,7 @@
 use Prim.Native.Nat.{ℕ, _+_, _-_, _%_, _^_, _≤_, _<_, min}
 use mathlib.Core.Bool.{Bool, true, false}
 use mathlib.Core.List.{List, [], _∷_, _++_, map}
-use mathlib.Core.Logic.{inl, inr}
-use mathlib.Core.Path.{_≡_, refl, sym, ap, ap₂, _∙_}
+use mathlib.Core.Path.{_≡_, sym, ap, ap₂, _∙_}
 use native.Mathlib.Nat.{mod-lt}
 use native.Mathlib.Decide.{decLe}
 use native.Mathlib.Omega.{arith}
@@ -12,23 +11,23 @@ use lib.Dec.{leb, lit<}
 use lib.ListN.{length}
 use Rattle.boxes.specs.Answer.{refused, given}
 use Rattle.boxes.specs.Framing.{boxLimit}
-use Rattle.partial.specs.Addition.{Addition, Item, items, flagsFor, anyPresent}
+use Rattle.partial.specs.Addition.{Addition, items, flagsFor, anyPresent}
 use Rattle.partial.specs.Append.{added, addedBoxes, newSegment, psegPlace, admission}
 use Rattle.partial.specs.Heading.{Heading}
 use Rattle.partial.specs.Limits.{fileLimit, segmentLimit, chunkLimit, sourceLimit}
 use Rattle.partial.specs.Meaning.{agree}
 use Rattle.partial.specs.Reading.{admitted}
-use Rattle.partial.specs.Segments.{Segment, isLast, present, endOf, chunksOf}
-use Rattle.partial.specs.Sequences.{someOf, sum}
+use Rattle.partial.specs.Segments.{Segment, isLast, endOf, chunksOf}
+use Rattle.partial.specs.Sequences.{sum}
 use Rattle.partial.specs.declared.header.SegmentHeader.{SegmentHeader}
-use Rattle.partial.proofs.Meaning.SequenceLaws.{which}
 use Rattle.partial.proofs.Writing.NewSegmentLaws.{length-new, end-new}
 use Rattle.gathering.proofs.GatheredLaws.{gathered-segments, gathered-chunks}
 use Rattle.reading.specs.declared.judging.Judged.{Judged}
 use Rattle.adding.specs.Admission.{Beside, Asked, admittedLength}
-use Rattle.adding.specs.Counts.{presentOf, Counted}
+use Rattle.adding.specs.Counts.{Counted}
 use Rattle.adding.specs.declared.counts.Counts.{Counts}
-use Rattle.adding.proofs.CountLaws.{counted-items, counted-present, counted-sum}
+use Rattle.adding.specs.declared.layout.Layout.{Layout}
+use Rattle.adding.proofs.CountLaws.{counted-items, counted-present, counted-sum, none-present, some-present}
 
 -- a sum ends by a limit or not, also where a part of it is cut above the limit
 pub capped-ends : (n m limit top : ℕ) → limit < top → leb (n + min m top) limit ≡ leb (n + m) limit
@@ -36,25 +35,6 @@ capped-ends n m limit top above =
     elim (decLe (n + m) limit) [
       | yes low ↦ le-leb (n + min m top) limit (omega arith) ∙ sym (le-leb (n + m) limit low)
       | no over ↦ lt-leb (n + min m top) limit (omega arith) ∙ sym (lt-leb (n + m) limit (omega arith))
-    ]
-
--- whether any is present, by how many are
-none-present : (is : List Item) → presentOf is ≡ 0 → someOf (λ i. present (i .state)) is ≡ false
-unfolding presentOf someOf sum
-none-present [] none = refl
-none-present (i ∷ is) none =
-    elim (which (present (i .state))) [
-      | inl e ↦ absurd (omega (arith, rw e at none))
-      | inr e ↦ rw e (none-present is (omega (arith, rw e at none)))
-    ]
-
-some-present : (is : List Item) → (presentOf is ≡ 0 → ⊥) → someOf (λ i. present (i .state)) is ≡ true
-unfolding presentOf someOf sum
-some-present [] some = absurd (some refl)
-some-present (i ∷ is) some =
-    elim (which (present (i .state))) [
-      | inl e ↦ rw e
-      | inr e ↦ rw e (some-present is (λ h. (rw e at some) (omega arith)))
     ]
 
 module _ {a : Addition} {c : Counts} (counted : Counted a c) where
@@ -80,14 +60,15 @@ abbrev pub new : ℕ → Addition → Segment
 new n a = newSegment (psegPlace n a) a
 
 -- the tests, by what the code has at hand
-module _ {h : Heading} {ss : List Segment} {j : Judged} {a : Addition} {header : SegmentHeader} {c : Counts} (n : ℕ) (beside : Beside h ss j) (asked : Asked a header c) where
-  pub file-test : {size : ℕ} {b : Bool} → size ≡ min (length (added a)) (fileLimit + 1) → b ≡ leb (n + size) fileLimit
-      → b ≡ leb (n + length (added a)) fileLimit
-  file-test size test =
-      test ∙ ap (λ (m : ℕ). leb (n + m) fileLimit) size ∙ capped-ends n (length (added a)) fileLimit (fileLimit + 1) (omega arith)
+module _ {h : Heading} {ss : List Segment} {j : Judged} {a : Addition} {header : SegmentHeader} {c : Counts} {l : Layout} (n : ℕ) (beside : Beside h ss j) (asked : Asked a header c l) where
+  pub file-test : {b : Bool} → b ≡ leb (n + l .added) fileLimit → b ≡ leb (n + length (added a)) fileLimit
+  file-test test =
+      test
+      ∙ ap (λ (m : ℕ). leb (n + m) fileLimit) (asked .laid .all)
+      ∙ capped-ends n (length (added a)) fileLimit (fileLimit + 1) (omega arith)
 
-  pub size-whole : {size : ℕ} → size ≡ min (length (added a)) (fileLimit + 1) → true ≡ leb (n + length (added a)) fileLimit → size ≡ length (added a)
-  size-whole size test = omega (arith, leb-true (n + length (added a)) fileLimit (sym test))
+  pub size-whole : true ≡ leb (n + length (added a)) fileLimit → l .added ≡ length (added a)
+  size-whole test = omega (arith, asked .laid .all, leb-true (n + length (added a)) fileLimit (sym test))
 
   pub box-test : {more : ℕ} {b : Bool} → more ≡ addedBoxes a → b ≡ leb (j .head .boxes + more) 512 → b ≡ leb (length (h .boxes) + addedBoxes a) boxLimit
   unfolding boxLimit

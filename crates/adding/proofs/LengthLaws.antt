@@ -3,7 +3,7 @@ use Prim.Native.Nat.{ℕ, _+_, _*_, _≤_, min}
 use mathlib.Core.Bool.{Bool, true, false}
 use mathlib.Core.List.{List, [], _∷_, _++_}
 use mathlib.Core.Logic.{inl, inr}
-use mathlib.Core.Path.{_≡_, refl, sym, ap, _∙_}
+use mathlib.Core.Path.{_≡_, refl, ap, _∙_}
 use native.Mathlib.Nat.{zero-add}
 use native.Mathlib.Omega.{arith}
 use borrow.Author.Tests.{leb-true, leb-false}
@@ -14,7 +14,7 @@ use Rattle.numerals.specs.Numbers.{bytesOf, twosComplement}
 use Rattle.boxes.specs.Framing.{boxed}
 use Rattle.boxes.specs.Kinds.{pdat}
 use Rattle.boxes.proofs.BoxedLaws.{front-size, length-boxed}
-use Rattle.partial.specs.Sequences.{someOf, sum}
+use Rattle.partial.specs.Sequences.{sum}
 use Rattle.partial.specs.Segments.{present}
 use Rattle.partial.specs.Limits.{fileLimit}
 use Rattle.partial.specs.Reading.{offsetWidth}
@@ -22,9 +22,9 @@ use Rattle.partial.specs.Addition.{Addition, Item, items, anyPresent}
 use Rattle.partial.specs.Append.{Placed, placed, flagByte, entryBytes, lengthSize, offsetSize, plocBody, versionFor, psegBody, dataBox}
 use Rattle.partial.proofs.Meaning.SequenceLaws.{which}
 use Rattle.partial.proofs.Writing.FieldsBackLaws.{length-pshd}
-use Rattle.adding.specs.Counts.{presentOf, countsOf, Whole}
+use Rattle.adding.specs.Counts.{presentOf, Whole}
 use Rattle.adding.specs.declared.counts.Counts.{Counts}
-use Rattle.adding.proofs.CountLaws.{present-most}
+use Rattle.adding.proofs.CountLaws.{present-most, none-present, some-present, counted-items, counted-present}
 
 -- of no item, and with one more
 present-none : presentOf [] ≡ 0
@@ -32,11 +32,11 @@ unfolding presentOf sum
 present-none = refl
 
 module _ (i : Item) (is : List Item) where
-  pub present-there : present (i .state) ≡ true → presentOf (i ∷ is) ≡ 1 + presentOf is
+  present-there : present (i .state) ≡ true → presentOf (i ∷ is) ≡ 1 + presentOf is
   unfolding presentOf sum
   present-there e = rw e
 
-  pub present-lost : present (i .state) ≡ false → presentOf (i ∷ is) ≡ presentOf is
+  present-lost : present (i .state) ≡ false → presentOf (i ∷ is) ≡ presentOf is
   unfolding presentOf sum
   present-lost e = rw e (zero-add _)
 
@@ -101,25 +101,6 @@ pub pseg-long : (a : Addition) → length (psegBody a) ≡ 28 + offsetWidth (ver
 unfolding psegBody
 pseg-long a = simp (length-append, length-boxed, front-size, length-pshd) (omega arith)
 
--- whether any item is present
-any-none : (is : List Item) → presentOf is ≡ 0 → someOf (λ i. present (i .state)) is ≡ false
-unfolding someOf
-any-none [] none = refl
-any-none (i ∷ is) none =
-    elim (which (present (i .state))) [
-      | inl e ↦ absurd (omega (arith, present-there i is e))
-      | inr e ↦ rw (someOf, e) (any-none is (sym (present-lost i is e) ∙ none))
-    ]
-
-any-some : (is : List Item) → (presentOf is ≡ 0 → ⊥) → someOf (λ i. present (i .state)) is ≡ true
-unfolding someOf
-any-some [] some = absurd (some present-none)
-any-some (i ∷ is) some =
-    elim (which (present (i .state))) [
-      | inl e ↦ rw (someOf, e)
-      | inr e ↦ rw (someOf, e) (any-some is (λ none. some (present-lost i is e ∙ none)))
-    ]
-
 -- the box with the data
 module _ (a : Addition) where
   abbrev dataWith : Bool → List ℕ
@@ -127,30 +108,21 @@ module _ (a : Addition) where
 
   pub data-none : presentOf (items (a .list)) ≡ 0 → length (dataBox a) ≡ 0
   unfolding dataBox anyPresent
-  data-none none = ap (λ (there : Bool). length (dataWith there)) (any-none (items (a .list)) none)
+  data-none none = ap (λ (there : Bool). length (dataWith there)) (none-present (items (a .list)) none)
 
   pub data-some : (presentOf (items (a .list)) ≡ 0 → ⊥) → length (dataBox a) ≡ 8 + length (a .bytes)
   unfolding dataBox anyPresent
   data-some some =
-      ap (λ (there : Bool). length (dataWith there)) (any-some (items (a .list)) some)
+      ap (λ (there : Bool). length (dataWith there)) (some-present (items (a .list)) some)
       ∙ length-boxed (pdat .code) (a .bytes)
       ∙ omega (arith, front-size)
 
--- how many there are and are present, by what was counted
-module _ (is : List Item) (c : Counts) (whole : Whole is c) where
-  pub items-counted : c .items ≡ length is
-  unfolding countsOf
-  items-counted = ap (λ (x : Counts). x .items) (whole .counts)
-
-  pub present-counted : c .present ≡ presentOf is
-  unfolding countsOf
-  present-counted = ap (λ (x : Counts). x .present) (whole .counts)
-
-  -- the body of a `ploc`, by the counts cut and the widths
-  pub ploc-counted : (n p l o : ℕ) → n ≡ min (c .items) (fileLimit + 1) → p ≡ min (c .present) (fileLimit + 1)
-      → l ≡ lengthSize (placed is)
-      → o ≡ offsetSize (placed is)
-      → min (9 + n * (1 + l) + p * o) (fileLimit + 1) ≡ min (length (plocBody (placed is))) (fileLimit + 1)
-  ploc-counted n p l o n-is p-is l-is o-is =
-      rw (n-is, p-is, l-is, o-is, items-counted, present-counted, ploc-long is)
-      (ploc-cut (length is) (presentOf is) (lengthSize (placed is)) (offsetSize (placed is)) (present-most is))
+-- the body of a `ploc`, by the counts cut and the widths
+pub ploc-counted : (is : List Item) (c : Counts) → Whole is c → (n p l o : ℕ) → n ≡ min (c .items) (fileLimit + 1)
+    → p ≡ min (c .present) (fileLimit + 1)
+    → l ≡ lengthSize (placed is)
+    → o ≡ offsetSize (placed is)
+    → min (9 + n * (1 + l) + p * o) (fileLimit + 1) ≡ min (length (plocBody (placed is))) (fileLimit + 1)
+ploc-counted is c whole n p l o n-is p-is l-is o-is =
+    rw (n-is, p-is, l-is, o-is, counted-items is (whole .counts), counted-present is (whole .counts), ploc-long is)
+    (ploc-cut (length is) (presentOf is) (lengthSize (placed is)) (offsetSize (placed is)) (present-most is))

@@ -2,5 +2,4 @@ pub mod AdmissionLaws
 pub mod CountLaws
 pub mod Determined
 pub mod LengthLaws
-pub mod SizesDetermined
 pub mod WidthLaws

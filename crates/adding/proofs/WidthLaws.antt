@@ -1,5 +1,5 @@
 -- Laws of the widths that append writes: the least that holds the largest size, and the least that holds all data.
-use Prim.Native.Nat.{ℕ, _+_, _≤_, _<_, _^_, max}
+use Prim.Native.Nat.{ℕ, _≤_, _<_, _^_, max}
 use mathlib.Core.Bool.{false, _&&_}
 use mathlib.Core.List.{List, [], _∷_, map}
 use mathlib.Core.Logic.{inl, inr}
@@ -100,10 +100,6 @@ offset-most version =
       | inr e ↦ rw (offsetWidth, e) (omega arith)
     ]
 
--- the body of a `pshd` is short
-module _ (n version : ℕ) where
-  pub offset-short : n ≡ offsetWidth version → n ≤ 8
-  offset-short e = rw e (offset-most version)
-
-  pub pshd-short : n ≡ 12 + offsetWidth version → n ≤ 20
-  pshd-short e = omega (arith, e, offset-most version)
+-- the bytes of a source offset are few
+pub offset-short : (n version : ℕ) → n ≡ offsetWidth version → n ≤ 8
+offset-short n version e = rw e (offset-most version)

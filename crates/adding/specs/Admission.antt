@@ -13,18 +13,21 @@ use Rattle.partial.specs.declared.header.SegmentHeader.{SegmentHeader}
 use Rattle.gathering.specs.Gathered.{gatheredOf}
 use Rattle.reading.specs.declared.judging.Judged.{Judged}
 use Rattle.adding.specs.Counts.{Counted}
+use Rattle.adding.specs.Layout.{Laid}
 use Rattle.adding.specs.declared.counts.Counts.{Counts}
+use Rattle.adding.specs.declared.layout.Layout.{Layout}
 
 -- what was read of a file: how many boxes it has, and what its segments say together
 pub record Beside (h : Heading) (ss : List Segment) (j : Judged) : Type 0 where
   pub boxes : j .head .boxes ≡ length (h .boxes)
   pub segments : j .gathered ≡ gatheredOf ss
 
--- what is asked of append, by the header and the counts of the chunk list
-pub record Asked (a : Addition) (header : SegmentHeader) (c : Counts) : Type 0 where
+-- what is asked of append, by the header, the counts of the chunk list and the layout
+pub record Asked (a : Addition) (header : SegmentHeader) (c : Counts) (l : Layout) : Type 0 where
   pub offset : header .offset .0 ≡ a .sourceOffset
   pub last : isLast (header .flags) ≡ a .last
   pub counted : Counted a c
+  pub laid : Laid a l
 
 -- the length of a file of n bytes with the addition, or its refusal
 unfoldable pub admittedLength : Heading → List Segment → ℕ → Addition → Answer ℕ

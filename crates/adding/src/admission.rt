@@ -1,9 +1,9 @@
 // Whether a file takes an addition: 1, 6, 13, 22, 23 or 25 if the result would have it.
 use crate::counts::Counts;
-use crate::sizes::added_size;
+use crate::layout::Layout;
 use boxes::limits::BOX_LIMIT;
 use boxes::refusals::TOO_MANY_BOXES;
-use gathering::gathered::gives_size;
+use ends::sizes::gives_size;
 use partial::answers::Written;
 use partial::header::SegmentHeader;
 use partial::limits::CHUNK_LIMIT;
@@ -35,14 +35,19 @@ fn added_boxes(counts: Counts) -> u64
 }
 
 // The length of a file of n bytes with the addition, or the number of the first refusal that the result would have.
-pub fn admission(judged: Judged, n: u64, header: SegmentHeader, counts: Counts) -> Written
-    ensures { λ r. ⌜ ((h : Heading) (ss : List Segment) (a : Addition) → Beside h ss judged → Asked a header counts → writtenAnswer r ≡ admittedLength h ss n a) ⌝ }
+pub fn admission(
+    judged: Judged,
+    n: u64,
+    header: SegmentHeader,
+    counts: Counts,
+    layout: Layout,
+) -> Written
+    ensures { λ r. ⌜ ((h : Heading) (ss : List Segment) (a : Addition) → Beside h ss judged → Asked a header counts layout → writtenAnswer r ≡ admittedLength h ss n a) ⌝ }
 {
     let head = judged.head;
     let gathered = judged.gathered;
     let offset = header.offset;
-    let size = added_size(counts, offset);
-    if !ends_by(n, size, FILE_LIMIT) {
+    if !ends_by(n, layout.added, FILE_LIMIT) {
         return Written::Refused(FILE_TOO_LONG);
     }
     if !ends_by(head.boxes, added_boxes(counts), BOX_LIMIT) {
@@ -63,5 +68,5 @@ pub fn admission(judged: Judged, n: u64, header: SegmentHeader, counts: Counts) 
     if !with.agree() {
         return Written::Refused(SIZES_DIFFER);
     }
-    Written::Length(n + size)
+    Written::Length(n + layout.added)
 }

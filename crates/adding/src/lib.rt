@@ -1,4 +1,4 @@
-// Adding: what append is asked to add, counted, measured, and held against the file that it is added to.
+// Adding: what append is asked to add, counted, laid out, and held against the file that it is added to.
 pub mod admission;
 pub mod counts;
-pub mod sizes;
+pub mod layout;

@@ -21,11 +21,12 @@ use Rattle.segment.specs.Location.{plocOf}
 use Rattle.segment.specs.declared.chunk.Chunk.{Chunk as CodeChunk}
 use Rattle.segment.specs.declared.chunk.Cursor.{Cursor}
 use Rattle.segment.specs.declared.location.Location.{Location}
+use Rattle.filling.specs.Rows.{Put}
+use Rattle.filling.proofs.RowLaws.{put-none, put-more}
 use Rattle.gathering.specs.Chunks.{chunksBy, Ran, Chunked}
-use Rattle.gathering.specs.Rows.{Put}
 use Rattle.gathering.specs.declared.chunks.ChunksRead.the-variants.{Given}
 use Rattle.gathering.specs.declared.gathered.Gathered.{Gathered}
-use Rattle.gathering.proofs.RowLaws.{put-none, put-more, chunk-rows-long, chunk-rows-last}
+use Rattle.gathering.proofs.RowLaws.{chunk-rows-long, chunk-rows-last}
 
 module _ (limit : ℕ) (f : List ℕ) (h : Heading) (pseg : ℕ) (l : Ploc) (c : At) where
   chunks-refused : (more : ℕ) {n : ℕ} → chunkStep limit f h pseg l c ≡ refused n → chunksFrom limit f h pseg l (suc more) c ≡ refused n

@@ -1,6 +1,5 @@
 -- Each public call's contract determines its answer: two that it allows of the same arguments are equal. The pass over a file is determined where
--- the file's boxes are known, and what it leaves in a table where all rows fit; a call on what was gathered, where the segments are known of which it was,
--- and a call on one segment, where that is known.
+-- the file's boxes are known, and what it leaves in a table where all rows fit.
 use Prim.Native.Nat.{ℕ, _≤_}
 use mathlib.Core.List.{List}
 use mathlib.Core.Path.{_≡_, sym, ap, _∙_}
@@ -11,24 +10,17 @@ use Rattle.boxes.specs.Answer.{given}
 use Rattle.boxes.specs.Framing.{boxesIn}
 use Rattle.boxes.specs.declared.kinds.Container.the-variants.{File}
 use Rattle.boxes.proofs.AnswerLaws.{not-both, refused-same, given-same}
-use Rattle.numerals.proofs.Determined.{OneLeft, OneKnown}
+use Rattle.numerals.proofs.Determined.{OneKnown}
 use Rattle.partial.specs.Heading.{Heading}
-use Rattle.partial.specs.Meaning.{givesSize}
-use Rattle.partial.specs.Segments.{Segment, endOf}
+use Rattle.partial.specs.Segments.{Segment}
 use Rattle.partial.specs.Tables.{segmentRows, chunkRows}
+use Rattle.filling.specs.Rows.{Put}
 use Rattle.gathering.specs.Gathered.{gatheredOf}
 use Rattle.gathering.specs.Pass.{segmentsBy, Gathers}
-use Rattle.gathering.specs.Rows.{Put}
-use Rattle.gathering.specs.Sizes.{sizesOf}
 use Rattle.gathering.specs.declared.pass.Passed.{Passed}
 use Rattle.gathering.specs.declared.pass.Passed.the-variants.{Refused, Given}
 use Rattle.gathering.proofs.PassLaws.{rows-put}
-use Rattle.gathering.proofs.gathered.gives_size.Reads as gives-size
 use Rattle.gathering.proofs.pass.pass.Reads as pass
-use Rattle.gathering.proofs.rows.put_row.Reads as put-row
-use Rattle.gathering.proofs.sizes.Sizes.agree.Reads as agree
-use Rattle.gathering.proofs.sizes.Sizes.described.Reads as described
-use Rattle.gathering.proofs.sizes.Sizes.with.Reads as with
 
 -- where something is known of the arguments, a contract allows one value of something that the call leaves behind
 module _ {L : Type 0} {A R E : L → Type 0} (post : (κs : L) → A κs → R κs → E κs → Type 0) where
@@ -38,9 +30,6 @@ module _ {L : Type 0} {A R E : L → Type 0} (post : (κs : L) → A κs → R �
       → post κs args x after
       → post κs args y after′
       → of κs after ≡ of κs after′
-
-put-row-table : OneLeft put-row.Post (λ κs after. now (after .0))
-put-row-table κs args x y after after′ p q = p ∙ sym q
 
 -- the boxes of a file are those of a heading
 abbrev Boxed : List ℕ → Heading → Type 0
@@ -71,15 +60,3 @@ pass-segments κs args (h, ss) (known, read, room) x y after after′ p q =
 pass-chunks : OneLeftKnown pass.Post (λ κs args. Fits chunkRows (now (args .0)) (now (args .1 .1 .0))) (λ κs after. now (after .1 .1 .0))
 pass-chunks κs args (h, ss) (known, read, room) x y after after′ p q =
     one-put room (rows-put _ h x (p h known) read .1) (rows-put _ h y (q h known) read .1)
-
-gives-size-result : OneKnown gives-size.Post (λ κs args (s : Segment). (args .0 ≡ s .flags) × (args .1 .0 ≡ length (s .chunks)))
-gives-size-result κs args s (flags, count) x y after after′ p q = p s flags count ∙ sym (q s flags count)
-
-with-result : OneKnown with.Post (λ κs args ((ss, s) : List Segment × Segment). (args .0 ≡ sizesOf ss) × (args .1 .0 ≡ endOf s) × (args .1 .1 .0 ≡ givesSize s))
-with-result κs args (ss, s) (known, ends, gives) x y after after′ p q = p ss s known ends gives ∙ sym (q ss s known ends gives)
-
-agree-result : OneKnown agree.Post (λ κs args (ss : List Segment). args .0 ≡ sizesOf ss)
-agree-result κs args ss known x y after after′ p q = p ss known ∙ sym (q ss known)
-
-described-result : OneKnown described.Post (λ κs args (ss : List Segment). args .0 ≡ sizesOf ss)
-described-result κs args ss known x y after after′ p q = p ss known ∙ sym (q ss known)

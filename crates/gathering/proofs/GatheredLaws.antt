@@ -1,19 +1,15 @@
--- Laws of what is gathered of segments: of none, with one more, and when a segment makes the size known.
-use Prim.Native.Nat.{ℕ, _+_, _%_}
-use mathlib.Core.Bool.{true, false, not}
+-- Laws of what is gathered of segments: of none, and with one more.
+use Prim.Native.Nat.{ℕ, _+_}
 use mathlib.Core.List.{List, [], _∷_, _++_}
 use mathlib.Core.Path.{_≡_, refl, ap}
 use native.Mathlib.Omega.{arith}
-use borrow.Author.Tests.{eq-eqb, ne-eqb}
-use lib.Dec.{eqb}
 use lib.ListN.{length, length-append}
-use Rattle.partial.specs.Meaning.{givesSize}
-use Rattle.partial.specs.Segments.{Chunk, Segment, isLast, isOpen, chunksOf}
+use Rattle.partial.specs.Segments.{Segment, chunksOf}
 use Rattle.partial.proofs.Meaning.SupplyLaws.{chunks-append}
+use Rattle.ends.specs.Sizes.{sizesOf}
+use Rattle.ends.specs.declared.sizes.Sizes.{Sizes}
 use Rattle.gathering.specs.Gathered.{gatheredOf}
-use Rattle.gathering.specs.Sizes.{sizesOf}
 use Rattle.gathering.specs.declared.gathered.Gathered.{Gathered}
-use Rattle.gathering.specs.declared.sizes.Sizes.{Sizes}
 
 pub gathered-none : (x : Sizes) → x ≡ sizesOf [] → record { segments = 0; chunks = 0; sizes = x } ≡ gatheredOf []
 unfolding gatheredOf chunksOf
@@ -45,17 +41,3 @@ module _ {g : Gathered} (ss : List Segment) (e : g ≡ gatheredOf ss) where
       let segments : g .segments + 1 ≡ length (ss ++ (s ∷ [])) = omega (arith, gathered-segments, length-append ss (s ∷ [])) in
       let chunks : g .chunks + count ≡ length (chunksOf (ss ++ (s ∷ []))) = omega (arith, gathered-chunks, chunks-last ss s) in
       λ i. record { segments = segments i; chunks = chunks i; sizes = sizes i }
-
--- a segment makes the size known if it is the last and has a chunk
-module _ (s : Segment) where
-  pub gives-not-last : (s .flags % 2 ≡ 1 → ⊥) → false ≡ givesSize s
-  unfolding givesSize isLast
-  gives-not-last other = rw (ne-eqb (s .flags % 2) 1 other)
-
-  pub gives-last : s .flags % 2 ≡ 1 → not (eqb (length (s .chunks)) 0) ≡ givesSize s
-  unfolding givesSize isLast isOpen
-  gives-last last = rw (eq-eqb (s .flags % 2) 1 last) (ap not (go (s .chunks)))
-    where
-      go : (cs : List Chunk) → eqb (length cs) 0 ≡ elim cs [ [] ↦ true | _ ∷ _ ↦ false ]
-      go [] = refl
-      go (c ∷ cs) = ne-eqb (length (c ∷ cs)) 0 (λ h. omega arith)

@@ -1,7 +1,5 @@
 pub mod PartsLaws
-pub mod PutsLaws
 pub mod RowLaws
-pub mod SizeLaws
 pub mod GatheredLaws
 pub mod ChunksLaws
 pub mod StepLaws

@@ -24,15 +24,16 @@ use Rattle.partial.specs.Reading.{segment, segmentsFrom}
 use Rattle.partial.specs.Segments.{Segment, chunksOf}
 use Rattle.partial.specs.Tables.{segmentRow, segmentRows, chunkRows, chunkRowsFrom, chunkRowsOf}
 use Rattle.segment.specs.Data.{Searched}
+use Rattle.filling.specs.Rows.{Put}
+use Rattle.filling.proofs.RowLaws.{put-none, put-more, put-same}
 use Rattle.gathering.specs.Gathered.{gatheredOf}
 use Rattle.gathering.specs.Pass.{segmentsBy, Gathers}
-use Rattle.gathering.specs.Rows.{Put}
 use Rattle.gathering.specs.Step.{Segmented}
 use Rattle.gathering.specs.declared.gathered.Gathered.{Gathered}
 use Rattle.gathering.specs.declared.pass.Passed.{Passed}
 use Rattle.gathering.specs.declared.pass.Passed.the-variants.{Refused, Given}
 use Rattle.gathering.specs.declared.step.SegmentRead.the-variants as SegmentRead
-use Rattle.gathering.proofs.RowLaws.{put-none, put-more, put-same, segment-rows-long, segment-rows-last, all-rows-long, all-rows-last}
+use Rattle.gathering.proofs.RowLaws.{segment-rows-long, segment-rows-last, all-rows-long, all-rows-last}
 
 -- a box of no kind may be looked at first
 pub searched-none : {f : List ℕ} {bs : List Box} (b : Framed) → b .kind ≡ 0 → boxesIn File f 0 (length f) ≡ given bs → Searched f (boxOf b) bs

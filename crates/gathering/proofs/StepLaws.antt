@@ -25,16 +25,17 @@ use Rattle.partial.proofs.Meaning.SequenceLaws.{both}
 use Rattle.segment.specs.Fields.{valuesOf}
 use Rattle.segment.specs.declared.chunk.Cursor.{Cursor}
 use Rattle.segment.specs.declared.fields.Fields.{Fields}
+use Rattle.filling.specs.Rows.{Put}
+use Rattle.filling.proofs.RowLaws.{put-same}
 use Rattle.gathering.specs.Chunks.{chunksBy, Ran}
 use Rattle.gathering.specs.Gathered.{gatheredOf}
 use Rattle.gathering.specs.Parts.{Parts, headerIn, partsIn, partsOf}
-use Rattle.gathering.specs.Rows.{Put, rowBy}
+use Rattle.gathering.specs.Rows.{rowBy}
 use Rattle.gathering.specs.Step.{Segmented}
 use Rattle.gathering.specs.declared.gathered.Gathered.{Gathered}
 use Rattle.gathering.specs.declared.parts.Parts.{Parts as CodeParts}
 use Rattle.gathering.specs.declared.step.SegmentRead.the-variants.{Given}
 use Rattle.gathering.proofs.GatheredLaws.{gathered-segments, gathered-chunks}
-use Rattle.gathering.proofs.RowLaws.{put-same}
 
 -- the `pshd` of a segment ends behind the start of its body
 pub header-whole : (f : List ℕ) (b : Box) {p : Parts} → partsIn f b ≡ given p → p .header .body ≤ p .header .end

@@ -16,7 +16,7 @@ use Rattle.segment.specs.Data.{Searched}
 use Rattle.segment.specs.Location.{plocOf}
 use Rattle.segment.specs.declared.chunk.Cursor.{Cursor}
 use Rattle.segment.specs.declared.location.Location.{Location}
-use Rattle.gathering.specs.Rows.{Put}
+use Rattle.filling.specs.Rows.{Put}
 use Rattle.gathering.specs.declared.chunks.ChunksRead.{ChunksRead}
 use Rattle.gathering.specs.declared.chunks.ChunksRead.the-variants.{Refused, Given}
 use Rattle.gathering.specs.declared.gathered.Gathered.{Gathered}

@@ -2,7 +2,7 @@
 use mathlib.Core.List.{List}
 use lib.ListN.{length}
 use Rattle.partial.specs.Segments.{Segment, chunksOf}
-use Rattle.gathering.specs.Sizes.{sizesOf}
+use Rattle.ends.specs.Sizes.{sizesOf}
 use Rattle.gathering.specs.declared.gathered.Gathered.{Gathered}
 
 -- how many segments there are, how many chunks they have, and what their ends say of the size of the source

@@ -9,8 +9,8 @@ use Rattle.partial.specs.Limits.{sourceLimit}
 use Rattle.partial.specs.Reading.{segmentsFrom}
 use Rattle.partial.specs.Segments.{Segment}
 use Rattle.partial.specs.Tables.{segmentRows, chunkRows}
+use Rattle.filling.specs.Rows.{Put}
 use Rattle.gathering.specs.Gathered.{gatheredOf}
-use Rattle.gathering.specs.Rows.{Put}
 use Rattle.gathering.specs.declared.pass.Passed.{Passed}
 use Rattle.gathering.specs.declared.pass.Passed.the-variants.{Refused, Given}
 

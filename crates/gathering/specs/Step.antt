@@ -11,8 +11,8 @@ use Rattle.partial.specs.Reading.{segment}
 use Rattle.partial.specs.Segments.{Segment, chunksOf}
 use Rattle.partial.specs.Tables.{segmentRow, chunkRowsOf}
 use Rattle.segment.specs.Data.{Searched}
+use Rattle.filling.specs.Rows.{Put}
 use Rattle.gathering.specs.Gathered.{gatheredOf}
-use Rattle.gathering.specs.Rows.{Put}
 use Rattle.gathering.specs.declared.gathered.Gathered.{Gathered}
 use Rattle.gathering.specs.declared.step.SegmentRead.{SegmentRead}
 use Rattle.gathering.specs.declared.step.SegmentRead.the-variants.{Refused, Given}

@@ -1,6 +1,6 @@
 // What is gathered of the segments of a file, one after another.
-use crate::sizes::Sizes;
-use partial::header::SegmentHeader;
+use ends::sizes::Sizes;
+use ends::sizes::gives_size;
 use partial::position::Position;
 ghost use Prim.Native.Nat.{_+_, _≤_};
 ghost use mathlib.Core.List.{List, [], _∷_, _++_};
@@ -8,7 +8,6 @@ ghost use mathlib.Core.Path.{_≡_};
 ghost use lib.ListN.{length};
 ghost use Rattle.boxes.specs.Framing.{boxLimit};
 ghost use Rattle.partial.specs.Limits.{chunkLimit};
-ghost use Rattle.partial.specs.Meaning.{givesSize};
 ghost use Rattle.partial.specs.Segments.{Segment, endOf};
 ghost use Rattle.gathering.specs.Gathered.{gatheredOf};
 
@@ -17,16 +16,6 @@ pub struct Gathered {
     pub segments: u64,
     pub chunks: u64,
     pub sizes: Sizes,
-}
-
-// Whether a segment of these flags and so many chunks makes the size of the source known: it is the last, and not open.
-pub fn gives_size(flags: u64, count: u64) -> bool
-    ensures { λ r. ⌜ ((s : Segment) → flags ≡ s .flags → count ≡ length (s .chunks) → r ≡ givesSize s) ⌝ }
-{
-    if flags % 2 != SegmentHeader::LAST_SEGMENT as u64 {
-        return false;
-    }
-    count != 0
 }
 
 impl Gathered {

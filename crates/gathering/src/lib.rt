@@ -5,5 +5,4 @@ pub mod gathered;
 mod parts;
 pub mod pass;
 pub mod rows;
-pub mod sizes;
 mod step;

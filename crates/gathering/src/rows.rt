@@ -1,38 +1,21 @@
-// Rows of numbers, put into a lent table.
+// The rows of segments and of chunks, put into a lent table.
 use boxes::framing::Framed;
+use filling::rows::put_row;
 use numerals::place::Place;
 use segment::chunk::Chunk;
 use segment::fields::Fields;
 ghost use Prim.Native.Nat.{_*_, _≤_};
-ghost use mathlib.Core.Path.{_≡_};
 ghost use Rattle.boxes.specs.Framing.{boxLimit, boxOf};
-ghost use Rattle.numerals.specs.Stored.{stored};
 ghost use Rattle.partial.specs.Limits.{chunkLimit};
 ghost use Rattle.partial.specs.Tables.{chunkRow};
 ghost use Rattle.segment.specs.Chunk.{chunkOf};
-ghost use Rattle.gathering.specs.Rows.{Put, rowBy};
+ghost use Rattle.filling.specs.Rows.{Put};
+ghost use Rattle.gathering.specs.Rows.{rowBy};
 
 // The numbers of a segment's row.
 pub const SEGMENT_ROW: u64 = 7;
 // The numbers of a chunk's row.
 pub const CHUNK_ROW: u64 = 6;
-
-// Writes a row from that number of the table on, if there is room for it.
-pub fn put_row(table: &mut [u64], at: usize, row: &[u64])
-    ensures { λ _. ⌜ now (table .exit) ≡ stored (now (table .entry)) at (now (row .entry)) ⌝ }
-{
-    if table.len() < at {
-        return;
-    }
-    if table.len() - at < row.len() {
-        return;
-    }
-    let mut i = row.len();
-    while 0 < i {
-        i -= 1;
-        table[at + i] = row[i];
-    }
-}
 
 // Writes the row of a chunk behind so many others: the number of its segment, its index there, its start, size, state and place.
 pub(crate) fn put_chunk(table: &mut [u64], before: u64, segment: u64, index: u64, c: Chunk)

@@ -17,7 +17,7 @@ use Rattle.partial.specs.Tables.{tabled, listed, segmentRows, chunkRows, hadRow
 use Rattle.partial.specs.declared.answers.Listed.{Listed}
 use Rattle.partial.specs.declared.answers.Listed.the-variants as Listed
 use Rattle.partial.proofs.Reading.LimitLaws.{chunks-few}
-use Rattle.gathering.specs.Rows.{Put}
+use Rattle.filling.specs.Rows.{Put}
 use Rattle.gathering.proofs.GatheredLaws.{gathered-chunks}
 use Rattle.gathering.proofs.RowLaws.{put-filled}
 use Rattle.reading.specs.Judged.{Judged}

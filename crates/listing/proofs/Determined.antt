@@ -11,7 +11,7 @@ use Rattle.partial.specs.Answers.{listedAnswer}
 use Rattle.partial.specs.Ranges.{had, missing, ranges, ofClass}
 use Rattle.partial.specs.Tables.{Totals, rangeRows}
 use Rattle.partial.specs.declared.answers.Listed.the-variants as Listed
-use Rattle.gathering.specs.Rows.{Put}
+use Rattle.filling.specs.Rows.{Put}
 use Rattle.gathering.proofs.Determined.{OneLeftKnown}
 use Rattle.gathering.proofs.RowLaws.{put-filled}
 use Rattle.serving.specs.Rows.{chunksIn}

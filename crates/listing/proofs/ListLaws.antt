@@ -17,8 +17,8 @@ use Rattle.partial.specs.Tables.{rangeRows}
 use Rattle.partial.proofs.Meaning.RangeLaws.{first-range}
 use Rattle.partial.proofs.Meaning.SequenceLaws.{which}
 use Rattle.partial.proofs.Meaning.StretchLaws.{stretch-first}
-use Rattle.gathering.specs.Rows.{Put}
-use Rattle.gathering.proofs.RowLaws.{put-none, put-more, put-same}
+use Rattle.filling.specs.Rows.{Put}
+use Rattle.filling.proofs.RowLaws.{put-none, put-more, put-same}
 use Rattle.listing.specs.Lists.{Stands, Lists, Joins}
 use Rattle.listing.specs.Ranges.{classIn, rangeIn}
 use Rattle.listing.specs.declared.lists.Totals.{Totals}

@@ -6,7 +6,7 @@ use lib.ListN.{length}
 use Rattle.partial.specs.Ranges.{Range as Stretch, had, missing, ranges, ofClass, total}
 use Rattle.partial.specs.Segments.{Chunk}
 use Rattle.partial.specs.Tables.{rangeRows}
-use Rattle.gathering.specs.Rows.{Put}
+use Rattle.filling.specs.Rows.{Put}
 use Rattle.listing.specs.Ranges.{classIn}
 use Rattle.listing.specs.declared.lists.Totals.{Totals}
 use Rattle.listing.specs.declared.ranges.Range.{Range}

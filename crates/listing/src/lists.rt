@@ -2,11 +2,11 @@
 use crate::ranges::HAD;
 use crate::ranges::Range;
 use crate::ranges::range_at;
-use gathering::rows::put_row;
+use filling::rows::put_row;
 use partial::position::Position;
 ghost use Prim.Native.Nat.{_+_, _*_};
 ghost use mathlib.Core.List.{[], _∷_};
-ghost use Rattle.gathering.specs.Rows.{Put};
+ghost use Rattle.filling.specs.Rows.{Put};
 ghost use Rattle.serving.specs.Rows.{chunksIn};
 ghost use Rattle.listing.specs.Lists.{Bounded, Proper, Joins, Lists};
 

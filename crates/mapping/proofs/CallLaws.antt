@@ -8,9 +8,9 @@ use lib.Dec.{leb}
 use lib.ListN.{length, drop, length-append}
 use Rattle.boxes.specs.Answer.{Answer, given}
 use Rattle.boxes.proofs.AnswerLaws.{given-same, held}
-use Rattle.gathering.specs.Rows.{Puts}
-use Rattle.gathering.specs.Sizes.{sizesOf}
-use Rattle.gathering.specs.declared.sizes.Sizes.{Sizes}
+use Rattle.filling.specs.Rows.{Puts}
+use Rattle.ends.specs.Sizes.{sizesOf}
+use Rattle.ends.specs.declared.sizes.Sizes.{Sizes}
 use Rattle.gathering.proofs.RowLaws.{put-filled}
 use Rattle.listing.specs.Ranges.{classIn}
 use Rattle.listing.proofs.CallsLaws.{ranges-by}

@@ -3,9 +3,9 @@ use Prim.Native.Nat.{ℕ, _+_, _-_, _<_, _≤_}
 use mathlib.Core.List.{List, [], _∷_, _++_, append-nil, append-assoc}
 use mathlib.Core.Path.{_≡_, refl, sym, ap, subst, _∙_}
 use native.Mathlib.Omega.{arith}
-use Rattle.gathering.specs.Rows.{Puts}
-use Rattle.gathering.proofs.RowLaws.{put-none}
-use Rattle.gathering.proofs.PutsLaws.{puts-same, puts-more}
+use Rattle.filling.specs.Rows.{Puts}
+use Rattle.filling.proofs.RowLaws.{put-none}
+use Rattle.filling.proofs.PutsLaws.{puts-same, puts-more}
 use Rattle.listing.specs.Ranges.{classIn, rangeIn}
 use Rattle.listing.specs.declared.ranges.Range.{Range}
 use Rattle.listing.proofs.ListLaws.{found-next}

@@ -9,7 +9,7 @@ use lib.ListN.{length, take, drop, length-take, length-drop}
 use lib.Seq.{take-length, drop-drop, drop-length}
 use Rattle.numerals.specs.Stored.{stored}
 use Rattle.numerals.proofs.StoredLaws.{stored-room}
-use Rattle.gathering.specs.Rows.{Puts}
+use Rattle.filling.specs.Rows.{Puts}
 use Rattle.listing.specs.Calls.{Counted}
 use Rattle.listing.specs.declared.lists.Totals.{Totals}
 use Rattle.partial.specs.Map.{ascii, decimal, line, refusedLine, rangeLine, sourceLine, totalLine}

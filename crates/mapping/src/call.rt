@@ -16,7 +16,7 @@ use reading::judging::judge;
 ghost use Prim.Native.Nat.{_≤_};
 ghost use mathlib.Core.List.{List};
 ghost use mathlib.Core.Path.{_≡_};
-ghost use Rattle.gathering.specs.Rows.{Puts};
+ghost use Rattle.filling.specs.Rows.{Puts};
 ghost use Rattle.listing.specs.Calls.{Known};
 ghost use Rattle.partial.specs.Limits.{sourceLimit};
 ghost use Rattle.partial.specs.Map.{mapOf, mapText};

@@ -9,7 +9,7 @@ ghost use Prim.Native.Nat.{_+_, _<_, _≤_, _^_};
 ghost use mathlib.Core.List.{List, [], _∷_, _++_};
 ghost use mathlib.Core.Path.{_≡_};
 ghost use lib.ListN.{length};
-ghost use Rattle.gathering.specs.Rows.{Puts};
+ghost use Rattle.filling.specs.Rows.{Puts};
 ghost use Rattle.listing.specs.Calls.{Counted};
 ghost use Rattle.partial.specs.Map.{decimal, sourceLine, rangeLine, totalLine, refusedLine};
 ghost use Rattle.partial.specs.Meaning.{describedLength, isClosed};

@@ -4,7 +4,7 @@ use bytes::copy;
 use io::decimal;
 ghost use Prim.Native.Nat.{_+_, _<_, _≤_, _^_};
 ghost use lib.ListN.{length};
-ghost use Rattle.gathering.specs.Rows.{Puts};
+ghost use Rattle.filling.specs.Rows.{Puts};
 ghost use Rattle.partial.specs.Map.{decimal};
 
 // Puts bytes.

@@ -3,7 +3,7 @@ use crate::lines::put_range;
 use listing::ranges::range_at;
 use partial::position::Position;
 ghost use Prim.Native.Nat.{_+_, _*_, _≤_};
-ghost use Rattle.gathering.specs.Rows.{Puts};
+ghost use Rattle.filling.specs.Rows.{Puts};
 ghost use Rattle.listing.specs.Ranges.{classIn};
 ghost use Rattle.partial.specs.Limits.{sourceLimit};
 ghost use Rattle.partial.specs.Map.{rangeLines};

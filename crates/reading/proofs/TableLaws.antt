@@ -16,9 +16,9 @@ use Rattle.partial.specs.Segments.{Segment, chunksOf}
 use Rattle.partial.specs.Tables.{tabled, segmentRows, chunkRows, summary}
 use Rattle.partial.specs.declared.answers.Read.{Read}
 use Rattle.partial.specs.declared.answers.Read.the-variants as Read
+use Rattle.filling.specs.Rows.{Put}
+use Rattle.ends.specs.Sizes.{sizesOf}
 use Rattle.gathering.specs.Gathered.{gatheredOf}
-use Rattle.gathering.specs.Rows.{Put}
-use Rattle.gathering.specs.Sizes.{sizesOf}
 use Rattle.gathering.specs.declared.gathered.Gathered.{Gathered}
 use Rattle.gathering.proofs.RowLaws.{segment-rows-long, all-rows-long, put-filled}
 use Rattle.reading.specs.Tables.{Reads}

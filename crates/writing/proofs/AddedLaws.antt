@@ -7,26 +7,28 @@ use mathlib.Core.Path.{_≡_, refl, sym, ap, _∙_}
 use native.Mathlib.Omega.{arith}
 use borrow.Author.Tests.{eq-eqb, ne-eqb, eqb-true, eqb-false}
 use lib.Dec.{eqb, lit<}
-use lib.ListN.{length, replicate, length-append, length-replicate}
+use lib.ListN.{length, length-append}
 use Rattle.boxes.specs.Framing.{boxed}
 use Rattle.boxes.specs.Kinds.{pseg, pshd, ploc, pdat}
 use Rattle.boxes.proofs.BoxedLaws.{front-size, length-boxed}
 use Rattle.numerals.specs.Numbers.{bytesOf, holds, holdsOffset}
 use Rattle.numerals.proofs.NumberLaws.{length-bytesOf}
-use Rattle.numerals.proofs.WidthLaws.{below-holds}
-use Rattle.partial.specs.Addition.{Addition, asks, flagsFor, Item, items, anyPresent}
+use Rattle.numerals.proofs.WidthLaws.{below-holds, leastWidth-within}
+use Rattle.partial.specs.Addition.{asks, flagsFor, Item, items, anyPresent}
 use Rattle.partial.specs.Append.{placed, lengthSize, offsetSize, flagByte, entryBytes, plocBody, versionFor, pshdBody, psegBody, dataBox, added}
 use Rattle.partial.specs.Limits.{fileLimit}
 use Rattle.partial.specs.Reading.{offsetWidth}
 use Rattle.partial.specs.Segments.{isLast, present, corrupted}
-use Rattle.partial.specs.Sequences.{someOf, allOf, sum}
+use Rattle.partial.specs.Sequences.{allOf, sum}
 use Rattle.partial.specs.declared.header.SegmentHeader.{SegmentHeader}
 use Rattle.partial.proofs.Meaning.SequenceLaws.{which}
 use Rattle.partial.proofs.Writing.FieldsBackLaws.{length-pshd, sizes-eight, sizes-held, offsets-held}
 use Rattle.partial.proofs.Writing.PlacedLaws.{length-placed, sizes-placed, offsets-eight}
 use Rattle.adding.specs.Counts.{presentOf, Whole, Counted}
+use Rattle.adding.specs.Layout.{PsegLaid, Laid}
 use Rattle.adding.specs.declared.counts.Counts.{Counts}
-use Rattle.adding.proofs.CountLaws.{counted-present}
+use Rattle.adding.specs.declared.layout.Layout.{Layout}
+use Rattle.adding.proofs.CountLaws.{counted-present, none-present, some-present}
 use Rattle.writing.specs.Append.{dataPart, pshdBox, plocBox, psegBox, dataOf, Entries, Fits}
 
 -- a number of one byte is that byte
@@ -137,22 +139,29 @@ flags-low state =
           ]
     ]
 
+-- widths are at most 8
+pub widths-low : (is : List Item) {l o : ℕ} → l ≡ lengthSize (placed is) → o ≡ offsetSize (placed is) → (l ≤ 8) × (o ≤ 8)
+unfolding lengthSize offsetSize
+widths-low is wide-l wide-o = (rw wide-l (leastWidth-within _), rw wide-o (leastWidth-within _))
+
 -- widths that hold every size and offset of items that fit
-pub widths-hold : (is : List Item) → Fits is → {l o : ℕ} → l ≤ 8 → o ≤ 8 → l ≡ lengthSize (placed is) → o ≡ offsetSize (placed is) → Entries l o is
-widths-hold is fits {l} {o} low-l low-o wide-l wide-o =
+pub widths-hold : (is : List Item) → Fits is → {l o : ℕ} → l ≡ lengthSize (placed is) → o ≡ offsetSize (placed is) → Entries l o is
+widths-hold is fits {l} {o} wide-l wide-o =
     let ps = placed is in
     let sum-low : sum (map (λ p. p .size) ps) < 2 ^ 64 = rw (sizes-placed is) (fits .sizes) in
     record {
-      narrow = (low-l, low-o);
+      narrow = widths-low is wide-l wide-o;
       sizes = ap (λ (w : ℕ). allOf (λ p. holds w (p .size)) ps) wide-l ∙ sizes-held ps (sizes-eight ps sum-low);
       offsets = ap (λ (w : ℕ). allOf (λ p. holdsOffset w (p .offset)) ps) wide-o ∙ offsets-held ps (offsets-eight is (fits .offsets));
     }
 
 module _ (is : List Item) {l o : ℕ} (wide-l : l ≡ lengthSize (placed is)) (wide-o : o ≡ offsetSize (placed is)) where
-  pub ploc-numbers : {n : ℕ} → l ≤ 8 → o ≤ 8 → n ≡ length is
+  pub ploc-numbers : {n : ℕ} → n ≡ length is
       → bytesOf 4 0 ++ (bytesOf 1 (l * 16 + o) ++ (bytesOf 2 0 ++ (bytesOf 2 n ++ entryBytes l o (placed is)))) ≡ plocBody (placed is)
   unfolding plocBody
-  ploc-numbers low-l low-o count = rw (one-byte (l * 16 + o) (omega arith), count, ← length-placed is, wide-l, wide-o)
+  ploc-numbers count =
+      let (low-l, low-o) = widths-low is wide-l wide-o in
+      rw (one-byte (l * 16 + o) (omega arith), count, ← length-placed is, wide-l, wide-o)
 
   pub ploc-long : length (plocBody (placed is)) ≡ 9 + length (entryBytes l o (placed is))
   unfolding plocBody
@@ -179,34 +188,16 @@ module _ (h : SegmentHeader) (list : List ℕ) where
       length-boxed (pseg .code) (psegBody (asks h list []))
       ∙ omega (arith, front-size, ap length pseg-boxes, length-append (pshdBox h) (plocBox list))
 
-  -- its size does not depend on the data
-  pub pseg-size-of : {c : Counts} {n : ℕ} → Whole (items list) c
-      → ((a : Addition) → Counted a c → h .offset .0 ≡ a .sourceOffset → n ≡ min (length (psegBody a)) (fileLimit + 1))
-      → length (psegBox h list) ≤ fileLimit
+  pub pseg-size-of : {n : ℕ} → n ≡ min (length (psegBody (asks h list []))) (fileLimit + 1) → length (psegBox h list) ≤ fileLimit
       → n ≡ length (psegBody (asks h list []))
-  unfolding asks psegBody pshdBody
-  pseg-size-of {c} {n} whole told small =
-      let bytes : List ℕ = replicate (c .bytes) 0 in
-      let counted : Counted (asks h list bytes) c = record { items = whole; bytes = sym (length-replicate (c .bytes) 0) } in
-      let size : n ≡ min (length (psegBody (asks h list []))) (fileLimit + 1) = told (asks h list bytes) counted refl in
-      omega (arith, length-boxed (pseg .code) (psegBody (asks h list [])))
+  pseg-size-of size small = omega (arith, length-boxed (pseg .code) (psegBody (asks h list [])))
 
 -- ---- all of it
 
--- some chunk is present where their count is not 0
-some-present : (is : List Item)
-    → ((presentOf is ≡ 0) × (someOf (λ i. present (i .state)) is ≡ false)) ⊎ ((0 < presentOf is) × (someOf (λ i. present (i .state)) is ≡ true))
-unfolding presentOf someOf sum
-some-present [] = inl (refl, refl)
-some-present (i ∷ is) =
-    elim (which (present (i .state))) [
-      | inl e ↦ inr (rw e (omega arith), rw e)
-      | inr e ↦
-          ⊎-elim
-          (λ (none, never). inl (rw e (omega (arith, none)), rw e never))
-          (λ (some, there). inr (rw e (omega (arith, some)), rw e there))
-          (some-present is)
-    ]
+-- the layout of the `pseg` does not depend on the data
+pub pseg-laid : (h : SegmentHeader) (list bytes : List ℕ) {l : Layout} → Laid (asks h list bytes) l → PsegLaid (asks h list []) l
+unfolding asks psegBody pshdBody
+pseg-laid h list bytes laid = record { pshd = laid .pseg .pshd; ploc = laid .pseg .ploc; body = laid .pseg .body }
 
 module _ (h : SegmentHeader) (list bytes : List ℕ) {c : Counts} (counted : Counted (asks h list bytes) c) where
   pub whole-of : Whole (items list) c
@@ -219,10 +210,14 @@ module _ (h : SegmentHeader) (list bytes : List ℕ) {c : Counts} (counted : Cou
   data-part : dataPart (c .present) bytes ≡ dataBox (asks h list bytes)
   unfolding dataBox anyPresent asks
   data-part =
-      ⊎-elim
-      (λ (none, never). no-part (c .present) bytes (many ∙ none) ∙ sym (rw (dataBox, never)))
-      (λ (some, there). some-part (c .present) bytes (λ z. omega (arith, many, some)) ∙ sym (rw (dataBox, there)))
-      (some-present (items list))
+      elim (which (eqb (c .present) 0)) [
+        | inl e ↦
+            let none = eqb-true (c .present) 0 e in
+            no-part (c .present) bytes none ∙ sym (rw (dataBox, none-present (items list) (sym many ∙ none)))
+        | inr e ↦
+            let some = eqb-false (c .present) 0 e in
+            some-part (c .present) bytes some ∙ sym (rw (dataBox, some-present (items list) (λ h. some (many ∙ h))))
+      ]
 
   pub added-parts : dataPart (c .present) bytes ++ psegBox h list ≡ added (asks h list bytes)
   unfolding added asks psegBody pshdBody

@@ -28,14 +28,16 @@ use Rattle.partial.proofs.Writing.ReadsBackLaws.{Offered, Admits, admits, earli
 use Rattle.partial.proofs.Writing.ReasonLaws.{list-wrong, data-wrong}
 use Rattle.partial.proofs.Writing.ResultLaws.{appended-offered}
 use Rattle.heading.specs.Facts.{factsOf, factsBy}
+use Rattle.filling.specs.Rows.{Put}
 use Rattle.gathering.specs.Gathered.{gatheredOf}
-use Rattle.gathering.specs.Rows.{Put}
 use Rattle.reading.specs.Judged.{gatheredIn, judgedIn, earlierTold}
 use Rattle.reading.specs.declared.judging.Judged.{Judged}
 use Rattle.reading.proofs.JudgedLaws.{first-refused}
 use Rattle.adding.specs.Admission.{Beside, Asked, admittedLength}
 use Rattle.adding.specs.Counts.{countsOf, Counted}
+use Rattle.adding.specs.Layout.{Laid}
 use Rattle.adding.specs.declared.counts.Counts.{Counts}
+use Rattle.adding.specs.declared.layout.Layout.{Layout}
 use Rattle.adding.proofs.CountLaws.{counted-bytes}
 use Rattle.writing.specs.Append.{Fits, Appends}
 
@@ -156,7 +158,7 @@ module _ (buffer : List ℕ) (n : ℕ) (header : SegmentHeader) (list bytes : Li
     unfolding asks
     wrong-data wrong = data-wrong sourceLimit buffer n (asks header list bytes) fits stands right wrong
 
-    module _ {c : Counts} (counted : Counted (asks header list bytes) c) where
+    module _ {c : Counts} (counted : Counted (asks header list bytes) c) {l : Layout} (laid : Laid (asks header list bytes) l) where
       offered : Offered sourceLimit (take n buffer) (file .h) (file .ss) (asks header list bytes)
       unfolding asks
       offered = record { headed = file .head; before = file .read; list = right; carried = data-right header list bytes counted }
@@ -166,12 +168,12 @@ module _ (buffer : List ℕ) (n : ℕ) (header : SegmentHeader) (list bytes : Li
           >>= λ _. hold 33 (leb (n + length (added (asks header list bytes))) (length buffer)) >>= λ _. given (n + length (added (asks header list bytes))))
       by-admission = appended-offered sourceLimit buffer n (asks header list bytes) (file .h) (file .ss) fits offered
 
-      asked : Asked (asks header list bytes) header c
+      asked : Asked (asks header list bytes) header c l
       unfolding asks
-      asked = record { offset = refl; last = refl; counted = counted }
+      asked = record { offset = refl; last = refl; counted = counted; laid = laid }
 
       module _ (r : Written)
-          (answer : (h : Heading) (ss : List Segment) (a : Addition) → Beside h ss j → Asked a header c → writtenAnswer r ≡ admittedLength h ss n a) where
+          (answer : (h : Heading) (ss : List Segment) (a : Addition) → Beside h ss j → Asked a header c l → writtenAnswer r ≡ admittedLength h ss n a) where
         told : writtenAnswer r ≡ admittedLength (file .h) (file .ss) n (asks header list bytes)
         told = answer (file .h) (file .ss) (asks header list bytes) (file .beside) asked
 

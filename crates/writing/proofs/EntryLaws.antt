@@ -15,8 +15,8 @@ use Rattle.partial.specs.Append.{placed, flagByte, entryBytes}
 use Rattle.partial.specs.Segments.{present}
 use Rattle.partial.specs.Sequences.{allOf, sum}
 use Rattle.partial.proofs.Meaning.SequenceLaws.{both}
-use Rattle.gathering.specs.Rows.{Puts}
-use Rattle.gathering.proofs.PutsLaws.{puts-same, puts-more}
+use Rattle.filling.specs.Rows.{Puts}
+use Rattle.filling.proofs.PutsLaws.{puts-same, puts-more}
 use Rattle.writing.specs.Append.{dataOf, entryOf, Entry, Entries}
 use Rattle.writing.proofs.AddedLaws.{one-byte, flags-low}
 use Rattle.writing.proofs.PutLaws.{puts-none}

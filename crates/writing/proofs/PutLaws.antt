@@ -8,9 +8,9 @@ use Rattle.boxes.specs.Framing.{front, boxed}
 use Rattle.numerals.specs.Numbers.{bytesOf}
 use Rattle.boxes.proofs.BoxedLaws.{front-size, length-front, boxed-parts}
 use Rattle.numerals.proofs.NumberLaws.{length-bytesOf}
-use Rattle.gathering.specs.Rows.{Puts}
-use Rattle.gathering.proofs.PutsLaws.{puts-more}
-use Rattle.gathering.proofs.RowLaws.{put-none}
+use Rattle.filling.specs.Rows.{Puts}
+use Rattle.filling.proofs.PutsLaws.{puts-more}
+use Rattle.filling.proofs.RowLaws.{put-none}
 
 -- a header has eight bytes
 pub front-long : (kind n : ℕ) → length (front kind n) ≡ 8

@@ -9,7 +9,7 @@ use lib.Dec.{eqb}
 use lib.ListN.{length, getD, length-append}
 use Rattle.numerals.specs.Numbers.{bytesOf}
 use Rattle.partial.specs.Begin.{isText}
-use Rattle.gathering.specs.Rows.{Puts}
+use Rattle.filling.specs.Rows.{Puts}
 use Rattle.partial.proofs.Meaning.SequenceLaws.{which, all-at, all-by}
 
 module _ (s : List ℕ) where

@@ -4,6 +4,8 @@ use crate::pseg::put_pseg;
 use adding::admission::admission;
 use adding::counts::Counts;
 use adding::counts::counts_of;
+use adding::layout::Layout;
+use adding::layout::layout_of;
 use numerals::place::Place;
 use partial::answers::Written;
 use partial::header::SegmentHeader;
@@ -24,7 +26,8 @@ ghost use Rattle.partial.specs.Limits.{fileLimit};
 ghost use Rattle.heading.specs.Facts.{factsBy};
 ghost use Rattle.reading.specs.Judged.{earlierTold};
 ghost use Rattle.adding.specs.Counts.{Counted};
-ghost use Rattle.gathering.specs.Rows.{Puts};
+ghost use Rattle.adding.specs.Layout.{Laid};
+ghost use Rattle.filling.specs.Rows.{Puts};
 ghost use Rattle.writing.specs.Append.{Fits, Appends};
 
 // Writes all that append adds: the data, then the `pseg`.
@@ -33,14 +36,15 @@ fn put_added(
     at: Place,
     header: SegmentHeader,
     counts: Counts,
+    layout: Layout,
     list: &[u64],
     bytes: &[u8],
 ) -> Place
-    requires { ⌜ Counted (asks header (now list) (now bytes)) counts × Fits (items (now list)) × (at .0 + length (added (asks header (now list) (now bytes))) ≤ length (now buffer)) × (length (added (asks header (now list) (now bytes))) ≤ fileLimit) ⌝ }
+    requires { ⌜ Counted (asks header (now list) (now bytes)) counts × Laid (asks header (now list) (now bytes)) layout × Fits (items (now list)) × (at .0 + length (added (asks header (now list) (now bytes))) ≤ length (now buffer)) × (length (added (asks header (now list) (now bytes))) ≤ fileLimit) ⌝ }
     ensures { λ r. ⌜ Puts (now (buffer .entry)) (at .0) (added (asks header (now (list .entry)) (now (bytes .entry)))) (now (buffer .exit)) (r .0) ⌝ }
 {
     let pseg = put_pdat(buffer, at, counts.present, bytes);
-    put_pseg(buffer, pseg, header, counts, list)
+    put_pseg(buffer, pseg, header, counts, layout, list)
 }
 
 // Appends to the file in the first n bytes of the buffer, by what was read of it.
@@ -65,13 +69,14 @@ fn append_to(
     if bytes.len() as u64 != counts.bytes {
         return Written::Refused(DATA_WRONG);
     }
-    match admission(judged, n, header, counts) {
+    let layout = layout_of(counts, header.offset);
+    match admission(judged, n, header, counts, layout) {
         Written::Refused(k) => Written::Refused(k),
         Written::Length(size) => {
             if (buffer.len() as u64) < size {
                 return Written::Refused(BUFFER_TOO_SHORT);
             }
-            let end = put_added(buffer, Place(n), header, counts, list, bytes);
+            let end = put_added(buffer, Place(n), header, counts, layout, list, bytes);
             Written::Length(end.0)
         }
     }

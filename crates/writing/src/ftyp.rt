@@ -8,7 +8,7 @@ use partial::brand::PAFF;
 ghost use Prim.Native.Nat.{_+_, _≤_};
 ghost use lib.ListN.{length};
 ghost use Rattle.writing.specs.Boxes.{ftypBox};
-ghost use Rattle.gathering.specs.Rows.{Puts};
+ghost use Rattle.filling.specs.Rows.{Puts};
 
 // Major brand, minor version and one compatible brand, four bytes each.
 const FTYP_BODY: u64 = 12;

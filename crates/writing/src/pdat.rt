@@ -6,7 +6,7 @@ use numerals::place::Place;
 ghost use Prim.Native.Nat.{_+_, _≤_};
 ghost use lib.ListN.{length};
 ghost use Rattle.partial.specs.Limits.{fileLimit};
-ghost use Rattle.gathering.specs.Rows.{Puts};
+ghost use Rattle.filling.specs.Rows.{Puts};
 ghost use Rattle.writing.specs.Append.{dataPart};
 
 // Writes the data in one `pdat` where any chunk is present, and else nothing.

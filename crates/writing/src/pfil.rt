@@ -11,7 +11,7 @@ ghost use Prim.Native.Nat.{_+_, _≤_};
 ghost use lib.ListN.{length};
 ghost use Rattle.partial.specs.Limits.{fileLimit};
 ghost use Rattle.writing.specs.Boxes.{pfhdBox, surlBox, pfilBox};
-ghost use Rattle.gathering.specs.Rows.{Puts};
+ghost use Rattle.filling.specs.Rows.{Puts};
 
 // Version and flags.
 const PFHD_BODY: u64 = 4;

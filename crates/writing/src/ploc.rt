@@ -3,9 +3,7 @@ use crate::puts::put_back;
 use crate::puts::put_field;
 use crate::puts::put_front;
 use adding::counts::Counts;
-use adding::sizes::length_size;
-use adding::sizes::offset_size;
-use adding::sizes::ploc_size;
+use adding::layout::Layout;
 use boxes::kinds::PLOC;
 use numerals::place::Place;
 use segment::state::DAMAGED;
@@ -19,7 +17,8 @@ ghost use Rattle.partial.specs.Addition.{items, dataSize};
 ghost use Rattle.partial.specs.Append.{placed, flagByte, entryBytes};
 ghost use Rattle.partial.specs.Limits.{fileLimit};
 ghost use Rattle.adding.specs.Counts.{Whole};
-ghost use Rattle.gathering.specs.Rows.{Puts};
+ghost use Rattle.adding.specs.Layout.{PlocLaid};
+ghost use Rattle.filling.specs.Rows.{Puts};
 ghost use Rattle.writing.specs.Append.{dataOf, Entry, entryOf, Entries, Fits, plocBox};
 
 // The flags of a chunk: bit corrupted, bit present, six zero bits.
@@ -87,13 +86,19 @@ fn put_entries(buffer: &mut [u8], at: Place, widths: Widths, bytes: u64, list: &
 }
 
 // Writes `ploc`: version 0, flags 0, the two widths, data reference index 0, the chunk count, the entries.
-pub(crate) fn put_ploc(buffer: &mut [u8], at: Place, counts: Counts, list: &[u64]) -> Place
-    requires { ⌜ Whole (items (now list)) counts × Fits (items (now list)) × (at .0 + length (plocBox (now list)) ≤ length (now buffer)) × (length (plocBox (now list)) ≤ fileLimit) ⌝ }
+pub(crate) fn put_ploc(
+    buffer: &mut [u8],
+    at: Place,
+    counts: Counts,
+    layout: Layout,
+    list: &[u64],
+) -> Place
+    requires { ⌜ Whole (items (now list)) counts × PlocLaid (items (now list)) layout × Fits (items (now list)) × (at .0 + length (plocBox (now list)) ≤ length (now buffer)) × (length (plocBox (now list)) ≤ fileLimit) ⌝ }
     ensures { λ r. ⌜ Puts (now (buffer .entry)) (at .0) (plocBox (now (list .entry))) (now (buffer .exit)) (r .0) ⌝ }
 {
-    let size = length_size(counts);
-    let offset = offset_size(counts);
-    let version = put_front(buffer, at, PLOC.code, ploc_size(counts));
+    let size = layout.length_size;
+    let offset = layout.offset_size;
+    let version = put_front(buffer, at, PLOC.code, layout.ploc);
     let widths = put_field(buffer, version, 4, 0);
     let index = put_field(buffer, widths, 1, (size * 16 + offset) as u64);
     let count = put_field(buffer, index, 2, 0);

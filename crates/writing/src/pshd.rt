@@ -1,8 +1,7 @@
 // The `pshd` box, as it is written.
 use crate::puts::put_field;
 use crate::puts::put_front;
-use adding::sizes::offset_width;
-use adding::sizes::pshd_size;
+use adding::layout::Layout;
 use boxes::kinds::PSHD;
 use numerals::place::Place;
 use partial::header::SegmentHeader;
@@ -11,7 +10,8 @@ ghost use mathlib.Core.Path.{_≡_};
 ghost use lib.ListN.{length};
 ghost use Rattle.partial.specs.Append.{versionFor};
 ghost use Rattle.partial.specs.Reading.{offsetWidth};
-ghost use Rattle.gathering.specs.Rows.{Puts};
+ghost use Rattle.adding.specs.Layout.{PshdLaid};
+ghost use Rattle.filling.specs.Rows.{Puts};
 ghost use Rattle.writing.specs.Append.{pshdBox};
 
 // The version of a `pshd` with a source offset of that width.
@@ -22,13 +22,13 @@ fn version_of(width: u64) -> u64
 }
 
 // Writes `pshd`: of the flags last_segment and no other.
-pub(crate) fn put_pshd(buffer: &mut [u8], at: Place, header: SegmentHeader) -> Place
-    requires { ⌜ at .0 + length (pshdBox header) ≤ length (now buffer) ⌝ }
+pub(crate) fn put_pshd(buffer: &mut [u8], at: Place, header: SegmentHeader, layout: Layout) -> Place
+    requires { ⌜ PshdLaid (header .offset .0) layout × (at .0 + length (pshdBox header) ≤ length (now buffer)) ⌝ }
     ensures { λ r. ⌜ Puts (now (buffer .entry)) (at .0) (pshdBox header) (now (buffer .exit)) (r .0) ⌝ }
 {
     let offset = header.offset;
-    let width = offset_width(offset);
-    let version = put_front(buffer, at, PSHD.code, pshd_size(offset));
+    let width = layout.offset_width;
+    let version = put_front(buffer, at, PSHD.code, layout.pshd);
     let flags = put_field(buffer, version, 1, version_of(width));
     let source = put_field(buffer, flags, 3, header.flags as u64 % 2);
     let repair = put_field(buffer, source, width as usize, offset.0);

@@ -13,7 +13,7 @@ ghost use Rattle.boxes.specs.Framing.{frontSize, front};
 ghost use Rattle.numerals.specs.Numbers.{bytesOf, twosComplement, holds, holdsOffset};
 ghost use Rattle.numerals.specs.declared.numbers.Offset.the-variants.{Back};
 ghost use Rattle.partial.specs.Limits.{fileLimit};
-ghost use Rattle.gathering.specs.Rows.{Puts};
+ghost use Rattle.filling.specs.Rows.{Puts};
 
 // Copies bytes to a place, from the first to the last, which the compiler makes one block copy.
 pub(crate) fn put_bytes(buffer: &mut [u8], at: Place, bytes: &[u8]) -> Place

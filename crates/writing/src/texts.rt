@@ -7,7 +7,7 @@ ghost use mathlib.Core.List.{[], _∷_, _++_};
 ghost use mathlib.Core.Path.{_≡_};
 ghost use lib.ListN.{length};
 ghost use Rattle.partial.specs.Begin.{isText};
-ghost use Rattle.gathering.specs.Rows.{Puts};
+ghost use Rattle.filling.specs.Rows.{Puts};
 
 // Whether no byte is zero.
 pub(crate) fn is_text(bytes: &[u8]) -> bool

@@ -14,18 +14,14 @@ use borrow.Author.Needs.{needs}
 use Rattle.adding.proofs.admission.admission.Statement.{statement}
 use Rattle.adding.proofs.admission.admission.Tie as tie
 
-added-size-requires : tie.Need-added-size-requires
-added-size-requires c κs = search needs
-
 ends-by-requires : tie.Need-ends-by-requires
 ends-by-requires c κs = search needs
 
 returns : tie.Need-returns
 unfolding writtenAnswer
 returns c = λ h ss a beside asked.
-    let args = c .before .before .before .before .before .before .args in
-    let size = c .before .before .added-size .ensures .1 a (asked .counted) (asked .offset) in
-    admission-1 h ss (args .n) a (file-test (args .n) beside asked size (sym (not-true _ (c .if1 .taken)) ∙ c .before .ends-by .ensures))
+    let args = c .before .before .before .before .before .args in
+    admission-1 h ss (args .n) a (file-test (args .n) beside asked (sym (not-true _ (c .if1 .taken)) ∙ c .before .ends-by .ensures))
 
 added-boxes-requires : tie.Need-added-boxes-requires
 added-boxes-requires c κs = search needs
@@ -37,9 +33,8 @@ returns-2 : tie.Need-returns-2
 unfolding writtenAnswer
 returns-2 c = λ h ss a beside asked.
     let met1 = c .before .before .before in
-    let args = met1 .before .before .before .before .before .before .args in
-    let size = met1 .before .before .added-size .ensures .1 a (asked .counted) (asked .offset) in
-    let small = file-test (args .n) beside asked size (sym (not-false _ (met1 .if1 .left)) ∙ met1 .before .ends-by .ensures) in
+    let args = met1 .before .before .before .before .before .args in
+    let small = file-test (args .n) beside asked (sym (not-false _ (met1 .if1 .left)) ∙ met1 .before .ends-by .ensures) in
     admission-6 h ss (args .n) a small (box-test (args .n) beside asked (c .before .before .added-boxes .ensures a (asked .counted)) (sym (not-true _ (c .if2 .taken)) ∙ c .before .ends-by2 .ensures))
 
 returns-3 : tie.Need-returns-3
@@ -47,9 +42,8 @@ unfolding writtenAnswer
 returns-3 c = λ h ss a beside asked.
     let met2 = c .before .before in
     let met1 = met2 .before .before .before in
-    let args = met1 .before .before .before .before .before .before .args in
-    let size = met1 .before .before .added-size .ensures .1 a (asked .counted) (asked .offset) in
-    let small = file-test (args .n) beside asked size (sym (not-false _ (met1 .if1 .left)) ∙ met1 .before .ends-by .ensures) in
+    let args = met1 .before .before .before .before .before .args in
+    let small = file-test (args .n) beside asked (sym (not-false _ (met1 .if1 .left)) ∙ met1 .before .ends-by .ensures) in
     let boxes = box-test (args .n) beside asked (met2 .before .before .added-boxes .ensures a (asked .counted)) (sym (not-false _ (met2 .if2 .left)) ∙ met2 .before .ends-by2 .ensures) in
     admission-13 h ss (args .n) a small boxes (segments-full (args .n) beside asked (c .if3 .taken))
 
@@ -62,9 +56,8 @@ returns-4 c = λ h ss a beside asked.
     let met3 = c .before .before in
     let met2 = met3 .before .before in
     let met1 = met2 .before .before .before in
-    let args = met1 .before .before .before .before .before .before .args in
-    let size = met1 .before .before .added-size .ensures .1 a (asked .counted) (asked .offset) in
-    let small = file-test (args .n) beside asked size (sym (not-false _ (met1 .if1 .left)) ∙ met1 .before .ends-by .ensures) in
+    let args = met1 .before .before .before .before .before .args in
+    let small = file-test (args .n) beside asked (sym (not-false _ (met1 .if1 .left)) ∙ met1 .before .ends-by .ensures) in
     let boxes = box-test (args .n) beside asked (met2 .before .before .added-boxes .ensures a (asked .counted)) (sym (not-false _ (met2 .if2 .left)) ∙ met2 .before .ends-by2 .ensures) in
     let few = segments-few (args .n) beside asked (met3 .if3 .left) in
     admission-22 h ss (args .n) a small boxes few (chunk-test (args .n) beside asked (sym (not-true _ (c .if4 .taken)) ∙ c .before .ends-by3 .ensures))
@@ -79,9 +72,8 @@ returns-5 c = λ h ss a beside asked.
     let met3 = met4 .before .before in
     let met2 = met3 .before .before in
     let met1 = met2 .before .before .before in
-    let args = met1 .before .before .before .before .before .before .args in
-    let size = met1 .before .before .added-size .ensures .1 a (asked .counted) (asked .offset) in
-    let small = file-test (args .n) beside asked size (sym (not-false _ (met1 .if1 .left)) ∙ met1 .before .ends-by .ensures) in
+    let args = met1 .before .before .before .before .before .args in
+    let small = file-test (args .n) beside asked (sym (not-false _ (met1 .if1 .left)) ∙ met1 .before .ends-by .ensures) in
     let boxes = box-test (args .n) beside asked (met2 .before .before .added-boxes .ensures a (asked .counted)) (sym (not-false _ (met2 .if2 .left)) ∙ met2 .before .ends-by2 .ensures) in
     let few = segments-few (args .n) beside asked (met3 .if3 .left) in
     let chunks = chunk-test (args .n) beside asked (sym (not-false _ (met4 .if4 .left)) ∙ met4 .before .ends-by3 .ensures) in
@@ -96,7 +88,7 @@ gives-size-requires c κs = search needs
 add-with : tie.Need-add-with
 add-with c =
     let met = c .before .before .before .before .before in
-    let args = met .before .before .before .before .before .before .before .before .before .before .before .before .before .before .before .args in
+    let args = met .before .before .before .before .before .before .before .before .before .before .before .before .before .before .args in
     omega (arith, leb-true (args .header .offset .0 + args .counts .sum) sourceLimit (sym (met .before .ends-by4 .ensures) ∙ not-false _ (met .if5 .left)))
 
 with-requires : tie.Need-with-requires
@@ -113,9 +105,8 @@ returns-6 c = λ h ss a beside asked.
     let met3 = met4 .before .before in
     let met2 = met3 .before .before in
     let met1 = met2 .before .before .before in
-    let args = met1 .before .before .before .before .before .before .args in
-    let size = met1 .before .before .added-size .ensures .1 a (asked .counted) (asked .offset) in
-    let small = file-test (args .n) beside asked size (sym (not-false _ (met1 .if1 .left)) ∙ met1 .before .ends-by .ensures) in
+    let args = met1 .before .before .before .before .before .args in
+    let small = file-test (args .n) beside asked (sym (not-false _ (met1 .if1 .left)) ∙ met1 .before .ends-by .ensures) in
     let boxes = box-test (args .n) beside asked (met2 .before .before .added-boxes .ensures a (asked .counted)) (sym (not-false _ (met2 .if2 .left)) ∙ met2 .before .ends-by2 .ensures) in
     let few = segments-few (args .n) beside asked (met3 .if3 .left) in
     let chunks = chunk-test (args .n) beside asked (sym (not-false _ (met4 .if4 .left)) ∙ met4 .before .ends-by3 .ensures) in
@@ -128,36 +119,35 @@ returns-6 c = λ h ss a beside asked.
 
 add-t14 : tie.Need-add-t14
 add-t14 c =
-    let met = c .before .before .before .before .before .before .before .before .before .before .before .before .before .before .before .before .before in
-    let sized = met .before .before in
-    omega (arith, leb-true (sized .before .before .before .before .args .n + sized .added-size .result) fileLimit (sym (met .before .ends-by .ensures) ∙ not-false _ (met .if1 .left)))
+    let met = c .before .before .before .before .before .before .before .before .before .before .before .before .before .before .before .before .before .before in
+    let args = met .before .before .before .before .before .args in
+    omega (arith, leb-true (args .n + args .layout .added) fileLimit (sym (met .before .ends-by .ensures) ∙ not-false _ (met .if1 .left)))
 
 returns-7 : tie.Need-returns-7
 unfolding writtenAnswer
 returns-7 c = λ h ss a beside asked.
-    let met5 = c .before .before .before .before .before .before .before .before in
+    let met6 = c .before in
+    let met5 = met6 .before .before .before .before .before .before .before .before in
     let met4 = met5 .before .before in
     let met3 = met4 .before .before in
     let met2 = met3 .before .before in
     let met1 = met2 .before .before .before in
-    let args = met1 .before .before .before .before .before .before .args in
-    let size = met1 .before .before .added-size .ensures .1 a (asked .counted) (asked .offset) in
-    let small = file-test (args .n) beside asked size (sym (not-false _ (met1 .if1 .left)) ∙ met1 .before .ends-by .ensures) in
+    let args = met1 .before .before .before .before .before .args in
+    let small = file-test (args .n) beside asked (sym (not-false _ (met1 .if1 .left)) ∙ met1 .before .ends-by .ensures) in
     let boxes = box-test (args .n) beside asked (met2 .before .before .added-boxes .ensures a (asked .counted)) (sym (not-false _ (met2 .if2 .left)) ∙ met2 .before .ends-by2 .ensures) in
     let few = segments-few (args .n) beside asked (met3 .if3 .left) in
     let chunks = chunk-test (args .n) beside asked (sym (not-false _ (met4 .if4 .left)) ∙ met4 .before .ends-by3 .ensures) in
     let low = source-test (args .n) beside asked (sym (not-false _ (met5 .if5 .left)) ∙ met5 .before .ends-by4 .ensures) in
-    let gives = c .before .before .before .before .before .before .gives-size .ensures (new (args .n) a) (flags-new (args .n) beside asked) (items-new (args .n) beside asked) in
+    let gives = met6 .before .before .before .before .before .before .gives-size .ensures (new (args .n) a) (flags-new (args .n) beside asked) (items-new (args .n) beside asked) in
     let ends = source-end (args .n) beside asked (sym (not-false _ (met5 .if5 .left)) ∙ met5 .before .ends-by4 .ensures) in
-    let with = c .before .before .with .ensures ss (new (args .n) a) (gathered-sizes ss (beside .segments)) ends gives in
-    let agrees = sym (not-false _ (c .if6 .left)) ∙ c .before .agree .ensures (ss ++ (new (args .n) a ∷ [])) with in
-    ap (λ (m : ℕ). given (args .n + m)) (size-whole (args .n) beside asked size small) ∙ admission-given h ss (args .n) a small boxes few chunks low agrees
+    let with = met6 .before .before .with .ensures ss (new (args .n) a) (gathered-sizes ss (beside .segments)) ends gives in
+    let agrees = sym (not-false _ (met6 .if6 .left)) ∙ met6 .before .agree .ensures (ss ++ (new (args .n) a ∷ [])) with in
+    ap (λ (m : ℕ). given (args .n + m)) (size-whole (args .n) beside asked small) ∙ admission-given h ss (args .n) a small boxes few chunks low agrees
 
 pub admission-spec : {M : Type 1} → statement M
 admission-spec =
     tie.close
     (tie.spec
-    added-size-requires
     ends-by-requires
     returns
     added-boxes-requires

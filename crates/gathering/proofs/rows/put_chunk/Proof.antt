@@ -1,7 +1,7 @@
 -- `gathering::rows::put_chunk` meets its contract.
 use borrow.Author.Needs.{needs}
 use Rattle.partial.specs.Tables.{chunkRow}
-use Rattle.gathering.proofs.RowLaws.{put-stored}
+use Rattle.filling.proofs.RowLaws.{put-stored}
 use Rattle.gathering.proofs.rows.put_chunk.Statement.{statement}
 use Rattle.gathering.proofs.rows.put_chunk.Tie as tie
 

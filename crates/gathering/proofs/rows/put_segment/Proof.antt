@@ -1,7 +1,7 @@
 -- `gathering::rows::put_segment` meets its contract.
 use borrow.Author.Needs.{needs}
 use Rattle.boxes.specs.Framing.{boxLimit, boxOf}
-use Rattle.gathering.proofs.RowLaws.{put-stored}
+use Rattle.filling.proofs.RowLaws.{put-stored}
 use Rattle.gathering.proofs.rows.put_segment.Statement.{statement}
 use Rattle.gathering.proofs.rows.put_segment.Tie as tie
 

@@ -1,8 +1,8 @@
 -- `mapping::call::put_map` meets its contract: 27, then the judgement.
 use mathlib.Core.Path.{sym, _∙_}
 use native.Mathlib.Omega.{arith}
+use Rattle.filling.proofs.PutsLaws.{puts-same}
 use Rattle.gathering.proofs.GatheredLaws.{gathered-sizes}
-use Rattle.gathering.proofs.PutsLaws.{puts-same}
 use Rattle.listing.proofs.CallsLaws.{known-by}
 use Rattle.partial.specs.Limits.{sourceLimit}
 use Rattle.partial.proofs.Reading.LimitLaws.{described-low}

@@ -1,5 +1,5 @@
 -- `mapping::call::put_rows` meets its contract: the line of the source, those of the ranges, that of the totals.
-use Rattle.gathering.proofs.PutsLaws.{puts-same, puts-more}
+use Rattle.filling.proofs.PutsLaws.{puts-same, puts-more}
 use Rattle.listing.proofs.CallsLaws.{of-file}
 use Rattle.mapping.proofs.CallLaws.{range-lines, map-lines}
 use borrow.Author.Needs.{needs}

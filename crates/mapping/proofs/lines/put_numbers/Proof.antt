@@ -1,6 +1,6 @@
 -- `mapping::lines::put_numbers` meets its contract: five puts, one behind the other.
 use native.Mathlib.Omega.{arith}
-use Rattle.gathering.proofs.PutsLaws.{puts-more}
+use Rattle.filling.proofs.PutsLaws.{puts-more}
 use borrow.Author.Needs.{needs}
 use Rattle.mapping.proofs.lines.put_numbers.Statement.{statement}
 use Rattle.mapping.proofs.lines.put_numbers.Tie as tie

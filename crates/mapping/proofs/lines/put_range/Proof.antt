@@ -1,5 +1,5 @@
 -- `mapping::lines::put_range` meets its contract: the word goes by the class.
-use Rattle.gathering.proofs.PutsLaws.{puts-same}
+use Rattle.filling.proofs.PutsLaws.{puts-same}
 use Rattle.mapping.proofs.TextLaws.{have-words, miss-words}
 use borrow.Author.Needs.{needs}
 use Rattle.mapping.proofs.lines.put_range.Statement.{statement}

@@ -1,5 +1,5 @@
 -- `mapping::lines::put_refused` meets its contract.
-use Rattle.gathering.proofs.PutsLaws.{puts-same, puts-more}
+use Rattle.filling.proofs.PutsLaws.{puts-same, puts-more}
 use Rattle.mapping.proofs.TextLaws.{refused-words}
 use borrow.Author.Needs.{needs}
 use Rattle.mapping.proofs.lines.put_refused.Statement.{statement}

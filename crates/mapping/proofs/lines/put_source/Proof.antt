@@ -1,7 +1,7 @@
 -- `mapping::lines::put_source` meets its contract.
 use mathlib.Core.Path.{sym, _∙_}
 use native.Mathlib.Omega.{arith}
-use Rattle.gathering.proofs.PutsLaws.{puts-same, puts-more}
+use Rattle.filling.proofs.PutsLaws.{puts-same, puts-more}
 use Rattle.mapping.proofs.TextLaws.{closed-words, open-words}
 use borrow.Author.Needs.{needs}
 use Rattle.mapping.proofs.lines.put_source.Statement.{statement}

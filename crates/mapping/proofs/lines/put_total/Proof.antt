@@ -1,5 +1,5 @@
 -- `mapping::lines::put_total` meets its contract.
-use Rattle.gathering.proofs.PutsLaws.{puts-same}
+use Rattle.filling.proofs.PutsLaws.{puts-same}
 use Rattle.mapping.proofs.TextLaws.{total-words}
 use borrow.Author.Needs.{needs}
 use Rattle.mapping.proofs.lines.put_total.Statement.{statement}

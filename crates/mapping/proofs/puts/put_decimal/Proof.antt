@@ -2,7 +2,7 @@
 use mathlib.Core.Path.{_∙_}
 use native.Mathlib.Omega.{arith}
 use borrow.Author.Needs.{needs}
-use Rattle.gathering.proofs.PutsLaws.{puts-same}
+use Rattle.filling.proofs.PutsLaws.{puts-same}
 use Rattle.mapping.proofs.DecimalLaws.{digits-few, decimal-by}
 use Rattle.mapping.proofs.puts.put_decimal.Statement.{statement}
 use Rattle.mapping.proofs.puts.put_decimal.Tie as tie

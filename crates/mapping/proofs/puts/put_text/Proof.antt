@@ -2,7 +2,7 @@
 use mathlib.Core.Path.{refl}
 use native.Mathlib.Omega.{arith}
 use borrow.Author.Needs.{needs}
-use Rattle.gathering.proofs.PutsLaws.{puts-stored}
+use Rattle.filling.proofs.PutsLaws.{puts-stored}
 use Rattle.mapping.proofs.TextLaws.{puts-none, copied}
 use Rattle.mapping.proofs.puts.put_text.Statement.{statement}
 use Rattle.mapping.proofs.puts.put_text.Tie as tie

@@ -1,8 +1,8 @@
 -- `writing::append::put_added` meets its contract: the data, then the `pseg`.
 use native.Mathlib.Omega.{arith}
 use borrow.Author.Needs.{needs}
-use Rattle.gathering.proofs.PutsLaws.{puts-same, puts-more}
-use Rattle.writing.proofs.AddedLaws.{added-parts, added-long, whole-of}
+use Rattle.filling.proofs.PutsLaws.{puts-same, puts-more}
+use Rattle.writing.proofs.AddedLaws.{added-parts, added-long, whole-of, pseg-laid}
 use Rattle.writing.proofs.append.put_added.Statement.{statement}
 use Rattle.writing.proofs.append.put_added.Tie as tie
 
@@ -16,7 +16,7 @@ put-pseg-requires : tie.Need-put-pseg-requires
 put-pseg-requires c κs =
     let start = c .before .before .before .before .before .before .before .before in
     let long = added-long (start .args .header) (start .args .list .now) (start .args .bytes .now) (start .pre .0) in
-    (whole-of _ _ _ (start .pre .0), start .pre .1, omega (arith, start .pre .2), omega (arith, start .pre .3))
+    (whole-of _ _ _ (start .pre .0), pseg-laid _ _ _ (start .pre .1), start .pre .2, omega (arith, start .pre .3), omega (arith, start .pre .4))
 
 same-length : tie.Need-same-length
 same-length c = search needs

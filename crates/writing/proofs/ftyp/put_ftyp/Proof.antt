@@ -6,7 +6,7 @@ use Rattle.boxes.specs.Kinds.{ftyp}
 use Rattle.boxes.proofs.BoxedLaws.{front-size}
 use Rattle.numerals.proofs.WidthLaws.{below-holds}
 use Rattle.writing.proofs.BoxLaws.{brands-long, ftyp-long}
-use Rattle.gathering.proofs.PutsLaws.{puts-more}
+use Rattle.filling.proofs.PutsLaws.{puts-more}
 use Rattle.writing.proofs.PutLaws.{field-end, front-end, puts-box}
 use Rattle.writing.proofs.ftyp.put_ftyp.Statement.{statement}
 use Rattle.writing.proofs.ftyp.put_ftyp.Tie as tie

@@ -4,7 +4,7 @@ use native.Mathlib.Omega.{arith}
 use borrow.Author.Needs.{needs}
 use Rattle.boxes.specs.Kinds.{pdat}
 use Rattle.boxes.proofs.BoxedLaws.{front-size}
-use Rattle.gathering.proofs.PutsLaws.{puts-same}
+use Rattle.filling.proofs.PutsLaws.{puts-same}
 use Rattle.writing.proofs.AddedLaws.{no-part, some-part, part-long}
 use Rattle.writing.proofs.PutLaws.{puts-none, front-end, puts-box}
 use Rattle.writing.proofs.pdat.put_pdat.Statement.{statement}

@@ -5,7 +5,7 @@ use borrow.Author.Needs.{needs}
 use Rattle.boxes.specs.Kinds.{pfil}
 use Rattle.boxes.proofs.BoxedLaws.{front-size}
 use Rattle.writing.proofs.BoxLaws.{pfhd-long, surl-long, inner-long, pfil-long}
-use Rattle.gathering.proofs.PutsLaws.{puts-more}
+use Rattle.filling.proofs.PutsLaws.{puts-more}
 use Rattle.writing.proofs.PutLaws.{front-end, puts-box}
 use Rattle.writing.proofs.pfil.put_pfil.Statement.{statement}
 use Rattle.writing.proofs.pfil.put_pfil.Tie as tie

@@ -6,7 +6,7 @@ use Rattle.boxes.specs.Kinds.{surl}
 use Rattle.boxes.proofs.BoxedLaws.{front-size}
 use Rattle.numerals.proofs.WidthLaws.{below-holds}
 use Rattle.writing.proofs.BoxLaws.{source-long, surl-long}
-use Rattle.gathering.proofs.PutsLaws.{puts-same, puts-more}
+use Rattle.filling.proofs.PutsLaws.{puts-same, puts-more}
 use Rattle.writing.proofs.PutLaws.{field-end, front-end, puts-box}
 use Rattle.writing.proofs.TextLaws.{texts-closed, text-end}
 use Rattle.writing.proofs.pfil.put_surl.Statement.{statement}

@@ -4,7 +4,7 @@ use native.Mathlib.Omega.{arith}
 use borrow.Author.Needs.{needs}
 use borrow.Author.Tests.{not-true, not-false}
 use Rattle.numerals.proofs.WidthLaws.{below-holds}
-use Rattle.gathering.proofs.PutsLaws.{puts-same, puts-more}
+use Rattle.filling.proofs.PutsLaws.{puts-same, puts-more}
 use Rattle.writing.proofs.AddedLaws.{flags-low}
 use Rattle.writing.proofs.EntryLaws.{entry-least, entry-absent, entry-there, entry-long}
 use Rattle.writing.proofs.PutLaws.{field-end}

@@ -6,71 +6,66 @@ use Rattle.boxes.proofs.BoxedLaws.{front-size}
 use Rattle.numerals.proofs.WidthLaws.{below-holds}
 use Rattle.partial.specs.Addition.{items}
 use Rattle.adding.proofs.CountLaws.{counted-items}
-use Rattle.gathering.proofs.PutsLaws.{puts-same, puts-more}
-use Rattle.writing.proofs.AddedLaws.{widths-hold, ploc-numbers, ploc-long, ploc-box-long, ploc-size-of}
+use Rattle.filling.proofs.PutsLaws.{puts-same, puts-more}
+use Rattle.writing.proofs.AddedLaws.{widths-low, widths-hold, ploc-numbers, ploc-long, ploc-box-long, ploc-size-of}
 use Rattle.writing.proofs.PutLaws.{field-end, front-end, puts-box}
 use Rattle.writing.proofs.ploc.put_ploc.Statement.{statement}
 use Rattle.writing.proofs.ploc.put_ploc.Tie as tie
 
-length-size-requires : tie.Need-length-size-requires
-length-size-requires c κs = search needs
-
-offset-size-requires : tie.Need-offset-size-requires
-offset-size-requires c κs = search needs
-
-ploc-size-requires : tie.Need-ploc-size-requires
-ploc-size-requires c κs = search needs
-
 put-front-requires : tie.Need-put-front-requires
 put-front-requires c κs =
-    let start = c .before .before .before .before .before .before in
+    let start = c .before .before .before in
     let list = start .args .list .now in
-    let l = c .before .before .before .length-size .ensures .1 (items list) (start .pre .0) in
-    let o = c .before .before .offset-size .ensures .1 (items list) (start .pre .0) in
-    let size = ploc-size-of list (c .ploc-size .ensures .1 (items list) (start .pre .0)) (start .pre .3) in
+    let l = start .pre .1 .sizes in
+    let o = start .pre .1 .offsets in
+    let size = ploc-size-of list (start .pre .1 .body) (start .pre .4) in
     omega (arith, front-size, ploc-box-long list l o, ploc-long (items list) l o)
 
 put-field-requires : tie.Need-put-field-requires
 put-field-requires c κs =
     let front = c .before .before .before in
-    let start = front .before .before .before .before .before .before .before in
+    let start = front .before .before .before .before in
     let list = start .args .list .now in
-    let l = front .before .before .before .before .length-size .ensures .1 (items list) (start .pre .0) in
-    let o = front .before .before .before .offset-size .ensures .1 (items list) (start .pre .0) in
+    let l = start .pre .1 .sizes in
+    let o = start .pre .1 .offsets in
     let version = front-end _ _ (front .put-front .ensures) in
     (search needs, below-holds _ _ (omega arith), omega (arith, ploc-box-long list l o))
 
 mul-put-field : tie.Need-mul-put-field
-mul-put-field c = search needs
+mul-put-field c =
+    let start = c .before .before .before .before .before .before .before .before .before .before .before in
+    record { fits = omega (arith, widths-low _ (start .pre .1 .sizes) (start .pre .1 .offsets)) }
 
 add-put-field : tie.Need-add-put-field
-add-put-field c = search needs
+add-put-field c =
+    let start = c .before .before .before .before .before .before .before .before .before .before .before in
+    record { fits = omega (arith, widths-low _ (start .pre .1 .sizes) (start .pre .1 .offsets)) }
 
 put-field-requires-2 : tie.Need-put-field-requires-2
 put-field-requires-2 c κs =
     let first = c .before .before .before in
     let front = first .before .before .before .before in
-    let start = front .before .before .before .before .before .before .before in
+    let start = front .before .before .before .before in
     let list = start .args .list .now in
-    let l = front .before .before .before .before .length-size .ensures .1 (items list) (start .pre .0) in
-    let o = front .before .before .before .offset-size .ensures .1 (items list) (start .pre .0) in
+    let l = start .pre .1 .sizes in
+    let o = start .pre .1 .offsets in
     let widths = field-end _ _ (first .put-field .ensures) in
     let version = front-end _ _ (front .put-front .ensures) in
-    (search needs, below-holds _ _ (omega arith), omega (arith, ploc-box-long list l o))
+    (search needs, below-holds _ _ (omega (arith, widths-low (items list) l o)), omega (arith, ploc-box-long list l o))
 
 put-field-requires-3 : tie.Need-put-field-requires-3
 put-field-requires-3 c κs =
     let second = c .before .before .before in
     let first = second .before .before .before .before in
     let front = first .before .before .before .before in
-    let start = front .before .before .before .before .before .before .before in
+    let start = front .before .before .before .before in
     let list = start .args .list .now in
-    let l = front .before .before .before .before .length-size .ensures .1 (items list) (start .pre .0) in
-    let o = front .before .before .before .offset-size .ensures .1 (items list) (start .pre .0) in
+    let l = start .pre .1 .sizes in
+    let o = start .pre .1 .offsets in
     let index = field-end _ _ (second .put-field2 .ensures) in
     let widths = field-end _ _ (first .put-field .ensures) in
     let version = front-end _ _ (front .put-front .ensures) in
-    (search needs, below-holds _ _ (omega arith), omega (arith, ploc-box-long list l o, start .pre .2))
+    (search needs, below-holds _ _ (omega arith), omega (arith, ploc-box-long list l o, start .pre .3))
 
 put-field-requires-4 : tie.Need-put-field-requires-4
 put-field-requires-4 c κs =
@@ -78,10 +73,10 @@ put-field-requires-4 c κs =
     let second = third .before .before .before .before in
     let first = second .before .before .before .before in
     let front = first .before .before .before .before in
-    let start = front .before .before .before .before .before .before .before in
+    let start = front .before .before .before .before in
     let list = start .args .list .now in
-    let l = front .before .before .before .before .length-size .ensures .1 (items list) (start .pre .0) in
-    let o = front .before .before .before .offset-size .ensures .1 (items list) (start .pre .0) in
+    let l = start .pre .1 .sizes in
+    let o = start .pre .1 .offsets in
     let count = field-end _ _ (third .put-field3 .ensures) in
     let index = field-end _ _ (second .put-field2 .ensures) in
     let widths = field-end _ _ (first .put-field .ensures) in
@@ -91,8 +86,8 @@ put-field-requires-4 c κs =
     let long-1 = first .put-field .ensures .put .long in
     let long-0 = front .put-front .ensures .put .long in (
       search needs,
-      below-holds _ _ (omega (arith, counted-items (items list) (start .pre .0 .counts), start .pre .1 .count)),
-      omega (arith, ploc-box-long list l o, start .pre .2),
+      below-holds _ _ (omega (arith, counted-items (items list) (start .pre .0 .counts), start .pre .2 .count)),
+      omega (arith, ploc-box-long list l o, start .pre .3),
     )
 
 put-entries-requires : tie.Need-put-entries-requires
@@ -102,10 +97,10 @@ put-entries-requires c κs =
     let second = third .before .before .before .before in
     let first = second .before .before .before .before in
     let front = first .before .before .before .before in
-    let start = front .before .before .before .before .before .before .before in
+    let start = front .before .before .before .before in
     let list = start .args .list .now in
-    let l = front .before .before .before .before .length-size .ensures .1 (items list) (start .pre .0) in
-    let o = front .before .before .before .offset-size .ensures .1 (items list) (start .pre .0) in
+    let l = start .pre .1 .sizes in
+    let o = start .pre .1 .offsets in
     let entries = field-end _ _ (fourth .put-field4 .ensures) in
     let count = field-end _ _ (third .put-field3 .ensures) in
     let index = field-end _ _ (second .put-field2 .ensures) in
@@ -116,9 +111,9 @@ put-entries-requires c κs =
     let long-2 = second .put-field2 .ensures .put .long in
     let long-1 = first .put-field .ensures .put .long in
     let long-0 = front .put-front .ensures .put .long in (
-      widths-hold (items list) (start .pre .1) (front .before .before .before .before .length-size .ensures .0) (front .before .before .before .offset-size .ensures .0) l o,
+      widths-hold (items list) (start .pre .2) l o,
       start .pre .0 .bytes,
-      omega (arith, ploc-box-long list l o, start .pre .2),
+      omega (arith, ploc-box-long list l o, start .pre .3),
     )
 
 same-length : tie.Need-same-length
@@ -131,13 +126,11 @@ returns c =
     let second = third .before .before .before .before in
     let first = second .before .before .before .before in
     let front = first .before .before .before .before in
-    let start = front .before .before .before .before .before .before .before in
+    let start = front .before .before .before .before in
     let list = start .args .list .now in
-    let whole = start .pre .0 in
-    let wide = front .before .before .before .before .length-size .ensures in
-    let far = front .before .before .before .offset-size .ensures in
-    let size = ploc-size-of list (front .before .ploc-size .ensures .1 (items list) whole) (start .pre .3) in
-    let numbers = ploc-numbers (items list) (wide .1 (items list) whole) (far .1 (items list) whole) (wide .0) (far .0) (counted-items (items list) (whole .counts)) in
+    let laid = start .pre .1 in
+    let size = ploc-size-of list (laid .body) (start .pre .4) in
+    let numbers = ploc-numbers (items list) (laid .sizes) (laid .offsets) (counted-items (items list) (start .pre .0 .counts)) in
     puts-box (ploc .code) (front .put-front .ensures) size
     (puts-same numbers
     (puts-more (first .put-field .ensures)
@@ -148,9 +141,6 @@ pub put-ploc-spec : {M : Type 1} → statement M
 put-ploc-spec =
     tie.close
     (tie.spec
-    length-size-requires
-    offset-size-requires
-    ploc-size-requires
     put-front-requires
     put-field-requires
     mul-put-field

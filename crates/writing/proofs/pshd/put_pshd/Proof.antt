@@ -7,22 +7,17 @@ use Rattle.boxes.specs.Kinds.{pshd}
 use Rattle.boxes.proofs.BoxedLaws.{front-size}
 use Rattle.numerals.specs.Numbers.{holds}
 use Rattle.numerals.proofs.WidthLaws.{below-holds}
-use Rattle.gathering.proofs.PutsLaws.{puts-same, puts-more}
+use Rattle.filling.proofs.PutsLaws.{puts-same, puts-more}
 use Rattle.writing.proofs.AddedLaws.{version-low, width-low, offset-held, pshd-numbers, pshd-long, pshd-box-long}
 use Rattle.writing.proofs.PutLaws.{field-end, front-end, puts-box}
 use Rattle.writing.proofs.pshd.put_pshd.Statement.{statement}
 use Rattle.writing.proofs.pshd.put_pshd.Tie as tie
 
-offset-width-requires : tie.Need-offset-width-requires
-offset-width-requires c κs = search needs
-
-pshd-size-requires : tie.Need-pshd-size-requires
-pshd-size-requires c κs = search needs
-
 put-front-requires : tie.Need-put-front-requires
 put-front-requires c κs =
-    let header = c .before .before .before .before .before .args .header in
-    omega (arith, front-size, pshd-box-long header, width-low (header .offset .0))
+    let start = c .before .before .before in
+    let header = start .args .header in
+    omega (arith, front-size, start .pre .0 .body, start .pre .1, pshd-box-long header, width-low (header .offset .0))
 
 version-of-requires : tie.Need-version-of-requires
 version-of-requires c κs = search needs
@@ -30,8 +25,9 @@ version-of-requires c κs = search needs
 put-field-requires : tie.Need-put-field-requires
 put-field-requires c κs =
     let front = c .before .before .before .before in
-    let header = front .before .before .before .before .before .before .args .header in
-    let version = c .version-of .ensures (header .offset .0) (front .before .before .before .offset-width .ensures) in
+    let start = front .before .before .before .before in
+    let header = start .args .header in
+    let version = c .version-of .ensures (header .offset .0) (start .pre .0 .width) in
     let body = front-end _ _ (front .put-front .ensures) in
     (search needs, below-holds _ _ (omega (arith, version-low (header .offset .0))), omega (arith, pshd-box-long header))
 
@@ -42,7 +38,8 @@ put-field-requires-2 : tie.Need-put-field-requires-2
 put-field-requires-2 c κs =
     let first = c .before .before .before .before in
     let front = first .before .before .before .before .before in
-    let header = front .before .before .before .before .before .before .args .header in
+    let start = front .before .before .before .before in
+    let header = start .args .header in
     let flags = field-end _ _ (first .put-field .ensures) in
     let body = front-end _ _ (front .put-front .ensures) in
     (search needs, below-holds _ _ (omega arith), omega (arith, pshd-box-long header))
@@ -52,9 +49,9 @@ put-field-requires-3 c κs =
     let second = c .before .before .before in
     let first = second .before .before .before .before .before in
     let front = first .before .before .before .before .before in
-    let start = front .before .before .before .before .before .before in
+    let start = front .before .before .before .before in
     let header = start .args .header in
-    let width = front .before .before .before .offset-width .ensures in
+    let width = start .pre .0 .width in
     let source = field-end _ _ (second .put-field2 .ensures) in
     let flags = field-end _ _ (first .put-field .ensures) in
     let body = front-end _ _ (front .put-front .ensures) in (
@@ -69,8 +66,8 @@ put-field-requires-4 c κs =
     let second = third .before .before .before .before in
     let first = second .before .before .before .before .before in
     let front = first .before .before .before .before .before in
-    let start = front .before .before .before .before .before .before in
-    let width = front .before .before .before .offset-width .ensures in
+    let start = front .before .before .before .before in
+    let width = start .pre .0 .width in
     let repair = field-end _ _ (third .put-field3 .ensures) in
     let source = field-end _ _ (second .put-field2 .ensures) in
     let flags = field-end _ _ (first .put-field .ensures) in
@@ -79,7 +76,7 @@ put-field-requires-4 c κs =
     let long-2 = second .put-field2 .ensures .put .long in
     let long-1 = first .put-field .ensures .put .long in
     let long-0 = front .put-front .ensures .put .long in
-    (search needs, below-holds _ _ (omega (arith, start .good)), omega (arith, pshd-box-long (start .args .header), start .pre))
+    (search needs, below-holds _ _ (omega (arith, start .good)), omega (arith, pshd-box-long (start .args .header), start .pre .1))
 
 same-length : tie.Need-same-length
 same-length c = search needs
@@ -90,10 +87,11 @@ returns c =
     let second = third .before .before .before .before in
     let first = second .before .before .before .before .before in
     let front = first .before .before .before .before .before in
-    let header = front .before .before .before .before .before .before .args .header in
-    let width = front .before .before .before .offset-width .ensures in
+    let start = front .before .before .before .before in
+    let header = start .args .header in
+    let width = start .pre .0 .width in
     let version = first .before .version-of .ensures (header .offset .0) width in
-    puts-box (pshd .code) (front .put-front .ensures) (front .before .pshd-size .ensures ∙ sym (pshd-long header))
+    puts-box (pshd .code) (front .put-front .ensures) (start .pre .0 .body ∙ sym (pshd-long header))
     (puts-same (pshd-numbers header version width)
     (puts-more (first .put-field .ensures) (puts-more (second .put-field2 .ensures) (puts-more (third .put-field3 .ensures) (c .before .before .put-field4 .ensures)))))
 
@@ -101,8 +99,6 @@ pub put-pshd-spec : {M : Type 1} → statement M
 put-pshd-spec =
     tie.close
     (tie.spec
-    offset-width-requires
-    pshd-size-requires
     put-front-requires
     version-of-requires
     put-field-requires

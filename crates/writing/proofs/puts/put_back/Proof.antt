@@ -9,7 +9,7 @@ use Rattle.numerals.specs.Stored.{stored}
 use Rattle.numerals.specs.declared.numbers.Offset.the-variants.{Back}
 use Rattle.numerals.proofs.NumberLaws.{length-bytesOf}
 use Rattle.numerals.proofs.StoredLaws.{held-stored}
-use Rattle.gathering.proofs.PutsLaws.{puts-stored}
+use Rattle.filling.proofs.PutsLaws.{puts-stored}
 use Rattle.writing.proofs.puts.put_back.Statement.{statement}
 use Rattle.writing.proofs.puts.put_back.Tie as tie
 

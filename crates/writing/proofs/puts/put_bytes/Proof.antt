@@ -8,8 +8,8 @@ use borrow.Author.Needs.{needs}
 use lib.ListN.{length, take, set, getD}
 use lib.Seq.{take-length}
 use Rattle.numerals.specs.Stored.{stored}
-use Rattle.gathering.proofs.RowLaws.{row-none}
-use Rattle.gathering.proofs.PutsLaws.{copied-more, puts-stored}
+use Rattle.filling.proofs.RowLaws.{row-none}
+use Rattle.filling.proofs.PutsLaws.{copied-more, puts-stored}
 use Rattle.writing.proofs.puts.put_bytes.Statement.{statement}
 use Rattle.writing.proofs.puts.put_bytes.Tie as tie
 

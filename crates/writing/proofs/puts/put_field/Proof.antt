@@ -8,7 +8,7 @@ use Rattle.numerals.specs.Numbers.{bytesOf, holds}
 use Rattle.numerals.specs.Stored.{stored}
 use Rattle.numerals.proofs.NumberLaws.{length-bytesOf}
 use Rattle.numerals.proofs.StoredLaws.{held-stored}
-use Rattle.gathering.proofs.PutsLaws.{puts-stored}
+use Rattle.filling.proofs.PutsLaws.{puts-stored}
 use Rattle.writing.proofs.puts.put_field.Statement.{statement}
 use Rattle.writing.proofs.puts.put_field.Tie as tie
 

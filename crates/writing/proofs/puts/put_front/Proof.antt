@@ -3,7 +3,7 @@ use native.Mathlib.Omega.{arith}
 use borrow.Author.Needs.{needs}
 use Rattle.boxes.proofs.BoxedLaws.{size-held}
 use Rattle.numerals.proofs.StoredLaws.{held-stored}
-use Rattle.gathering.proofs.PutsLaws.{puts-stored}
+use Rattle.filling.proofs.PutsLaws.{puts-stored}
 use Rattle.writing.proofs.PutLaws.{front-long}
 use Rattle.writing.proofs.puts.put_front.Statement.{statement}
 use Rattle.writing.proofs.puts.put_front.Tie as tie

@@ -2,7 +2,7 @@
 use native.Mathlib.Omega.{arith}
 use borrow.Author.Needs.{needs}
 use Rattle.numerals.proofs.WidthLaws.{below-holds}
-use Rattle.gathering.proofs.PutsLaws.{puts-same, puts-more}
+use Rattle.filling.proofs.PutsLaws.{puts-same, puts-more}
 use Rattle.writing.proofs.TextLaws.{closing}
 use Rattle.writing.proofs.texts.put_text.Statement.{statement}
 use Rattle.writing.proofs.texts.put_text.Tie as tie

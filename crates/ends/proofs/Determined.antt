@@ -1,0 +1,29 @@
+-- Each public call's contract determines its answer: two that it allows of the same arguments are equal. A call on what was gathered is determined where
+-- the segments are known of which it was, and a call on one segment, where that is known.
+use mathlib.Core.List.{List}
+use mathlib.Core.Path.{_≡_, sym, _∙_}
+use lib.ListN.{length}
+use Rattle.numerals.proofs.Determined.{OneResult, OneKnown}
+use Rattle.partial.specs.Meaning.{givesSize}
+use Rattle.partial.specs.Segments.{Segment, endOf}
+use Rattle.ends.specs.Sizes.{sizesOf}
+use Rattle.ends.proofs.sizes.Sizes.agree.Reads as agree
+use Rattle.ends.proofs.sizes.Sizes.described.Reads as described
+use Rattle.ends.proofs.sizes.Sizes.none.Reads as none
+use Rattle.ends.proofs.sizes.Sizes.with.Reads as with
+use Rattle.ends.proofs.sizes.gives_size.Reads as gives-size
+
+none-result : OneResult none.Post
+none-result κs args x y after after′ p q = p ∙ sym q
+
+gives-size-result : OneKnown gives-size.Post (λ κs args (s : Segment). (args .0 ≡ s .flags) × (args .1 .0 ≡ length (s .chunks)))
+gives-size-result κs args s (flags, count) x y after after′ p q = p s flags count ∙ sym (q s flags count)
+
+with-result : OneKnown with.Post (λ κs args ((ss, s) : List Segment × Segment). (args .0 ≡ sizesOf ss) × (args .1 .0 ≡ endOf s) × (args .1 .1 .0 ≡ givesSize s))
+with-result κs args (ss, s) (known, ends, gives) x y after after′ p q = p ss s known ends gives ∙ sym (q ss s known ends gives)
+
+agree-result : OneKnown agree.Post (λ κs args (ss : List Segment). args .0 ≡ sizesOf ss)
+agree-result κs args ss known x y after after′ p q = p ss known ∙ sym (q ss known)
+
+described-result : OneKnown described.Post (λ κs args (ss : List Segment). args .0 ≡ sizesOf ss)
+described-result κs args ss known x y after after′ p q = p ss known ∙ sym (q ss known)

@@ -1,0 +1,2 @@
+// What the ends of segments say of the size of the source.
+pub mod sizes;
