@@ -1,0 +1,106 @@
+-- Each exported call's contract determines its answer, the lent numbers and all other lent memory: two that it allows of the same arguments are equal.
+use mathlib.Core.Path.{sym, _∙_}
+use denote.Ref.{now}
+use Rattle.numerals.proofs.Determined.{OneResult, OneLeft}
+use Rattle.vrazhupa.proofs.reading_calls.vrazhupa_ask.Reads as ask
+use Rattle.vrazhupa.proofs.reading_calls.vrazhupa_list.Reads as list
+use Rattle.vrazhupa.proofs.reading_calls.vrazhupa_map.Reads as map
+use Rattle.vrazhupa.proofs.reading_calls.vrazhupa_mime.Reads as mime
+use Rattle.vrazhupa.proofs.reading_calls.vrazhupa_read.Reads as read
+use Rattle.vrazhupa.proofs.reading_calls.vrazhupa_serve.Reads as serve
+use Rattle.vrazhupa.proofs.reading_calls.vrazhupa_url.Reads as url
+use Rattle.vrazhupa.proofs.writing_calls.vrazhupa_append.Reads as append
+use Rattle.vrazhupa.proofs.writing_calls.vrazhupa_begin.Reads as begin
+
+read-result : OneResult read.Post
+read-result κs args x y after after′ p q = p .said .number ∙ sym (q .said .number)
+
+read-told : OneLeft read.Post (λ κs after. now (after .1 .1 .1 .0))
+read-told κs args x y after after′ p q = p .said .values ∙ sym (q .said .values)
+
+read-segments : OneLeft read.Post (λ κs after. now (after .1 .0))
+read-segments κs args x y after after′ p q = p .tables .segmentTable ∙ sym (q .tables .segmentTable)
+
+read-chunks : OneLeft read.Post (λ κs after. now (after .1 .1 .0))
+read-chunks κs args x y after after′ p q = p .tables .chunkTable ∙ sym (q .tables .chunkTable)
+
+url-result : OneResult url.Post
+url-result κs args x y after after′ p q = p .said .number ∙ sym (q .said .number)
+
+url-told : OneLeft url.Post (λ κs after. now (after .1 .0))
+url-told κs args x y after after′ p q = p .said .values ∙ sym (q .said .values)
+
+mime-result : OneResult mime.Post
+mime-result κs args x y after after′ p q = p .said .number ∙ sym (q .said .number)
+
+mime-told : OneLeft mime.Post (λ κs after. now (after .1 .0))
+mime-told κs args x y after after′ p q = p .said .values ∙ sym (q .said .values)
+
+serve-result : OneResult serve.Post
+serve-result κs args x y after after′ p q = p .said .number ∙ sym (q .said .number)
+
+serve-told : OneLeft serve.Post (λ κs after. now (after .1 .1 .1 .1 .0))
+serve-told κs args x y after after′ p q = p .said .values ∙ sym (q .said .values)
+
+serve-segments : OneLeft serve.Post (λ κs after. now (after .1 .0))
+serve-segments κs args x y after after′ p q = p .tables .segmentTable ∙ sym (q .tables .segmentTable)
+
+serve-chunks : OneLeft serve.Post (λ κs after. now (after .1 .1 .0))
+serve-chunks κs args x y after after′ p q = p .tables .chunkTable ∙ sym (q .tables .chunkTable)
+
+ask-result : OneResult ask.Post
+ask-result κs args x y after after′ p q = p .said .number ∙ sym (q .said .number)
+
+ask-told : OneLeft ask.Post (λ κs after. now (after .1 .1 .1 .1 .0))
+ask-told κs args x y after after′ p q = p .said .values ∙ sym (q .said .values)
+
+ask-segments : OneLeft ask.Post (λ κs after. now (after .1 .0))
+ask-segments κs args x y after after′ p q = p .tables .segmentTable ∙ sym (q .tables .segmentTable)
+
+ask-chunks : OneLeft ask.Post (λ κs after. now (after .1 .1 .0))
+ask-chunks κs args x y after after′ p q = p .tables .chunkTable ∙ sym (q .tables .chunkTable)
+
+list-result : OneResult list.Post
+list-result κs args x y after after′ p q = p .said .number ∙ sym (q .said .number)
+
+list-told : OneLeft list.Post (λ κs after. now (after .1 .1 .1 .1 .1 .0))
+list-told κs args x y after after′ p q = p .said .values ∙ sym (q .said .values)
+
+list-segments : OneLeft list.Post (λ κs after. now (after .1 .0))
+list-segments κs args x y after after′ p q = p .tables .segmentTable ∙ sym (q .tables .segmentTable)
+
+list-chunks : OneLeft list.Post (λ κs after. now (after .1 .1 .0))
+list-chunks κs args x y after after′ p q = p .tables .chunkTable ∙ sym (q .tables .chunkTable)
+
+list-had : OneLeft list.Post (λ κs after. now (after .1 .1 .1 .0))
+list-had κs args x y after after′ p q = p .hadTable ∙ sym (q .hadTable)
+
+list-missing : OneLeft list.Post (λ κs after. now (after .1 .1 .1 .1 .0))
+list-missing κs args x y after after′ p q = p .missingTable ∙ sym (q .missingTable)
+
+map-result : OneResult map.Post
+map-result κs args x y after after′ p q = p .said .number ∙ sym (q .said .number)
+
+map-told : OneLeft map.Post (λ κs after. now (after .1 .1 .0))
+map-told κs args x y after after′ p q = p .said .values ∙ sym (q .said .values)
+
+map-bytes : OneLeft map.Post (λ κs after. now (after .1 .0))
+map-bytes κs args x y after after′ p q = p .left ∙ sym (q .left)
+
+begin-result : OneResult begin.Post
+begin-result κs args x y after after′ p q = p .said .number ∙ sym (q .said .number)
+
+begin-told : OneLeft begin.Post (λ κs after. now (after .1 .1 .1 .0))
+begin-told κs args x y after after′ p q = p .said .values ∙ sym (q .said .values)
+
+begin-bytes : OneLeft begin.Post (λ κs after. now (after .0))
+begin-bytes κs args x y after after′ p q = p .left ∙ sym (q .left)
+
+append-result : OneResult append.Post
+append-result κs args x y after after′ p q = p .said .number ∙ sym (q .said .number)
+
+append-told : OneLeft append.Post (λ κs after. now (after .1 .1 .1 .1 .1 .1 .1 .0))
+append-told κs args x y after after′ p q = p .said .values ∙ sym (q .said .values)
+
+append-bytes : OneLeft append.Post (λ κs after. now (after .0))
+append-bytes κs args x y after after′ p q = p .left ∙ sym (q .left)

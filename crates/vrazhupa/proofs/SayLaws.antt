@@ -1,0 +1,28 @@
+-- Laws of what an exported call says: after a refusal, of an answer, and of answers that are the same.
+use Prim.Native.Nat.{ℕ}
+use mathlib.Core.List.{List}
+use mathlib.Core.Path.{_≡_, subst}
+use Rattle.boxes.specs.Answer.{Answer, refused, given}
+use Rattle.partial.specs.Addition.{asks}
+use Rattle.partial.specs.declared.answers.Written.{Written}
+use Rattle.partial.specs.declared.header.SegmentHeader.{SegmentHeader}
+use Rattle.writing.specs.Append.{Appends}
+use Rattle.vrazhupa.specs.Says.{Says, numberOf, numbersAfter}
+
+module _ {A : Type 0} (numbers : A → List ℕ) {answer : Answer A} {told : List ℕ} where
+  pub says-refused : {n : ℕ} → answer ≡ refused n → Says numbers answer told told n
+  unfolding numberOf numbersAfter
+  says-refused e = record { number = rw e; values = rw e }
+
+  pub says-given : {a : A} {told′ : List ℕ} → answer ≡ given a → told′ ≡ numbers a → Says numbers answer told told′ 0
+  unfolding numberOf numbersAfter
+  says-given e same = record { number = rw e; values = rw e same }
+
+  pub says-same : {answer′ : Answer A} {told′ : List ℕ} {r : ℕ} → answer ≡ answer′ → Says numbers answer told told′ r → Says numbers answer′ told told′ r
+  says-same {told′ = told′} {r = r} e s = subst (λ (x : Answer A). Says numbers x told told′ r) e s
+
+-- what is appended by a header is what is appended by an equal one
+pub appends-by : {buffer buffer′ : List ℕ} {n : ℕ} {header header′ : SegmentHeader} {r : Written} (list bytes : List ℕ) → header ≡ header′
+    → Appends buffer buffer′ n (asks header list bytes) r
+    → Appends buffer buffer′ n (asks header′ list bytes) r
+appends-by {buffer} {buffer′} {n} {r = r} list bytes e a = subst (λ (h : SegmentHeader). Appends buffer buffer′ n (asks h list bytes) r) e a

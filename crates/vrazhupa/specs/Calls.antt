@@ -1,0 +1,52 @@
+-- The promises of the exported calls: what each says, and what it leaves in the memory that it is lent.
+use Prim.Native.Nat.{ℕ}
+use mathlib.Core.List.{List}
+use mathlib.Core.Path.{_≡_}
+use Rattle.boxes.specs.Answer.{given, _>>=_}
+use Rattle.boxes.specs.Framing.{Box}
+use Rattle.partial.specs.Addition.{Addition}
+use Rattle.partial.specs.Append.{appended, result}
+use Rattle.partial.specs.Begin.{begun, beginning}
+use Rattle.partial.specs.Heading.{Part}
+use Rattle.partial.specs.Limits.{sourceLimit}
+use Rattle.partial.specs.Map.{mapText, mapWritten}
+use Rattle.partial.specs.Memory.{after, written}
+use Rattle.partial.specs.Reading.{reading}
+use Rattle.partial.specs.Tables.{tabled, listed, summary, totals, servedPart, asked, textOf, hadRows, missingRows}
+use Rattle.reading.specs.Tables.{Filled}
+use Rattle.vrazhupa.specs.Says.{Says, summaryNumbers, totalsNumbers, replyNumbers, partNumbers, lengthNumbers}
+
+pub record SaysRead (f segments segments′ chunks chunks′ told told′ : List ℕ) (r : ℕ) : Type 0 where
+  pub said : Says summaryNumbers (tabled sourceLimit f segments chunks >>= λ ss. given (summary ss)) told told′ r
+  pub tables : Filled (tabled sourceLimit f segments chunks) segments segments′ chunks chunks′
+
+-- one of the two texts
+pub record SaysText (which : List ℕ → Box → Part) (f told told′ : List ℕ) (r : ℕ) : Type 0 where
+  pub said : Says (λ ss. partNumbers (textOf which sourceLimit f)) (reading sourceLimit f) told told′ r
+
+-- the part that serves a position: its place in the file, and its length
+pub record SaysServed (f segments segments′ chunks chunks′ : List ℕ) (p : ℕ) (told told′ : List ℕ) (r : ℕ) : Type 0 where
+  pub said : Says (λ ss. partNumbers (servedPart (given ss) p)) (tabled sourceLimit f segments chunks) told told′ r
+  pub tables : Filled (tabled sourceLimit f segments chunks) segments segments′ chunks chunks′
+
+pub record SaysAsked (f segments segments′ chunks chunks′ : List ℕ) (p : ℕ) (told told′ : List ℕ) (r : ℕ) : Type 0 where
+  pub said : Says replyNumbers (asked (tabled sourceLimit f segments chunks) p) told told′ r
+  pub tables : Filled (tabled sourceLimit f segments chunks) segments segments′ chunks chunks′
+
+pub record SaysListed (f segments segments′ chunks chunks′ had had′ missing missing′ told told′ : List ℕ) (r : ℕ) : Type 0 where
+  pub said : Says totalsNumbers (listed sourceLimit f segments chunks had missing >>= λ ss. given (totals ss)) told told′ r
+  pub tables : Filled (listed sourceLimit f segments chunks had missing) segments segments′ chunks chunks′
+  pub hadTable : had′ ≡ after hadRows (listed sourceLimit f segments chunks had missing) had
+  pub missingTable : missing′ ≡ after missingRows (listed sourceLimit f segments chunks had missing) missing
+
+pub record SaysMapped (f buffer buffer′ told told′ : List ℕ) (r : ℕ) : Type 0 where
+  pub said : Says lengthNumbers (mapWritten sourceLimit f buffer) told told′ r
+  pub left : buffer′ ≡ written (mapText sourceLimit f) (mapWritten sourceLimit f buffer) buffer
+
+pub record SaysBegun (url mime buffer buffer′ told told′ : List ℕ) (r : ℕ) : Type 0 where
+  pub said : Says lengthNumbers (begun buffer url mime) told told′ r
+  pub left : buffer′ ≡ written (beginning url mime) (begun buffer url mime) buffer
+
+pub record SaysAppended (buffer buffer′ : List ℕ) (n : ℕ) (a : Addition) (told told′ : List ℕ) (r : ℕ) : Type 0 where
+  pub said : Says lengthNumbers (appended sourceLimit buffer n a) told told′ r
+  pub left : buffer′ ≡ written (result buffer n a) (appended sourceLimit buffer n a) buffer

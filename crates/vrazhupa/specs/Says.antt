@@ -1,0 +1,45 @@
+-- What an exported call says: 0 or the number of its refusal, and the values of its answer as numbers in a lent array.
+use Prim.Native.Nat.{ℕ}
+use mathlib.Core.Bool.{true, false}
+use mathlib.Core.List.{List, [], _∷_}
+use mathlib.Core.Path.{_≡_}
+use Rattle.boxes.specs.Answer.{Answer, refused, given}
+use Rattle.partial.specs.Heading.{Part}
+use Rattle.partial.specs.Meaning.{Reply, servedFor, missingFor, notBelow}
+use Rattle.partial.specs.Tables.{Summary, Totals}
+
+-- 0, or the number of the refusal
+unfoldable pub numberOf : {A : Type 0} → Answer A → ℕ
+numberOf (refused n) = n
+numberOf (given a) = 0
+
+-- the numbers of the answer; after a refusal the array as it was
+unfoldable pub numbersAfter : {A : Type 0} → (A → List ℕ) → Answer A → List ℕ → List ℕ
+numbersAfter numbers (refused n) before = before
+numbersAfter numbers (given a) before = numbers a
+
+pub record Says {A : Type 0} (numbers : A → List ℕ) (answer : Answer A) (told told′ : List ℕ) (r : ℕ) : Type 0 where
+  pub number : r ≡ numberOf answer
+  pub values : told′ ≡ numbersAfter numbers answer told
+
+-- how many rows each table has, the described length, and 1 where the size is known
+unfoldable pub summaryNumbers : Summary → List ℕ
+summaryNumbers s = s .segments ∷ s .chunks ∷ s .described ∷ elim (s .closed) [ true ↦ 1 | false ↦ 0 ] ∷ []
+
+-- how many ranges each list has, and the totals
+unfoldable pub totalsNumbers : Totals → List ℕ
+totalsNumbers t = t .hadRanges ∷ t .missingRanges ∷ t .receivedTotal ∷ t .missingTotal ∷ []
+
+-- 0 for served, 1 for missing, 2 for not below the described length; and how many positions in a row
+unfoldable pub replyNumbers : Reply → List ℕ
+replyNumbers (servedFor n) = 0 ∷ n ∷ []
+replyNumbers (missingFor n) = 1 ∷ n ∷ []
+replyNumbers notBelow = 2 ∷ 0 ∷ []
+
+-- the place of a part of the file, and its length
+unfoldable pub partNumbers : Part → List ℕ
+partNumbers p = p .place ∷ p .size ∷ []
+
+-- the length of what was written
+unfoldable pub lengthNumbers : ℕ → List ℕ
+lengthNumbers n = n ∷ []

@@ -1,0 +1,84 @@
+// What an exported call answers and leaves in the lent numbers, by the answer of the call below it. After a refusal the numbers are as they were.
+use partial::answers::Asked;
+use partial::answers::Listed;
+use partial::answers::Read;
+use partial::answers::Written;
+ghost use Rattle.partial.specs.Answers.{readAnswer, askedAnswer, listedAnswer, writtenAnswer};
+ghost use Rattle.vrazhupa.specs.Says.{Says, summaryNumbers, replyNumbers, totalsNumbers, lengthNumbers};
+
+// The kinds of answers about a position.
+const SERVED: u64 = 0;
+
+const MISSING: u64 = 1;
+
+const NOT_BELOW: u64 = 2;
+
+// How many rows each table has, the described length, and 1 where the size is known.
+pub(crate) fn say_read(r: Read, told: &mut [u64; 4]) -> u64
+    ensures { λ n. ⌜ Says summaryNumbers (readAnswer r) (now (told .entry)) (now (told .exit)) n ⌝ }
+{
+    match r {
+        Read::Refused(n) => n,
+        Read::Tables {
+            segments,
+            chunks,
+            described,
+            closed,
+        } => {
+            *told = [segments, chunks, described.0, closed as u64];
+            0
+        }
+    }
+}
+
+// Served, missing or not below the described length, and how many positions in a row.
+pub(crate) fn say_asked(r: Asked, told: &mut [u64; 2]) -> u64
+    ensures { λ n. ⌜ Says replyNumbers (askedAnswer r) (now (told .entry)) (now (told .exit)) n ⌝ }
+{
+    match r {
+        Asked::Refused(n) => n,
+        Asked::Served(n) => {
+            *told = [SERVED, n];
+            0
+        }
+        Asked::Missing(n) => {
+            *told = [MISSING, n];
+            0
+        }
+        Asked::NotBelow => {
+            *told = [NOT_BELOW, 0];
+            0
+        }
+    }
+}
+
+// How many ranges each list has, and the totals.
+pub(crate) fn say_listed(r: Listed, told: &mut [u64; 4]) -> u64
+    ensures { λ n. ⌜ Says totalsNumbers (listedAnswer r) (now (told .entry)) (now (told .exit)) n ⌝ }
+{
+    match r {
+        Listed::Refused(n) => n,
+        Listed::Lists {
+            had,
+            missing,
+            received_total,
+            missing_total,
+        } => {
+            *told = [had, missing, received_total, missing_total];
+            0
+        }
+    }
+}
+
+// The length of what was written.
+pub(crate) fn say_written(r: Written, told: &mut [u64; 1]) -> u64
+    ensures { λ n. ⌜ Says lengthNumbers (writtenAnswer r) (now (told .entry)) (now (told .exit)) n ⌝ }
+{
+    match r {
+        Written::Refused(n) => n,
+        Written::Length(n) => {
+            *told = [n];
+            0
+        }
+    }
+}

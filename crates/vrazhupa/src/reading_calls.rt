@@ -1,0 +1,130 @@
+// The exported calls that read a file: its tables and texts, positions, lists and the map.
+use crate::answers::say_asked;
+use crate::answers::say_listed;
+use crate::answers::say_read;
+use crate::answers::say_written;
+use listing::calls::list;
+use mapping::call::map;
+use partial::answers::Read;
+use partial::position::Position;
+use reading::judging::Judgement;
+use reading::judging::judge;
+use reading::tables::read;
+use serving::calls::ask;
+use serving::rows::chunk_at;
+use serving::runs::run_at;
+ghost use Rattle.partial.specs.Heading.{url, mime};
+ghost use Rattle.vrazhupa.specs.Calls.{SaysRead, SaysText, SaysServed, SaysAsked, SaysListed, SaysMapped};
+
+// Reads a file into both tables.
+#[no_mangle]
+pub extern "C" fn vrazhupa_read(
+    file: &[u8],
+    segments: &mut [u64],
+    chunks: &mut [u64],
+    told: &mut [u64; 4],
+) -> u64
+    ensures { λ r. ⌜ SaysRead (now (file .entry)) (now (segments .entry)) (now (segments .exit)) (now (chunks .entry)) (now (chunks .exit)) (now (told .entry)) (now (told .exit)) r ⌝ }
+{
+    say_read(read(file, segments, chunks), told)
+}
+
+// Where the URL of a file stands.
+#[no_mangle]
+pub extern "C" fn vrazhupa_url(file: &[u8], told: &mut [u64; 2]) -> u64
+    ensures { λ r. ⌜ SaysText url (now (file .entry)) (now (told .entry)) (now (told .exit)) r ⌝ }
+{
+    match judge(file) {
+        Judgement::Refused(n) => n,
+        Judgement::Given(judged) => {
+            let head = judged.head;
+            let url = head.url;
+            *told = [url.place.0, url.size];
+            0
+        }
+    }
+}
+
+// Where the MIME text of a file stands.
+#[no_mangle]
+pub extern "C" fn vrazhupa_mime(file: &[u8], told: &mut [u64; 2]) -> u64
+    ensures { λ r. ⌜ SaysText mime (now (file .entry)) (now (told .entry)) (now (told .exit)) r ⌝ }
+{
+    match judge(file) {
+        Judgement::Refused(n) => n,
+        Judgement::Given(judged) => {
+            let head = judged.head;
+            let mime = head.mime;
+            *told = [mime.place.0, mime.size];
+            0
+        }
+    }
+}
+
+// Where in the file the bytes stand that serve a position and those after it; a part of no bytes where it is not supplied.
+#[no_mangle]
+pub extern "C" fn vrazhupa_serve(
+    file: &[u8],
+    segments: &mut [u64],
+    chunks: &mut [u64],
+    p: u64,
+    told: &mut [u64; 2],
+) -> u64
+    ensures { λ r. ⌜ SaysServed (now (file .entry)) (now (segments .entry)) (now (segments .exit)) (now (chunks .entry)) (now (chunks .exit)) p (now (told .entry)) (now (told .exit)) r ⌝ }
+{
+    match read(file, segments, chunks) {
+        Read::Refused(n) => n,
+        Read::Tables {
+            segments: _,
+            chunks: count,
+            described,
+            closed: _,
+        } => {
+            let run = run_at(chunks, count, Position(p), described);
+            if count <= run.supplier {
+                *told = [0, 0];
+                return 0;
+            }
+            let c = chunk_at(chunks, run.supplier);
+            *told = [c.place.0 + (p - c.start.0), run.length];
+            0
+        }
+    }
+}
+
+// Whether a position is served or missing, with how many in a row, or not below the described length.
+#[no_mangle]
+pub extern "C" fn vrazhupa_ask(
+    file: &[u8],
+    segments: &mut [u64],
+    chunks: &mut [u64],
+    p: u64,
+    told: &mut [u64; 2],
+) -> u64
+    ensures { λ r. ⌜ SaysAsked (now (file .entry)) (now (segments .entry)) (now (segments .exit)) (now (chunks .entry)) (now (chunks .exit)) p (now (told .entry)) (now (told .exit)) r ⌝ }
+{
+    say_asked(ask(file, segments, chunks, Position(p)), told)
+}
+
+// Lists the ranges that a file has and those that are missing.
+#[no_mangle]
+pub extern "C" fn vrazhupa_list(
+    file: &[u8],
+    segments: &mut [u64],
+    chunks: &mut [u64],
+    had: &mut [u64],
+    missing: &mut [u64],
+    told: &mut [u64; 4],
+) -> u64
+    ensures { λ r. ⌜ SaysListed (now (file .entry)) (now (segments .entry)) (now (segments .exit)) (now (chunks .entry)) (now (chunks .exit)) (now (had .entry)) (now (had .exit)) (now (missing .entry)) (now (missing .exit)) (now (told .entry)) (now (told .exit)) r ⌝ }
+{
+    say_listed(list(file, segments, chunks, had, missing), told)
+}
+
+// Writes the map's text.
+#[no_mangle]
+pub extern "C" fn vrazhupa_map(file: &[u8], buffer: &mut [u8], told: &mut [u64; 1]) -> u64
+    ensures { λ r. ⌜ SaysMapped (now (file .entry)) (now (buffer .entry)) (now (buffer .exit)) (now (told .entry)) (now (told .exit)) r ⌝ }
+{
+    say_written(map(file, buffer), told)
+}

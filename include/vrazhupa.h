@@ -1,0 +1,76 @@
+/* Partial files (ISO/IEC 23001-14): reading, serving, listing, beginning and appending, by proved code.
+
+   Build the archive with `rt staticlib vrazhupa`; it is target/staticlib/libvrazhupa.a, for x86-64.
+
+   Each call answers 0, or the number of its refusal (README.md, "Refusals"), and leaves its values in `told`. After a refusal all lent memory, `told`
+   too, holds what it held. Nothing is required of the bytes and numbers that a call is given; a pointer may be anything where its length is 0. Memory that a call
+   writes to may not overlap other memory that it is given. Nothing is kept between calls, and two threads may call at once, each with memory of its own
+   to write to. No call allocates, blocks or fails in another way. `vrazhupa_list` and `vrazhupa_map` need about 52 KiB of stack, the others under 2 KiB. */
+#ifndef VRAZHUPA_H
+#define VRAZHUPA_H
+
+#include <stdbool.h>
+#include <stddef.h>
+#include <stdint.h>
+
+#ifdef __cplusplus
+extern "C" {
+#endif
+
+/* The numbers of a row: of a segment (place of the box, source offset, flags, repair time, chunk count, place and length of the `pshd` body), of a chunk (segment
+   number from 0, index, source start, size, state, file place) and of a range (first position, length); and the most rows that a file fills. */
+enum {
+    VRAZHUPA_SEGMENT_ROW = 7,
+    VRAZHUPA_CHUNK_ROW = 6,
+    VRAZHUPA_RANGE_ROW = 2,
+    VRAZHUPA_SEGMENTS = 64,
+    VRAZHUPA_CHUNKS = 1024,
+    VRAZHUPA_RANGES = 1025
+};
+
+/* The kinds of answers about a position. */
+enum { VRAZHUPA_SERVED = 0, VRAZHUPA_MISSING = 1, VRAZHUPA_NOT_BELOW = 2 };
+
+/* Reads a file into both tables, from the front; the rest of a table keeps its contents. Lengths of tables and lists are in numbers, not rows.
+   told: rows of segments, rows of chunks, the described length, 1 where the size of the source is known and else 0. Refuses with 1 to 26. */
+uint64_t vrazhupa_read(const uint8_t *file, size_t file_length, uint64_t *segments, size_t segments_length, uint64_t *chunks, size_t chunks_length,
+                       uint64_t told[4]);
+
+/* The URL and the MIME text of a file. told: the place of the text in the file, and its length. Refuse with 1 to 25. */
+uint64_t vrazhupa_url(const uint8_t *file, size_t file_length, uint64_t told[2]);
+uint64_t vrazhupa_mime(const uint8_t *file, size_t file_length, uint64_t told[2]);
+
+/* Reads the file into both tables, and tells where in it the bytes stand that serve position p and those after it, as long as the same chunk supplies them.
+   told: the place of that part, and its length; 0 and 0 where p is not supplied. Refuses with 1 to 26. */
+uint64_t vrazhupa_serve(const uint8_t *file, size_t file_length, uint64_t *segments, size_t segments_length, uint64_t *chunks, size_t chunks_length,
+                        uint64_t p, uint64_t told[2]);
+
+/* Reads the file into both tables, and tells whether position p is served or missing. told: the kind, and how many positions from p on are served by the same
+   chunk or missing; 0 where p is not below the described length. Refuses with 1 to 26. */
+uint64_t vrazhupa_ask(const uint8_t *file, size_t file_length, uint64_t *segments, size_t segments_length, uint64_t *chunks, size_t chunks_length, uint64_t p,
+                      uint64_t told[2]);
+
+/* Reads the file into both tables, and fills two lists with the ranges of positions that it has and of those that are missing. told: ranges had, ranges missing,
+   positions received, positions missing. Refuses with 1 to 26. */
+uint64_t vrazhupa_list(const uint8_t *file, size_t file_length, uint64_t *segments, size_t segments_length, uint64_t *chunks, size_t chunks_length,
+                       uint64_t *had, size_t had_length, uint64_t *missing, size_t missing_length, uint64_t told[4]);
+
+/* Writes into the buffer what the map program prints for a file of at most 65,536 bytes, the line of a refusal too, 27 for a longer one. told: how many bytes.
+   Refuses with 33 where the buffer is too short. */
+uint64_t vrazhupa_map(const uint8_t *file, size_t file_length, uint8_t *buffer, size_t buffer_length, uint64_t told[1]);
+
+/* Begins a file in the buffer. told: its length. Refuses with 34, 1 or 33. */
+uint64_t vrazhupa_begin(uint8_t *buffer, size_t buffer_length, const uint8_t *url, size_t url_length, const uint8_t *mime, size_t mime_length,
+                        uint64_t told[1]);
+
+/* Appends a segment to the file in the first `length` bytes of the buffer. The list has a size and a state (0 lost, 1 damaged but kept, 2 good) for each chunk, its
+   length in numbers; an empty list with no data is an open segment. The data are the bytes of the chunks of states 1 and 2, in order. Bytes before `length` and
+   behind the new end keep their values. told: the new length. Refuses with 30, the file's own refusal, 31, 32, 1, 6, 13, 22, 23, 25 or 33, in this order. */
+uint64_t vrazhupa_append(uint8_t *buffer, size_t buffer_length, uint64_t length, uint64_t offset, uint64_t repair_time, bool last, const uint64_t *list,
+                         size_t list_length, const uint8_t *data, size_t data_length, uint64_t told[1]);
+
+#ifdef __cplusplus
+}
+#endif
+
+#endif
