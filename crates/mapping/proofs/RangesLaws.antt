@@ -1,7 +1,7 @@
 -- Laws of the lines of the ranges: ranges found one after another are put line by line.
 use Prim.Native.Nat.{ℕ, _+_, _-_, _<_, _≤_}
 use mathlib.Core.List.{List, [], _∷_, _++_, append-nil, append-assoc}
-use mathlib.Core.Path.{_≡_, refl, sym, ap, subst, _∙_}
+use mathlib.Core.Path.{_≡_, sym, ap, _∙_}
 use native.Mathlib.Omega.{arith}
 use Rattle.filling.specs.Rows.{Puts}
 use Rattle.filling.proofs.RowLaws.{put-none}

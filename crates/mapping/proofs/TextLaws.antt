@@ -1,7 +1,7 @@
 -- Laws of text that is put: without room, by a copy, word by word and line by line.
 use Prim.Native.Nat.{ℕ, _+_, _-_, _≤_, _<_}
-use mathlib.Core.Bool.{Bool, true, false}
-use mathlib.Core.List.{List, [], _∷_, _++_, append-nil, append-assoc}
+use mathlib.Core.Bool.{true, false}
+use mathlib.Core.List.{List, [], _∷_, _++_, append-nil}
 use mathlib.Core.Path.{_≡_, refl, sym, ap, _∙_}
 use native.Mathlib.Omega.{arith}
 use borrow.Author.Tests.{eq-eqb, ne-eqb}
@@ -14,7 +14,7 @@ use Rattle.listing.specs.Calls.{Counted}
 use Rattle.listing.specs.declared.lists.Totals.{Totals}
 use Rattle.partial.specs.Map.{ascii, decimal, line, refusedLine, rangeLine, sourceLine, totalLine}
 use Rattle.partial.specs.Meaning.{describedLength, isClosed}
-use Rattle.partial.specs.Ranges.{Range, had, hadList, missingList, total}
+use Rattle.partial.specs.Ranges.{had}
 use Rattle.partial.specs.Segments.{Segment}
 
 -- without room nothing is put

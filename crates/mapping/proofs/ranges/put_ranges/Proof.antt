@@ -6,7 +6,6 @@ use native.Mathlib.Omega.{arith}
 use borrow.Author.Needs.{needs}
 use lib.ListN.{length}
 use Rattle.listing.proofs.ListLaws.{found-some, found-most}
-use Rattle.partial.specs.Limits.{sourceLimit}
 use Rattle.serving.specs.Rows.{chunksIn}
 use Rattle.mapping.proofs.RangesLaws.{Midway, midway-none, midway-more, midway-end}
 use Rattle.mapping.proofs.ranges.put_ranges.Statement.{statement}
