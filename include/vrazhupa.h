@@ -18,14 +18,15 @@ extern "C" {
 #endif
 
 /* The numbers of a row: of a segment (place of the box, source offset, flags, repair time, chunk count, place and length of the `pshd` body), of a chunk (segment
-   number from 0, index, source start, size, state, file place) and of a range (first position, length); and the most rows that a file fills. */
+   number from 0, index, source start, size, state, file place) and of a range (first position, length); the most rows that a file fills, and its most bytes. */
 enum {
     VRAZHUPA_SEGMENT_ROW = 7,
     VRAZHUPA_CHUNK_ROW = 6,
     VRAZHUPA_RANGE_ROW = 2,
     VRAZHUPA_SEGMENTS = 64,
     VRAZHUPA_CHUNKS = 1024,
-    VRAZHUPA_RANGES = 1025
+    VRAZHUPA_RANGES = 1025,
+    VRAZHUPA_FILE = 1073741824
 };
 
 /* The kinds of answers about a position. */
@@ -55,9 +56,9 @@ uint64_t vrazhupa_ask(const uint8_t *file, size_t file_length, uint64_t *segment
 uint64_t vrazhupa_list(const uint8_t *file, size_t file_length, uint64_t *segments, size_t segments_length, uint64_t *chunks, size_t chunks_length,
                        uint64_t *had, size_t had_length, uint64_t *missing, size_t missing_length, uint64_t told[4]);
 
-/* Writes into the buffer what the map program prints for a file of at most 65,536 bytes, the line of a refusal too, 27 for a longer one. told: how many bytes.
-   Refuses with 33 where the buffer is too short. */
-uint64_t vrazhupa_map(const uint8_t *file, size_t file_length, uint8_t *buffer, size_t buffer_length, uint64_t told[1]);
+/* Writes the map of a file into the buffer as the map program prints it, the line of a refusal too: that of 27 where the file has more than `most` bytes, which
+   are 65,536 for the map program. told: how many bytes. Refuses with 33 where the buffer is too short. */
+uint64_t vrazhupa_map(const uint8_t *file, size_t file_length, uint64_t most, uint8_t *buffer, size_t buffer_length, uint64_t told[1]);
 
 /* Begins a file in the buffer. told: its length. Refuses with 34, 1 or 33. */
 uint64_t vrazhupa_begin(uint8_t *buffer, size_t buffer_length, const uint8_t *url, size_t url_length, const uint8_t *mime, size_t mime_length,

@@ -22,7 +22,7 @@ use lib.ListN.{length}
 use lib.Dec.{leb, eqb}
 use Rattle.boxes.specs.Answer.{Answer, refused, given}
 use Rattle.numerals.specs.Numbers.{bytesOf}
-use Rattle.partial.specs.Limits.{sourceLimit}
+use Rattle.partial.specs.Limits.{programLimit, sourceLimit}
 use Rattle.partial.specs.Segments.{Segment}
 use Rattle.partial.specs.Heading.{url, mime}
 use Rattle.partial.specs.Reading.{reading, earlierSegments}
@@ -176,7 +176,7 @@ againOf f = elim (reading sourceLimit f) [ refused k ↦ 0 ∷ k ∷ [] | given 
 
 unfoldable pub mapOfInput : List ℕ → List ℕ
 unfolding computing
-mapOfInput input = mapText sourceLimit input
+mapOfInput input = mapText sourceLimit programLimit input
 """
 
 BATCH_USES = """use Rattle.numerals.specs.Numbers.{bytesOf}
@@ -203,14 +203,14 @@ zeros-file n h = long-file (replicate n 0) (rw length-replicate h)
 file-too-long : reading sourceLimit (replicate 1_073_741_825 0) ≡ refused 1
 file-too-long = zeros-file 1_073_741_825 refl
 
-long-input : (f : List ℕ) → leb (length f) programLimit ≡ false → mapText sourceLimit f ≡ refusedLine 27
+long-input : (f : List ℕ) → leb (length f) programLimit ≡ false → mapText sourceLimit programLimit f ≡ refusedLine 27
 unfolding mapText
 long-input f h = rw (h, mapText)
 
-zeros-input : (n : ℕ) → leb n programLimit ≡ false → mapText sourceLimit (replicate n 0) ≡ refusedLine 27
+zeros-input : (n : ℕ) → leb n programLimit ≡ false → mapText sourceLimit programLimit (replicate n 0) ≡ refusedLine 27
 zeros-input n h = long-input (replicate n 0) (rw length-replicate h)
 
-input-too-long : mapText sourceLimit (replicate 65_537 0) ≡ refusedLine 27
+input-too-long : mapText sourceLimit programLimit (replicate 65_537 0) ≡ refusedLine 27
 input-too-long = zeros-input 65_537 refl
 """
 

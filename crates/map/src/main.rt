@@ -3,6 +3,7 @@ use libc::STDIN_FILENO;
 use libc::STDOUT_FILENO;
 use mapping::call::map;
 use partial::answers::Written;
+use partial::limits::PROGRAM_LIMIT;
 
 // One byte more than the program takes, so that a longer input is seen.
 const INPUT: usize = 65_537;
@@ -15,7 +16,7 @@ fn main() {
 }
 
 fn print(file: &[u8], text: &mut [u8]) {
-    match map(file, text) {
+    match map(file, PROGRAM_LIMIT, text) {
         Written::Refused(n) => refuse(n),
         Written::Length(n) => {
             if !io::write_all(STDOUT_FILENO, &text[..n as usize]) {

@@ -43,27 +43,27 @@ module _ (ss : List Segment) where
 
 -- ---- what the call leaves
 
-module _ (f buffer : List ℕ) where
-  pub maps-short : length buffer < length (mapText sourceLimit f) → Maps f buffer buffer (Written.Refused 33)
+module _ (f : List ℕ) (most : ℕ) (buffer : List ℕ) where
+  pub maps-short : length buffer < length (mapText sourceLimit most f) → Maps f most buffer buffer (Written.Refused 33)
   unfolding mapWritten writtenAnswer after
   maps-short short =
-      let e = lt-leb (length (mapText sourceLimit f)) (length buffer) short in
+      let e = lt-leb (length (mapText sourceLimit most f)) (length buffer) short in
       record { answer = rw e; left = rw e }
 
-  pub maps-given : {buffer′ : List ℕ} {n size : ℕ} → size ≡ length (mapText sourceLimit f) → length (mapText sourceLimit f) ≤ length buffer
-      → Puts buffer 0 (mapText sourceLimit f) buffer′ n
-      → Maps f buffer buffer′ (Written.Length size)
+  pub maps-given : {buffer′ : List ℕ} {n size : ℕ} → size ≡ length (mapText sourceLimit most f) → length (mapText sourceLimit most f) ≤ length buffer
+      → Puts buffer 0 (mapText sourceLimit most f) buffer′ n
+      → Maps f most buffer buffer′ (Written.Length size)
   unfolding mapWritten writtenAnswer after
   maps-given long room puts =
-      let e = le-leb (length (mapText sourceLimit f)) (length buffer) room in
-      record { answer = rw (e, long); left = rw e (put-filled (mapText sourceLimit f) (puts .put) room) }
+      let e = le-leb (length (mapText sourceLimit most f)) (length buffer) room in
+      record { answer = rw (e, long); left = rw e (put-filled (mapText sourceLimit most f) (puts .put) room) }
 
 -- a text that was written lies in the buffer
-pub maps-within : {f buffer buffer′ : List ℕ} {r : Written} → Maps f buffer buffer′ r → {n : ℕ} → r ≡ Written.Length n → n ≤ length buffer′
+pub maps-within : {f : List ℕ} {most : ℕ} {buffer buffer′ : List ℕ} {r : Written} → Maps f most buffer buffer′ r → {n : ℕ} → r ≡ Written.Length n → n ≤ length buffer′
 unfolding mapWritten writtenAnswer after filled
-maps-within {f} {buffer} {buffer′} m {n} e =
-    let text = mapText sourceLimit f in
-    let answer : mapWritten sourceLimit f buffer ≡ given n = sym (m .answer) ∙ ap writtenAnswer e in
+maps-within {f} {most} {buffer} {buffer′} m {n} e =
+    let text = mapText sourceLimit most f in
+    let answer : mapWritten sourceLimit most f buffer ≡ given n = sym (m .answer) ∙ ap writtenAnswer e in
     let (_, same) = held 33 (leb (length text) (length buffer)) _ answer in
     let left : buffer′ ≡ text ++ drop (length text) buffer = m .left ∙ ap (λ (x : Answer ℕ). written text x buffer) answer in
     omega (arith, ap length left, length-append text (drop (length text) buffer), given-same same)

@@ -8,5 +8,5 @@ use Rattle.mapping.proofs.call.map.Reads as map
 map-result : OneResult map.Post
 map-result κs args x y after after′ p q = written-told x y (p .answer ∙ sym (q .answer))
 
-map-bytes : OneLeft map.Post (λ κs after. now (after .1 .0))
+map-bytes : OneLeft map.Post (λ κs after. now (after .1 .1 .0))
 map-bytes κs args x y after after′ p q = p .left ∙ sym (q .left)

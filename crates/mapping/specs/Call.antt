@@ -8,7 +8,7 @@ use Rattle.partial.specs.Map.{mapText, mapWritten}
 use Rattle.partial.specs.Memory.{written}
 use Rattle.partial.specs.declared.answers.Written.{Written}
 
--- the answer and the buffer, each by what the file and the buffer decide
-pub record Maps (f buffer buffer′ : List ℕ) (r : Written) : Type 0 where
-  pub answer : writtenAnswer r ≡ mapWritten sourceLimit f buffer
-  pub left : buffer′ ≡ written (mapText sourceLimit f) (mapWritten sourceLimit f buffer) buffer
+-- the answer and the buffer, each by what the file, the most bytes that are taken and the buffer decide
+pub record Maps (f : List ℕ) (most : ℕ) (buffer buffer′ : List ℕ) (r : Written) : Type 0 where
+  pub answer : writtenAnswer r ≡ mapWritten sourceLimit most f buffer
+  pub left : buffer′ ≡ written (mapText sourceLimit most f) (mapWritten sourceLimit most f buffer) buffer

@@ -7,7 +7,6 @@ use gathering::pass::pass;
 use listing::calls::ALL_ROWS;
 use listing::lists::put_lists;
 use partial::answers::Written;
-use partial::limits::PROGRAM_LIMIT;
 use partial::position::Position;
 use partial::refusals::BUFFER_TOO_SHORT;
 use partial::refusals::INPUT_TOO_LONG;
@@ -49,11 +48,11 @@ fn put_accepted(buffer: &mut [u8], file: &[u8], count: u64, end: Position, close
     put_rows(buffer, &rows, count, end, closed)
 }
 
-// Puts what the map program prints for a file.
-fn put_map(buffer: &mut [u8], file: &[u8]) -> u64
-    ensures { λ r. ⌜ Puts (now (buffer .entry)) 0 (mapText sourceLimit (now (file .entry))) (now (buffer .exit)) r ⌝ }
+// Puts what a program prints for a file that takes at most so many bytes.
+fn put_map(buffer: &mut [u8], file: &[u8], most: u64) -> u64
+    ensures { λ r. ⌜ Puts (now (buffer .entry)) 0 (mapText sourceLimit most (now (file .entry))) (now (buffer .exit)) r ⌝ }
 {
-    if PROGRAM_LIMIT < file.len() as u64 {
+    if most < file.len() as u64 {
         return put_refused(buffer, INPUT_TOO_LONG);
     }
     match judge(file) {
@@ -67,15 +66,16 @@ fn put_map(buffer: &mut [u8], file: &[u8]) -> u64
     }
 }
 
-// Writes the map of a file, or the line of its refusal, and answers how long it is. Where the buffer is too short for it, it is as it was.
-pub fn map(file: &[u8], buffer: &mut [u8]) -> Written
-    ensures { λ r. ⌜ Maps (now (file .entry)) (now (buffer .entry)) (now (buffer .exit)) r ⌝ }
+// Writes the map of a file, or the line of its refusal, 27 for a file of more bytes than the caller takes, and answers how long it is. Where the buffer is too
+// short for it, it is as it was.
+pub fn map(file: &[u8], most: u64, buffer: &mut [u8]) -> Written
+    ensures { λ r. ⌜ Maps (now (file .entry)) most (now (buffer .entry)) (now (buffer .exit)) r ⌝ }
 {
     let mut no_room = [0; 1];
-    let size = put_map(&mut no_room, file);
+    let size = put_map(&mut no_room, file, most);
     if (buffer.len() as u64) < size {
         return Written::Refused(BUFFER_TOO_SHORT);
     }
-    put_map(buffer, file);
+    put_map(buffer, file, most);
     Written::Length(size)
 }

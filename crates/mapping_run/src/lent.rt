@@ -2,6 +2,7 @@
 use crate::report;
 use mapping::call::map;
 use partial::answers::Written;
+use partial::limits::PROGRAM_LIMIT;
 use printing::lines::text;
 use printing::marks::mark_bytes;
 
@@ -18,7 +19,7 @@ pub fn mapped(file: &[u8], length: usize) {
 
 fn mapped_in(file: &[u8], buffer: &mut [u8]) {
     mark_bytes(buffer);
-    match map(file, buffer) {
+    match map(file, PROGRAM_LIMIT, buffer) {
         Written::Refused(n) => {
             report::answer(b"refused", n);
             report::rest(buffer, 0);

@@ -1,7 +1,7 @@
 -- The worked examples: the definitions say what the paper says.
 use mathlib.Core.Path.{_≡_, refl, _∙_}
 use native.Mathlib.Omega.{arith}
-use Rattle.partial.specs.Limits.{sourceLimit}
+use Rattle.partial.specs.Limits.{programLimit, sourceLimit}
 use Rattle.partial.specs.Map.{refusedLine, ascii}
 use Rattle.partial.specs.Examples.{table, AsThePaperSays, AtTheProgramLimit}
 use Rattle.partial.proofs.Computing.{computing}
@@ -18,6 +18,6 @@ refused-27 = refl
 at-the-program-limit : AtTheProgramLimit
 at-the-program-limit =
     record {
-      taken = λ input n long e. printed sourceLimit input .refusal n (omega arith) e;
-      over = λ input long. printed sourceLimit input .overLong (omega arith) ∙ refused-27;
+      taken = λ input n long e. printed sourceLimit programLimit input .refusal n (omega arith) e;
+      over = λ input long. printed sourceLimit programLimit input .overLong (omega arith) ∙ refused-27;
     }

@@ -12,7 +12,7 @@ use lib.Dec.{T, leb, eqb}
 use Rattle.boxes.specs.Answer.{refused, given, _>>=_, hold}
 use Rattle.boxes.specs.Framing.{Box, boxLimit}
 use Rattle.boxes.specs.Kinds.{pdat, is, boxAt}
-use Rattle.partial.specs.Limits.{fileLimit, segmentLimit, chunkLimit, programLimit}
+use Rattle.partial.specs.Limits.{fileLimit, segmentLimit, chunkLimit}
 use Rattle.partial.specs.Sequences.{someOf, sum, within}
 use Rattle.partial.specs.Segments.{Chunk, Segment, good, endOf, chunksOf}
 use Rattle.partial.specs.Heading.{Part, Heading, heading}
@@ -51,7 +51,7 @@ pub record Demand1 (limit : ℕ) : Type 0 where
       (buffer : List ℕ) (size : ℕ) (a : Addition) (n : ℕ)
       → appended limit buffer size a ≡ refused n
       → (T (within 1 25 n) × (n ≡ 12 → ⊥)) ⊎ T (oneOf (30 ∷ 31 ∷ 32 ∷ 33 ∷ []) n)
-  pub mapNumbers : (input buffer : List ℕ) (n : ℕ) → mapWritten limit input buffer ≡ refused n → n ≡ 33
+  pub mapNumbers : (most : ℕ) (input buffer : List ℕ) (n : ℕ) → mapWritten limit most input buffer ≡ refused n → n ≡ 33
   -- asking answers that number too, and the two texts are empty
   pub askNumbers : (f a b : List ℕ) (p n : ℕ) → tabled limit f a b ≡ refused n → asked (tabled limit f a b) p ≡ refused n
   pub textsEmpty : (which : List ℕ → Box → Part) (f : List ℕ) (n : ℕ) → reading limit f ≡ refused n → bytesIn f (textOf which limit f) ≡ []
@@ -67,9 +67,9 @@ pub record Demand1 (limit : ℕ) : Type 0 where
   pub beginKept : (buffer u m : List ℕ) (n : ℕ) → begun buffer u m ≡ refused n → written (beginning u m) (begun buffer u m) buffer ≡ buffer
   pub appendKept : NothingChanges limit
   pub mapKept :
-      (input buffer : List ℕ) (n : ℕ)
-      → mapWritten limit input buffer ≡ refused n
-      → written (mapText limit input) (mapWritten limit input buffer) buffer ≡ buffer
+      (most : ℕ) (input buffer : List ℕ) (n : ℕ)
+      → mapWritten limit most input buffer ≡ refused n
+      → written (mapText limit most input) (mapWritten limit most input buffer) buffer ≡ buffer
 
 -- "Lists": of an accepted file's segments
 pub record Listing (ss : List Segment) : Type 0 where
@@ -137,23 +137,24 @@ pub record Mapped (f : List ℕ) (h : Heading) (ss : List Segment) : Type 0 wher
   pub missing : (p : ℕ) → p < describedLength ss → supplied ss p ≡ false → Missing f ss p
   pub beyond : (p : ℕ) → describedLength ss ≤ p → reply ss p ≡ notBelow
 
--- "The map program": what it prints for its input, and what the call leaves that writes this into a lent buffer
-pub record Printed (limit : ℕ) (input : List ℕ) : Type 0 where
+-- "The map program": what it prints for its input, whatever the most is that it takes, and what the call leaves that writes this into a lent
+-- buffer
+pub record Printed (limit most : ℕ) (input : List ℕ) : Type 0 where
   -- 27 precedes all others
-  pub overLong : programLimit < length input → mapText limit input ≡ refusedLine 27
+  pub overLong : most < length input → mapText limit most input ≡ refusedLine 27
   -- the refusal line with the reader's number, else the lines of both lists, merged ascending, between those of source and total
-  pub refusal : (n : ℕ) → length input ≤ programLimit → reading limit input ≡ refused n → mapText limit input ≡ refusedLine n
+  pub refusal : (n : ℕ) → length input ≤ most → reading limit input ≡ refused n → mapText limit most input ≡ refusedLine n
   pub lines :
       (ss : List Segment)
-      → length input ≤ programLimit
+      → length input ≤ most
       → reading limit input ≡ given ss
-      → mapText limit input ≡ sourceLine ss ++ (rangeLines (rangesOf ss) ++ totalLine ss)
+      → mapText limit most input ≡ sourceLine ss ++ (rangeLines (rangesOf ss) ++ totalLine ss)
   -- the text's length where the buffer has room for it, else 33
   pub room :
       (buffer : List ℕ)
-      → length (mapText limit input) ≤ length buffer
-      → mapWritten limit input buffer ≡ given (length (mapText limit input))
-  pub noRoom : (buffer : List ℕ) → length buffer < length (mapText limit input) → mapWritten limit input buffer ≡ refused 33
+      → length (mapText limit most input) ≤ length buffer
+      → mapWritten limit most input buffer ≡ given (length (mapText limit most input))
+  pub noRoom : (buffer : List ℕ) → length buffer < length (mapText limit most input) → mapWritten limit most input buffer ≡ refused 33
 
 -- demand 2: in an accepted file each source byte is served or listed missing as document 01's rules say; a segment our writer adds
 -- reads back with the same chunks and bytes; writing again what was read from our writer's file gives that file
@@ -164,7 +165,7 @@ pub record Demand2 (limit : ℕ) : Type 0 where
       (f a b : List ℕ) (p : ℕ)
       → (bytesIn f (servedPart (tabled limit f a b) p) ≡ [])
       ↔ (((n : ℕ) × (tabled limit f a b ≡ refused n)) ⊎ ((ss : List Segment) × (tabled limit f a b ≡ given ss) × (supplied ss p ≡ false)))
-  pub printed : (input : List ℕ) → Printed limit input
+  pub printed : (most : ℕ) (input : List ℕ) → Printed limit most input
   -- the segment reads back with its fields and chunks
   pub readsBack :
       (buffer : List ℕ) (n : ℕ) (a : Addition) (size : ℕ) (ss : List Segment)

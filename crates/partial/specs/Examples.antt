@@ -12,7 +12,7 @@ use Rattle.numerals.specs.Numbers.{number, bytesOf, valueOf, signed, holdsOffse
 use Rattle.boxes.specs.Framing.{header, boxed}
 use Rattle.boxes.specs.Kinds.{pdat, pseg, pshd, ploc, is}
 use Rattle.numerals.specs.declared.numbers.Offset.the-variants.{Back}
-use Rattle.partial.specs.Limits.{sourceLimit}
+use Rattle.partial.specs.Limits.{programLimit, sourceLimit}
 use Rattle.partial.specs.Entries.{plocHead, entry}
 use Rattle.partial.specs.Meaning.{describedLength, isClosed, served}
 use Rattle.partial.specs.Reading.{reading}
@@ -165,14 +165,14 @@ P12 = record { defined = says (missingIn []); paper = pos 7 ∷ [] }
 abbrev map10 : Example
 map10 =
     record {
-      defined = map pos (mapText sourceLimit (begunBytes ++ (firstBytes ++ secondBytes)));
+      defined = map pos (mapText sourceLimit programLimit (begunBytes ++ (firstBytes ++ secondBytes)));
       paper = map pos (ascii "source\t10\tclosed\nhave\t0\t7\nmiss\t7\t3\ntotal\t7\t3\n");
     }
 
 abbrev map11 : Example
 map11 =
     record {
-      defined = map pos (mapText sourceLimit (begunBytes ++ added (segmentAt 100 false [] [])));
+      defined = map pos (mapText sourceLimit programLimit (begunBytes ++ added (segmentAt 100 false [] [])));
       paper = map pos (ascii "source\t100\topen\nmiss\t0\t100\ntotal\t0\t100\n");
     }
 
@@ -271,5 +271,5 @@ pub record AtTheProgramLimit : Type 0 where
       (input : List ℕ) (n : ℕ)
       → length input ≡ 65_536
       → reading sourceLimit input ≡ refused n
-      → mapText sourceLimit input ≡ refusedLine n
-  pub over : (input : List ℕ) → length input ≡ 65_537 → mapText sourceLimit input ≡ ascii "refused\t27\n"
+      → mapText sourceLimit programLimit input ≡ refusedLine n
+  pub over : (input : List ℕ) → length input ≡ 65_537 → mapText sourceLimit programLimit input ≡ ascii "refused\t27\n"

@@ -10,7 +10,6 @@ use lib.Dec.{leb, ltb, eqb}
 use Rattle.io.specs.Digits.{digits}
 use Rattle.boxes.specs.Answer.{Answer, refused, given, _>>=_, hold}
 use Rattle.numerals.specs.Numbers.{least}
-use Rattle.partial.specs.Limits.{programLimit}
 use Rattle.partial.specs.Segments.{Segment}
 use Rattle.partial.specs.Meaning.{describedLength, isClosed}
 use Rattle.partial.specs.Reading.{reading}
@@ -56,18 +55,18 @@ totalLine ss = line (ascii "total") (decimal (total (hadList ss)) ∷ decimal (t
 unfoldable pub mapOf : List Segment → List ℕ
 mapOf ss = sourceLine ss ++ (rangeLines (rangesOf ss) ++ totalLine ss)
 
--- what the program prints for its input; 27 precedes all others
-unfoldable pub mapText : ℕ → List ℕ → List ℕ
-mapText limit input =
-    elim (leb (length input) programLimit) [
+-- what a program prints that takes an input of at most so many bytes; 27 precedes all others
+unfoldable pub mapText : ℕ → ℕ → List ℕ → List ℕ
+mapText limit most input =
+    elim (leb (length input) most) [
       | true ↦ elim (reading limit input) [ refused n ↦ refusedLine n | given ss ↦ mapOf ss ]
       | false ↦ refusedLine 27
     ]
 
 -- what the library's call answers that writes that text into a lent buffer: its length, or 33 where the buffer is too short for it. The
 -- buffer is left as `written` says, by `mapText`
-unfoldable pub mapWritten : ℕ → List ℕ → List ℕ → Answer ℕ
-mapWritten limit input buffer = do
-  let text = mapText limit input
+unfoldable pub mapWritten : ℕ → ℕ → List ℕ → List ℕ → Answer ℕ
+mapWritten limit most input buffer = do
+  let text = mapText limit most input
   _ ← hold 33 (leb (length text) (length buffer))
   given (length text)

@@ -81,10 +81,10 @@ list-missing κs args x y after after′ p q = p .missingTable ∙ sym (q .missi
 map-result : OneResult map.Post
 map-result κs args x y after after′ p q = p .said .number ∙ sym (q .said .number)
 
-map-told : OneLeft map.Post (λ κs after. now (after .1 .1 .0))
+map-told : OneLeft map.Post (λ κs after. now (after .1 .1 .1 .0))
 map-told κs args x y after after′ p q = p .said .values ∙ sym (q .said .values)
 
-map-bytes : OneLeft map.Post (λ κs after. now (after .1 .0))
+map-bytes : OneLeft map.Post (λ κs after. now (after .1 .1 .0))
 map-bytes κs args x y after after′ p q = p .left ∙ sym (q .left)
 
 begin-result : OneResult begin.Post

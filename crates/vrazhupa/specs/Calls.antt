@@ -39,9 +39,9 @@ pub record SaysListed (f segments segments′ chunks chunks′ had had′ missin
   pub hadTable : had′ ≡ after hadRows (listed sourceLimit f segments chunks had missing) had
   pub missingTable : missing′ ≡ after missingRows (listed sourceLimit f segments chunks had missing) missing
 
-pub record SaysMapped (f buffer buffer′ told told′ : List ℕ) (r : ℕ) : Type 0 where
-  pub said : Says lengthNumbers (mapWritten sourceLimit f buffer) told told′ r
-  pub left : buffer′ ≡ written (mapText sourceLimit f) (mapWritten sourceLimit f buffer) buffer
+pub record SaysMapped (f : List ℕ) (most : ℕ) (buffer buffer′ told told′ : List ℕ) (r : ℕ) : Type 0 where
+  pub said : Says lengthNumbers (mapWritten sourceLimit most f buffer) told told′ r
+  pub left : buffer′ ≡ written (mapText sourceLimit most f) (mapWritten sourceLimit most f buffer) buffer
 
 pub record SaysBegun (url mime buffer buffer′ told told′ : List ℕ) (r : ℕ) : Type 0 where
   pub said : Says lengthNumbers (begun buffer url mime) told told′ r

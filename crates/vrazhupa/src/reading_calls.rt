@@ -121,10 +121,15 @@ pub extern "C" fn vrazhupa_list(
     say_listed(list(file, segments, chunks, had, missing), told)
 }
 
-// Writes the map's text.
+// Writes the map's text, 27 for a file of more bytes than the caller takes.
 #[no_mangle]
-pub extern "C" fn vrazhupa_map(file: &[u8], buffer: &mut [u8], told: &mut [u64; 1]) -> u64
-    ensures { λ r. ⌜ SaysMapped (now (file .entry)) (now (buffer .entry)) (now (buffer .exit)) (now (told .entry)) (now (told .exit)) r ⌝ }
+pub extern "C" fn vrazhupa_map(
+    file: &[u8],
+    most: u64,
+    buffer: &mut [u8],
+    told: &mut [u64; 1],
+) -> u64
+    ensures { λ r. ⌜ SaysMapped (now (file .entry)) most (now (buffer .entry)) (now (buffer .exit)) (now (told .entry)) (now (told .exit)) r ⌝ }
 {
-    say_written(map(file, buffer), told)
+    say_written(map(file, most, buffer), told)
 }

@@ -3,17 +3,16 @@ use Prim.Native.Nat.{ℕ}
 use mathlib.Core.List.{List}
 use borrow.Author.Tests.{le-leb, lt-leb}
 use lib.ListN.{length}
-use Rattle.partial.specs.Limits.{programLimit}
 use Rattle.partial.specs.Map.{mapOf, mapText, mapWritten}
 use Rattle.partial.specs.Demands.{Printed}
 
-pub printed : (limit : ℕ) (input : List ℕ) → Printed limit input
+pub printed : (limit most : ℕ) (input : List ℕ) → Printed limit most input
 unfolding mapText mapOf mapWritten
-printed limit input =
+printed limit most input =
     record {
-      overLong = λ over. rw (mapText, lt-leb (length input) programLimit over);
-      refusal = λ n small e. rw (mapText, le-leb (length input) programLimit small, e);
-      lines = λ ss small e. rw (mapText, le-leb (length input) programLimit small, e);
-      room = λ buffer h. rw (le-leb (length (mapText limit input)) (length buffer) h);
-      noRoom = λ buffer h. rw (lt-leb (length (mapText limit input)) (length buffer) h);
+      overLong = λ over. rw (mapText, lt-leb (length input) most over);
+      refusal = λ n small e. rw (mapText, le-leb (length input) most small, e);
+      lines = λ ss small e. rw (mapText, le-leb (length input) most small, e);
+      room = λ buffer h. rw (le-leb (length (mapText limit most input)) (length buffer) h);
+      noRoom = λ buffer h. rw (lt-leb (length (mapText limit most input)) (length buffer) h);
     }

@@ -265,10 +265,10 @@ begun-only buffer u m =
     only-held OfBegin 34 (isText u && isText m) _ tt
     (only-held OfBegin 1 (leb n fileLimit) _ tt (only-held OfBegin 33 (leb n (length buffer)) _ tt (only-given OfBegin n)))
 
-map-only : (limit : ℕ) (input buffer : List ℕ) → Only (λ n. n ≡ 33) (mapWritten limit input buffer)
+map-only : (limit most : ℕ) (input buffer : List ℕ) → Only (λ n. n ≡ 33) (mapWritten limit most input buffer)
 unfolding mapWritten
-map-only limit input buffer =
-    let text = mapText limit input in
+map-only limit most input buffer =
+    let text = mapText limit most input in
     only-held (λ n. n ≡ 33) 33 (leb (length text) (length buffer)) _ refl (only-given (λ n. n ≡ 33) (length text))
 
 ask-refused : (r : Answer (List Segment)) (p n : ℕ) → r ≡ refused n → asked r p ≡ refused n
@@ -303,5 +303,5 @@ demand1 limit =
       listsKept = λ rows f a b h m. memory-kept rows (listed limit f a b h m);
       beginKept = λ buffer u m. memory-kept (λ _. beginning u m) (begun buffer u m) buffer;
       appendKept = append-kept limit;
-      mapKept = λ input buffer. memory-kept (λ _. mapText limit input) (mapWritten limit input buffer) buffer;
+      mapKept = λ most input buffer. memory-kept (λ _. mapText limit most input) (mapWritten limit most input buffer) buffer;
     }

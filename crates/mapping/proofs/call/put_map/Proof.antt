@@ -20,7 +20,7 @@ same-length : tie.Need-same-length
 same-length c = search needs
 
 returns : tie.Need-returns
-returns c = puts-same (sym (printed sourceLimit _ .overLong (omega arith))) (c .before .before .put-refused .ensures)
+returns c = puts-same (sym (printed sourceLimit _ _ .overLong (omega arith))) (c .before .before .put-refused .ensures)
 
 judge-requires : tie.Need-judge-requires
 judge-requires c κs = search needs
@@ -48,7 +48,7 @@ same-length-2 c = search needs
 returns-2 : tie.Need-returns-2
 returns-2 c =
     let refusal = read-refused _ (judgement-refused (c .before .before .before .before .before .before .before .judge .ensures) (c .before .before .before .before .before .n .given .1)) in
-    puts-same (sym (printed sourceLimit _ .refusal _ (omega arith) refusal)) (c .before .before .put-refused2 .ensures)
+    puts-same (sym (printed sourceLimit _ _ .refusal _ (omega arith) refusal)) (c .before .before .put-refused2 .ensures)
 
 same-length-3 : tie.Need-same-length-3
 same-length-3 c = search needs
@@ -58,7 +58,7 @@ returns-3 c =
     let a = accepted _ (judgement-given (c .before .before .before .before .before .before .before .before .before .before .judge .ensures) (c .before .before .before .before .before .before .before .before .judged .given .1)) in
     let sizes = gathered-sizes (a .ss) (a .gathered) in
     let known = known-by a (c .before .before .before .before .described .ensures (a .ss) sizes) in
-    puts-same (sym (printed sourceLimit _ .lines (a .ss) (omega arith) (read-given _ a) ∙ map-lines (a .ss))) (c .before .before .put-accepted .ensures (a .ss) known (known-closed (a .ss) sizes))
+    puts-same (sym (printed sourceLimit _ _ .lines (a .ss) (omega arith) (read-given _ a) ∙ map-lines (a .ss))) (c .before .before .put-accepted .ensures (a .ss) known (known-closed (a .ss) sizes))
 
 pub put-map-spec : {M : Type 1} → statement M
 put-map-spec =
