@@ -1,0 +1,123 @@
+/* What is shown of a partial file: its map, its tables, its bytes. */
+#include "show.h"
+
+#include "files.h"
+#include "say.h"
+#include "vrazhupa.h"
+
+#include <inttypes.h>
+#include <stdio.h>
+
+/* More than the lines of the two lists and of the source and the totals take. */
+enum { LONGEST_LINE = 64, MAP_ROOM = (2 * VRAZHUPA_RANGES + 2) * LONGEST_LINE };
+
+static uint64_t segments[VRAZHUPA_SEGMENTS * VRAZHUPA_SEGMENT_ROW];
+static uint64_t chunks[VRAZHUPA_CHUNKS * VRAZHUPA_CHUNK_ROW];
+
+enum { SEGMENTS_LENGTH = sizeof segments / sizeof segments[0], CHUNKS_LENGTH = sizeof chunks / sizeof chunks[0] };
+
+static void put(const uint8_t *bytes, size_t length)
+{
+    if (fwrite(bytes, 1, length, stdout) != length) {
+        failed("standard output");
+    }
+}
+
+void show_map(const char *name)
+{
+    static uint8_t text[MAP_ROOM];
+    uint64_t told[1];
+    struct bytes file = map_locked(name);
+    uint64_t number = vrazhupa_map(file.at, file.length, UINT64_MAX, text, sizeof text, told);
+    if (number != 0) {
+        refused(number);
+    }
+    put(text, told[0]);
+    /* The text of a file is either its map, which begins with `source`, or the line `refused`. */
+    end(text[0] == 'r' ? REFUSED : DONE);
+}
+
+/* A text of the file, so that no byte of it does anything to a terminal. */
+static void put_text(const char *word, const uint8_t *text, uint64_t length)
+{
+    printf("%s\t", word);
+    for (uint64_t i = 0; i < length; i++) {
+        printf(text[i] < ' ' || text[i] > '~' || text[i] == '\\' ? "\\x%02x" : "%c", text[i]);
+    }
+    printf("\n");
+}
+
+static void put_row(const uint64_t *row, int numbers)
+{
+    for (int i = 0; i < numbers; i++) {
+        printf("%s%" PRIu64, i ? "\t" : "", row[i]);
+    }
+    printf("\n");
+}
+
+void show_rows(const char *name)
+{
+    uint64_t counts[4], url[2], mime[2];
+    struct bytes file = map_locked(name);
+    uint64_t number = vrazhupa_read(file.at, file.length, segments, SEGMENTS_LENGTH, chunks, CHUNKS_LENGTH, counts);
+    if (number != 0 || (number = vrazhupa_url(file.at, file.length, url)) != 0 || (number = vrazhupa_mime(file.at, file.length, mime)) != 0) {
+        refused(number);
+    }
+    put_text("url", file.at + url[0], url[1]);
+    put_text("mime", file.at + mime[0], mime[1]);
+    printf("segment\tplace\toffset\tflags\ttime\tchunks\theader\tlength\n");
+    for (uint64_t i = 0; i < counts[0]; i++) {
+        printf("%" PRIu64 "\t", i);
+        put_row(&segments[i * VRAZHUPA_SEGMENT_ROW], VRAZHUPA_SEGMENT_ROW);
+    }
+    printf("segment\tindex\tstart\tsize\tstate\tplace\n");
+    for (uint64_t i = 0; i < counts[1]; i++) {
+        put_row(&chunks[i * VRAZHUPA_CHUNK_ROW], VRAZHUPA_CHUNK_ROW);
+    }
+    end(DONE);
+}
+
+/* How many positions from p on are served; a position that is not ends the command. */
+static uint64_t served_from(const char *name, struct bytes file, uint64_t p)
+{
+    uint64_t told[2];
+    uint64_t number = vrazhupa_ask(file.at, file.length, segments, SEGMENTS_LENGTH, chunks, CHUNKS_LENGTH, p, told);
+    if (number != 0) {
+        refused(number);
+    }
+    if (told[0] != VRAZHUPA_SERVED) {
+        not_served(name, p, told[0] == VRAZHUPA_MISSING ? "is missing" : "is not below the described length");
+    }
+    return told[1];
+}
+
+/* Writes the bytes from p on that one chunk supplies, `most` of them at most, and answers how many. */
+static uint64_t put_served(struct bytes file, uint64_t p, uint64_t most)
+{
+    uint64_t told[2];
+    uint64_t number = vrazhupa_serve(file.at, file.length, segments, SEGMENTS_LENGTH, chunks, CHUNKS_LENGTH, p, told);
+    if (number != 0) {
+        refused(number);
+    }
+    uint64_t length = told[1] < most ? told[1] : most;
+    put(file.at + told[0], length);
+    return length;
+}
+
+void show_bytes(const char *name, uint64_t first, uint64_t length)
+{
+    uint64_t counts[4];
+    struct bytes file = map_locked(name);
+    uint64_t number = vrazhupa_read(file.at, file.length, segments, SEGMENTS_LENGTH, chunks, CHUNKS_LENGTH, counts);
+    if (number != 0) {
+        refused(number);
+    }
+    /* All are asked for before the first is written, so that where one is missing nothing is. */
+    for (uint64_t done = 0, run; done < length; done += run < length - done ? run : length - done) {
+        run = served_from(name, file, first + done);
+    }
+    for (uint64_t done = 0; done < length;) {
+        done += put_served(file, first + done, length - done);
+    }
+    end(DONE);
+}

@@ -1,0 +1,110 @@
+#!/bin/sh
+# The clerk's evening, from end to end: nginx serves a film on loopback, a partial file of it has gaps, and what the map calls missing is fetched with curl
+# and appended until the film is whole. `sh tests/evening.sh WORDS...`, where the words are how paff is run, for instance target/command/paff.
+set -eu
+[ $# -gt 0 ] || { echo "usage: sh tests/evening.sh WORDS..." >&2; exit 2; }
+export LC_ALL=C PATH="$PATH:/usr/sbin"
+program=$* size=3145741 server=
+folder=$(mktemp -d "${TMPDIR:-/tmp}/evening.XXXXXX")
+film=$folder/served/film file=$folder/film.paff
+
+# Stops nginx and removes the folder.
+leave() {
+    [ -z "$server" ] || { kill "$server" || :; wait "$server" || :; } 2>/dev/null
+    rm -rf "$folder"
+}
+
+# CLAIM EXPECTED CAME: ends with status 1 where the two differ.
+same() { [ "$2" = "$3" ] || { printf '%s\nexpected:\n%s\ncame:\n%s\n' "$@" >&2; exit 1; }; }
+
+# Runs the program, which has to succeed, with its output in the file `said`.
+paff() {
+    status=0
+    # shellcheck disable=SC2086 # The words are parted on purpose.
+    timeout 60 $program "$@" >"$folder/said" || status=$?
+    same "the status of paff $*, which said $(head -c 200 "$folder/said" | tr -cd '\t -~')" 0 $status
+}
+
+# OFFSET ARGUMENT...: appends a segment, at which nothing is printed.
+append() { paff append "$file" --offset "$@"; same "what append prints at $1" "" "$(cat "$folder/said")"; }
+
+# FIELD...: the text of a map, three fields to a line.
+map_of() { printf '%s\t%s\t%s\n' "$@"; }
+
+# Asks nginx for the film with curl, its answer in the file `piece`, and prints the status of the answer.
+ask() { timeout 20 curl -q --silent --noproxy '*' --output "$folder/piece" --write-out '%{http_code}' "$@" "$url" || printf ', curl ended with %s' $?; }
+
+sum() { sha256sum <"$1" | cut -d ' ' -f 1; }
+
+make_film() {
+    mkdir "$folder/served"
+    python3 -c "import random, sys; sys.stdout.buffer.write(random.Random(14).randbytes($size))" >"$film"
+    chmod -R a+rX "$folder" # The worker of nginx may be another user.
+}
+
+# Starts nginx at a free port, with all its paths in the folder, and waits until it answers.
+serve() {
+    port=$(python3 -c 'import socket; s = socket.socket(); s.bind(("127.0.0.1", 0)); print(s.getsockname()[1])')
+    url=http://127.0.0.1:$port/film
+    cat >"$folder/nginx.conf" <<END
+daemon off; worker_processes 1; pid $folder/nginx.pid; lock_file $folder/nginx.lock; error_log $folder/error.log;
+events { worker_connections 16; }
+http {
+    access_log off; client_body_temp_path $folder/body; proxy_temp_path $folder/proxy; fastcgi_temp_path $folder/fastcgi;
+    uwsgi_temp_path $folder/uwsgi; scgi_temp_path $folder/scgi; server { listen 127.0.0.1:$port; root $folder/served; }
+}
+END
+    nginx -e "$folder/error.log" -p "$folder" -c "$folder/nginx.conf" &
+    server=$! deadline=$(($(date +%s) + 10))
+    until [ "$(ask --head)" = 200 ] || [ "$(date +%s)" -gt "$deadline" ]; do sleep 0.1; done
+    same "nginx at $url, whose log is: $(cat "$folder/error.log")" 200 "$(ask --head)"
+}
+
+# FIRST LENGTH: names a file with these bytes of the film (right), or with each of them changed (wrong), or only those before a third place (mixed).
+right() { tail -c "+$(($1 + 1))" "$film" | head -c "$2" >"$folder/right.$1"; echo "$folder/right.$1"; }
+wrong() { tr '\000-\377' '\001-\377\000' <"$(right "$@")" >"$folder/wrong.$1"; echo "$folder/wrong.$1"; }
+mixed() { cat "$(wrong "$1" $(($3 - $1)))" "$(right "$3" $(($1 + $2 - $3)))" >"$folder/mixed.$1"; echo "$folder/mixed.$1"; }
+
+# The night: segments out of order, damaged bytes wrong; the last three overlap what came before, two of them with wrong bytes that are called good.
+receive() {
+    paff begin "$file" "$url" video/mp4
+    append 1200000 --good "$(right 1200000 300000)" --lost 200000 --good "$(right 1700000 100000)"
+    append 0 --lost 1000 --good "$(right 1000 299000)" --lost 1 --good "$(right 300001 299999)" --damaged "$(wrong 600000 150000)"
+    append 1499000 --damaged "$(wrong 1499000 2000)" --lost 9000 --good "$(right 1510000 10000)"
+    append 590000 --time 1700000000 --good "$(mixed 590000 50000 600000)" --lost 60000 --good "$(right 700000 50000)" --damaged "$(wrong 750000 10000)"
+    append 1790000 --last --good "$(mixed 1790000 710000 1800000)" --damaged "$(wrong 2500000 300000)" --good "$(right 2800000 345740)" --lost 1
+}
+
+# The map after the night, by hand.
+night_map() {
+    map_of source 3145741 closed miss 0 1000 have 1000 299000 miss 300000 1 have 300001 339999 miss 640000 60000 have 700000 50000 miss 750000 450000 \
+        have 1200000 300000 miss 1500000 10000 have 1510000 10000 miss 1520000 180000 have 1700000 800000 miss 2500000 300000 have 2800000 345740 \
+        miss 3145740 1 total 2144739 1001002
+}
+
+# One round of the evening: fetches and appends each range that the map calls missing.
+order() {
+    paff map "$file"; mv "$folder/said" "$folder/map"
+    while read -r word first length; do
+        [ "$word" = miss ] || continue
+        same "the status for $length bytes at $first" 206 "$(ask --range "$first-$((first + length - 1))")"
+        append "$first" --good "$folder/piece"
+        ranges=$((ranges + 1)) bytes=$((bytes + length))
+    done <"$folder/map"
+}
+
+trap leave EXIT
+trap 'exit 1' HUP INT TERM
+make_film
+serve
+receive
+paff map "$file"; same "the map before the evening" "$(night_map)" "$(cat "$folder/said")"
+paff rows "$file"; same "the URL to order from" "$url" "$(sed -n 's/^url	//p' "$folder/said")"
+ranges=0 bytes=0
+for _ in 1 2 3; do order; done
+same "ranges and bytes fetched, each once" "8 1001002" "$ranges $bytes"
+paff map "$file"; same "the map after the evening" "$(map_of source $size closed have 0 $size total $size 0)" "$(cat "$folder/said")"
+same "the status for the whole film" 200 "$(ask)"
+same "the checksum of the film as nginx serves it" "$(sum "$film")" "$(sum "$folder/piece")"
+paff get "$file" 0 $size; same "the checksum of the film as paff serves it" "$(sum "$folder/piece")" "$(sum "$folder/said")"
+echo "the clerk's evening: $ranges ranges fetched, $bytes bytes, the film is whole"
