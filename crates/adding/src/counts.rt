@@ -1,6 +1,6 @@
 // The chunk list of an addition, counted in one pass.
-use segment::state::LOST;
-use segment::state::present;
+use fields::state::LOST;
+use fields::state::present;
 ghost use Prim.Native.Nat.{_+_, _-_, _<_, _≤_, _^_, min, max};
 ghost use mathlib.Core.Bool.{not, _&&_};
 ghost use mathlib.Core.List.{List, [], _∷_, _++_};

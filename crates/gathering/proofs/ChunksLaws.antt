@@ -15,12 +15,12 @@ use Rattle.partial.specs.Segments.{Chunk}
 use Rattle.partial.specs.Sequences.{sum}
 use Rattle.partial.specs.Tables.{chunkRow, chunkRowsOf}
 use Rattle.partial.proofs.Reading.ReadingLaws.{step-told}
+use Rattle.fields.specs.Location.{plocOf}
+use Rattle.fields.specs.declared.location.Location.{Location}
 use Rattle.segment.specs.Chunk.{chunkOf, cursorOf}
 use Rattle.segment.specs.Data.{Searched}
-use Rattle.segment.specs.Location.{plocOf}
 use Rattle.segment.specs.declared.chunk.Chunk.{Chunk as CodeChunk}
 use Rattle.segment.specs.declared.chunk.Cursor.{Cursor}
-use Rattle.segment.specs.declared.location.Location.{Location}
 use Rattle.filling.specs.Rows.{Put}
 use Rattle.filling.proofs.RowLaws.{put-none, put-more}
 use Rattle.gathering.specs.Chunks.{chunksBy, Ran, Chunked}

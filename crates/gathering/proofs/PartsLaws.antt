@@ -13,8 +13,8 @@ use Rattle.boxes.specs.declared.kinds.Container.the-variants.{Pseg}
 use Rattle.boxes.proofs.KindLaws.{first-is, right-one, those-few, is-eqb}
 use Rattle.partial.specs.Entries.{plocHead}
 use Rattle.partial.specs.Reading.{pshdRight, pshdFields}
-use Rattle.segment.specs.Fields.{valuesOf, fieldsOf}
-use Rattle.segment.specs.declared.fields.Fields.{Fields}
+use Rattle.fields.specs.Fields.{valuesOf, fieldsOf}
+use Rattle.fields.specs.declared.fields.Fields.{Fields}
 use Rattle.gathering.specs.declared.parts.HeaderRead.{HeaderRead}
 use Rattle.gathering.specs.declared.parts.HeaderRead.the-variants as HeaderRead
 use Rattle.gathering.specs.Parts.{headerIn, pshdAnswer, partsIn}

@@ -22,9 +22,9 @@ use Rattle.partial.specs.Reading.{pshdRight, pshdFields, segment}
 use Rattle.partial.specs.Segments.{Chunk, Segment, chunksOf, endOf}
 use Rattle.partial.specs.Tables.{segmentRow, chunkRowsOf}
 use Rattle.partial.proofs.Meaning.SequenceLaws.{both}
-use Rattle.segment.specs.Fields.{valuesOf}
+use Rattle.fields.specs.Fields.{valuesOf}
+use Rattle.fields.specs.declared.fields.Fields.{Fields}
 use Rattle.segment.specs.declared.chunk.Cursor.{Cursor}
-use Rattle.segment.specs.declared.fields.Fields.{Fields}
 use Rattle.filling.specs.Rows.{Put}
 use Rattle.filling.proofs.RowLaws.{put-same}
 use Rattle.gathering.specs.Chunks.{chunksBy, Ran}

@@ -11,11 +11,11 @@ use Rattle.partial.specs.Limits.{sourceLimit}
 use Rattle.partial.specs.Segments.{Chunk}
 use Rattle.partial.specs.Sequences.{sum}
 use Rattle.partial.specs.Tables.{chunkRowsOf}
+use Rattle.fields.specs.Location.{plocOf}
+use Rattle.fields.specs.declared.location.Location.{Location}
 use Rattle.segment.specs.Chunk.{cursorOf}
 use Rattle.segment.specs.Data.{Searched}
-use Rattle.segment.specs.Location.{plocOf}
 use Rattle.segment.specs.declared.chunk.Cursor.{Cursor}
-use Rattle.segment.specs.declared.location.Location.{Location}
 use Rattle.filling.specs.Rows.{Put}
 use Rattle.gathering.specs.declared.chunks.ChunksRead.{ChunksRead}
 use Rattle.gathering.specs.declared.chunks.ChunksRead.the-variants.{Refused, Given}

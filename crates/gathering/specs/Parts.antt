@@ -9,9 +9,9 @@ use Rattle.boxes.specs.Kinds.{pshd, ploc, surl, right, those, firstOf}
 use Rattle.boxes.specs.declared.kinds.Container.the-variants.{Pseg}
 use Rattle.partial.specs.Entries.{Ploc, plocHead}
 use Rattle.partial.specs.Reading.{pshdRight, pshdFields}
-use Rattle.segment.specs.Fields.{valuesOf}
-use Rattle.segment.specs.Location.{plocOf}
-use Rattle.segment.specs.declared.fields.Fields.{Fields}
+use Rattle.fields.specs.Fields.{valuesOf}
+use Rattle.fields.specs.Location.{plocOf}
+use Rattle.fields.specs.declared.fields.Fields.{Fields}
 use Rattle.gathering.specs.declared.parts.HeaderRead.{HeaderRead}
 use Rattle.gathering.specs.declared.parts.HeaderRead.the-variants as HeaderRead
 use Rattle.gathering.specs.declared.parts.Parts.{Parts as CodeParts}

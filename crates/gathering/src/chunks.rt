@@ -1,11 +1,11 @@
 // The chunks of a `ploc`: each is judged, and its row is put into the table.
 use crate::gathered::Gathered;
 use crate::rows::put_chunk;
+use fields::location::Location;
 use numerals::place::Place;
 use partial::refusals::PLOC_WRONG;
 use segment::chunk::ChunkStep;
 use segment::chunk::Cursor;
-use segment::location::Location;
 ghost use Prim.Native.Nat.{_+_, _≤_};
 ghost use Rattle.boxes.specs.Framing.{boxOf};
 ghost use Rattle.partial.specs.Heading.{Heading};

@@ -1,9 +1,9 @@
 // The rows of segments and of chunks, put into a lent table.
 use boxes::framing::Framed;
+use fields::fields::Fields;
 use filling::rows::put_row;
 use numerals::place::Place;
 use segment::chunk::Chunk;
-use segment::fields::Fields;
 ghost use Prim.Native.Nat.{_*_, _≤_};
 ghost use Rattle.boxes.specs.Framing.{boxLimit, boxOf};
 ghost use Rattle.partial.specs.Limits.{chunkLimit};

@@ -1,17 +1,17 @@
 // The chunks of a `ploc`, one after another.
-use crate::entry::EntryRead;
-use crate::entry::entry_at;
-use crate::location::Location;
 use crate::placed::Placed;
 use crate::placed::placed_at;
-use crate::sums::ends_by;
 use boxes::framing::Framed;
+use fields::entry::EntryRead;
+use fields::entry::entry_at;
+use fields::location::Location;
+use fields::sums::ends_by;
 use numerals::place::Place;
 use partial::limits::SOURCE_LIMIT;
 use partial::position::Position;
 use partial::refusals::SOURCE_TOO_LONG;
+ghost use Rattle.fields.specs.Location.{plocOf};
 ghost use Rattle.segment.specs.Chunk.{Steps};
-ghost use Rattle.segment.specs.Location.{plocOf};
 
 // A cursor over entries: the place of the next one, where its chunk starts in the source, and the data box that held the last chunk.
 pub struct Cursor {

@@ -1,10 +1,10 @@
 // Where a chunk lies: the data box of a file that holds it.
-use crate::sums::ends_by;
 use boxes::framing::Framed;
 use boxes::kinds::Container;
 use boxes::kinds::PDAT;
 use boxes::walk::Step;
 use boxes::walk::Walk;
+use fields::sums::ends_by;
 use numerals::place::Place;
 ghost use mathlib.Core.Path.{_≡_};
 ghost use Rattle.boxes.specs.Framing.{boxOf};

@@ -1,9 +1,4 @@
-// The segment layer: the fields of a `pshd`, the head and the entries of a `ploc`, and the chunks that they tell of.
+// The segment layer: the chunks that the entries of a `ploc` tell of, each with its place in the file.
 pub mod chunk;
 pub mod data;
-pub mod entry;
-pub mod fields;
-pub mod location;
 mod placed;
-pub mod state;
-pub mod sums;

@@ -1,14 +1,14 @@
 // The place in the file of an entry's chunk.
 use crate::data::Held;
 use crate::data::held_at;
-use crate::entry::Entry;
-use crate::state::present;
 use boxes::framing::Framed;
+use fields::entry::Entry;
+use fields::state::present;
 use numerals::numbers::Offset;
 use numerals::place::Place;
 use partial::refusals::OUTSIDE_DATA;
 ghost use Rattle.boxes.specs.Framing.{boxOf};
-ghost use Rattle.segment.specs.Entry.{entryOf};
+ghost use Rattle.fields.specs.Entry.{entryOf};
 ghost use Rattle.segment.specs.Placed.{Reaches, Places};
 
 // The place of a chunk, 0 if it is not present or empty, with the data box that held the last chunk; or the number of a refusal.

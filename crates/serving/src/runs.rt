@@ -1,8 +1,8 @@
 // Runs: which chunk supplies a position, and how many positions from there on have the same supplier, in one pass over the rows.
 use crate::rows::chunk_at;
+use fields::state::GOOD;
 use partial::position::Position;
 use segment::chunk::Chunk;
-use segment::state::GOOD;
 ghost use Prim.Native.Nat.{_-_, min};
 ghost use mathlib.Core.Path.{_≡_};
 ghost use Rattle.partial.specs.Meaning.{supplies};

@@ -9,7 +9,7 @@ use Rattle.partial.specs.Entries.{plocHead}
 use Rattle.heading.proofs.FormLaws.{rule-kept}
 use Rattle.gathering.specs.Parts.{partsAnswer}
 use Rattle.gathering.proofs.PartsLaws.{parts-fault, parts-header, parts-lone, parts-source, parts-by, pshd-given, pshd-refused}
-use Rattle.segment.proofs.LocationLaws.{location-given, location-refused}
+use Rattle.fields.proofs.LocationLaws.{location-given, location-refused}
 use borrow.Author.Needs.{needs}
 use Rattle.gathering.proofs.parts.parts_of.Statement.{statement}
 use Rattle.gathering.proofs.parts.parts_of.Tie as tie

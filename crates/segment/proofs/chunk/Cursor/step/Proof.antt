@@ -6,7 +6,7 @@ use native.Mathlib.Omega.{arith}
 use borrow.Author.Tests.{leb-true, not-true, not-false}
 use lib.Dec.{leb}
 use Rattle.partial.specs.Limits.{sourceLimit}
-use Rattle.segment.specs.Entry.{entryAnswer}
+use Rattle.fields.specs.Entry.{entryAnswer}
 use Rattle.segment.specs.Placed.{placeAnswer}
 use Rattle.segment.proofs.ChunkLaws.{step-refused, step-far, step-unplaced, step-placed, steps-refused, steps-given}
 use borrow.Author.Needs.{needs}

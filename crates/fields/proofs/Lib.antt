@@ -1,0 +1,5 @@
+pub mod Determined
+pub mod EntryLaws
+pub mod FieldsLaws
+pub mod LocationLaws
+pub mod ToldLaws

@@ -1,0 +1,4 @@
+pub mod Fields
+pub mod Location
+pub mod State
+pub mod Entry
