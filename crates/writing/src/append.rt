@@ -1,6 +1,4 @@
 // Appending a segment to a file in a lent buffer.
-use crate::pdat::put_pdat;
-use crate::pseg::put_pseg;
 use adding::admission::admission;
 use adding::counts::Counts;
 use adding::counts::counts_of;
@@ -13,6 +11,8 @@ use partial::refusals::BUFFER_TOO_SHORT;
 use partial::refusals::CHUNK_LIST_WRONG;
 use partial::refusals::DATA_WRONG;
 use partial::refusals::LENGTH_OVER_BUFFER;
+use putting::pdat::put_pdat;
+use putting::pseg::put_pseg;
 use reading::judging::Judged;
 use reading::judging::Judgement;
 use reading::judging::earlier_of;
@@ -28,7 +28,8 @@ ghost use Rattle.reading.specs.Judged.{earlierTold};
 ghost use Rattle.adding.specs.Counts.{Counted};
 ghost use Rattle.adding.specs.Layout.{Laid};
 ghost use Rattle.filling.specs.Rows.{Puts};
-ghost use Rattle.writing.specs.Append.{Fits, Appends};
+ghost use Rattle.putting.specs.Added.{Fits};
+ghost use Rattle.writing.specs.Append.{Appends};
 
 // Writes all that append adds: the data, then the `pseg`.
 fn put_added(
