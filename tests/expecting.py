@@ -12,6 +12,11 @@ def expect(name, found, wanted=True):
         print(f"FAILED {name}: found {found!r}, wanted {wanted!r}")
 
 
+def claims():
+    """How many things were expected so far."""
+    return passed + failed
+
+
 def close():
     """Prints the count; the exit status."""
     print(f"{passed} passed, {failed} failed")

@@ -684,9 +684,9 @@ def line(*fields):
     return "\t".join(str(field) for field in fields).encode("ascii") + b"\n"
 
 
-def map_text(data):
-    """What the program writes for its standard input."""
-    if len(data) > LIMITS["program input"]:
+def map_text(data, most=LIMITS["program input"]):
+    """What the program writes for its standard input; the command that maps a file by its name has no such limit and states its length."""
+    if len(data) > most:
         return line("refused", INPUT_OVER_LIMIT)
     answer = lists(data)
     if answer[0] == "refused":

@@ -1,0 +1,46 @@
+"""Runs the tests of the command: every subcommand, refusal and failure that a person can meet.
+
+usage: python3 tests/command.py WORDS...
+
+WORDS start the program, as target/command/paff, or qemu-x86_64 target/command/paff where the processor is no x86-64.
+"""
+
+import sys
+import tempfile
+import time
+
+import command_failing
+import command_killed
+import command_large
+import command_show
+import command_together
+import command_traced
+import command_usage
+import command_write
+import expecting
+from command_run import Command
+
+GROUPS = [
+    ("usage", command_usage), ("map, rows and get", command_show), ("begin and append", command_write), ("failing", command_failing),
+    ("together", command_together), ("traced", command_traced), ("killed", command_killed), ("1 GiB", command_large)]
+
+
+def run_group(name, group, words):
+    before, began = expecting.claims(), time.monotonic()
+    with tempfile.TemporaryDirectory() as folder:
+        group.check(Command(words, folder))
+    print(f"{name}: {expecting.claims() - before} claims in {time.monotonic() - began:.1f} s", flush=True)
+
+
+def main():
+    if len(sys.argv) < 2:
+        print(__doc__.strip(), file=sys.stderr)
+        return 2
+    for name, group in GROUPS:
+        run_group(name, group, sys.argv[1:])
+    print(f"{expecting.claims()} claims, {expecting.failed} failed")
+    return 1 if expecting.failed else 0
+
+
+if __name__ == "__main__":
+    raise SystemExit(main())

@@ -1,0 +1,151 @@
+"""Runs the command as a person would, each time as a process of its own in a folder of its own, and holds its answer against what is wanted of it."""
+
+import os
+import re
+import subprocess
+import time
+from collections import namedtuple
+
+from expecting import expect
+
+LONGEST = 30
+SOON = 5
+
+# The status is negative after a death by that signal, and a word where there was no end within LONGEST seconds.
+Answer = namedtuple("Answer", "status out err")
+
+# A chunk to append: its kind is a word of the command, its value the bytes that were kept of it, or how many were lost.
+Chunk = namedtuple("Chunk", "kind value")
+
+
+class Command:
+    """The words that start the program, and the folder that it is started in."""
+
+    def __init__(self, words, folder):
+        self.words = [os.path.abspath(word) if os.path.exists(word) else word for word in words]
+        self.folder = folder
+
+    def path(self, name):
+        return os.path.join(self.folder, os.fsdecode(name))
+
+    def put(self, name, content):
+        with open(self.path(name), "wb") as file:
+            file.write(content)
+        return name
+
+    def held(self, name):
+        """The bytes of a file, None where there is none."""
+        if not os.path.exists(self.path(name)):
+            return None
+        with open(self.path(name), "rb") as file:
+            return file.read()
+
+    def remove(self, name):
+        os.remove(self.path(name))
+
+    def start(self, *arguments, before=(), **how):
+        """A process of the command, both outputs in pipes unless `how` says otherwise; `before` are words that start a tracer."""
+        how = {"stdin": subprocess.DEVNULL, "stdout": subprocess.PIPE, "stderr": subprocess.PIPE} | how
+        return subprocess.Popen([*before, *self.words, *arguments], cwd=self.folder, **how)
+
+    def run(self, *arguments, before=(), **how):
+        return ended(self.start(*arguments, before=before, **how))
+
+    def append_words(self, film, offset, chunks, last=False, time=None):
+        """The words of an append, whose data is put into files first."""
+        words = ["append", film, "--offset", str(offset)] + ["--last"] * last
+        words += [] if time is None else ["--time", str(time)]
+        for number, chunk in enumerate(chunks):
+            value = chunk.value
+            words += ["--" + chunk.kind, str(value) if chunk.kind == "lost" else self.put(f"piece{number}", value)]
+        return words
+
+    def append(self, film, offset, chunks, last=False, time=None, **how):
+        return self.run(*self.append_words(film, offset, chunks, last, time), **how)
+
+
+def ended(process):
+    """The answer of a process, which is ended where it does not end."""
+    try:
+        out, err = process.communicate(timeout=LONGEST)
+    except subprocess.TimeoutExpired:
+        process.kill()
+        process.communicate()
+        return Answer("no end", b"", b"")
+    return Answer(process.returncode, out or b"", err or b"")
+
+
+def good(value):
+    return Chunk("good", value)
+
+
+def damaged(value):
+    return Chunk("damaged", value)
+
+
+def lost(size):
+    return Chunk("lost", size)
+
+
+# What is wanted of an answer.
+
+def in_form(err):
+    """Whether each line names the program, or is a line of usage behind one that does."""
+    lines = err.split(b"\n")
+    if lines.pop() != b"":
+        return False
+    told = False
+    for line in lines:
+        told = told or line.startswith(b"paff: ")
+        if not told or not line.startswith((b"paff: ", b"usage: ", b" ")):
+            return False
+    return True
+
+
+def told(answer):
+    """Whether standard error is in its form, and says nothing with status 0 and something with 2."""
+    if answer.status == 0:
+        return answer.err == b""
+    return in_form(answer.err) and (answer.err != b"" or answer.status != 2)
+
+
+def claim(name, answer, status, out=b""):
+    """One claim on the status, every byte of standard output, and the form of standard error."""
+    expect(name, (answer.status, answer.out, told(answer) or answer.err), (status, out, True))
+
+
+def claim_refused(name, answer, number):
+    claim(name, answer, 1, b"refused\t%d\n" % number)
+
+
+def claim_missing(name, answer, position):
+    """One line on standard error that has the position's number, and nothing else."""
+    lines = answer.err.splitlines()
+    named = len(lines) == 1 and re.search(rb"(?<!\d)%d(?!\d)" % position, lines[0]) is not None
+    expect(name, (answer.status, answer.out, told(answer), named or answer.err), (1, b"", True, True))
+
+
+def difference(found, wanted):
+    """None, or where two contents begin to differ; a content may be of many MiB, too long to be printed."""
+    if found == wanted:
+        return None
+    if found is None or wanted is None:
+        return "no file" if found is None else "a file"
+    shorter = min(len(found), len(wanted))
+    first = next((at for at in range(shorter) if found[at] != wanted[at]), shorter)
+    return f"{len(found)} bytes, not {len(wanted)}, or other ones from {first} on: {found[first:first + 24]!r}, not {wanted[first:first + 24]!r}"
+
+
+def claim_held(name, command, film, wanted):
+    """A claim on every byte of a file; None where there is to be no file."""
+    expect(name, difference(command.held(film), wanted), None)
+
+
+def wait_until(reached):
+    """Whether something is reached soon."""
+    end = time.monotonic() + SOON
+    while time.monotonic() < end:
+        if reached():
+            return True
+        time.sleep(0.01)
+    return False

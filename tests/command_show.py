@@ -1,0 +1,160 @@
+"""Claims every byte that map, rows and get print, of files made by hand and generated, spoiled and cut, against the manual page and the model."""
+
+import os
+import random
+
+import generate
+import model
+from boxes import box, head, open_segment
+from command_run import claim, claim_held, claim_missing, damaged, good, lost
+from command_wanted import appended, claim_get, claim_map, claim_rows, film_of, number_of
+from corpus import ROOT
+
+SEED = 23_001_140
+FOREIGN, SPOILED, CUT = 60, 50, 40
+TOP = 2 ** 64 - 1
+
+# The sample, of which the manual page prints the map: bytes 11 to 14 came for 0 to 3 and 21 to 25 for 2 to 6, so 22 and 23 are not served.
+SAMPLE = os.path.join(ROOT, "samples", "lesson.paff")
+SAMPLE_MAP = b"source\t10\tclosed\nhave\t0\t7\nmiss\t7\t3\ntotal\t7\t3\n"
+SEGMENT_HEADING = b"segment\tplace\toffset\tflags\ttime\tchunks\theader\tlength\n"
+CHUNK_HEADING = b"segment\tindex\tstart\tsize\tstate\tplace\n"
+SAMPLE_ROWS = (b"url\ta\nmime\t\n" + SEGMENT_HEADING + b"0\t67\t0\t1\t0\t2\t83\t16\n1\t134\t2\t0\t0\t1\t150\t16\n"
+               + CHUNK_HEADING + b"0\t0\t0\t4\t2\t63\n0\t1\t4\t6\t0\t0\n1\t0\t2\t5\t2\t129\n")
+SAMPLE_BYTES = bytes([11, 12, 13, 14, 23, 24, 25])
+
+
+def clerk(command):
+    """The example of the manual page, to its end."""
+    with open(SAMPLE, "rb") as file:
+        command.put("lesson.paff", file.read())
+    claim("the sample's map", command.run("map", "lesson.paff"), 0, SAMPLE_MAP)
+    claim("the sample's rows", command.run("rows", "lesson.paff"), 0, SAMPLE_ROWS)
+    for first in range(8):
+        for length in range(8 - first):
+            answer = command.run("get", "lesson.paff", str(first), str(length))
+            claim(f"the sample from {first}, {length}", answer, 0, SAMPLE_BYTES[first:first + length])
+    claim_missing("the sample, to its end", command.run("get", "lesson.paff", "0", "10"), 7)
+    command.put("piece", b"xyz")
+    claim("append of what the clerk fetched", command.run("append", "lesson.paff", "--offset", "7", "--good", "piece"), 0)
+    claim("the map after that", command.run("map", "lesson.paff"), 0, b"source\t10\tclosed\nhave\t0\t10\ntotal\t10\t0\n")
+    claim("the film after that", command.run("get", "lesson.paff", "0", "10"), 0, SAMPLE_BYTES + b"xyz")
+
+
+def missing(command):
+    """What cannot be got: lost, damaged, not described, at each end of a range and far above."""
+    file = film_of((0, [good(b"abcd"), lost(2), damaged(b"gh"), good(b"ij")]), (20, [lost(5)]))
+    command.put("film", file)
+    for first, length, position in [
+            (0, 5, 4), (3, 2, 4), (4, 1, 4), (5, 5, 5), (6, 1, 6), (7, 3, 7), (8, 3, 10), (10, 1, 10), (10, TOP, 10), (19, 1, 19), (24, 1, 24),
+            (25, 1, 25), (26, 9, 26), (0, TOP, 4), (8, TOP, 10), (8, TOP - 8, 10), (2 ** 32, 1, 2 ** 32), (TOP, 1, TOP), (TOP, TOP, TOP)]:
+        claim_missing(f"get {first} {length}", command.run("get", "film", str(first), str(length)), position)
+    for first in (0, 4, 6, 25, 26, TOP):
+        claim(f"no byte from {first}", command.run("get", "film", str(first), "0"), 0)
+    claim("across no gap", command.run("get", "film", "8", "2"), 0, b"ij")
+    claim_held("the film after it was read", command, "film", file)
+    command.put("spoiled", file + b"\0")
+    for first, length in [(0, 0), (0, 4), (4, 1), (TOP, TOP)]:
+        claim(f"get {first} {length} of a refused file", command.run("get", "spoiled", str(first), str(length)), 1, b"refused\t2\n")
+
+
+def texts(command):
+    """By hand: a printing character stands as it is, any other byte and the backslash in two digits."""
+    for url, mime, shown_url, shown_mime in [
+            (b"http://films.example/lesson?a=1&b=~", b"video/mp4", b"http://films.example/lesson?a=1&b=~", b"video/mp4"), (b"", b"", b"", b""),
+            (b" \\x41\t\n\r\x01\x1f", b"\x7f\x80\xff\\", rb" \x5cx41\x09\x0a\x0d\x01\x1f", rb"\x7f\x80\xff\x5c"),
+            ("f\u00fcr".encode(), b"\xc3", rb"f\xc3\xbcr", rb"\xc3"), (b"%s%n'\"", b"!}", b"%s%n'\"", b"!}")]:
+        command.put("film", film_of((0, [lost(1)]), url=url, mime=mime))
+        place = 54 + len(url) + len(mime)
+        wanted = b"url\t" + shown_url + b"\nmime\t" + shown_mime + b"\n" + SEGMENT_HEADING + b"0\t%d\t0\t0\t0\t1\t%d\t16\n" % (place, place + 16)
+        wanted += CHUNK_HEADING + b"0\t0\t0\t1\t0\t0\n"
+        claim(f"the texts {url} and {mime}", command.run("rows", "film"), 0, wanted)
+    every = bytes(range(1, 256))
+    claim_all("every byte in a text", command, film_of((0, [lost(1)]), url=every, mime=every[::-1]))
+    claim_all("long texts", command, film_of((0, [lost(1)]), url=every * 300, mime=b"m" * 70_000))
+
+
+def names(command):
+    """A file is read whatever its name is."""
+    file = film_of((0, [good(b"abcd"), lost(6)]))
+    for name in ["--last", "-", "a film", "film\n", b"\xff\\\x1b", "n" * 255, "./film", os.path.join(command.folder, "film")]:
+        command.put(name, file)
+        claim(f"map of {name!r}", command.run("map", name), 0, b"source\t10\topen\nhave\t0\t4\nmiss\t4\t6\ntotal\t4\t6\n")
+        claim(f"get of {name!r}", command.run("get", name, "1", "3"), 0, b"bcd")
+        claim_missing(f"get too much of {name!r}", command.run("get", name, "1", "4"), 4)
+
+
+# By the model.
+
+def asked(rng, file):
+    """Ranges of positions to get: all, those had and missing, across their edges, and some that lie anywhere."""
+    if number_of(file):
+        return [(0, 0), (rng.randint(0, 60), rng.randint(0, 9))]
+    described = model.length(file)[1]
+    ranges = [(0, min(described, 2_000)), (described, 0), (rng.randint(0, described), rng.randint(0, 9)), (rng.choice([0, TOP]), TOP)]
+    listed = model.lists(file)
+    for first, length in rng.sample(listed[1], min(2, len(listed[1]))):
+        ranges += [(first, length), (first + rng.randrange(length), 1), (first, length + 1)]
+    return ranges + [(first, 1) for first, length in rng.sample(listed[2], min(1, len(listed[2])))]
+
+
+def claim_all(name, command, file, ranges=()):
+    command.put("film", file)
+    claim_map(name, command, "film", file)
+    claim_rows(name, command, "film", file)
+    for first, length in ranges:
+        claim_get(name, command, "film", file, first, length)
+
+
+def refusals(command):
+    """Each number that a file can meet but 1, with two files for it."""
+    rng = random.Random(SEED)
+    for number in sorted(generate.FAULTS):
+        for turn in range(2):
+            file = generate.faulty_file(rng, number)
+            assert number_of(file) == number
+            claim_all(f"a file for {number}", command, file, [(0, 1), (0, 0)])
+
+
+def limits(command):
+    """The longest tables and map, and files over 65,536 bytes, which the map program refuses."""
+    pairs = [chunk for at in range(512) for chunk in (good(bytes([at % 256])), lost(1))]
+    claim_all("1,024 ranges", command, film_of((0, pairs)), [(0, 1), (1_022, 1), (0, 2), (1_023, 1)])
+    wide = [chunk for at in range(512) for chunk in (good(bytes([at % 256])), lost(6_000_000))]
+    claim_all("1,025 ranges in long lines", command, film_of((1_000_000_000, wide, True)), [(1_000_000_000, 1), (1_006_000_001, 2)])
+    claim_all("1,024 chunks in 64 segments", command, film_of(*[(at, pairs[:16], False) for at in range(64)]), [(0, 3), (0, 79)])
+    twos = [good(bytes([at % 256, at // 256])) for at in range(1_024)]
+    claim_all("1,024 good chunks", command, film_of((0, twos)), [(0, 2_048), (1_023, 700), (2_047, 2)])
+    claim_all("64 open segments", command, head() + 64 * open_segment(4_294_967_295, 1), [(4_294_967_295, 1), (4_294_967_294, 1)])
+    claim_all("512 boxes", command, head() + open_segment(0) + 509 * box(b"free"), [(0, 0)])
+    limit = 4_294_967_295
+    claim_all("a film at its limit", command, film_of((limit - 3, [good(b"end")], True)), [(limit - 3, 3), (limit - 1, 2), (limit - 2, 1)])
+    rng = random.Random(SEED + 1)
+    long = film_of((0, [good(rng.randbytes(100_000)), lost(9), good(rng.randbytes(66_000))]), (99_000, [good(rng.randbytes(1_100))]))
+    claim_all("a film of 167,000 bytes", command, long, [(0, 100_018), (0, 100_000), (100_009, 66_000), (100_009, 65_536), (98_999, 1_010), (0, 1)])
+    claim_all("that film, cut", command, long[:-1], [(0, 1)])
+    claim_all("65,536 bytes of a film", command, long[:65_536], [(0, 1)])
+    taken = appended(film_of((0, [lost(3)]), (0, [damaged(b"abc")])), 1, [good(b"x")])[1]
+    claim_all("lost, damaged, and then good", command, taken, [(0, 3), (1, 1), (2, 1)])
+
+
+def some_files():
+    rng = random.Random(SEED + 2)
+    for index in range(FOREIGN):
+        yield f"foreign {index}", generate.foreign_file(rng)
+    for index in range(SPOILED):
+        yield f"spoiled {index}", generate.spoil(rng, generate.foreign_file(rng))
+    for index in range(CUT):
+        file = generate.foreign_file(rng)
+        yield f"cut {index}", file[:rng.randrange(len(file))]
+
+
+def generated(command):
+    rng = random.Random(SEED + 3)
+    for name, file in some_files():
+        claim_all(name, command, file, asked(rng, file))
+
+
+def check(command):
+    for part in (clerk, missing, texts, names, refusals, limits, generated):
+        part(command)

@@ -1,0 +1,180 @@
+"""Claims, by strace, in which order append writes and brings to the disk, and that the file is as it was when any of these calls fails."""
+
+import os
+import random
+import re
+from collections import namedtuple
+
+import model
+from command_run import claim, claim_held, damaged, good, lost
+from command_wanted import appended, begun, film_of
+from expecting import expect
+
+WRITING = ["write", "writev", "pwrite64", "pwritev", "pwritev2", "sendfile", "copy_file_range", "fallocate", "ftruncate"]
+RENAMING = ["rename", "renameat", "renameat2", "unlink", "unlinkat", "link", "linkat", "truncate"]
+SYNCING = ["fdatasync", "fsync"]
+TRACED = ",".join("?" + name for name in WRITING + RENAMING + SYNCING + ["flock", "mmap"])
+MOST_CALLS = 40
+SEED = 23_001_142
+
+DATA = random.Random(SEED).randbytes(3_500_000)
+CHUNKS = [good(DATA[:2_500_000]), lost(77), damaged(DATA[2_500_000:])]
+FILM = film_of((0, [good(b"abcd"), lost(6)]))
+NEW = appended(FILM, 4, CHUNKS, True, 9)[1]
+
+# The header of the new segment's box is written last, so that the segment is read when all of it is there.
+HEADER = 8
+BOX = model.read(NEW)[1][-1][0]
+
+# A call on a file: `file` is its path, and for a write, `first` and `end` bound the places that it changed.
+Call = namedtuple("Call", "name words file first end")
+
+
+def traceable(command):
+    """Whether the program is traced, and not an emulator that runs it."""
+    if len(command.words) > 1:
+        print("skipped: traces, as an emulator's own calls would be in them")
+    return len(command.words) == 1
+
+
+def traced(command, *options, **how):
+    """An append of some MiB under strace; its answer, and the calls that it made."""
+    words = command.append_words("film", 4, CHUNKS, True, 9)
+    before = ["strace", "-f", "-y", "-o", "log", "-e", "trace=" + TRACED]
+    for option in options:
+        before += ["-e", "inject=" + option]
+    answer = command.run(*words, before=before, **how)
+    return answer, calls_in(command.held("log").decode("ascii", "replace"))
+
+
+def calls_in(log):
+    calls = []
+    for line in log.splitlines():
+        match = re.match(r"(?:\d+ +)?(\w+)\((.*)\) += (\S+)", line)
+        if match is None:
+            continue
+        name, words, answer = match.groups()
+        file = re.search(r"\d+<([^>]*)>", words)
+        place = re.search(r", (\d+)$", words)
+        first = int(place[1]) if name == "pwrite64" else None
+        end = first + int(answer) if first is not None and answer.isdigit() else None
+        calls.append(Call(name, words, file and file[1], first, end))
+    return calls
+
+
+# The order.
+
+def on_film(command, calls):
+    film = os.path.realpath(command.path("film"))
+    return [call for call in calls if call.file == film]
+
+
+def claim_places(calls, old, new):
+    """Places are written by pwrite64 alone, all behind the old end, each once."""
+    writes = [call for call in calls if call.name in WRITING]
+    expect("only pwrite64 changes the film", {call.name for call in writes}, {"pwrite64"})
+    writes = [call for call in writes if call.end is not None]
+    expect("no byte before the old end is written", all(call.first >= len(old) for call in writes))
+    expect("slices of 1 MiB at most", all(call.end - call.first <= 1_048_576 for call in writes))
+    bounds = sorted((call.first, call.end) for call in writes)
+    edges = [len(old)] + [end for first, end in bounds]
+    expect("all places behind the old end, each once", ([first for first, end in bounds], edges[-1]), (edges[:-1], len(new)))
+    shared = [call for call in calls if call.name == "mmap" and "MAP_SHARED" in call.words and "PROT_WRITE" in call.words]
+    expect("the film is not changed through memory", shared, [])
+
+
+def part_of(call, box):
+    """What of the addition a write is."""
+    if (call.first, call.end) == (box, box + HEADER):
+        return "header"
+    return "body" if call.end <= box or call.first >= box + HEADER else "both"
+
+
+def claim_order(name, calls, new):
+    """Locked; the data and the box but for its header, brought to the disk; the header, brought to the disk."""
+    box = model.read(new)[1][-1][0]
+    steps = []
+    for call in calls:
+        step = None
+        if call.name == "flock":
+            step = "lock" if "LOCK_EX" in call.words else "unlock"
+        elif call.name == "pwrite64":
+            step = part_of(call, box)
+        elif call.name in SYNCING:
+            step = "sync"
+        if step is not None and steps[-1:] != [step]:
+            steps.append(step)
+    expect(f"the order of {name}", steps[:-1] if steps[-1:] == ["unlock"] else steps, ["lock", "body", "sync", "header", "sync"])
+
+
+def order(command):
+    command.put("film", FILM)
+    answer, calls = traced(command)
+    claim("append under strace", answer, 0)
+    claim_held("the film after it", command, "film", NEW)
+    expect("the film keeps its name", [call for call in calls if call.name in RENAMING], [])
+    calls = on_film(command, calls)
+    claim_places(calls, FILM, NEW)
+    claim_order("an append of data", calls, NEW)
+    command.put("film", FILM)
+    before = ["strace", "-f", "-y", "-o", "log", "-e", "trace=" + TRACED]
+    claim("append of what was lost", command.append("film", 4, [lost(3)], before=before), 0)
+    calls = on_film(command, calls_in(command.held("log").decode("ascii", "replace")))
+    claim_places(calls, FILM, command.held("film"))
+    claim_order("an append of what was lost", calls, appended(FILM, 4, [lost(3)])[1])
+
+
+# Failing.
+
+def claim_failed(name, command, *options):
+    """Whether it failed, and then with status 2 and the film as it was."""
+    command.put("film", FILM)
+    answer, calls = traced(command, *options)
+    if answer.status == 0:
+        claim_held(f"the film, {name} not met", command, "film", NEW)
+        return False
+    claim(f"append, {name}", answer, 2)
+    claim_held(f"the film, {name}", command, "film", FILM)
+    return True
+
+
+def failing(command):
+    counts = []
+    for call, error in [("pwrite64", "ENOSPC"), ("fdatasync", "EIO"), ("fsync", "EIO"), ("flock", "ENOLCK")]:
+        count = 1
+        while count < MOST_CALLS and claim_failed(f"{error} of {call} {count}", command, f"{call}:error={error}:when={count}"):
+            count += 1
+        counts.append(count - 1)
+    expect("writes, syncs and a lock that fail", counts[0] >= 5 and counts[1] + counts[2] >= 2 and counts[3] >= 1 or counts)
+    claim_failed("a disk full from the third write on", command, "pwrite64:error=ENOSPC:when=3+")
+    failing_syncs = ["fsync:error=EIO:when=1+", "fdatasync:error=EIO:when=1+"]
+    claim_failed("a disk that fails from the second write on", command, "pwrite64:error=EIO:when=2+", *failing_syncs)
+
+
+def failing_to_cut(command):
+    """Where not even the cut is possible, the old bytes stand and the failure is told."""
+    command.put("film", FILM)
+    answer, calls = traced(command, "pwrite64:error=ENOSPC:when=3", "ftruncate:error=EIO:when=1+")
+    claim("append, neither written nor cut", answer, 2)
+    expect("the old bytes", command.held("film").startswith(FILM))
+
+
+def failing_begin(command):
+    """What begin writes is there whole, or no file is."""
+    failures = 0
+    for call in ("write", "pwrite64", "writev", "fsync", "fdatasync"):
+        before = ["strace", "-f", "-o", "log", "-e", "trace=" + call, "-e", f"inject={call}:error=ENOSPC:when=1"]
+        answer = command.run("begin", "new", "u", before=before)
+        failed = b"(INJECTED)" in command.held("log")
+        claim(f"begin, {call} failing", answer, 2 if failed else 0)
+        claim_held(f"the file of begin, {call} failing", command, "new", None if failed else begun(b"u"))
+        failures += failed
+        if not failed:
+            command.remove("new")
+    expect("a call of begin that fails", failures > 0)
+
+
+def check(command):
+    if traceable(command):
+        for part in (order, failing, failing_to_cut, failing_begin):
+            part(command)
