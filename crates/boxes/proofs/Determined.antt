@@ -6,9 +6,6 @@ use Rattle.boxes.proofs.ToldLaws.{header-told, step-told}
 use Rattle.boxes.proofs.framing.header_at.Reads as header-at
 use Rattle.boxes.proofs.framing.put_header.Reads as put-header
 use Rattle.boxes.proofs.kinds.table.Reads as table
-use Rattle.boxes.proofs.rules.keeps.Reads as keeps
-use Rattle.boxes.proofs.rules.tally.Reads as tally
-use Rattle.boxes.proofs.tally.Tally.of.Reads as tally-of
 use Rattle.boxes.proofs.walk.Walk.new.Reads as new
 use Rattle.boxes.proofs.walk.Walk.step.Reads as step
 
@@ -29,12 +26,3 @@ step-result κs args x y after after′ p q = step-told x y (p ∙ sym q)
 
 table-result : OneResult table.Post
 table-result κs args x y after after′ p q = p ∙ sym q
-
-tally-result : OneResult tally.Post
-tally-result κs args x y after after′ p q = p ∙ sym q
-
-tally-of-result : OneResult tally-of.Post
-tally-of-result κs args x y after after′ p q = p ∙ sym q
-
-keeps-result : OneResult keeps.Post
-keeps-result κs args x y after after′ p q = p ∙ sym q

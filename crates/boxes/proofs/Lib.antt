@@ -4,6 +4,5 @@ pub mod ContainerLaws
 pub mod Determined
 pub mod HeaderLaws
 pub mod KindLaws
-pub mod RuleLaws
 pub mod ToldLaws
 pub mod WalkLaws

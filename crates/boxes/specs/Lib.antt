@@ -2,4 +2,3 @@ pub mod Answer
 pub mod Framing
 pub mod Kinds
 pub mod Walk
-pub mod Rules

@@ -1,9 +1,6 @@
-// The box layer: box headers, the walk over one container, the table of the eight kinds, and
-// counts by it.
+// The box layer: box headers, the walk over one container, and the table of the eight kinds.
 pub mod framing;
 pub mod kinds;
 pub mod limits;
 pub mod refusals;
-pub mod rules;
-pub mod tally;
 pub mod walk;

@@ -2,8 +2,8 @@
 use boxes::framing::Framed;
 use boxes::framing::Header;
 use boxes::kinds::Kind;
-use boxes::tally::Tally;
 use libc::STDOUT_FILENO;
+use tallying::tally::Tally;
 
 fn text(s: &[u8]) {
     io::write_all(STDOUT_FILENO, s);

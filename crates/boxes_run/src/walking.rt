@@ -15,10 +15,10 @@ use boxes::kinds::PLOC;
 use boxes::kinds::PSEG;
 use boxes::kinds::PSHD;
 use boxes::kinds::SURL;
-use boxes::rules::keeps;
-use boxes::rules::tally;
-use boxes::tally::Tally;
 use numerals::place::Place;
+use tallying::rules::keeps;
+use tallying::rules::tally;
+use tallying::tally::Tally;
 
 // A kind that the table has not.
 const FREE: Kind = Kind {

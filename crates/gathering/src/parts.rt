@@ -6,9 +6,6 @@ use boxes::kinds::Container;
 use boxes::kinds::PLOC;
 use boxes::kinds::PSHD;
 use boxes::kinds::SURL;
-use boxes::rules::keeps;
-use boxes::rules::tally;
-use boxes::tally::Tally;
 use fields::fields::Fields;
 use fields::fields::FieldsRead;
 use fields::fields::fields_of;
@@ -19,12 +16,15 @@ use heading::find::first_of;
 use partial::refusals::PLOC_NOT_SINGLE;
 use partial::refusals::PSHD_WRONG;
 use partial::refusals::SURL_IN_SEGMENT;
+use tallying::rules::keeps;
+use tallying::rules::tally;
+use tallying::tally::Tally;
 ghost use mathlib.Core.Path.{_≡_};
 ghost use mathlib.Core.List.{List};
 ghost use Rattle.boxes.specs.Answer.{given};
 ghost use Rattle.boxes.specs.Framing.{Box, boxOf, boxesIn};
-ghost use Rattle.boxes.specs.Rules.{tallyOf};
 ghost use Rattle.boxes.specs.declared.kinds.Container.the-variants.{Pseg};
+ghost use Rattle.tallying.specs.Rules.{tallyOf};
 ghost use Rattle.gathering.specs.Parts.{headerIn, pshdAnswer, partsIn, partsAnswer};
 
 // Its `pshd`, the fields of that, and the head of its `ploc`.

@@ -10,15 +10,15 @@ use Rattle.boxes.specs.Answer.{given}
 use Rattle.boxes.specs.Framing.{Box, boxesIn, boxOf}
 use Rattle.boxes.specs.Kinds.{ftyp, pfil, surl, kinds, is, those, rightCount, right, boxAt}
 use Rattle.numerals.specs.Numbers.{number}
-use Rattle.boxes.specs.Rules.{tallyOf, tallyFor}
 use Rattle.boxes.specs.declared.framing.Framed.{Framed}
 use Rattle.boxes.specs.declared.kinds.Container.{Container}
 use Rattle.boxes.specs.declared.kinds.Container.the-variants.{File}
 use Rattle.boxes.specs.declared.kinds.Kind.{Kind}
-use Rattle.boxes.specs.declared.tally.Tally.{Tally}
 use Rattle.boxes.proofs.KindLaws.{those-nil, those-one, those-other}
-use Rattle.boxes.proofs.RuleLaws.{has, tally-given, tally-sound, tally-right}
 use Rattle.boxes.proofs.ToldLaws.{box-fields}
+use Rattle.tallying.specs.Rules.{tallyOf, tallyFor}
+use Rattle.tallying.specs.declared.tally.Tally.{Tally}
+use Rattle.tallying.proofs.RuleLaws.{has, tally-given, tally-sound, tally-right}
 use Rattle.partial.specs.Heading.{ftypRight, pfilRight, pfhdFormed, text, url, mime, surlFormed}
 use Rattle.partial.specs.Sequences.{allOf}
 use Rattle.heading.proofs.TextLaws.{text-most}

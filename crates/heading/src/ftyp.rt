@@ -2,11 +2,11 @@
 use boxes::framing::Framed;
 use boxes::kinds::Container;
 use boxes::kinds::FTYP;
-use boxes::rules::keeps;
-use boxes::tally::Tally;
 use numerals::numbers::unsigned;
 use numerals::place::Place;
 use partial::brand::PAFF;
+use tallying::rules::keeps;
+use tallying::tally::Tally;
 ghost use Prim.Native.Nat.{_≤_};
 ghost use mathlib.Core.List.{List};
 ghost use mathlib.Core.Path.{_≡_};
@@ -14,7 +14,7 @@ ghost use lib.ListN.{length};
 ghost use Rattle.boxes.specs.Answer.{given};
 ghost use Rattle.boxes.specs.Framing.{Box, boxOf};
 ghost use Rattle.boxes.specs.Kinds.{boxAt};
-ghost use Rattle.boxes.specs.Rules.{tallyOf};
+ghost use Rattle.tallying.specs.Rules.{tallyOf};
 ghost use Rattle.partial.specs.Heading.{ftypRight, brandRight};
 ghost use Rattle.heading.specs.Steps.{Within};
 

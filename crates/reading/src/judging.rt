@@ -1,7 +1,6 @@
 // Stages 1 to 25: what a file says, before any table is filled.
 use boxes::kinds::Container;
 use boxes::kinds::PSEG;
-use boxes::rules::keeps;
 use gathering::gathered::Gathered;
 use gathering::pass::Passed;
 use gathering::pass::pass;
@@ -12,6 +11,7 @@ use partial::limits::SEGMENT_LIMIT;
 use partial::refusals::NO_SEGMENT;
 use partial::refusals::SIZES_DIFFER;
 use partial::refusals::TOO_MANY_SEGMENTS;
+use tallying::rules::keeps;
 ghost use mathlib.Core.Path.{_≡_};
 ghost use lib.ListN.{length};
 ghost use Rattle.boxes.specs.Answer.{given};

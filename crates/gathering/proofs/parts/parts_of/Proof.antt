@@ -3,8 +3,8 @@ use mathlib.Core.Path.{refl, sym, ap, _∙_}
 use borrow.Author.Tests.{not-true, not-false}
 use Rattle.boxes.specs.Kinds.{ploc, surl}
 use Rattle.boxes.specs.declared.kinds.Container.the-variants.{Pseg}
-use Rattle.boxes.specs.Rules.{tallyOf}
-use Rattle.boxes.proofs.RuleLaws.{tally-fault, tally-sound}
+use Rattle.tallying.specs.Rules.{tallyOf}
+use Rattle.tallying.proofs.RuleLaws.{tally-fault, tally-sound}
 use Rattle.partial.specs.Entries.{plocHead}
 use Rattle.heading.proofs.FormLaws.{rule-kept}
 use Rattle.gathering.specs.Parts.{partsAnswer}

@@ -6,9 +6,9 @@ use lib.ListN.{length}
 use Rattle.boxes.specs.Answer.{given}
 use Rattle.boxes.specs.Framing.{Box, boxesIn}
 use Rattle.boxes.specs.Kinds.{pfhd, surl, pseg}
-use Rattle.boxes.specs.Rules.{tallyOf}
 use Rattle.boxes.specs.declared.kinds.Container.the-variants.{Pfil}
-use Rattle.boxes.proofs.RuleLaws.{tally-fault, tally-given}
+use Rattle.tallying.specs.Rules.{tallyOf}
+use Rattle.tallying.proofs.RuleLaws.{tally-fault, tally-given}
 use Rattle.partial.specs.Heading.{pfhdRight, surlRight, url, mime}
 use Rattle.heading.specs.Facts.{headedAnswer}
 use Rattle.heading.specs.Steps.{Within}

@@ -5,9 +5,9 @@ use borrow.Author.Needs.{needs}
 use lib.ListN.{length}
 use Rattle.boxes.specs.Answer.{given}
 use Rattle.boxes.specs.Framing.{Box, boxesIn}
-use Rattle.boxes.specs.Rules.{tallyOf}
 use Rattle.boxes.specs.declared.kinds.Container.the-variants.{File}
-use Rattle.boxes.proofs.RuleLaws.{tally-fault}
+use Rattle.tallying.specs.Rules.{tallyOf}
+use Rattle.tallying.proofs.RuleLaws.{tally-fault}
 use Rattle.partial.specs.Heading.{ftypRight, brandRight, pfilRight}
 use Rattle.heading.specs.Facts.{headedAnswer}
 use Rattle.heading.specs.Steps.{Within}

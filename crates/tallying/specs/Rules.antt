@@ -4,11 +4,11 @@ use mathlib.Core.Bool.{true, false}
 use mathlib.Core.List.{List, [], _∷_, map}
 use lib.ListN.{length, getD, drop}
 use lib.Dec.{eqb}
 use Rattle.boxes.specs.Answer.{Answer, refused, given}
 use Rattle.boxes.specs.Framing.{Box}
 use Rattle.boxes.specs.Kinds.{kinds, those}
 use Rattle.boxes.specs.declared.kinds.Kind.{Kind}
-use Rattle.boxes.specs.declared.tally.Tally.{Tally}
+use Rattle.tallying.specs.declared.tally.Tally.{Tally}
 
 -- how many there are of each kind, in the table's order
 unfoldable pub countsOf : List Box → List ℕ

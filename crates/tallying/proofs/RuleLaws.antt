@@ -11,15 +11,15 @@ use borrow.Author.Tests.{eq-eqb, ne-eqb, eqb-true, eqb-false}
 use lib.Dec.{eqb}
 use lib.ListN.{length, getD, drop, set, length-set}
 use lib.Seq.{drop-cons, drop-drop, getD-drop, getD-set-same, getD-set-other, ext-getD}
 use Rattle.boxes.specs.Answer.{Answer, refused, given}
 use Rattle.boxes.specs.Framing.{Box, boxesIn}
 use Rattle.boxes.specs.Kinds.{ftyp, kinds, is, those, rightCount, right}
-use Rattle.boxes.specs.Rules.{countsOf, tallyOf, countIn, tallyFor}
 use Rattle.boxes.specs.declared.kinds.Container.{Container}
 use Rattle.boxes.specs.declared.kinds.Kind.{Kind}
-use Rattle.boxes.specs.declared.tally.Tally.{Tally}
 use Rattle.boxes.proofs.ContainerLaws.{boxes-numbers}
 use Rattle.boxes.proofs.KindLaws.{those-few, one-found, one-passed, right-count}
+use Rattle.tallying.specs.Rules.{countsOf, tallyOf, countIn, tallyFor}
+use Rattle.tallying.specs.declared.tally.Tally.{Tally}
 
 -- ---- one box more
 

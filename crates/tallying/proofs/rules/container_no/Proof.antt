@@ -1,8 +1,8 @@
--- `boxes::rules::container_no` meets its contract: each arm is a case of the definition.
+-- `tallying::rules::container_no` meets its contract: each arm is a case of the definition.
 use borrow.Author.Needs.{needs}
 use Rattle.boxes.specs.Kinds.{containerNo}
-use Rattle.boxes.proofs.rules.container_no.Statement.{statement}
-use Rattle.boxes.proofs.rules.container_no.Tie as tie
+use Rattle.tallying.proofs.rules.container_no.Statement.{statement}
+use Rattle.tallying.proofs.rules.container_no.Tie as tie
 
 enum-told : tie.Need-enum-told
 enum-told c = search needs

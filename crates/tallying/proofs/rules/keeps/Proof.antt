@@ -1,10 +1,10 @@
--- `boxes::rules::keeps` meets its contract: the test is whether the kind stands in the container.
+-- `tallying::rules::keeps` meets its contract: the test is whether the kind stands in the container.
 use mathlib.Core.Path.{sym, _∙_}
 use borrow.Author.Needs.{needs}
 use native.Mathlib.Omega.{arith}
 use Rattle.boxes.proofs.KindLaws.{count-here, count-elsewhere}
-use Rattle.boxes.proofs.rules.keeps.Statement.{statement}
-use Rattle.boxes.proofs.rules.keeps.Tie as tie
+use Rattle.tallying.proofs.rules.keeps.Statement.{statement}
+use Rattle.tallying.proofs.rules.keeps.Tie as tie
 
 container-no-requires : tie.Need-container-no-requires
 container-no-requires c κs = search needs

@@ -1,17 +1,17 @@
--- `boxes::rules::tally` meets its contract. The loop's invariant: the walk has passed as many boxes, and of each kind as many, as were counted.
+-- `tallying::rules::tally` meets its contract. The loop's invariant: the walk has passed as many boxes, and of each kind as many, as were counted.
 use mathlib.Core.List.{List, [], _∷_, _++_}
 use mathlib.Core.Path.{_≡_, refl, sym, ap}
 use borrow.Author.Needs.{needs}
 use native.Mathlib.Omega.{arith}
 use lib.ListN.{length, length-append}
 use Rattle.boxes.specs.Framing.{Box, boxOf}
 use Rattle.boxes.specs.Kinds.{those}
-use Rattle.boxes.specs.Rules.{countsOf, tallyOf}
-use Rattle.boxes.proofs.RuleLaws.{counts-few}
 use Rattle.boxes.proofs.WalkLaws.{Passed, passed-none, passed-more, all-boxes, first-fault, over-left, fewer, next-box, no-more}
 use Rattle.boxes.proofs.WalkLaws.{a-fault}
-use Rattle.boxes.proofs.rules.tally.Statement.{statement}
-use Rattle.boxes.proofs.rules.tally.Tie as tie
+use Rattle.tallying.specs.Rules.{countsOf, tallyOf}
+use Rattle.tallying.proofs.RuleLaws.{counts-few}
+use Rattle.tallying.proofs.rules.tally.Statement.{statement}
+use Rattle.tallying.proofs.rules.tally.Tie as tie
 
 abbrev Inv-loop : tie.InvT-loop
 Inv-loop s walk₀ boxes₀ counts₀ walk boxes counts = (bs : List Box) × Passed s walk₀ bs walk × (boxes ≡ length bs) × (counts ≡ countsOf bs)

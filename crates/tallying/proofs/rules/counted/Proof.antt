@@ -1,14 +1,14 @@
--- `boxes::rules::counted` meets its contract. The loop's invariant: the rows passed have counted the box, and the others have not.
+-- `tallying::rules::counted` meets its contract. The loop's invariant: the rows passed have counted the box, and the others have not.
 use Prim.Native.Nat.{_-_, _≤_}
 use mathlib.Core.Logic.{⊎-elim}
 use mathlib.Core.Path.{_≡_}
 use lib.ListN.{length}
 use borrow.Author.Needs.{needs}
 use native.Mathlib.Omega.{arith}
 use Rattle.boxes.specs.Kinds.{kinds}
-use Rattle.boxes.proofs.RuleLaws.{Rows, rows-none, rows-found, rows-passed, rows-all}
-use Rattle.boxes.proofs.rules.counted.Statement.{statement}
-use Rattle.boxes.proofs.rules.counted.Tie as tie
+use Rattle.tallying.proofs.RuleLaws.{Rows, rows-none, rows-found, rows-passed, rows-all}
+use Rattle.tallying.proofs.rules.counted.Statement.{statement}
+use Rattle.tallying.proofs.rules.counted.Tie as tie
 
 abbrev Inv-loop : tie.InvT-loop
 Inv-loop code after₀ i₀ after i = (i ≤ 8) × Rows kinds code after₀ i after

@@ -1,14 +1,14 @@
--- `boxes::tally::Tally::of` meets its contract. The loop's invariant: the rows passed are of other kinds, so those left decide.
+-- `tallying::tally::Tally::of` meets its contract. The loop's invariant: the rows passed are of other kinds, so those left decide.
 use Prim.Native.Nat.{_-_, _≤_}
 use mathlib.Core.Path.{_≡_, refl, sym, _∙_}
 use borrow.Author.Needs.{needs}
 use native.Mathlib.Omega.{arith}
 use lib.ListN.{drop}
 use Rattle.boxes.specs.Kinds.{kinds}
-use Rattle.boxes.specs.Rules.{countIn, tallyFor}
-use Rattle.boxes.proofs.RuleLaws.{count-found, count-passed}
-use Rattle.boxes.proofs.tally.Tally.of.Statement.{statement}
-use Rattle.boxes.proofs.tally.Tally.of.Tie as tie
+use Rattle.tallying.specs.Rules.{countIn, tallyFor}
+use Rattle.tallying.proofs.RuleLaws.{count-found, count-passed}
+use Rattle.tallying.proofs.tally.Tally.of.Statement.{statement}
+use Rattle.tallying.proofs.tally.Tally.of.Tie as tie
 
 abbrev Inv-loop : tie.InvT-loop
 Inv-loop kind counts i₀ i = (i ≤ 8) × (tallyFor kind counts ≡ countIn (drop i kinds) kind (drop i counts))

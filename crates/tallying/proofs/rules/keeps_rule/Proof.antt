@@ -1,8 +1,8 @@
--- `boxes::rules::keeps_rule` meets its contract: each arm is a case of the definition.
+-- `tallying::rules::keeps_rule` meets its contract: each arm is a case of the definition.
 use borrow.Author.Needs.{needs}
 use Rattle.boxes.specs.Kinds.{keeps}
-use Rattle.boxes.proofs.rules.keeps_rule.Statement.{statement}
-use Rattle.boxes.proofs.rules.keeps_rule.Tie as tie
+use Rattle.tallying.proofs.rules.keeps_rule.Statement.{statement}
+use Rattle.tallying.proofs.rules.keeps_rule.Tie as tie
 
 enum-told : tie.Need-enum-told
 enum-told c = search needs

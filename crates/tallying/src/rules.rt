@@ -1,19 +1,19 @@
 // The boxes of a container counted by kind in one walk, and the count rules of the table of kinds.
-use crate::kinds::Container;
-use crate::kinds::Count;
-use crate::kinds::KINDS;
-use crate::kinds::Kind;
 use crate::tally::Tally;
-use crate::walk::Step;
-use crate::walk::Walk;
+use boxes::kinds::Container;
+use boxes::kinds::Count;
+use boxes::kinds::KINDS;
+use boxes::kinds::Kind;
+use boxes::walk::Step;
+use boxes::walk::Walk;
 use numerals::place::Place;
 ghost use Prim.Native.Nat.{ℕ, _≤_};
 ghost use mathlib.Core.List.{List, [], _∷_, _++_};
 ghost use mathlib.Core.Path.{_≡_};
 ghost use lib.ListN.{getD};
 ghost use Rattle.boxes.specs.Framing.{Box, boxesIn};
 ghost use Rattle.boxes.specs.Kinds.{keeps, containerNo, rightCount};
-ghost use Rattle.boxes.specs.Rules.{countsOf, tallyOf};
+ghost use Rattle.tallying.specs.Rules.{countsOf, tallyOf};
 
 // The counts after one more box, of that type.
 fn counted(counts: [u64; 8], code: u32) -> [u64; 8]

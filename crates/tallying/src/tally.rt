@@ -1,8 +1,8 @@
 // What one walk over a container tells of it.
-use crate::kinds::KINDS;
-use crate::kinds::Kind;
+use boxes::kinds::KINDS;
+use boxes::kinds::Kind;
 ghost use mathlib.Core.Path.{_≡_};
-ghost use Rattle.boxes.specs.Rules.{tallyFor};
+ghost use Rattle.tallying.specs.Rules.{tallyFor};
 
 // The number of the first fault, 0 for none; how many boxes there are, and how many of each kind in the table's order, none
 // where there is a fault.
