@@ -7,6 +7,7 @@
 
 #include <errno.h>
 #include <fcntl.h>
+#include <stdio.h>
 #include <string.h>
 #include <sys/file.h>
 #include <unistd.h>
@@ -92,14 +93,25 @@ static int write_behind(int fd, const uint8_t *file, size_t old_end, size_t box,
     return write_at(fd, file + box, BOX_HEADER, box) != 0 ? -1 : fsync(fd);
 }
 
+/* Cuts the file to its old end after a write that failed. */
+static _Noreturn void take_back(int fd, const char *name, size_t old_end)
+{
+    char why[128];
+    snprintf(why, sizeof why, "%s", strerror(errno));
+    if (ftruncate(fd, (off_t)old_end) != 0) {
+        size_t said = strlen(why);
+        snprintf(why + said, sizeof why - said, "; cut it to %zu bytes", old_end);
+    }
+    failed_for(name, why);
+}
+
 void append_segment(const char *name, const struct segment *segment)
 {
     struct bytes *parts = lend(segment->count * sizeof *parts);
     uint64_t *list = lend(2 * segment->count * sizeof *list);
     size_t total = map_chunks(segment, parts, list);
     const uint8_t *data = joined(parts, segment->count, total);
-    int fd = open_file(name, O_RDWR);
-    lock_file(fd, name, LOCK_EX);
+    int fd = open_locked(name, O_RDWR, LOCK_EX);
     size_t room = total + segment->count * ROOM_FOR_ENTRY + ROOM_FOR_BOXES;
     struct bytes file = map_with_room(fd, name, room);
     uint64_t told[1];
@@ -110,12 +122,7 @@ void append_segment(const char *name, const struct segment *segment)
     }
     end_writes_by_signal();
     if (write_behind(fd, file.at, file.length, last_segment_place(file.at, told[0]), told[0]) != 0) {
-        int why = errno;
-        if (ftruncate(fd, (off_t)file.length) != 0) {
-            failed(name);
-        }
-        errno = why;
-        failed(name);
+        take_back(fd, name, file.length);
     }
     end(DONE);
 }

@@ -17,7 +17,7 @@
 /* Bytes that one call writes. */
 enum { SLICE = 1 << 20 };
 
-int open_file(const char *name, int flags)
+static int open_file(const char *name, int flags)
 {
     /* A pipe would wait for its other end before it could be told from a file. */
     int fd = open(name, flags | O_NONBLOCK | O_CLOEXEC);
@@ -31,7 +31,7 @@ int open_file(const char *name, int flags)
     return fd;
 }
 
-void lock_file(int fd, const char *name, int operation)
+static void lock_file(int fd, const char *name, int operation)
 {
     while (flock(fd, operation) != 0) {
         if (errno != EINTR) {
@@ -40,7 +40,24 @@ void lock_file(int fd, const char *name, int operation)
     }
 }
 
-size_t length_of(int fd, const char *name)
+int open_locked(const char *name, int flags, int operation)
+{
+    for (;;) {
+        struct stat held, named;
+        int fd = open_file(name, flags);
+        lock_file(fd, name, operation);
+        if (fstat(fd, &held) != 0 || stat(name, &named) != 0) {
+            failed(name);
+        }
+        if (held.st_dev == named.st_dev && held.st_ino == named.st_ino) {
+            return fd;
+        }
+        /* While the lock was waited for another file took the name: it is the one that is meant. */
+        close(fd);
+    }
+}
+
+static size_t length_of(int fd, const char *name)
 {
     struct stat about;
     if (fstat(fd, &about) != 0) {
@@ -74,9 +91,7 @@ struct bytes map_with_room(int fd, const char *name, size_t room)
 
 struct bytes map_locked(const char *name)
 {
-    int fd = open_file(name, O_RDONLY);
-    lock_file(fd, name, LOCK_SH);
-    return map_with_room(fd, name, 0);
+    return map_with_room(open_locked(name, O_RDONLY, LOCK_SH), name, 0);
 }
 
 struct bytes map_data(const char *name)
@@ -97,7 +112,7 @@ static void on_signal(int number)
 
 void end_writes_by_signal(void)
 {
-    static const int ending[] = {SIGINT, SIGTERM, SIGHUP, SIGQUIT};
+    static const int ending[] = {SIGINT, SIGTERM, SIGHUP, SIGQUIT, SIGALRM, SIGVTALRM, SIGPROF, SIGXCPU, SIGUSR1, SIGUSR2};
     for (size_t i = 0; i < sizeof ending / sizeof ending[0]; i++) {
         if (signal(ending[i], on_signal) == SIG_IGN) {
             signal(ending[i], SIG_IGN);
@@ -113,7 +128,10 @@ int write_at(int fd, const uint8_t *bytes, size_t length, size_t place)
             return -1;
         }
         ssize_t n = pwrite(fd, bytes, length < SLICE ? length : SLICE, (off_t)place);
-        if (n < 0 && errno != EINTR) {
+        if (n == 0) {
+            errno = ENOSPC;
+        }
+        if (n <= 0 && errno != EINTR) {
             return -1;
         }
         if (n > 0) {
@@ -136,12 +154,12 @@ static int sync_folder(const char *name)
 
 void make_file(const char *name, const uint8_t *bytes, size_t length)
 {
+    end_writes_by_signal();
     int fd = open(name, O_WRONLY | O_CREAT | O_EXCL | O_CLOEXEC, 0666);
     if (fd < 0) {
         failed(name);
     }
     lock_file(fd, name, LOCK_EX);
-    end_writes_by_signal();
     if (write_at(fd, bytes, length, 0) != 0 || fsync(fd) != 0 || sync_folder(name) != 0) {
         int why = errno;
         unlink(name);

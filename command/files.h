@@ -11,14 +11,8 @@ struct bytes {
     size_t length;
 };
 
-/* Opens a regular file that is there. */
-int open_file(const char *name, int flags);
-
-/* Waits for the lock of an open file: LOCK_SH to read it, LOCK_EX to change it. It is free when the command ends, in whatever way. */
-void lock_file(int fd, const char *name, int operation);
-
-/* How many bytes an open file has. */
-size_t length_of(int fd, const char *name);
+/* Opens a regular file that is there, and waits for its lock: LOCK_SH to read it, LOCK_EX to change it. The lock is free when the command ends, in whatever way. */
+int open_locked(const char *name, int flags, int operation);
 
 /* Memory of our own. Only pages that are written take room. */
 void *lend(size_t length);

@@ -10,6 +10,15 @@
 #include <string.h>
 #include <unistd.h>
 
+/* A word of the user on standard error, so that it neither ends the line nor does anything to the terminal. */
+static void say_word(const char *word)
+{
+    for (const char *c = word; *c != '\0'; c++) {
+        unsigned char byte = (unsigned char)*c;
+        fprintf(stderr, byte < ' ' || byte == 0x7f ? "\\x%02x" : "%c", byte);
+    }
+}
+
 static const char usage[] = "usage: paff map FILE\n"
                             "       paff rows FILE\n"
                             "       paff get FILE FIRST LENGTH\n"
@@ -52,19 +61,25 @@ void refused(uint64_t number)
 
 void not_served(const char *file, uint64_t position, const char *why)
 {
-    fprintf(stderr, "paff: %s: position %" PRIu64 " %s\n", file, position, why);
+    fprintf(stderr, "paff: ");
+    say_word(file);
+    fprintf(stderr, ": position %" PRIu64 " %s\n", position, why);
     exit(REFUSED);
 }
 
 void misused(const char *why, const char *word)
 {
-    fprintf(stderr, "paff: %s%s%s\n%s", why, word ? ": " : "", word ? word : "", usage);
+    fprintf(stderr, "paff: %s%s", why, word ? ": " : "");
+    say_word(word ? word : "");
+    fprintf(stderr, "\n%s", usage);
     exit(FAILED);
 }
 
 void failed_for(const char *what, const char *why)
 {
-    fprintf(stderr, "paff: %s: %s\n", what, why);
+    fprintf(stderr, "paff: ");
+    say_word(what);
+    fprintf(stderr, ": %s\n", why);
     exit(FAILED);
 }
 

@@ -1,0 +1,70 @@
+"""Makes the films of the benchmark in a folder: python3 bench/films.py FOLDER"""
+
+import os
+import sys
+
+sys.path.insert(0, os.path.join(os.path.dirname(os.path.abspath(__file__)), os.pardir, "tests"))
+
+from boxes import box, entry, head, ploc, pshd  # noqa: E402
+
+GOOD, LOST = 0x40, 0x80
+
+
+def pseg(place, offset, chunks, widths, last=False):
+    """A segment at a place of the file; a chunk is its size and its place, None where it is lost."""
+    entries = [entry(LOST, widths[0], size) if at is None else entry(GOOD, widths[0], size, widths[1], at - place) for size, at in chunks]
+    return box(b"pseg", pshd(offset, 1 if last else 0), ploc(*widths, entries))
+
+
+def as_written(segments, size):
+    """Each segment behind its own data, as append lays it out; a segment is its source offset and how many good chunks of a size it has."""
+    file = head(b"http://films.example/lesson", b"video/mp4")
+    for offset, count in segments:
+        data = box(b"pdat", bytes(count * size))
+        first = len(file) + 8
+        chunks = [(size, first + size * i) for i in range(count)]
+        file += data
+        file += pseg(len(file), offset, chunks, (4, 4), (offset, count) == segments[-1])
+    return file
+
+
+def data_first(bodies, size, segments, widths=(8, 8), last=True):
+    """So many data boxes, then the segments; a segment is its source offset and, for each of its chunks of a size, the number of its data box."""
+    file = head(b"http://films.example/lesson", b"video/mp4")
+    places = []
+    for _ in range(bodies):
+        places.append(len(file) + 8)
+        file += box(b"pdat", bytes(size))
+    for number, (offset, among) in enumerate(segments):
+        chunks = [(size, None if body is None else places[body]) for body in among]
+        file += pseg(len(file), offset, chunks, widths, last and number == len(segments) - 1)
+    return file
+
+
+def sixteens(bodies, body_of, size=64):
+    """64 segments of 16 chunks in order in the source."""
+    numbers = [[body_of(16 * s + i) for i in range(16)] for s in range(64)]
+    return data_first(bodies, size, [(16 * s * size, among) for s, among in enumerate(numbers)])
+
+
+def films():
+    # 512 boxes in all: ftyp, pfil, 64 pseg and these.
+    most = 446
+    far = sixteens(most, lambda i: most - 1 - i % 2)
+    yield "ordinary", as_written([(16 * s * 1024, 16) for s in range(64)], 1024)
+    yield "largest", sixteens(most, lambda i: i * most // 1024)
+    yield "far", far
+    yield "refused", far[:-8] + (1 << 40).to_bytes(8, "big")
+    yield "overlapping", as_written([(37 * s, 16) for s in range(64)], 100)
+    yield "in_order", sixteens(1, lambda i: None if i % 2 else 0)
+    for chunks in (16, 64, 256, 1024):
+        yield "chunks_%d" % chunks, data_first(1, 64, [(0, [None if i % 2 else 0 for i in range(chunks)])])
+    for boxes in (8, 64, 512):
+        yield "boxes_%d" % boxes, data_first(boxes - 3, 64, [(0, list(range(0, boxes - 3, max(1, (boxes - 3) // 5))))])
+
+
+folder = sys.argv[1]
+os.makedirs(folder, exist_ok=True)
+for name, film in films():
+    with open(os.path.join(folder, name + ".paff"), "wb") as out:
+        out.write(film)

@@ -1,0 +1,142 @@
+/* What the plain C implementation keeps of a partial file that it has read, and the helpers that its files share. */
+#ifndef PLAIN_H
+#define PLAIN_H
+
+#include "../include/vrazhupa.h"
+
+/* The refusals by the numbers of the paper. */
+enum refusal {
+    ACCEPTED = 0,
+    FILE_OVER_LIMIT = 1,
+    HEADER_CUT_SHORT = 2,
+    SIZE_FIELD_ZERO = 3,
+    SIZE_UNDER_HEADER = 4,
+    BOX_PAST_CONTAINER = 5,
+    TOO_MANY_BOXES = 6,
+    BAD_FTYP = 7,
+    NO_PAFF_BRAND = 8,
+    BAD_PFIL = 9,
+    BAD_PFHD = 10,
+    BAD_SURL = 11,
+    NO_PSEG = 12,
+    TOO_MANY_SEGMENTS = 13,
+    BAD_PSHD = 14,
+    NOT_ONE_PLOC = 15,
+    SURL_IN_PSEG = 16,
+    BAD_PLOC = 17,
+    WIDTH_OVER_EIGHT = 18,
+    DATA_REFERENCE = 19,
+    RESERVED_BIT = 20,
+    NEITHER_BIT = 21,
+    TOO_MANY_CHUNKS = 22,
+    POSITION_OVER_LIMIT = 23,
+    NOT_IN_ONE_PDAT = 24,
+    SIZES_DISAGREE = 25,
+    TABLE_TOO_SHORT = 26,
+    INPUT_OVER_LIMIT = 27,
+    LENGTH_OVER_BUFFER = 30,
+    BAD_CHUNK_LIST = 31,
+    DATA_NOT_EQUAL = 32,
+    BUFFER_TOO_SHORT = 33,
+    ZERO_BYTE_IN_TEXT = 34
+};
+
+enum { MOST_BOXES = 512 };
+
+#define MOST_POSITION UINT32_MAX
+#define SIZE_UNKNOWN UINT64_MAX
+
+/* The box types that the base knows. */
+#define FOUR(a, b, c, d) ((uint32_t)(a) << 24 | (uint32_t)(b) << 16 | (uint32_t)(c) << 8 | (uint32_t)(d))
+#define FTYP FOUR('f', 't', 'y', 'p')
+#define PFIL FOUR('p', 'f', 'i', 'l')
+#define PFHD FOUR('p', 'f', 'h', 'd')
+#define SURL FOUR('s', 'u', 'r', 'l')
+#define PSEG FOUR('p', 's', 'e', 'g')
+#define PSHD FOUR('p', 's', 'h', 'd')
+#define PLOC FOUR('p', 'l', 'o', 'c')
+#define PDAT FOUR('p', 'd', 'a', 't')
+#define PAFF FOUR('p', 'a', 'f', 'f')
+
+/* The flag of `pshd` for the last segment, and the flag bytes of a chunk's entry. */
+enum { LAST_SEGMENT = 1 };
+enum { CORRUPTED = 0x80, PRESENT = 0x40, RESERVED = 0x3f };
+enum { LOST = 0, DAMAGED = 1, GOOD = 2 };
+
+/* A place counts bytes of the partial file, a position bytes of the source; neither stands for the other. The limits let both fit 32 bits. */
+typedef uint32_t file_place;
+typedef uint32_t source_position;
+
+/* A part of the partial file. */
+struct part {
+    file_place place;
+    uint32_t length;
+};
+
+struct segment {
+    file_place place, body, end; /* of the `pseg` box: its first byte, its body, the byte after it */
+    struct part header;          /* the body of its `pshd` */
+    uint32_t flags;
+    uint32_t chunk_count;
+    uint64_t offset; /* source_byte_offset, not over the limit once the file is accepted */
+    uint64_t repair_time;
+};
+
+struct chunk {
+    source_position start;
+    uint32_t size;
+    file_place place; /* 0 if not present or empty */
+    uint16_t index;
+    uint8_t segment;
+    uint8_t state;
+};
+
+/* A file as read. After NO_PSEG everything but the segments and chunks stands, and there are none. */
+struct partial {
+    const uint8_t *file;
+    uint32_t length;
+    uint32_t boxes; /* in the file itself */
+    uint32_t pdat_count, segment_count, chunk_count;
+    uint32_t nearest;   /* the `pdat` that held the last chunk */
+    uint64_t size;      /* the least size known of the source, or SIZE_UNKNOWN */
+    uint64_t described; /* the largest segment end or open offset: the described length once the file is accepted */
+    struct part url, mime;
+    struct part pdat[MOST_BOXES]; /* bodies, ascending */
+    struct segment segment[VRAZHUPA_SEGMENTS];
+    struct chunk chunk[VRAZHUPA_CHUNKS];
+};
+
+/* Positions from `first` up to, not including, `end`. */
+struct range {
+    source_position first, end;
+};
+
+/* The ranges that a file has: maximal, ascending; and the totals. */
+struct had {
+    uint32_t count;
+    uint32_t missing_count;
+    uint64_t received;
+    struct range range[VRAZHUPA_CHUNKS];
+};
+
+/* Reads a file; ACCEPTED or its refusal, 1 to 25. */
+enum refusal plain_read(const uint8_t *file, size_t file_length, struct partial *partial);
+
+/* Whether the lent tables hold the rows of an accepted file, and the filling of them. */
+bool plain_tables_hold(const struct partial *partial, size_t segments_length, size_t chunks_length);
+void plain_fill_tables(const struct partial *partial, uint64_t *segments, uint64_t *chunks);
+
+/* Finds the ranges that an accepted file has. */
+void plain_find_had(const struct partial *partial, struct had *had);
+
+static inline uint32_t load32(const uint8_t *at)
+{
+    return (uint32_t)at[0] << 24 | (uint32_t)at[1] << 16 | (uint32_t)at[2] << 8 | (uint32_t)at[3];
+}
+
+static inline uint64_t load64(const uint8_t *at)
+{
+    return (uint64_t)load32(at) << 32 | load32(at + 4);
+}
+
+#endif

@@ -1,0 +1,404 @@
+/* Reads a partial file in one pass over its boxes: framing, refusals 1 to 25, segments, chunks and the described length. */
+#include "plain.h"
+
+#include <string.h>
+
+struct container {
+    file_place place, end; /* of the next box, and of the byte after the last one */
+    uint32_t boxes;        /* framed so far */
+};
+
+struct box {
+    uint32_t type;
+    file_place place, body, end;
+};
+
+/* Frames the next box of a container that has bytes left. */
+static inline enum refusal next_box(const uint8_t *file, struct container *in, struct box *box)
+{
+    const uint8_t *header = file + in->place;
+    uint32_t left = in->end - in->place;
+    uint32_t header_size = 8;
+    uint64_t size;
+
+    if (in->boxes == MOST_BOXES)
+        return TOO_MANY_BOXES;
+    if (left < header_size)
+        return HEADER_CUT_SHORT;
+    size = load32(header);
+    if (size == 0)
+        return SIZE_FIELD_ZERO;
+    if (size == 1) {
+        header_size = 16;
+        if (left < header_size)
+            return HEADER_CUT_SHORT;
+        size = load64(header + 8);
+    }
+    if (size < header_size)
+        return SIZE_UNDER_HEADER;
+    if (size > left)
+        return BOX_PAST_CONTAINER;
+
+    box->type = load32(header + 4);
+    box->place = in->place;
+    box->body = in->place + header_size;
+    box->end = in->place + (uint32_t)size;
+    in->place = box->end;
+    in->boxes++;
+    return ACCEPTED;
+}
+
+/* What the rules for the first boxes of the file ask about. */
+struct opening {
+    struct box first, second;
+    uint32_t ftyps, pfils;
+};
+
+static void note_box(struct partial *partial, const struct box *box, struct opening *opening)
+{
+    switch (box->type) {
+    case FTYP:
+        opening->ftyps++;
+        break;
+    case PFIL:
+        opening->pfils++;
+        break;
+    case PDAT:
+        partial->pdat[partial->pdat_count++] = (struct part){box->body, box->end - box->body};
+        break;
+    case PSEG:
+        if (partial->segment_count < VRAZHUPA_SEGMENTS) {
+            struct segment *segment = &partial->segment[partial->segment_count];
+            segment->place = box->place;
+            segment->body = box->body;
+            segment->end = box->end;
+        }
+        partial->segment_count++;
+        break;
+    default:
+        break;
+    }
+}
+
+/* Frames the boxes of the file and notes those that the base knows. */
+static enum refusal read_file_boxes(struct partial *partial, struct opening *opening)
+{
+    struct container in = {0, partial->length, 0};
+
+    while (in.place < in.end) {
+        struct box box;
+        enum refusal refusal = next_box(partial->file, &in, &box);
+        if (refusal != ACCEPTED)
+            return refusal;
+        if (in.boxes == 1)
+            opening->first = box;
+        else if (in.boxes == 2)
+            opening->second = box;
+        note_box(partial, &box, opening);
+    }
+    partial->boxes = in.boxes;
+    return ACCEPTED;
+}
+
+/* Whether `paff` is among the compatible brands, which follow the major brand and the minor version. */
+static bool has_paff_brand(const uint8_t *file, const struct box *ftyp)
+{
+    for (file_place place = ftyp->body + 8; place < ftyp->end; place += 4)
+        if (load32(file + place) == PAFF)
+            return true;
+    return false;
+}
+
+static enum refusal check_opening(const uint8_t *file, const struct opening *opening)
+{
+    const struct box *ftyp = &opening->first;
+    uint32_t ftyp_length = ftyp->end - ftyp->body;
+
+    if (ftyp->type != FTYP || ftyp_length < 8 || ftyp_length % 4 != 0 || opening->ftyps != 1)
+        return BAD_FTYP;
+    if (!has_paff_brand(file, ftyp))
+        return NO_PAFF_BRAND;
+    if (opening->second.type != PFIL || opening->pfils != 1)
+        return BAD_PFIL;
+    return ACCEPTED;
+}
+
+/* Reads a `surl`: version and flags 0, then two texts, each closed by a zero byte, and nothing after. */
+static bool read_surl(const uint8_t *file, const struct box *surl, struct part *url, struct part *mime)
+{
+    const uint8_t *body = file + surl->body, *end = file + surl->end;
+    const uint8_t *text, *url_end, *mime_end;
+
+    if (end - body < 6 || load32(body) != 0)
+        return false;
+    text = body + 4;
+    url_end = memchr(text, 0, (size_t)(end - text));
+    if (url_end == NULL || url_end + 1 == end)
+        return false;
+    mime_end = memchr(url_end + 1, 0, (size_t)(end - url_end - 1));
+    if (mime_end == NULL || mime_end + 1 != end)
+        return false;
+
+    *url = (struct part){(file_place)(text - file), (uint32_t)(url_end - text)};
+    *mime = (struct part){(file_place)(url_end + 1 - file), (uint32_t)(mime_end - url_end - 1)};
+    return true;
+}
+
+static enum refusal read_pfil(struct partial *partial, const struct box *pfil)
+{
+    const uint8_t *file = partial->file;
+    struct container in = {pfil->body, pfil->end, 0};
+    uint32_t pfhds = 0, surls = 0;
+    bool pfhd_formed = true, surls_formed = true;
+
+    while (in.place < in.end) {
+        struct box box;
+        enum refusal refusal = next_box(file, &in, &box);
+        if (refusal != ACCEPTED)
+            return refusal;
+        if (box.type == PFHD) {
+            pfhds++;
+            pfhd_formed = box.end - box.body == 4 && file[box.body] == 0;
+        } else if (box.type == SURL) {
+            struct part url, mime;
+            surls++;
+            if (!read_surl(file, &box, &url, &mime)) {
+                surls_formed = false;
+            } else if (surls == 1) {
+                partial->url = url;
+                partial->mime = mime;
+            }
+        }
+    }
+    if (pfhds != 1 || !pfhd_formed)
+        return BAD_PFHD;
+    if (surls == 0 || !surls_formed)
+        return BAD_SURL;
+    return ACCEPTED;
+}
+
+/* Reads a `pshd`: version and flags, an offset of 32 bits in version 0 and else of 64, the repair time, and nothing after. */
+static bool read_pshd(const uint8_t *file, const struct box *pshd, struct segment *segment)
+{
+    const uint8_t *body = file + pshd->body;
+    uint32_t length = pshd->end - pshd->body;
+
+    if (length == 16 && body[0] == 0)
+        segment->offset = load32(body + 4);
+    else if (length == 20 && body[0] != 0)
+        segment->offset = load64(body + 4);
+    else
+        return false;
+    segment->flags = load32(body) & 0xffffff;
+    segment->repair_time = load64(body + length - 8);
+    segment->header = (struct part){pshd->body, length};
+    return true;
+}
+
+/* Frames the boxes of a `pseg`, reads its `pshd` and finds its `ploc`. */
+static enum refusal read_pseg_boxes(const uint8_t *file, struct segment *segment, struct box *ploc)
+{
+    struct container in = {segment->body, segment->end, 0};
+    struct box first = {0, 0, 0, 0};
+    uint32_t pshds = 0, plocs = 0, surls = 0;
+
+    while (in.place < in.end) {
+        struct box box;
+        enum refusal refusal = next_box(file, &in, &box);
+        if (refusal != ACCEPTED)
+            return refusal;
+        if (in.boxes == 1)
+            first = box;
+        if (box.type == PSHD) {
+            pshds++;
+        } else if (box.type == PLOC) {
+            plocs++;
+            *ploc = box;
+        } else if (box.type == SURL) {
+            surls++;
+        }
+    }
+    if (first.type != PSHD || pshds != 1 || !read_pshd(file, &first, segment))
+        return BAD_PSHD;
+    if (plocs != 1)
+        return NOT_ONE_PLOC;
+    if (surls != 0)
+        return SURL_IN_PSEG;
+    return ACCEPTED;
+}
+
+/* Reads an unsigned field of 0 to 8 bytes, by one load where the file goes on for eight bytes. */
+static inline uint64_t field(const uint8_t *at, const uint8_t *file_end, unsigned width)
+{
+    uint64_t value = 0;
+
+    if (width == 0)
+        return 0;
+    if (file_end - at >= 8)
+        return load64(at) >> (64 - 8 * width);
+    for (unsigned i = 0; i < width; i++)
+        value = value << 8 | at[i];
+    return value;
+}
+
+/* Reads a field in two's complement, its sign carried on to 64 bits. */
+static inline uint64_t signed_field(const uint8_t *at, const uint8_t *file_end, unsigned width)
+{
+    uint64_t sign = width == 0 ? 0 : (uint64_t)1 << (8 * width - 1);
+
+    return (field(at, file_end, width) ^ sign) - sign;
+}
+
+/* Finds the last `pdat` whose body starts at or before a place; the first one if none does. */
+static uint32_t nearest_pdat(const struct partial *partial, uint64_t place)
+{
+    uint32_t low = 0, high = partial->pdat_count;
+
+    while (high - low > 1) {
+        uint32_t middle = low + (high - low) / 2;
+        if (partial->pdat[middle].place <= place)
+            low = middle;
+        else
+            high = middle;
+    }
+    return low;
+}
+
+/* Whether `size` bytes, at least one, from a place on lie in the body of one `pdat`. A place below 0 has wrapped to one above every file. */
+static inline bool in_one_pdat(struct partial *partial, uint64_t place, uint64_t size)
+{
+    const struct part *body;
+
+    if (partial->pdat_count == 0)
+        return false;
+    body = &partial->pdat[partial->nearest];
+    if (place - body->place >= body->length) {
+        partial->nearest = nearest_pdat(partial, place);
+        body = &partial->pdat[partial->nearest];
+        if (place - body->place >= body->length)
+            return false;
+    }
+    return size <= body->length - (place - body->place);
+}
+
+/* The entries of a `ploc`: their bytes and the widths of their fields. */
+struct entries {
+    const uint8_t *at, *end;
+    unsigned length_size, offset_size;
+};
+
+static inline uint8_t state_of(uint8_t flags)
+{
+    return flags == PRESENT ? GOOD : flags == CORRUPTED ? LOST : DAMAGED;
+}
+
+/* Reads the chunks of a segment; `*position` goes from the segment's offset to its end. */
+static enum refusal read_entries(struct partial *partial, uint32_t number, struct entries entries, uint64_t *position)
+{
+    const uint8_t *at = entries.at, *file_end = partial->file + partial->length;
+    const struct segment *segment = &partial->segment[number];
+    struct chunk *chunk = &partial->chunk[partial->chunk_count];
+    uint64_t start = *position;
+
+    for (uint32_t index = 0; index < segment->chunk_count; index++) {
+        if (at == entries.end)
+            return BAD_PLOC;
+        uint8_t flags = *at++;
+        if (flags & RESERVED)
+            return RESERVED_BIT;
+        if (flags == 0)
+            return NEITHER_BIT;
+        unsigned rest = entries.length_size + (flags & PRESENT ? entries.offset_size : 0);
+        if (entries.end - at < (ptrdiff_t)rest)
+            return BAD_PLOC;
+        uint64_t size = field(at, file_end, entries.length_size);
+        if (size > MOST_POSITION - start)
+            return POSITION_OVER_LIMIT;
+        uint64_t place = 0;
+        if (flags & PRESENT && size > 0) {
+            place = segment->place + signed_field(at + entries.length_size, file_end, entries.offset_size);
+            if (!in_one_pdat(partial, place, size))
+                return NOT_IN_ONE_PDAT;
+        }
+        *chunk++ = (struct chunk){(source_position)start, (uint32_t)size, (file_place)place, (uint16_t)index, (uint8_t)number, state_of(flags)};
+        at += rest;
+        start += size;
+    }
+    *position = start;
+    return at == entries.end ? ACCEPTED : BAD_PLOC;
+}
+
+static enum refusal read_ploc(struct partial *partial, uint32_t number, const struct box *ploc)
+{
+    const uint8_t *body = partial->file + ploc->body;
+    struct segment *segment = &partial->segment[number];
+    struct entries entries;
+    uint64_t position = segment->offset;
+    enum refusal refusal;
+
+    if (ploc->end - ploc->body < 9 || load32(body) != 0)
+        return BAD_PLOC;
+    entries = (struct entries){body + 9, partial->file + ploc->end, body[4] >> 4, body[4] & 15};
+    if (entries.length_size > 8 || entries.offset_size > 8)
+        return WIDTH_OVER_EIGHT;
+    if (body[5] != 0 || body[6] != 0)
+        return DATA_REFERENCE;
+    segment->chunk_count = (uint32_t)body[7] << 8 | body[8];
+    if (segment->chunk_count > VRAZHUPA_CHUNKS - partial->chunk_count)
+        return TOO_MANY_CHUNKS;
+    if (position > MOST_POSITION)
+        return POSITION_OVER_LIMIT;
+    refusal = read_entries(partial, number, entries, &position);
+    if (refusal != ACCEPTED)
+        return refusal;
+
+    partial->chunk_count += segment->chunk_count;
+    if (position > partial->described)
+        partial->described = position;
+    if (segment->flags & LAST_SEGMENT && segment->chunk_count > 0 && position < partial->size)
+        partial->size = position;
+    return ACCEPTED;
+}
+
+static enum refusal read_segments(struct partial *partial)
+{
+    for (uint32_t number = 0; number < partial->segment_count; number++) {
+        struct box ploc = {0, 0, 0, 0};
+        enum refusal refusal = read_pseg_boxes(partial->file, &partial->segment[number], &ploc);
+        if (refusal != ACCEPTED)
+            return refusal;
+        refusal = read_ploc(partial, number, &ploc);
+        if (refusal != ACCEPTED)
+            return refusal;
+    }
+    /* Of two sizes that differ, the larger is a segment end above the least. */
+    return partial->described > partial->size ? SIZES_DISAGREE : ACCEPTED;
+}
+
+enum refusal plain_read(const uint8_t *file, size_t file_length, struct partial *partial)
+{
+    struct opening opening = {{0, 0, 0, 0}, {0, 0, 0, 0}, 0, 0};
+    enum refusal refusal;
+
+    if (file_length > VRAZHUPA_FILE)
+        return FILE_OVER_LIMIT;
+    partial->file = file;
+    partial->length = (uint32_t)file_length;
+    partial->pdat_count = partial->segment_count = partial->chunk_count = 0;
+    partial->nearest = 0;
+    partial->size = SIZE_UNKNOWN;
+    partial->described = 0;
+
+    refusal = read_file_boxes(partial, &opening);
+    if (refusal == ACCEPTED)
+        refusal = check_opening(file, &opening);
+    if (refusal == ACCEPTED)
+        refusal = read_pfil(partial, &opening.second);
+    if (refusal != ACCEPTED)
+        return refusal;
+    if (partial->segment_count == 0)
+        return NO_PSEG;
+    if (partial->segment_count > VRAZHUPA_SEGMENTS)
+        return TOO_MANY_SEGMENTS;
+    return read_segments(partial);
+}

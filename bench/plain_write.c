@@ -1,0 +1,219 @@
+/* Begins a partial file in a lent buffer and appends segments to one. */
+#include "plain.h"
+
+#include <string.h>
+
+/* Writes the low `width` bytes of a value, the most significant first. */
+static inline uint8_t *put(uint8_t *at, uint64_t value, unsigned width)
+{
+    for (unsigned i = width; i-- > 0; value >>= 8)
+        at[i] = (uint8_t)value;
+    return at + width;
+}
+
+static inline uint8_t *put_header(uint8_t *at, uint64_t size, uint32_t type)
+{
+    at = put(at, size, 4);
+    return put(at, type, 4);
+}
+
+static uint8_t *put_bytes(uint8_t *at, const uint8_t *bytes, size_t length)
+{
+    if (length > 0)
+        memcpy(at, bytes, length);
+    return at + length;
+}
+
+static bool has_zero(const uint8_t *text, size_t length)
+{
+    return length > 0 && memchr(text, 0, length) != NULL;
+}
+
+/* Sizes of the boxes of a beginning; those of `pfil` and `surl` follow from the texts. */
+enum { FTYP_SIZE = 20, PFHD_SIZE = 12 };
+
+static uint8_t *put_ftyp(uint8_t *at)
+{
+    at = put_header(at, FTYP_SIZE, FTYP);
+    at = put(at, PAFF, 4);   /* major brand */
+    at = put(at, 0, 4);      /* minor version */
+    return put(at, PAFF, 4); /* the one compatible brand */
+}
+
+uint64_t vrazhupa_begin(uint8_t *buffer, size_t buffer_length, const uint8_t *url, size_t url_length, const uint8_t *mime, size_t mime_length,
+                        uint64_t told[1])
+{
+    uint64_t surl, pfil;
+    uint8_t *at;
+
+    if (has_zero(url, url_length) || has_zero(mime, mime_length))
+        return ZERO_BYTE_IN_TEXT;
+    if (url_length > VRAZHUPA_FILE || mime_length > VRAZHUPA_FILE)
+        return FILE_OVER_LIMIT;
+    surl = 12 + (uint64_t)url_length + 1 + mime_length + 1;
+    pfil = 8 + PFHD_SIZE + surl;
+    if (FTYP_SIZE + pfil > VRAZHUPA_FILE)
+        return FILE_OVER_LIMIT;
+    if (FTYP_SIZE + pfil > buffer_length)
+        return BUFFER_TOO_SHORT;
+
+    at = put_ftyp(buffer);
+    at = put_header(at, pfil, PFIL);
+    at = put_header(at, PFHD_SIZE, PFHD);
+    at = put(at, 0, 4); /* version and flags */
+    at = put_header(at, surl, SURL);
+    at = put(at, 0, 4); /* version and flags */
+    at = put_bytes(at, url, url_length);
+    *at++ = 0;
+    at = put_bytes(at, mime, mime_length);
+    *at++ = 0;
+    told[0] = (uint64_t)(at - buffer);
+    return ACCEPTED;
+}
+
+/* A segment to be appended: what is asked, and what follows from it. */
+struct addition {
+    uint64_t offset, repair_time;
+    bool last;
+    const uint64_t *list;
+    const uint8_t *data;
+    uint64_t data_length;
+    uint64_t count, present;           /* chunks, and those whose bytes are kept */
+    uint64_t size;                     /* of all chunks together, UINT64_MAX if more */
+    unsigned length_size, offset_size; /* widths in the `ploc` */
+    uint64_t pdat, pseg, pshd, ploc;   /* sizes of the boxes, `pdat` 0 for none */
+};
+
+static unsigned width_of(uint64_t value)
+{
+    unsigned width = 0;
+
+    for (; value != 0; value >>= 8)
+        width++;
+    return width;
+}
+
+/* Checks the chunk list and the number of data bytes, and sums the list up. */
+static enum refusal check_list(struct addition *add, size_t list_length)
+{
+    uint64_t left = add->data_length, bits = 0;
+    bool over = false;
+
+    if (list_length % 2 != 0)
+        return BAD_CHUNK_LIST;
+    add->count = list_length / 2;
+    add->present = 0;
+    add->size = 0;
+    for (uint64_t i = 0; i < add->count; i++) {
+        uint64_t size = add->list[2 * i], state = add->list[2 * i + 1];
+        if (size == 0 || state > GOOD)
+            return BAD_CHUNK_LIST;
+        bits |= size;
+        add->size = size > UINT64_MAX - add->size ? UINT64_MAX : add->size + size;
+        if (state != LOST) {
+            add->present++;
+            if (size > left)
+                over = true;
+            else
+                left -= size;
+        }
+    }
+    add->length_size = width_of(bits);
+    return over || left != 0 ? DATA_NOT_EQUAL : ACCEPTED;
+}
+
+/* Finds the sizes of the boxes; whether they are within a file's limit. The first present chunk stands furthest before the `pseg`, at -data_length. */
+static bool measure(struct addition *add, uint64_t file_length)
+{
+    if (add->data_length > VRAZHUPA_FILE || add->count > VRAZHUPA_FILE)
+        return false;
+    add->offset_size = add->data_length == 0 ? 0 : width_of(2 * (add->data_length - 1) + 1);
+    add->pdat = add->data_length == 0 ? 0 : 8 + add->data_length;
+    add->pshd = add->offset <= UINT32_MAX ? 24 : 28;
+    add->ploc = 17 + add->count * (1 + add->length_size) + add->present * add->offset_size;
+    add->pseg = 8 + add->pshd + add->ploc;
+    return file_length + add->pdat + add->pseg <= VRAZHUPA_FILE;
+}
+
+/* Checks what the file would be with the segment: 1, 6, 13, 22, 23 and 25. */
+static enum refusal check_result(const struct partial *partial, struct addition *add)
+{
+    uint64_t end, described = partial->described, size = partial->size;
+
+    if (!measure(add, partial->length))
+        return FILE_OVER_LIMIT;
+    if (partial->boxes + (add->pdat != 0) + 1 > MOST_BOXES)
+        return TOO_MANY_BOXES;
+    if (partial->segment_count + 1 > VRAZHUPA_SEGMENTS)
+        return TOO_MANY_SEGMENTS;
+    if (add->count > VRAZHUPA_CHUNKS - partial->chunk_count)
+        return TOO_MANY_CHUNKS;
+    if (add->offset > MOST_POSITION || add->size > MOST_POSITION - add->offset)
+        return POSITION_OVER_LIMIT;
+    end = add->offset + add->size;
+    if (end > described)
+        described = end;
+    if (add->last && add->count > 0 && end < size)
+        size = end;
+    return described > size ? SIZES_DISAGREE : ACCEPTED;
+}
+
+static uint8_t *put_ploc(uint8_t *at, const struct addition *add)
+{
+    static const uint8_t flags[] = {[LOST] = CORRUPTED, [DAMAGED] = CORRUPTED | PRESENT, [GOOD] = PRESENT};
+    uint64_t offset = 0 - add->data_length; /* from the `pseg` to the chunk's bytes, in two's complement */
+
+    at = put_header(at, add->ploc, PLOC);
+    at = put(at, 0, 4);
+    *at++ = (uint8_t)(add->length_size << 4 | add->offset_size);
+    at = put(at, 0, 2);
+    at = put(at, add->count, 2);
+    for (uint64_t i = 0; i < add->count; i++) {
+        uint64_t size = add->list[2 * i], state = add->list[2 * i + 1];
+        *at++ = flags[state];
+        at = put(at, size, add->length_size);
+        if (state != LOST) {
+            at = put(at, offset, add->offset_size);
+            offset += size;
+        }
+    }
+    return at;
+}
+
+static uint8_t *put_segment(uint8_t *at, const struct addition *add)
+{
+    if (add->pdat != 0) {
+        at = put_header(at, add->pdat, PDAT);
+        at = put_bytes(at, add->data, (size_t)add->data_length);
+    }
+    at = put_header(at, add->pseg, PSEG);
+    at = put_header(at, add->pshd, PSHD);
+    *at++ = add->pshd == 24 ? 0 : 1; /* version: the 32-bit form of the offset where it holds it */
+    at = put(at, add->last ? LAST_SEGMENT : 0, 3);
+    at = put(at, add->offset, add->pshd == 24 ? 4 : 8);
+    at = put(at, add->repair_time, 8);
+    return put_ploc(at, add);
+}
+
+uint64_t vrazhupa_append(uint8_t *buffer, size_t buffer_length, uint64_t length, uint64_t offset, uint64_t repair_time, bool last, const uint64_t *list,
+                         size_t list_length, const uint8_t *data, size_t data_length, uint64_t told[1])
+{
+    struct partial partial;
+    struct addition add = {.offset = offset, .repair_time = repair_time, .last = last, .list = list, .data = data, .data_length = data_length};
+    enum refusal refusal;
+
+    if (length > buffer_length)
+        return LENGTH_OVER_BUFFER;
+    refusal = plain_read(buffer, (size_t)length, &partial);
+    if (refusal != ACCEPTED && refusal != NO_PSEG)
+        return refusal;
+    refusal = check_list(&add, list_length);
+    if (refusal == ACCEPTED)
+        refusal = check_result(&partial, &add);
+    if (refusal != ACCEPTED)
+        return refusal;
+    if (length + add.pdat + add.pseg > buffer_length)
+        return BUFFER_TOO_SHORT;
+    told[0] = (uint64_t)(put_segment(buffer + length, &add) - buffer);
+    return ACCEPTED;
+}
