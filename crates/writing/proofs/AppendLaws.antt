@@ -39,8 +39,7 @@ use Rattle.adding.specs.Layout.{Laid}
 use Rattle.adding.specs.declared.counts.Counts.{Counts}
 use Rattle.adding.specs.declared.layout.Layout.{Layout}
 use Rattle.adding.proofs.CountLaws.{counted-bytes}
-use Rattle.putting.specs.Added.{Fits}
-use Rattle.writing.specs.Append.{Appends}
+use Rattle.writing.specs.Append.{Fits, Appends}
 
 -- ---- what the call leaves
 

@@ -1,13 +1,71 @@
--- Document 01, "Append" and refusals 30 to 33: what it answers, and what it leaves in the lent buffer.
-use Prim.Native.Nat.{ℕ}
-use mathlib.Core.List.{List}
+-- Document 01, "Append" and refusals 30 to 33: the boxes that it writes, what it answers, and what it leaves in the lent buffer.
+use Prim.Native.Nat.{ℕ, _^_, _≤_, _<_}
+use mathlib.Core.Bool.{true, false}
+use mathlib.Core.List.{List, [], _∷_, _++_, map}
 use mathlib.Core.Path.{_≡_}
-use Rattle.partial.specs.Addition.{Addition}
+use lib.Dec.{eqb}
+use lib.ListN.{length}
+use Rattle.boxes.specs.Framing.{boxed}
+use Rattle.boxes.specs.Kinds.{pseg, pshd, ploc, pdat}
+use Rattle.numerals.specs.Numbers.{bytesOf, twosComplement, holds, holdsOffset}
+use Rattle.numerals.specs.declared.numbers.Offset.the-variants.{Back}
+use Rattle.partial.specs.Addition.{Addition, asks, Item, items, dataSize}
 use Rattle.partial.specs.Answers.{writtenAnswer}
-use Rattle.partial.specs.Append.{appended, result}
+use Rattle.partial.specs.Append.{placed, flagByte, plocBody, pshdBody, psegBody, appended, result}
 use Rattle.partial.specs.Limits.{sourceLimit}
 use Rattle.partial.specs.Memory.{written}
+use Rattle.partial.specs.Segments.{present}
+use Rattle.partial.specs.Sequences.{allOf, sum}
 use Rattle.partial.specs.declared.answers.Written.{Written}
+use Rattle.partial.specs.declared.header.SegmentHeader.{SegmentHeader}
+
+-- ---- the boxes
+
+-- where so many chunks are present, the data in one `pdat`; where none is, nothing
+abbrev pub dataPart : ℕ → List ℕ → List ℕ
+dataPart n bytes = elim (eqb n 0) [ true ↦ [] | false ↦ boxed (pdat .code) bytes ]
+
+-- a `pshd` tells of the header alone
+abbrev pub pshdBox : SegmentHeader → List ℕ
+pshdBox header = boxed (pshd .code) (pshdBody (asks header [] []))
+
+-- a `ploc` tells of the chunk list alone
+abbrev pub plocBox : List ℕ → List ℕ
+plocBox list = boxed (ploc .code) (plocBody (placed (items list)))
+
+abbrev pub psegBox : SegmentHeader → List ℕ → List ℕ
+psegBox header list = boxed (pseg .code) (psegBody (asks header list []))
+
+-- ---- the entries of a `ploc`
+
+-- how many bytes of data an item has
+abbrev pub dataOf : ℕ → ℕ → ℕ
+dataOf size state = elim (present state) [ true ↦ size | false ↦ 0 ]
+
+-- an entry with these widths, its data so many bytes before the `pseg`
+abbrev pub entryOf : ℕ → ℕ → ℕ → ℕ → ℕ → List ℕ
+entryOf l o size state back =
+    flagByte state ∷ (bytesOf l size ++ elim (present state) [ true ↦ bytesOf o (twosComplement o (Back back)) | false ↦ [] ])
+
+-- the widths hold its size and, where the chunk is present, its offset
+pub record Entry (l o size state back : ℕ) : Type 0 where
+  pub narrow : (l ≤ 8) × (o ≤ 8)
+  pub sized : holds l size ≡ true
+  pub offset : present state ≡ true → holdsOffset o (Back back) ≡ true
+
+-- the widths hold the size and the offset of every item
+pub record Entries (l o : ℕ) (is : List Item) : Type 0 where
+  pub narrow : (l ≤ 8) × (o ≤ 8)
+  pub sizes : allOf (λ p. holds l (p .size)) (placed is) ≡ true
+  pub offsets : allOf (λ p. holdsOffset o (p .offset)) (placed is) ≡ true
+
+-- 16 bits hold the count of the items, and eight bytes each size and offset
+pub record Fits (is : List Item) : Type 0 where
+  pub count : length is < 2 ^ 16
+  pub sizes : sum (map (λ i. i .size) is) < 2 ^ 64
+  pub offsets : dataSize is < 2 ^ 63
+
+-- ---- the call
 
 -- the answer and the buffer, each by what the buffer, the stated length and the addition decide
 pub record Appends (buffer buffer′ : List ℕ) (n : ℕ) (a : Addition) (r : Written) : Type 0 where

@@ -1,4 +1,6 @@
 // Appending a segment to a file in a lent buffer.
+use crate::pdat::put_pdat;
+use crate::pseg::put_pseg;
 use adding::admission::admission;
 use adding::counts::Counts;
 use adding::counts::counts_of;
@@ -11,8 +13,6 @@ use partial::refusals::BUFFER_TOO_SHORT;
 use partial::refusals::CHUNK_LIST_WRONG;
 use partial::refusals::DATA_WRONG;
 use partial::refusals::LENGTH_OVER_BUFFER;
-use putting::pdat::put_pdat;
-use putting::pseg::put_pseg;
 use reading::judging::Judged;
 use reading::judging::Judgement;
 use reading::judging::earlier_of;
@@ -28,8 +28,7 @@ ghost use Rattle.reading.specs.Judged.{earlierTold};
 ghost use Rattle.adding.specs.Counts.{Counted};
 ghost use Rattle.adding.specs.Layout.{Laid};
 ghost use Rattle.filling.specs.Rows.{Puts};
-ghost use Rattle.putting.specs.Added.{Fits};
-ghost use Rattle.writing.specs.Append.{Appends};
+ghost use Rattle.writing.specs.Append.{Fits, Appends};
 
 // Writes all that append adds: the data, then the `pseg`.
 fn put_added(

@@ -13,8 +13,8 @@ use Rattle.partial.specs.Begin.{beginning, isText}
 use Rattle.partial.specs.Limits.{fileLimit}
 use Rattle.filling.proofs.PutsLaws.{puts-same, puts-more}
 use Rattle.gathering.proofs.RowLaws.{put-filled}
-use Rattle.putting.proofs.BoxLaws.{ftyp-long, pfil-long, beginning-boxes, beginning-long}
 use Rattle.writing.proofs.BeginLaws.{url-zero, mime-zero, too-long, too-short, begun-given, begins-refused, begins-given}
+use Rattle.writing.proofs.BoxLaws.{ftyp-long, pfil-long, beginning-boxes, beginning-long}
 use Rattle.writing.proofs.begin.begin.Statement.{statement}
 use Rattle.writing.proofs.begin.begin.Tie as tie
 

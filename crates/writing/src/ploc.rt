@@ -1,0 +1,107 @@
+// The `ploc` box, as it is written.
+use crate::puts::put_back;
+use crate::puts::put_field;
+use crate::puts::put_front;
+use adding::counts::Counts;
+use adding::layout::Layout;
+use boxes::kinds::PLOC;
+use fields::state::DAMAGED;
+use fields::state::GOOD;
+use fields::state::LOST;
+use fields::state::present;
+use numerals::place::Place;
+ghost use Prim.Native.Nat.{_+_, _≤_};
+ghost use mathlib.Core.Path.{_≡_};
+ghost use lib.ListN.{length};
+ghost use Rattle.partial.specs.Addition.{items, dataSize};
+ghost use Rattle.partial.specs.Append.{placed, flagByte, entryBytes};
+ghost use Rattle.partial.specs.Limits.{fileLimit};
+ghost use Rattle.adding.specs.Counts.{Whole};
+ghost use Rattle.adding.specs.Layout.{PlocLaid};
+ghost use Rattle.filling.specs.Rows.{Puts};
+ghost use Rattle.writing.specs.Append.{dataOf, Entry, entryOf, Entries, Fits, plocBox};
+
+// The flags of a chunk: bit corrupted, bit present, six zero bits.
+fn flags_of(state: u64) -> u64
+    ensures { λ r. ⌜ r ≡ flagByte state ⌝ }
+{
+    if state == GOOD {
+        return 0x40;
+    }
+    if state == DAMAGED {
+        return 0xc0;
+    }
+    if state == LOST { 0x80 } else { 0 }
+}
+
+// How many bytes of data an item has.
+fn data_of(size: u64, state: u64) -> u64
+    ensures { λ r. ⌜ r ≡ dataOf size state ⌝ }
+{
+    if present(state) { size } else { 0 }
+}
+
+// Two widths: of the sizes and of the offsets.
+struct Widths {
+    size: usize,
+    offset: usize,
+}
+
+// Writes an entry: flags, size and, where the chunk is present, the offset of its data, which lies so many bytes before the `pseg`.
+fn put_entry(
+    buffer: &mut [u8],
+    at: Place,
+    widths: Widths,
+    size: u64,
+    state: u64,
+    back: u64,
+) -> Place
+    requires { ⌜ Entry (widths .size) (widths .offset) size state back × (at .0 + length (entryOf (widths .size) (widths .offset) size state back) ≤ length (now buffer)) ⌝ }
+    ensures { λ r. ⌜ Puts (now (buffer .entry)) (at .0) (entryOf (widths .size) (widths .offset) size state back) (now (buffer .exit)) (r .0) ⌝ }
+{
+    let sized = put_field(buffer, at, 1, flags_of(state));
+    let next = put_field(buffer, sized, widths.size, size);
+    if !present(state) {
+        return next;
+    }
+    put_back(buffer, next, widths.offset, back)
+}
+
+// Writes the entries of a chunk list with so many bytes of data: those of each item lie before the `pseg` with all that follow them.
+fn put_entries(buffer: &mut [u8], at: Place, widths: Widths, bytes: u64, list: &[u64]) -> Place
+    requires { ⌜ Entries (widths .size) (widths .offset) (items (now list)) × (bytes ≡ dataSize (items (now list))) × (at .0 + length (entryBytes (widths .size) (widths .offset) (placed (items (now list)))) ≤ length (now buffer)) ⌝ }
+    ensures { λ r. ⌜ Puts (now (buffer .entry)) (at .0) (entryBytes (widths .size) (widths .offset) (placed (items (now (list .entry))))) (now (buffer .exit)) (r .0) ⌝ }
+{
+    let mut next = at;
+    let mut back = bytes;
+    let mut i = 0;
+    while i < list.len() / 2 {
+        let size = list[2 * i];
+        let state = list[2 * i + 1];
+        next = put_entry(buffer, next, widths, size, state, back);
+        back -= data_of(size, state);
+        i += 1;
+    }
+    next
+}
+
+// Writes `ploc`: version 0, flags 0, the two widths, data reference index 0, the chunk count, the entries.
+pub(crate) fn put_ploc(
+    buffer: &mut [u8],
+    at: Place,
+    counts: Counts,
+    layout: Layout,
+    list: &[u64],
+) -> Place
+    requires { ⌜ Whole (items (now list)) counts × PlocLaid (items (now list)) layout × Fits (items (now list)) × (at .0 + length (plocBox (now list)) ≤ length (now buffer)) × (length (plocBox (now list)) ≤ fileLimit) ⌝ }
+    ensures { λ r. ⌜ Puts (now (buffer .entry)) (at .0) (plocBox (now (list .entry))) (now (buffer .exit)) (r .0) ⌝ }
+{
+    let size = layout.length_size;
+    let offset = layout.offset_size;
+    let version = put_front(buffer, at, PLOC.code, layout.ploc);
+    let widths = put_field(buffer, version, 4, 0);
+    let index = put_field(buffer, widths, 1, (size * 16 + offset) as u64);
+    let count = put_field(buffer, index, 2, 0);
+    let entries = put_field(buffer, count, 2, counts.items);
+    put_entries(buffer, entries, Widths { size, offset }, counts.bytes, list)
+}

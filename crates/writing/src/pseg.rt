@@ -1,0 +1,35 @@
+// The `pseg` box with its `pshd` and its `ploc`, as it is written.
+use crate::ploc::put_ploc;
+use crate::pshd::put_pshd;
+use crate::puts::put_front;
+use adding::counts::Counts;
+use adding::layout::Layout;
+use boxes::kinds::PSEG;
+use numerals::place::Place;
+use partial::header::SegmentHeader;
+ghost use Prim.Native.Nat.{_+_, _≤_};
+ghost use mathlib.Core.List.{[]};
+ghost use lib.ListN.{length};
+ghost use Rattle.partial.specs.Addition.{asks, items};
+ghost use Rattle.partial.specs.Limits.{fileLimit};
+ghost use Rattle.adding.specs.Counts.{Whole};
+ghost use Rattle.adding.specs.Layout.{PsegLaid};
+ghost use Rattle.filling.specs.Rows.{Puts};
+ghost use Rattle.writing.specs.Append.{Fits, psegBox};
+
+// Writes `pseg`, holding `pshd` and `ploc`.
+pub(crate) fn put_pseg(
+    buffer: &mut [u8],
+    at: Place,
+    header: SegmentHeader,
+    counts: Counts,
+    layout: Layout,
+    list: &[u64],
+) -> Place
+    requires { ⌜ Whole (items (now list)) counts × PsegLaid (asks header (now list) []) layout × Fits (items (now list)) × (at .0 + length (psegBox header (now list)) ≤ length (now buffer)) × (length (psegBox header (now list)) ≤ fileLimit) ⌝ }
+    ensures { λ r. ⌜ Puts (now (buffer .entry)) (at .0) (psegBox header (now (list .entry))) (now (buffer .exit)) (r .0) ⌝ }
+{
+    let body = put_front(buffer, at, PSEG.code, layout.pseg);
+    let ploc = put_pshd(buffer, body, header, layout);
+    put_ploc(buffer, ploc, counts, layout, list)
+}
