@@ -1,5 +1,5 @@
 # Builds the library's archive, which is proved first, and the command `paff` over it. `make test` runs the command as a person would, then a build of it
-# that stops at undefined behaviour, and the clerk's evening.
+# that stops at undefined behaviour and one over the plain C program under both sanitizers, and the clerk's evening. `make bench` measures the library beside the plain C program (docs/PERFORMANCE.md).
 
 # Debian has this name for its own compiler on x86-64 and for its cross compiler elsewhere (gcc-x86-64-linux-gnu).
 CC := x86_64-linux-gnu-gcc
@@ -7,16 +7,21 @@ WARNINGS := -Wall -Wextra -Wpedantic -Wconversion -Wshadow -Wcast-qual -Wcast-al
 CFLAGS := -std=c11 -D_GNU_SOURCE -O2 $(WARNINGS) -Iinclude
 UNDEFINED := -fsanitize=undefined -fsanitize-undefined-trap-on-error
 
+# The address sanitizer runs on the machine's own processor only, so this build takes the plain C program in the place of the archive.
+OWN_CC := gcc
+SANITIZED := -fsanitize=address,undefined -fno-sanitize-recover=all
+
 OUT := target/command
 ARCHIVE := target/staticlib/libvrazhupa.a
 SOURCES := $(wildcard command/*.c)
 HEADERS := $(wildcard command/*.h) include/vrazhupa.h
+PLAIN := $(wildcard bench/plain*.c)
 LIBRARY := crates.txt $(shell find crates -type f \( -name '*.rt' -o -name '*.antt' \))
 
 # How an x86-64 program is run here: on another processor under the kit's emulator.
 EMULATOR := $(if $(filter x86_64,$(shell uname -m)),,$(shell dirname "$$(dirname "$$(readlink -f "$$(command -v rt)")")")/toolchain/bin/qemu-x86_64)
 
-.PHONY: all test
+.PHONY: all test bench
 .DELETE_ON_ERROR:
 
 all: $(OUT)/paff
@@ -32,8 +37,33 @@ $(OUT)/paff-undefined: $(SOURCES) $(HEADERS) $(ARCHIVE)
 	mkdir -p $(OUT)
 	$(CC) $(CFLAGS) $(UNDEFINED) -static -o $@ $(SOURCES) $(ARCHIVE)
 
-test: $(OUT)/paff $(OUT)/paff-undefined
+$(OUT)/paff-sanitized: $(SOURCES) $(HEADERS) $(PLAIN) bench/plain.h
+	mkdir -p $(OUT)
+	$(OWN_CC) $(CFLAGS) -g $(SANITIZED) -o $@ $(SOURCES) $(PLAIN)
+
+# Both programs have the same names, so each goes into one object with nothing but its calls to be seen. The plain one is built as fast as it gets.
+$(OUT)/proved.o: $(ARCHIVE) bench/calls.c bench/calls.h include/vrazhupa.h
+	mkdir -p $(OUT)
+	$(CC) $(CFLAGS) -DWHOSE=proved -c -o $(OUT)/proved-calls.o bench/calls.c
+	x86_64-linux-gnu-ld -r -o $@ $(OUT)/proved-calls.o $(ARCHIVE)
+	x86_64-linux-gnu-objcopy --keep-global-symbol=proved $@
+
+$(OUT)/plain.o: $(PLAIN) bench/plain.h bench/calls.c bench/calls.h include/vrazhupa.h
+	mkdir -p $(OUT)/plain
+	cd $(OUT)/plain && $(CC) $(CFLAGS) -O3 -I$(CURDIR)/include -DWHOSE=plain -c $(CURDIR)/bench/calls.c $(PLAIN:%=$(CURDIR)/%)
+	x86_64-linux-gnu-ld -r -o $@ $(OUT)/plain/*.o
+	x86_64-linux-gnu-objcopy --keep-global-symbol=plain $@
+
+$(OUT)/bench: bench/bench.c bench/timing.c bench/timing.h bench/calls.h $(OUT)/proved.o $(OUT)/plain.o
+	$(CC) $(CFLAGS) -static -o $@ bench/bench.c bench/timing.c $(OUT)/proved.o $(OUT)/plain.o
+
+bench: $(OUT)/bench
+	python3 bench/films.py $(OUT)/films
+	$(EMULATOR) $(OUT)/bench $(OUT)/films
+
+test: $(OUT)/paff $(OUT)/paff-undefined $(OUT)/paff-sanitized
 	mandoc -T lint -W warning command/paff.1
 	python3 tests/command.py $(EMULATOR) $(OUT)/paff
 	python3 tests/command.py $(EMULATOR) $(OUT)/paff-undefined
+	ASAN_OPTIONS=detect_leaks=0 python3 tests/command.py $(OUT)/paff-sanitized
 	sh tests/evening.sh $(EMULATOR) $(OUT)/paff
