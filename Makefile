@@ -1,5 +1,6 @@
-# Builds the library's archive, which is proved first, and the command `paff` over it. `make test` runs the command as a person would, then a build of it
-# that stops at undefined behaviour and one over the plain C program under both sanitizers, and the clerk's evening. `make bench` measures the library beside the plain C program (docs/PERFORMANCE.md).
+# Builds the library's archive, which is proved first, and the command `paff` over it. `make test` holds the archive and the plain C program against the model, runs the
+# command as a person would, a build of it that stops at undefined behaviour and one over the plain C program under both sanitizers, and passes the clerk's
+# evening. `make bench` measures the library beside the plain C program (docs/PERFORMANCE.md).
 
 # Debian has this name for its own compiler on x86-64 and for its cross compiler elsewhere (gcc-x86-64-linux-gnu).
 CC := x86_64-linux-gnu-gcc
@@ -16,6 +17,7 @@ ARCHIVE := target/staticlib/libvrazhupa.a
 SOURCES := $(wildcard command/*.c)
 HEADERS := $(wildcard command/*.h) include/vrazhupa.h
 PLAIN := $(wildcard bench/plain*.c)
+DRIVER := $(wildcard tests/scale/*.c)
 LIBRARY := crates.txt $(shell find crates -type f \( -name '*.rt' -o -name '*.antt' \))
 
 # How an x86-64 program is run here: on another processor under the kit's emulator.
@@ -41,6 +43,14 @@ $(OUT)/paff-sanitized: $(SOURCES) $(HEADERS) $(PLAIN) bench/plain.h
 	mkdir -p $(OUT)
 	$(OWN_CC) $(CFLAGS) -g $(SANITIZED) -o $@ $(SOURCES) $(PLAIN)
 
+$(OUT)/scale: $(DRIVER) $(wildcard tests/scale/*.h) include/vrazhupa.h $(ARCHIVE)
+	mkdir -p $(OUT)
+	$(CC) $(CFLAGS) -static -o $@ $(DRIVER) $(ARCHIVE)
+
+$(OUT)/scale-sanitized: $(DRIVER) $(wildcard tests/scale/*.h) include/vrazhupa.h $(PLAIN) bench/plain.h
+	mkdir -p $(OUT)
+	$(OWN_CC) $(CFLAGS) -g $(SANITIZED) -o $@ $(DRIVER) $(PLAIN)
+
 # Both programs have the same names, so each goes into one object with nothing but its calls to be seen. The plain one is built as fast as it gets.
 $(OUT)/proved.o: $(ARCHIVE) bench/calls.c bench/calls.h include/vrazhupa.h
 	mkdir -p $(OUT)
@@ -61,7 +71,9 @@ bench: $(OUT)/bench
 	python3 bench/films.py $(OUT)/films
 	$(EMULATOR) $(OUT)/bench $(OUT)/films
 
-test: $(OUT)/paff $(OUT)/paff-undefined $(OUT)/paff-sanitized
+test: $(OUT)/paff $(OUT)/paff-undefined $(OUT)/paff-sanitized $(OUT)/scale $(OUT)/scale-sanitized $(OUT)/bench
+	python3 tests/scale.py --cases 40000 --seed 7 $(EMULATOR) $(OUT)/scale
+	python3 tests/scale.py --cases 40000 --seed 7 $(OUT)/scale-sanitized
 	mandoc -T lint -W warning command/paff.1
 	python3 tests/command.py $(EMULATOR) $(OUT)/paff
 	python3 tests/command.py $(EMULATOR) $(OUT)/paff-undefined

@@ -1,0 +1,113 @@
+"""Holds an implementation of include/vrazhupa.h against the model, on foreign, cut and spoiled files and in random runs of begin and append.
+
+usage: python3 tests/scale.py [--cases N] [--seed S] WORDS...
+       python3 tests/scale.py [--seed S] --show CASE
+
+WORDS are how the driver is run. It is made of tests/scale/*.c and whatever library is to be compared:
+
+    x86_64-linux-gnu-gcc -std=c11 -D_GNU_SOURCE -O2 -Iinclude -static -o target/command/scale tests/scale/*.c target/staticlib/libvrazhupa.a
+
+A case is one call, and the comparison ends with the file or run of appends in which case N is made. The driver prints each difference, and at last its counts;
+its status is the status here, or 1 where so many cases did not meet every refusal. --show prints a case of a seed with all that it is given, and compares
+nothing.
+"""
+
+import argparse
+import random
+import subprocess
+import sys
+import time
+
+import remembering
+import scale_files
+import scale_largest
+import scale_reading
+import scale_writing
+from scale_stream import Shown, Stream
+
+# So many cases have to meet each of these.
+LONG_ENOUGH = 10_000
+REFUSALS = set(range(1, 27)) | {30, 31, 32, 33, 34}
+IN_MAPS = set(range(1, 26)) | {27}
+AT_ONCE = 1 << 20
+
+
+def arguments():
+    parser = argparse.ArgumentParser(description=__doc__.split("\n")[0])
+    parser.add_argument("--cases", type=int, default=10_000)
+    parser.add_argument("--seed", type=int, default=1)
+    parser.add_argument("--show", type=int)
+    parser.add_argument("words", nargs=argparse.REMAINDER)
+    given = parser.parse_args()
+    if not given.words and given.show is None:
+        parser.error("how is the driver run?")
+    return given
+
+
+def send(stream, cases):
+    """The largest files, all that the corpora have, then files and runs in turn, and the end of the stream."""
+    rng = stream.rng
+    scale_largest.largest_cases(stream, rng)
+    scale_writing.corpus_runs(stream)
+    listed = scale_files.of_corpora()
+    for file in listed:
+        scale_reading.few_cases(stream, rng, file)
+    chosen = scale_files.chooser(listed)
+    while stream.cases < cases:
+        scale_reading.file_cases(stream, rng, chosen(rng))
+        scale_writing.run_cases(stream, rng)
+    stream.end()
+
+
+def sent_to(driver, stream, cases):
+    """Sends all to the driver; whether it was there to take it."""
+    try:
+        try:
+            send(stream, cases)
+        finally:
+            driver.stdin.close()
+    except BrokenPipeError:
+        print("the driver stopped before its end")
+        return False
+    return True
+
+
+def all_met(stream):
+    """Whether so many cases met every refusal; says which they did not."""
+    unmet = sorted(REFUSALS - set(stream.refusals)), sorted(IN_MAPS - set(stream.refusals_in_maps))
+    if stream.cases < LONG_ENOUGH or unmet == ([], []):
+        return True
+    print("refusals not met: %s, in maps: %s" % unmet)
+    return False
+
+
+def compare(given):
+    """Runs the driver on the stream; its status."""
+    start = time.monotonic()
+    driver = subprocess.Popen(given.words, stdin=subprocess.PIPE, bufsize=AT_ONCE)
+    stream = Stream(random.Random(given.seed), driver.stdin.write)
+    whole = sent_to(driver, stream, given.cases)
+    status = driver.wait()
+    in_maps = [f"{number}: {count}" for number, count in sorted(stream.refusals_in_maps.items()) if number]
+    print("refusals in maps: " + ", ".join(in_maps))
+    print(f"seed {given.seed}, {stream.cases} cases in {time.monotonic() - start:.0f} seconds")
+    return status or (0 if whole and all_met(stream) else 1)
+
+
+def show(given):
+    try:
+        send(Stream(random.Random(given.seed), lambda content: None, given.show), given.show)
+    except Shown:
+        return 0
+    print("no such case")
+    return 1
+
+
+def main():
+    given = arguments()
+    remembering.remember()
+    return show(given) if given.show is not None else compare(given)
+
+
+if __name__ == "__main__":
+    sys.exit(main())

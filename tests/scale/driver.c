@@ -1,0 +1,182 @@
+/* Makes the calls of a stream on whatever implements include/vrazhupa.h, compares all that comes of each, and counts. It knows nothing of partial files. */
+#include "lent.h"
+#include "stream.h"
+
+#include "vrazhupa.h"
+
+#include <inttypes.h>
+#include <signal.h>
+#include <stdbool.h>
+#include <stdio.h>
+#include <stdlib.h>
+#include <unistd.h>
+
+enum { BLOCK, READ, URL, MIME, SERVE, ASK, LIST, MAP, BEGIN, APPEND, KINDS, ZEROS = 254, END = 255 };
+enum { ANSWERS = 64 };
+
+/* What a kind of call takes: its numbers, its memories with their width in bytes, and how many numbers it tells. */
+struct shape {
+    const char *name;
+    struct takes takes;
+    size_t told;
+    struct {
+        const char *name;
+        size_t width;
+    } memories[MEMORIES];
+};
+
+#define TABLES {"segments", 8}, {"chunks", 8}
+
+static const struct shape shapes[KINDS] = {
+    [READ] = {"read", {0, 3}, 4, {{"file", 1}, TABLES}},
+    [URL] = {"url", {0, 1}, 2, {{"file", 1}}},
+    [MIME] = {"mime", {0, 1}, 2, {{"file", 1}}},
+    [SERVE] = {"serve", {1, 3}, 2, {{"file", 1}, TABLES}},
+    [ASK] = {"ask", {1, 3}, 2, {{"file", 1}, TABLES}},
+    [LIST] = {"list", {0, 5}, 4, {{"file", 1}, TABLES, {"had", 8}, {"missing", 8}}},
+    [MAP] = {"map", {1, 2}, 1, {{"file", 1}, {"buffer", 1}}},
+    [BEGIN] = {"begin", {0, 3}, 1, {{"buffer", 1}, {"url", 1}, {"mime", 1}}},
+    [APPEND] = {"append", {4, 3}, 1, {{"buffer", 1}, {"list", 8}, {"data", 1}}},
+};
+
+static struct lent lent[MEMORIES];
+static struct lent told;
+static uint64_t cases;
+static uint64_t differing;
+static uint64_t by_kind[KINDS];
+static uint64_t by_answer[ANSWERS];
+static unsigned kind;
+
+static uint64_t call_on_tables(uint64_t p)
+{
+    const uint8_t *file = lent[0].at;
+    uint64_t *segments = numbers_of(&lent[1]);
+    uint64_t *chunks = numbers_of(&lent[2]);
+    size_t length = lent[0].length;
+    if (kind == READ) {
+        return vrazhupa_read(file, length, segments, lent[1].length, chunks, lent[2].length, numbers_of(&told));
+    }
+    if (kind == SERVE) {
+        return vrazhupa_serve(file, length, segments, lent[1].length, chunks, lent[2].length, p, numbers_of(&told));
+    }
+    if (kind == ASK) {
+        return vrazhupa_ask(file, length, segments, lent[1].length, chunks, lent[2].length, p, numbers_of(&told));
+    }
+    return vrazhupa_list(file, length, segments, lent[1].length, chunks, lent[2].length, numbers_of(&lent[3]), lent[3].length, numbers_of(&lent[4]),
+                         lent[4].length, numbers_of(&told));
+}
+
+static uint64_t make(const uint64_t *numbers)
+{
+    switch (kind) {
+    case URL:
+        return vrazhupa_url(lent[0].at, lent[0].length, numbers_of(&told));
+    case MIME:
+        return vrazhupa_mime(lent[0].at, lent[0].length, numbers_of(&told));
+    case MAP:
+        return vrazhupa_map(lent[0].at, lent[0].length, numbers[0], lent[1].at, lent[1].length, numbers_of(&told));
+    case BEGIN:
+        return vrazhupa_begin(lent[0].at, lent[0].length, lent[1].at, lent[1].length, lent[2].at, lent[2].length, numbers_of(&told));
+    case APPEND:
+        return vrazhupa_append(lent[0].at, lent[0].length, numbers[0], numbers[1], numbers[2], numbers[3] != 0, numbers_of(&lent[1]), lent[1].length,
+                               lent[2].at, lent[2].length, numbers_of(&told));
+    default:
+        return call_on_tables(numbers[0]);
+    }
+}
+
+static void lend_all(const struct shape *shape, const struct call *call)
+{
+    static const struct block nothing;
+    for (size_t at = 0; at < shape->takes.memories; at++) {
+        lend(&lent[at], shape->memories[at].width, &call->memories[at], call->how);
+    }
+    struct memory numbers = {shape->told, &nothing, &call->told};
+    lend(&told, sizeof(uint64_t), &numbers, call->how);
+}
+
+static bool all_as_wanted(const struct shape *shape, const struct call *call, uint64_t answer)
+{
+    char who[48];
+    snprintf(who, sizeof who, "case %" PRIu64 ", %s", cases, shape->name);
+    bool wanted = answer == call->answer;
+    if (!wanted) {
+        printf("%s: answer %" PRIu64 ", wanted %" PRIu64 "\n", who, answer, call->answer);
+    }
+    for (size_t at = 0; at < shape->takes.memories; at++) {
+        wanted &= as_wanted(&lent[at], call->memories[at].after, who, shape->memories[at].name);
+    }
+    wanted &= as_wanted(&told, &call->told, who, "told");
+    return wanted;
+}
+
+static void run_case(void)
+{
+    struct call call = {0};
+    const struct shape *shape = &shapes[kind];
+    take_call(shape->takes, &call);
+    lend_all(shape, &call);
+    cases++;
+    by_kind[kind]++;
+    uint64_t answer = make(call.numbers);
+    if (answer < ANSWERS) {
+        by_answer[answer]++;
+    }
+    if (!all_as_wanted(shape, &call, answer)) {
+        differing++;
+    }
+}
+
+static void say_counts(void)
+{
+    for (unsigned at = READ; at < KINDS; at++) {
+        printf("%s %" PRIu64 "%s", shapes[at].name, by_kind[at], at + 1 < KINDS ? ", " : "; refusals met: ");
+    }
+    const char *between = "";
+    for (unsigned at = 1; at < ANSWERS; at++) {
+        if (by_answer[at] > 0) {
+            printf("%s%u: %" PRIu64, between, at, by_answer[at]);
+            between = ", ";
+        }
+    }
+    printf("; %" PRIu64 " cases, %" PRIu64 " differ\n", cases, differing);
+}
+
+/* A fault comes out of the call, where no other printing is at work. */
+static void stopped(int signal_number)
+{
+    printf("case %" PRIu64 ", %s: stopped by signal %d\n", cases, shapes[kind].name, signal_number);
+    differing++;
+    say_counts();
+    fflush(stdout);
+    _exit(EXIT_FAILURE);
+}
+
+static void catch_faults(void)
+{
+    static const int faults[] = {SIGSEGV, SIGBUS, SIGILL, SIGFPE, SIGABRT, SIGTRAP};
+    for (size_t at = 0; at < sizeof faults / sizeof faults[0]; at++) {
+        signal(faults[at], stopped);
+    }
+}
+
+int main(void)
+{
+    catch_faults();
+    for (kind = take_byte(); kind != END; kind = take_byte()) {
+        if (kind == BLOCK) {
+            take_block();
+        } else if (kind == ZEROS) {
+            take_zeros();
+        } else if (kind < KINDS) {
+            run_case();
+        } else {
+            give_up("no such record");
+        }
+    }
+    if (take_number() != cases) {
+        give_up("the stream has another number of cases");
+    }
+    say_counts();
+    return differing > 0 ? EXIT_FAILURE : EXIT_SUCCESS;
+}

@@ -1,0 +1,135 @@
+"""Chooses the files of the comparison at scale: foreign, cut, spoiled, with faults, of the corpora, and as large as a file may be or a little larger."""
+
+import corpus
+import generate
+import lists
+import maps
+from boxes import box, ftyp, pfhd, surl
+from faults import BOXES, CHUNKS, FAULTS, SEGMENTS, too_many_boxes
+from foreign import close, foreign_entry, foreign_plan, foreign_segment
+from plan import Data, Plan, Segment
+from spoiling import boxes_in, cut
+
+FREE = box(b"free")
+LONGEST = 200_000
+
+
+# Cut.
+
+def cut_at_a_box(rng, file):
+    """Cut where a box begins, where its body does or where it ends, or one byte beside."""
+    places = [place for begin, end, header in boxes_in(file, 0, len(file)) for place in (begin, begin + header, end)]
+    at = rng.choice(places) + rng.choice([-1, 0, 1])
+    return file[:max(0, at)]
+
+
+def cut_file(rng):
+    return rng.choice([cut, cut_at_a_box])(rng, generate.foreign_file(rng))
+
+
+# Large.
+
+def near(rng, most):
+    return rng.choice([most - 1, most, most, most, most + 1])
+
+
+def plain(items):
+    return Plan(ftyp(), [pfhd(), surl()], items)
+
+
+def many_chunks(rng):
+    data = Data(rng.randbytes(rng.choice([15, 2_000, LONGEST - 20_000])))
+    left, segments = near(rng, CHUNKS), []
+    while left > 0:
+        count = min(left, rng.choice([1, 17, 300, CHUNKS, CHUNKS]))
+        segments.append(Segment(rng.randint(0, 9_000), [foreign_entry(rng, [data], 15) for _ in range(count)]))
+        left -= count
+    if rng.random() < 0.5:
+        close(rng, segments, max(segment.end() for segment in segments))
+    return plain([data, *segments]).assemble()
+
+
+def many_segments(rng):
+    datas = [Data(rng.randbytes(24)), Data(rng.randbytes(rng.choice([9, 40_000])))]
+    segments = [foreign_segment(rng, datas, 400) for _ in range(near(rng, SEGMENTS))]
+    items = datas + segments
+    rng.shuffle(items)
+    return plain(items).assemble()
+
+
+def many_boxes(rng):
+    plan = foreign_plan(rng)
+    if rng.random() < 0.4:
+        too_many_boxes(rng, plan)
+    elif rng.random() < 0.5:
+        plan.tail = (BOXES - 2 - len(plan.items)) * FREE
+    else:
+        plan.pfil_parts += (BOXES - len(plan.pfil_parts)) * [FREE]
+    return plan.assemble()
+
+
+def long_data(rng):
+    """Chunks of many bytes, far from the segments."""
+    datas = [Data(rng.randbytes(rng.randint(1, LONGEST // 2))) for _ in range(2)]
+    segments = [foreign_segment(rng, datas, LONGEST) for _ in range(3)]
+    for segment in segments:
+        for entry in segment.entries:
+            if entry.data is not None:
+                entry.size = rng.randint(1, len(entry.data.body) - entry.at)
+    items = datas + segments
+    rng.shuffle(items)
+    return plain(items).assemble()
+
+
+def near_what_the_program_takes(rng):
+    return maps.of_size(rng.choice([65_535, 65_536, 65_537, 131_072]))
+
+
+LARGE = [many_chunks, many_segments, many_boxes, many_boxes, long_data, near_what_the_program_takes]
+
+
+def large_file(rng):
+    return rng.choice(LARGE)(rng)
+
+
+# All of them.
+
+def faulty_file(rng):
+    return generate.faulty_file(rng, rng.choice(sorted(FAULTS)))
+
+
+def twice_faulty_file(rng):
+    """A file with two faults, of which the model says which one counts; that without segments comes last, as the others are put into them."""
+    plan = foreign_plan(rng)
+    for number in sorted(rng.sample(sorted(FAULTS), 2), key=lambda number: number == 12):
+        FAULTS[number](rng, plan)
+    return plan.assemble()
+
+
+def noise(rng):
+    return rng.randbytes(rng.randint(0, 60))
+
+
+def of_corpora():
+    """Every file that the corpora of reading and listing have, once."""
+    return sorted({record.file for record in [*corpus.records(), *lists.records()]})
+
+
+def chooser(listed):
+    """A function that chooses files: first one with each fault and one of each large kind, then of each thousand about so many of each kind."""
+    def listed_file(rng):
+        return rng.choice(listed)
+
+    def spoiled_file(rng):
+        return generate.spoil(rng, listed_file(rng) if rng.random() < 0.2 else generate.foreign_file(rng))
+
+    shares = [(generate.foreign_file, 320), (spoiled_file, 280), (cut_file, 120), (faulty_file, 70), (twice_faulty_file, 120), (listed_file, 80), (noise, 4),
+              (large_file, 6)]
+    makers, weights = zip(*shares)
+    first = [lambda rng, number=number: generate.faulty_file(rng, number) for number in sorted(FAULTS)] + LARGE
+
+    def chosen(rng):
+        maker = first.pop() if first else rng.choices(makers, weights)[0]
+        return maker(rng)
+
+    return chosen
