@@ -6,11 +6,13 @@ use numerals::place::Place;
 use partial::refusals::PLOC_WRONG;
 use segment::chunk::ChunkStep;
 use segment::chunk::Cursor;
+use segment::tops::TOPS;
 ghost use Prim.Native.Nat.{_+_, _≤_};
 ghost use Rattle.boxes.specs.Framing.{boxOf};
 ghost use Rattle.partial.specs.Heading.{Heading};
 ghost use Rattle.partial.specs.Limits.{chunkLimit};
 ghost use Rattle.segment.specs.Data.{Searched};
+ghost use Rattle.segment.specs.Tops.{Tops};
 ghost use Rattle.gathering.specs.Chunks.{Chunked};
 
 // The cursor behind the last entry, or the number of a refusal.
@@ -19,9 +21,10 @@ pub enum ChunksRead {
     Given(Cursor),
 }
 
-// The chunks of a `ploc` in the `pseg` at a place, from its first entry on. No byte may be left over.
+// The chunks of a `ploc` in the `pseg` at a place, from its first entry on, by the table of the file's boxes. No byte may be left over.
 pub(crate) fn chunks_of(
     file: &[u8],
+    tops: &[u64; TOPS],
     pseg: Place,
     l: Location,
     first: Cursor,
@@ -29,13 +32,13 @@ pub(crate) fn chunks_of(
     table: &mut [u64],
 ) -> ChunksRead
     requires { ⌜ before .chunks + l .count ≤ chunkLimit ⌝ }
-    ensures { λ r. ⌜ ((h : Heading) → Searched (now (file .entry)) (boxOf (first .last)) (h .boxes) → Chunked (now (file .entry)) h (pseg .0) l first before (now (table .entry)) (now (table .exit)) r) ⌝ }
+    ensures { λ r. ⌜ ((h : Heading) → Searched (now (file .entry)) (boxOf (first .last)) (h .boxes) → Tops (h .boxes) (now (tops .entry)) → Chunked (now (file .entry)) h (pseg .0) l first before (now (table .entry)) (now (table .exit)) r) ⌝ }
 {
     let end = l.end;
     let mut cursor = first;
     let mut i = 0;
     while i < l.count {
-        match cursor.step(file, pseg, l) {
+        match cursor.step(file, tops, pseg, l) {
             ChunkStep::Refused(n) => return ChunksRead::Refused(n),
             ChunkStep::Given(chunk, next) => {
                 put_chunk(table, before.chunks + i, before.segments, i, chunk);

@@ -8,6 +8,9 @@ use boxes::kinds::PSEG;
 use boxes::walk::Step;
 use boxes::walk::Walk;
 use numerals::place::Place;
+use segment::tops::NO_TOP;
+use segment::tops::TOPS;
+use segment::tops::tops_of;
 ghost use mathlib.Core.Path.{_≡_};
 ghost use lib.ListN.{length};
 ghost use Rattle.boxes.specs.Answer.{given};
@@ -34,6 +37,8 @@ const NO_BOX: Framed = Framed {
 pub fn pass(file: &[u8], segments: &mut [u64], chunks: &mut [u64]) -> Passed
     ensures { λ r. ⌜ ((h : Heading) → boxesIn File (now (file .entry)) 0 (length (now (file .entry))) ≡ given (h .boxes) → Gathers (now (file .entry)) h (now (segments .entry)) (now (segments .exit)) (now (chunks .entry)) (now (chunks .exit)) r) ⌝ }
 {
+    let mut tops = [NO_TOP; TOPS];
+    tops_of(file, &mut tops);
     let mut walk = Walk::new(Container::File, Place(0), Place(file.len() as u64));
     let mut gathered = Gathered::none();
     let mut last = NO_BOX;
@@ -42,7 +47,7 @@ pub fn pass(file: &[u8], segments: &mut [u64], chunks: &mut [u64]) -> Passed
             Step::Next(b, next) => {
                 walk = next;
                 if b.kind == PSEG.code {
-                    match segment_of(file, b, gathered, last, segments, chunks) {
+                    match segment_of(file, &tops, b, gathered, last, segments, chunks) {
                         SegmentRead::Refused(n) => return Passed::Refused(n),
                         SegmentRead::Given(more, held) => {
                             gathered = more;

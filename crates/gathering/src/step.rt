@@ -12,6 +12,7 @@ use partial::position::Position;
 use partial::refusals::SOURCE_TOO_LONG;
 use partial::refusals::TOO_MANY_CHUNKS;
 use segment::chunk::Cursor;
+use segment::tops::TOPS;
 ghost use Prim.Native.Nat.{_≤_};
 ghost use mathlib.Core.List.{List};
 ghost use mathlib.Core.Path.{_≡_};
@@ -20,6 +21,7 @@ ghost use Rattle.partial.specs.Heading.{Heading};
 ghost use Rattle.partial.specs.Limits.{chunkLimit};
 ghost use Rattle.partial.specs.Segments.{Segment};
 ghost use Rattle.segment.specs.Data.{Searched};
+ghost use Rattle.segment.specs.Tops.{Tops};
 ghost use Rattle.gathering.specs.Gathered.{gatheredOf};
 ghost use Rattle.gathering.specs.Step.{Counted, Segmented};
 
@@ -29,9 +31,10 @@ pub enum SegmentRead {
     Given(Gathered, Framed),
 }
 
-// The segment of a `pseg` box, beside what was gathered before it.
+// The segment of a `pseg` box, beside what was gathered before it, by the table of the file's boxes.
 pub(crate) fn segment_of(
     file: &[u8],
+    tops: &[u64; TOPS],
     b: Framed,
     before: Gathered,
     last: Framed,
@@ -39,7 +42,7 @@ pub(crate) fn segment_of(
     chunks: &mut [u64],
 ) -> SegmentRead
     requires { ⌜ (before .segments ≤ boxLimit) × (before .chunks ≤ chunkLimit) ⌝ }
-    ensures { λ r. ⌜ Counted before r × ((h : Heading) (ss : List Segment) → Searched (now (file .entry)) (boxOf last) (h .boxes) → before ≡ gatheredOf ss → Segmented (now (file .entry)) h ss (boxOf b) (now (segments .entry)) (now (segments .exit)) (now (chunks .entry)) (now (chunks .exit)) r) ⌝ }
+    ensures { λ r. ⌜ Counted before r × ((h : Heading) (ss : List Segment) → Searched (now (file .entry)) (boxOf last) (h .boxes) → Tops (h .boxes) (now (tops .entry)) → before ≡ gatheredOf ss → Segmented (now (file .entry)) h ss (boxOf b) (now (segments .entry)) (now (segments .exit)) (now (chunks .entry)) (now (chunks .exit)) r) ⌝ }
 {
     let place = b.at;
     match parts_of(file, b) {
@@ -61,7 +64,7 @@ pub(crate) fn segment_of(
                 start: Position(fields.offset),
                 last,
             };
-            match chunks_of(file, place, location, first, before, chunks) {
+            match chunks_of(file, tops, place, location, first, before, chunks) {
                 ChunksRead::Refused(n) => SegmentRead::Refused(n),
                 ChunksRead::Given(cursor) => {
                     put_segment(segments, before.segments, place, fields, count, header);

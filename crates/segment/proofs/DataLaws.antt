@@ -1,28 +1,29 @@
 -- Laws of the data box that holds a chunk: what the tests of a box decide, and what a search has found.
 use Prim.Native.Nat.{ℕ, _+_, _≤_, _<_}
 use mathlib.Core.Bool.{Bool, true, false, _&&_, false≢true}
-use mathlib.Core.List.{List, [], _∷_, _++_}
+use mathlib.Core.List.{List}
 use mathlib.Core.Logic.{inl, inr}
 use mathlib.Core.Path.{_≡_, refl, sym, ap, subst, _∙_}
 use native.Mathlib.Decide.{decLe}
-use native.Mathlib.Nat.{add-zero, eq-or-lt-of-le}
+use native.Mathlib.Nat.{eq-or-lt-of-le}
 use native.Mathlib.Omega.{arith}
 use borrow.Author.Tests.{leb-true, le-leb, lt-leb, eq-eqb, ne-eqb}
 use lib.Dec.{leb}
-use lib.ListN.{length, length-append}
+use lib.ListN.{length}
 use Rattle.boxes.specs.Answer.{given}
 use Rattle.boxes.specs.Framing.{Box, boxesIn, boxOf}
 use Rattle.boxes.specs.Kinds.{pdat, is, boxAt, noBox}
 use Rattle.boxes.specs.declared.framing.Framed.{Framed}
 use Rattle.boxes.specs.declared.kinds.Container.the-variants.{File}
 use Rattle.boxes.proofs.ContainerLaws.{boxes-standing, boxes-apart}
-use Rattle.boxes.proofs.KindLaws.{boxAt-getD, boxAt-first, boxAt-second, is-eqb}
+use Rattle.boxes.proofs.KindLaws.{boxAt-getD, is-eqb}
 use Rattle.boxes.proofs.ToldLaws.{box-told}
 use Rattle.partial.specs.Entries.{mayLie}
 use Rattle.partial.specs.Heading.{Heading}
 use Rattle.partial.specs.Sequences.{someOf}
-use Rattle.partial.proofs.Meaning.SequenceLaws.{which, both, some-append, some-at, some-by}
+use Rattle.partial.proofs.Meaning.SequenceLaws.{which, both, some-at, some-by}
 use Rattle.segment.specs.Data.{holdsChunk, Among, Searched, found, Finds, Onward}
+use Rattle.segment.specs.Tops.{Tops}
 use Rattle.segment.specs.declared.data.Held.{Held}
 use Rattle.segment.specs.declared.data.Held.the-variants.{In, Nowhere}
 
@@ -50,30 +51,11 @@ module _ (place size : ℕ) (b : Box) where
     pub holds-kind : is pdat b ≡ true
     holds-kind = both (is pdat b) (leb (b .body) place) (tests .0) .0
 
-    holds-low : b .body ≤ place
+    pub holds-low : b .body ≤ place
     holds-low = leb-true (b .body) place (both (is pdat b) (leb (b .body) place) (tests .0) .1)
 
-    holds-whole : place + size ≤ b .end
+    pub holds-whole : place + size ≤ b .end
     holds-whole = leb-true (place + size) (b .end) (tests .1)
-
--- a box after some others is among all
-pub among-passed : (bs more : List Box) (b : Box) {all : List Box} → all ≡ (bs ++ (b ∷ [])) ++ more → Among all b
-among-passed bs more b {all} e =
-    let short : length bs < length (bs ++ (b ∷ [])) = simp length-append (omega arith) in
-    record {
-      number = length bs;
-      there = rw e (simp length-append (omega arith));
-      same =
-          rw e
-          (boxAt-first (bs ++ (b ∷ [])) more (length bs) short
-          ∙ simp add-zero at (boxAt-second bs (b ∷ []) 0)
-          ∙ boxAt-getD 0 (b ∷ []));
-    }
-
--- where none holds a chunk, and one more does not, none does
-pub none-passed : (test : Box → Bool) (bs : List Box) (b : Box) → someOf test bs ≡ false → test b ≡ false → someOf test (bs ++ (b ∷ [])) ≡ false
-unfolding someOf
-none-passed test bs b none other = some-append test bs (b ∷ []) ∙ rw (none, other)
 
 -- a chunk may lie where a box holds it
 pub lies-some : (h : Heading) (state place size : ℕ) → mayLie h state place size ≡ someOf (holdsChunk place size) (h .boxes)
@@ -115,45 +97,45 @@ module _ (f : List ℕ) {bs : List Box} (known : boxesIn File f 0 (length f) ≡
       ]
 
 -- what a search has found
-module _ {f : List ℕ} {last : Box} {place size : ℕ} where
-  pub finds-box : (b : Framed) → holdsChunk place size (boxOf b) ≡ true → ((bs : List Box) → Searched f last bs → Among bs (boxOf b)) → Finds f last place size (In b)
+module _ {f tops : List ℕ} {last : Box} {place size : ℕ} where
+  pub finds-box : (b : Framed) → holdsChunk place size (boxOf b) ≡ true → ((bs : List Box) → Searched f last bs → Tops bs tops → Among bs (boxOf b)) → Finds f tops last place size (In b)
   unfolding found
   finds-box b holds among =
       record {
-        answer = λ h p state.
-            let a = among (h .boxes) p in
+        answer = λ h p t state.
+            let a = among (h .boxes) p t in
             sym (lies-some h state place size ∙ some-by (holdsChunk place size) noBox (h .boxes) (a .number) (a .there) (ap (holdsChunk place size) (sym (boxAt-getD (a .number) (h .boxes)) ∙ a .same) ∙ holds));
         holds = λ {b = b′} e.
             let same : b ≡ b′ = cc in
             subst (λ (b : Framed). holdsChunk place size (boxOf b) ≡ true) same holds;
-        onward = λ h p {b = b′} e.
+        onward = λ h p t {b = b′} e.
             let same : b ≡ b′ = cc in
-            subst (λ b. Searched f (boxOf b) (h .boxes)) same (record { boxes = p .boxes; known = λ _. among (h .boxes) p });
+            subst (λ b. Searched f (boxOf b) (h .boxes)) same (record { boxes = p .boxes; known = λ _. among (h .boxes) p t });
       }
 
-  pub finds-none : ((bs : List Box) → Searched f last bs → someOf (holdsChunk place size) bs ≡ false) → Finds f last place size Nowhere
+  pub finds-none : ((bs : List Box) → Searched f last bs → Tops bs tops → someOf (holdsChunk place size) bs ≡ false) → Finds f tops last place size Nowhere
   unfolding found
   finds-none none =
       record {
-        answer = λ h p state. sym (lies-some h state place size ∙ none (h .boxes) p);
+        answer = λ h p t state. sym (lies-some h state place size ∙ none (h .boxes) p t);
         holds = λ e. cc;
-        onward = λ h p e.
+        onward = λ h p t e.
             let z : _≡_ {A = ℕ} 0 1 = cc in
             absurd (omega arith);
       }
 
   -- two searches find the same box
-  pub one-found : (h : Heading) → Searched f last (h .boxes) → (x y : Held) → Finds f last place size x → Finds f last place size y → x ≡ y
+  pub one-found : (h : Heading) → Searched f last (h .boxes) → Tops (h .boxes) tops → (x y : Held) → Finds f tops last place size x → Finds f tops last place size y → x ≡ y
   unfolding found
-  one-found h known (In a) (In b) p q =
+  one-found h known t (In a) (In b) p q =
       let first = p .holds refl in
       let second = q .holds refl in
-      let among = p .onward h known refl .known (holds-kind place size (boxOf a) first) in
-      let among′ = q .onward h known refl .known (holds-kind place size (boxOf b) second) in
+      let among = p .onward h known t refl .known (holds-kind place size (boxOf a) first) in
+      let among′ = q .onward h known t refl .known (holds-kind place size (boxOf b) second) in
       ap In (box-told a b (one-holds f (known .boxes) place size among among′ first second))
-  one-found h known (In a) Nowhere p q = absurd (false≢true (sym (p .answer h known 0 ∙ sym (q .answer h known 0))))
-  one-found h known Nowhere (In b) p q = absurd (false≢true (p .answer h known 0 ∙ sym (q .answer h known 0)))
-  one-found h known Nowhere Nowhere p q = refl
+  one-found h known t (In a) Nowhere p q = absurd (false≢true (sym (p .answer h known t 0 ∙ sym (q .answer h known t 0))))
+  one-found h known t Nowhere (In b) p q = absurd (false≢true (p .answer h known t 0 ∙ sym (q .answer h known t 0)))
+  one-found h known t Nowhere Nowhere p q = refl
 
 -- after the same chunk the same box is to be looked at first
 pub one-onward : {f : List ℕ} {last : Box} {bs : List Box} {placed : Bool} {place size : ℕ} (a b : Framed) → Onward f last bs placed place size (boxOf a) → Onward f last bs placed place size (boxOf b) → a ≡ b

@@ -1,17 +1,29 @@
--- Each public call's contract determines its answer: two that it allows of the same arguments are equal. A call that searches a file for a
--- data box is determined where the file's boxes are known, and so is which box it names.
+-- Each public call's contract determines its answer: two that it allows of the same arguments are equal. The table of a file's boxes is determined
+-- where these are known. So is a call that searches a file for a data box, where it is lent their table, and so is which box it names.
+use mathlib.Core.List.{List}
+use mathlib.Core.Path.{_≡_}
 use denote.Ref.{now}
-use Rattle.boxes.specs.Framing.{boxOf}
-use Rattle.numerals.proofs.Determined.{OneKnown}
+use lib.ListN.{length}
+use Rattle.boxes.specs.Answer.{given}
+use Rattle.boxes.specs.Framing.{Box, boxesIn, boxOf}
+use Rattle.boxes.specs.declared.kinds.Container.the-variants.{File}
+use Rattle.numerals.proofs.Determined.{OneLeft, OneKnown}
 use Rattle.partial.specs.Heading.{Heading}
 use Rattle.segment.specs.Data.{Searched}
+use Rattle.segment.specs.Tops.{Tops}
 use Rattle.segment.proofs.ChunkLaws.{one-step}
 use Rattle.segment.proofs.DataLaws.{one-found}
+use Rattle.segment.proofs.TopsLaws.{one-table}
 use Rattle.segment.proofs.chunk.Cursor.step.Reads as step
 use Rattle.segment.proofs.data.held_at.Reads as held-at
+use Rattle.segment.proofs.tops.tops_of.Reads as tops-of
 
-held-at-result : OneKnown held-at.Post (λ κs args (h : Heading). Searched (now (args .0)) (boxOf (args .1 .0)) (h .boxes))
-held-at-result κs args h known x y after after′ p q = one-found h known x y p q
+tops-of-table : (bs : List Box)
+    → OneLeft (λ κs args x after. (boxesIn File (now (args .0)) 0 (length (now (args .0))) ≡ given bs) × tops-of.Post κs args x after) (λ κs after. now (after .1 .0))
+tops-of-table bs κs args x y after after′ (known, p) (_, q) = one-table (p bs known) (q bs known)
 
-step-result : OneKnown step.Post (λ κs args (h : Heading). Searched (now (args .1 .0)) (boxOf (args .0 .last)) (h .boxes))
-step-result κs args h known x y after after′ p q = one-step h known x y p q
+held-at-result : OneKnown held-at.Post (λ κs args (h : Heading). Searched (now (args .0)) (boxOf (args .1 .1 .0)) (h .boxes) × Tops (h .boxes) (now (args .1 .0)))
+held-at-result κs args h (known, listed) x y after after′ p q = one-found h known listed x y p q
+
+step-result : OneKnown step.Post (λ κs args (h : Heading). Searched (now (args .1 .0)) (boxOf (args .0 .last)) (h .boxes) × Tops (h .boxes) (now (args .1 .1 .0)))
+step-result κs args h (known, listed) x y after after′ p q = one-step h known listed x y p q

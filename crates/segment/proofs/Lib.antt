@@ -2,3 +2,4 @@ pub mod ChunkLaws
 pub mod DataLaws
 pub mod Determined
 pub mod PlacedLaws
+pub mod TopsLaws

@@ -20,6 +20,7 @@ use Rattle.partial.specs.Segments.{present, hasPlace}
 use Rattle.partial.proofs.Meaning.SequenceLaws.{both}
 use Rattle.segment.specs.Data.{Searched, found, Finds, Onward}
 use Rattle.segment.specs.Placed.{Reaches, placeAnswer, Places}
+use Rattle.segment.specs.Tops.{Tops}
 use Rattle.segment.specs.declared.data.Held.{Held}
 use Rattle.segment.specs.declared.data.Held.the-variants as Held
 use Rattle.segment.specs.declared.placed.Placed.the-variants.{Refused, At}
@@ -90,36 +91,36 @@ module _ (state size : ℕ) where
   some-bytes has = ltb-true 0 size (both (present state) (ltb 0 size) has .1)
 
 -- the place of an entry's chunk
-module _ {f : List ℕ} {last : Box} {pseg : ℕ} {e : Entry} where
-  places-refused : {n : ℕ} → ((h : Heading) → Searched f last (h .boxes) → placeOf h pseg e ≡ refused n) → Places f last pseg e (Refused n)
+module _ {f tops : List ℕ} {last : Box} {pseg : ℕ} {e : Entry} where
+  places-refused : {n : ℕ} → ((h : Heading) → Searched f last (h .boxes) → Tops (h .boxes) tops → placeOf h pseg e ≡ refused n) → Places f tops last pseg e (Refused n)
   unfolding placeAnswer
   places-refused fault =
       record {
-        answer = λ h p. sym (fault h p);
-        onward = λ h p e.
+        answer = λ h p t. sym (fault h p t);
+        onward = λ h p t e.
             let z : _≡_ {A = ℕ} 0 1 = cc in
             absurd (omega arith);
       }
 
-  places-box : {place : Place} {b : Framed} → ((h : Heading) → Searched f last (h .boxes) → placeOf h pseg e ≡ given (place .0))
-      → ((h : Heading) → Searched f last (h .boxes) → Onward f last (h .boxes) (hasPlace (e .state) (e .size)) (place .0) (e .size) (boxOf b))
-      → Places f last pseg e (At place b)
+  places-box : {place : Place} {b : Framed} → ((h : Heading) → Searched f last (h .boxes) → Tops (h .boxes) tops → placeOf h pseg e ≡ given (place .0))
+      → ((h : Heading) → Searched f last (h .boxes) → Tops (h .boxes) tops → Onward f last (h .boxes) (hasPlace (e .state) (e .size)) (place .0) (e .size) (boxOf b))
+      → Places f tops last pseg e (At place b)
   unfolding placeAnswer
   places-box {place} {b} at onward =
       record {
-        answer = λ h p. sym (at h p);
-        onward = λ h p {place = place′} {b = b′} s.
+        answer = λ h p t. sym (at h p t);
+        onward = λ h p t {place = place′} {b = b′} s.
             let there : place ≡ place′ = cc in
             let same : b ≡ b′ = cc in
             subst (λ (q : Place). Onward f last (h .boxes) (hasPlace (e .state) (e .size)) (q .0) (e .size) (boxOf b′)) there
-            (subst (λ (b : Framed). Onward f last (h .boxes) (hasPlace (e .state) (e .size)) (place .0) (e .size) (boxOf b)) same (onward h p));
+            (subst (λ (b : Framed). Onward f last (h .boxes) (hasPlace (e .state) (e .size)) (place .0) (e .size) (boxOf b)) same (onward h p t));
       }
 
   -- a chunk with no place
-  pub places-none : {b : Framed} → last ≡ boxOf b → hasPlace (e .state) (e .size) ≡ false → Places f last pseg e (At (record { 0 = 0 }) b)
+  pub places-none : {b : Framed} → last ≡ boxOf b → hasPlace (e .state) (e .size) ≡ false → Places f tops last pseg e (At (record { 0 = 0 }) b)
   unfolding placeOf
-  places-none same placeless = places-box (λ h p. simp (placeOf, placeless))
-      (λ h p. record {
+  places-none same placeless = places-box (λ h p t. simp (placeOf, placeless))
+      (λ h p t. record {
         known = subst (λ (b : Box). Searched f b (h .boxes)) same p;
         holds = λ has. absurd (false≢true (sym placeless ∙ has));
         kept = λ _. sym same;
@@ -127,36 +128,36 @@ module _ {f : List ℕ} {last : Box} {pseg : ℕ} {e : Entry} where
 
   module _ (has : hasPlace (e .state) (e .size) ≡ true) where
     -- a chunk past every place
-    pub places-past : {r : Reached} → Reaches pseg (e .offset) r → r ≡ Reached.Nowhere → length f < 2 ^ 64 → Places f last pseg e (Refused 24)
+    pub places-past : {r : Reached} → Reaches pseg (e .offset) r → r ≡ Reached.Nowhere → length f < 2 ^ 64 → Places f tops last pseg e (Refused 24)
     unfolding placeOf
-    places-past reaches nowhere short = places-refused (λ h p. go h p (offsetPlace pseg (e .offset)) refl)
+    places-past reaches nowhere short = places-refused (λ h p t. go h p t (offsetPlace pseg (e .offset)) refl)
       where
-        go : (h : Heading) → Searched f last (h .boxes) → (x : Option ℕ) → offsetPlace pseg (e .offset) ≡ x → placeOf h pseg e ≡ refused 24
-        go h p none q = simp (placeOf, has, q)
-        go h p (some n) q =
+        go : (h : Heading) → Searched f last (h .boxes) → Tops (h .boxes) tops → (x : Option ℕ) → offsetPlace pseg (e .offset) ≡ x → placeOf h pseg e ≡ refused 24
+        go h p t none q = simp (placeOf, has, q)
+        go h p t (some n) q =
             let lies : mayLie h (e .state) n (e .size) ≡ false = lies-some h (e .state) n (e .size) ∙ none-past f (p .boxes) n (e .size) (omega (arith, reaches .past nowhere n q)) (some-bytes (e .state) (e .size) has) in
             simp (placeOf, has, q, lies)
 
     -- a chunk at a place that was searched
-    module _ {n : ℕ} (at : offsetPlace pseg (e .offset) ≡ some n) {r : Held} (finds : Finds f last n (e .size) r) where
-      pub places-nowhere : r ≡ Held.Nowhere → Places f last pseg e (Refused 24)
+    module _ {n : ℕ} (at : offsetPlace pseg (e .offset) ≡ some n) {r : Held} (finds : Finds f tops last n (e .size) r) where
+      pub places-nowhere : r ≡ Held.Nowhere → Places f tops last pseg e (Refused 24)
       unfolding placeOf found
       places-nowhere nowhere =
           places-refused
-          (λ h p.
-          let lies : mayLie h (e .state) n (e .size) ≡ false = sym (finds .answer h p (e .state)) ∙ ap found nowhere in
+          (λ h p t.
+          let lies : mayLie h (e .state) n (e .size) ≡ false = sym (finds .answer h p t (e .state)) ∙ ap found nowhere in
           simp (placeOf, has, at, lies))
 
-      pub places-in : {place : Place} {b : Framed} → n ≡ place .0 → r ≡ Held.In b → Places f last pseg e (At place b)
+      pub places-in : {place : Place} {b : Framed} → n ≡ place .0 → r ≡ Held.In b → Places f tops last pseg e (At place b)
       unfolding placeOf found
       places-in same held =
           places-box
-          (λ h p.
-          let lies : mayLie h (e .state) n (e .size) ≡ true = sym (finds .answer h p (e .state)) ∙ ap found held in
+          (λ h p t.
+          let lies : mayLie h (e .state) n (e .size) ≡ true = sym (finds .answer h p t (e .state)) ∙ ap found held in
           let here : placeOf h pseg e ≡ given n = simp (placeOf, has, at, lies) in
           here ∙ ap given same)
-          (λ h p. record {
-            known = finds .onward h p held;
+          (λ h p t. record {
+            known = finds .onward h p t held;
             holds = λ _. rw (← same) (finds .holds held);
             kept = λ placeless. absurd (false≢true (sym placeless ∙ has));
           })

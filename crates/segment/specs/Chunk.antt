@@ -9,6 +9,7 @@ use Rattle.partial.specs.Heading.{Heading}
 use Rattle.partial.specs.Limits.{sourceLimit}
 use Rattle.partial.specs.Segments.{Chunk, hasPlace}
 use Rattle.segment.specs.Data.{Searched, Onward}
+use Rattle.segment.specs.Tops.{Tops}
 use Rattle.segment.specs.declared.chunk.Chunk.{Chunk as CodeChunk}
 use Rattle.segment.specs.declared.chunk.Cursor.{Cursor as CodeCursor}
 use Rattle.segment.specs.declared.chunk.ChunkStep.{ChunkStep}
@@ -28,7 +29,7 @@ chunkAnswer (Refused n) = refused n
 chunkAnswer (Given chunk next) = given (chunkOf chunk, cursorOf next)
 
 -- a cursor's step, and the box to be looked at first in the next one
-pub record Steps (f : List ℕ) (pseg : ℕ) (l : Ploc) (c : CodeCursor) (r : ChunkStep) : Type 0 where
-  pub answer : (h : Heading) → Searched f (boxOf (c .last)) (h .boxes) → chunkAnswer r ≡ chunkStep sourceLimit f h pseg l (cursorOf c)
-  pub onward : (h : Heading) → Searched f (boxOf (c .last)) (h .boxes) → {chunk : CodeChunk} {next : CodeCursor} → r ≡ Given chunk next
+pub record Steps (f tops : List ℕ) (pseg : ℕ) (l : Ploc) (c : CodeCursor) (r : ChunkStep) : Type 0 where
+  pub answer : (h : Heading) → Searched f (boxOf (c .last)) (h .boxes) → Tops (h .boxes) tops → chunkAnswer r ≡ chunkStep sourceLimit f h pseg l (cursorOf c)
+  pub onward : (h : Heading) → Searched f (boxOf (c .last)) (h .boxes) → Tops (h .boxes) tops → {chunk : CodeChunk} {next : CodeCursor} → r ≡ Given chunk next
       → Onward f (boxOf (c .last)) (h .boxes) (hasPlace (chunk .state) (chunk .size)) (chunk .place .0) (chunk .size) (boxOf (next .last))

@@ -12,6 +12,7 @@ use Rattle.boxes.specs.declared.framing.Framed.{Framed}
 use Rattle.boxes.specs.declared.kinds.Container.the-variants.{File}
 use Rattle.partial.specs.Entries.{mayLie}
 use Rattle.partial.specs.Heading.{Heading}
+use Rattle.segment.specs.Tops.{Tops}
 use Rattle.segment.specs.declared.data.Held.{Held}
 use Rattle.segment.specs.declared.data.Held.the-variants.{In, Nowhere}
 
@@ -35,11 +36,11 @@ unfoldable pub found : Held → Bool
 found (In b) = true
 found Nowhere = false
 
--- what a search finds: a box exactly where a chunk may lie, and then the data box of the file that holds it
-pub record Finds (f : List ℕ) (last : Box) (place size : ℕ) (r : Held) : Type 0 where
-  pub answer : (h : Heading) → Searched f last (h .boxes) → (state : ℕ) → found r ≡ mayLie h state place size
+-- what a search by the table of the file's boxes finds: a box exactly where a chunk may lie, and then the data box of the file that holds it
+pub record Finds (f tops : List ℕ) (last : Box) (place size : ℕ) (r : Held) : Type 0 where
+  pub answer : (h : Heading) → Searched f last (h .boxes) → Tops (h .boxes) tops → (state : ℕ) → found r ≡ mayLie h state place size
   pub holds : {b : Framed} → r ≡ In b → holdsChunk place size (boxOf b) ≡ true
-  pub onward : (h : Heading) → Searched f last (h .boxes) → {b : Framed} → r ≡ In b → Searched f (boxOf b) (h .boxes)
+  pub onward : (h : Heading) → Searched f last (h .boxes) → Tops (h .boxes) tops → {b : Framed} → r ≡ In b → Searched f (boxOf b) (h .boxes)
 
 -- the box to be looked at first after a chunk: the one that holds it; where the chunk has no place, the one before
 pub record Onward (f : List ℕ) (last : Box) (bs : List Box) (placed : Bool) (place size : ℕ) (next : Box) : Type 0 where

@@ -1,3 +1,4 @@
+pub mod Tops
 pub mod Data
 pub mod Placed
 pub mod Chunk

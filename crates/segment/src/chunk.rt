@@ -1,6 +1,7 @@
 // The chunks of a `ploc`, one after another.
 use crate::placed::Placed;
 use crate::placed::placed_at;
+use crate::tops::TOPS;
 use boxes::framing::Framed;
 use fields::entry::EntryRead;
 use fields::entry::entry_at;
@@ -35,9 +36,9 @@ pub enum ChunkStep {
 }
 
 impl Cursor {
-    // The chunk of the next entry of a `ploc` in the `pseg` at a place. It starts where the one before it ends.
-    pub fn step(self, s: &[u8], pseg: Place, l: Location) -> ChunkStep
-        ensures { λ r. ⌜ Steps (now (s .entry)) (pseg .0) (plocOf l) self r ⌝ }
+    // The chunk of the next entry of a `ploc` in the `pseg` at a place, by the table of the file's boxes. It starts where the one before it ends.
+    pub fn step(self, s: &[u8], tops: &[u64; TOPS], pseg: Place, l: Location) -> ChunkStep
+        ensures { λ r. ⌜ Steps (now (s .entry)) (now (tops .entry)) (pseg .0) (plocOf l) self r ⌝ }
     {
         let start = self.start;
         let last = self.last;
@@ -49,7 +50,7 @@ impl Cursor {
                 if !ends_by(start.0, size, SOURCE_LIMIT) {
                     return ChunkStep::Refused(SOURCE_TOO_LONG);
                 }
-                match placed_at(s, last, pseg, e) {
+                match placed_at(s, tops, last, pseg, e) {
                     Placed::Refused(n) => ChunkStep::Refused(n),
                     Placed::At(place, held) => ChunkStep::Given(
                         Chunk {

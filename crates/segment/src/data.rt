@@ -1,9 +1,10 @@
 // Where a chunk lies: the data box of a file that holds it.
+use crate::tops::TOPS;
+use crate::tops::top_before;
 use boxes::framing::Framed;
-use boxes::kinds::Container;
+use boxes::framing::Header;
+use boxes::framing::header_at;
 use boxes::kinds::PDAT;
-use boxes::walk::Step;
-use boxes::walk::Walk;
 use fields::sums::ends_by;
 use numerals::place::Place;
 ghost use mathlib.Core.Path.{_≡_};
@@ -31,29 +32,21 @@ fn holds(b: Framed, place: Place, size: u64) -> bool
     ends_by(place.0, size, end.0)
 }
 
-// The data box of a file that holds so many bytes at a place. Chunks often follow each other in one box, so the box that held the last
-// one is looked at first.
-pub fn held_at(s: &[u8], last: Framed, place: Place, size: u64) -> Held
-    ensures { λ r. ⌜ Finds (now (s .entry)) (boxOf last) (place .0) size r ⌝ }
+// The data box of a file that holds so many bytes at a place, by the table of the file's boxes. Chunks often follow each other in one box, so
+// the box that held the last one is looked at first. Any other that holds the chunk is the last one that starts before it.
+pub fn held_at(s: &[u8], tops: &[u64; TOPS], last: Framed, place: Place, size: u64) -> Held
+    ensures { λ r. ⌜ Finds (now (s .entry)) (now (tops .entry)) (boxOf last) (place .0) size r ⌝ }
 {
     if holds(last, place, size) {
         return Held::In(last);
     }
-    let mut walk = Walk::new(Container::File, Place(0), Place(s.len() as u64));
-    loop {
-        match walk.step(s) {
-            Step::Next(b, next) => {
-                if holds(b, place, size) {
-                    return Held::In(b);
-                }
-                walk = next;
-            }
-            Step::End => {
-                return Held::Nowhere;
-            }
-            Step::Refused(_) => {
-                return Held::Nowhere;
-            }
-        }
+    let number = top_before(tops, place);
+    let top = tops[number];
+    let Header::Found(b) = header_at(s, Place(top), Place(s.len() as u64)) else {
+        return Held::Nowhere;
+    };
+    if holds(b, place, size) {
+        return Held::In(b);
     }
+    Held::Nowhere
 }

@@ -2,3 +2,4 @@
 pub mod chunk;
 pub mod data;
 mod placed;
+pub mod tops;

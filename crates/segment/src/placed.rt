@@ -1,6 +1,7 @@
 // The place in the file of an entry's chunk.
 use crate::data::Held;
 use crate::data::held_at;
+use crate::tops::TOPS;
 use boxes::framing::Framed;
 use fields::entry::Entry;
 use fields::state::present;
@@ -47,8 +48,8 @@ fn offset_place(pseg: Place, offset: Offset) -> Reached
 }
 
 // Where the chunk of an entry lies. The place of an empty chunk is not checked.
-pub(crate) fn placed_at(s: &[u8], last: Framed, pseg: Place, e: Entry) -> Placed
-    ensures { λ r. ⌜ Places (now (s .entry)) (boxOf last) (pseg .0) (entryOf e) r ⌝ }
+pub(crate) fn placed_at(s: &[u8], tops: &[u64; TOPS], last: Framed, pseg: Place, e: Entry) -> Placed
+    ensures { λ r. ⌜ Places (now (s .entry)) (now (tops .entry)) (boxOf last) (pseg .0) (entryOf e) r ⌝ }
 {
     let size = e.size;
     let offset = e.offset;
@@ -60,7 +61,7 @@ pub(crate) fn placed_at(s: &[u8], last: Framed, pseg: Place, e: Entry) -> Placed
     }
     match offset_place(pseg, offset) {
         Reached::Nowhere => Placed::Refused(OUTSIDE_DATA),
-        Reached::At(place) => match held_at(s, last, place, size) {
+        Reached::At(place) => match held_at(s, tops, last, place, size) {
             Held::In(b) => Placed::At(place, b),
             Held::Nowhere => Placed::Refused(OUTSIDE_DATA),
         },

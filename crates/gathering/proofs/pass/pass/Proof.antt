@@ -13,6 +13,7 @@ use Rattle.heading.proofs.FoundLaws.{is-kind, is-other}
 use Rattle.partial.specs.Heading.{Heading}
 use Rattle.partial.specs.Limits.{chunkLimit}
 use Rattle.partial.specs.Segments.{chunksOf}
+use Rattle.segment.proofs.TopsLaws.{tops-none}
 use Rattle.gathering.specs.Pass.{Gathers}
 use Rattle.gathering.specs.Step.{Counted, Segmented}
 use Rattle.gathering.proofs.GatheredLaws.{gathered-segments, gathered-chunks}
@@ -21,7 +22,7 @@ use Rattle.gathering.proofs.pass.pass.Statement.{statement}
 use Rattle.gathering.proofs.pass.pass.Tie as tie
 
 abbrev Inv-loop : tie.InvT-loop
-Inv-loop file segments₀ chunks₀ walk₀ gathered₀ last₀ segments chunks walk gathered last =
+Inv-loop file segments₀ chunks₀ tops walk₀ gathered₀ last₀ segments chunks walk gathered last =
     (gathered .segments + walk .left ≤ 512)
     × (gathered .chunks ≤ chunkLimit)
     × (length segments ≡ length segments₀)
@@ -29,7 +30,10 @@ Inv-loop file segments₀ chunks₀ walk₀ gathered₀ last₀ segments chunks 
     × ((h : Heading) → boxesIn File file 0 (length file) ≡ given (h .boxes) → Midway file h segments₀ chunks₀ segments chunks walk gathered last)
 
 abbrev μ-loop : tie.MeasureT-loop
-μ-loop file segments₀ chunks₀ walk₀ gathered₀ last₀ segments chunks walk gathered last = walk .left
+μ-loop file segments₀ chunks₀ tops walk₀ gathered₀ last₀ segments chunks walk gathered last = walk .left
+
+tops-of-requires : tie.Need-tops-of-requires Inv-loop μ-loop
+tops-of-requires c κs = tops-none
 
 new-requires : tie.Need-new-requires Inv-loop μ-loop
 new-requires c κs = tt
@@ -58,7 +62,7 @@ enum-known-b c = search needs
 segment-of-requires : tie.Need-segment-of-requires Inv-loop μ-loop
 unfolding boxLimit
 segment-of-requires c κs =
-    let inv = c .before .before .before .before .before .before .before .before .before .loop .inv in
+    let inv = c .before .before .before .before .before .before .before .before .before .before .loop .inv in
     (omega (arith, inv .0), inv .1)
 
 enum-known-n : tie.Need-enum-known-n Inv-loop μ-loop
@@ -73,36 +77,41 @@ same-length-2 c = search needs
 returns : tie.Need-returns Inv-loop μ-loop
 unfolding Gathers Segmented
 returns c = λ h known.
-    let met = c .before .before .before .before .before .before .before .before .before .before .before .before .before .before in
-    let so-far = met .before .before .before .loop .inv .4 h known in
+    let met = c .before .before .before .before .before .before .before .before .before .before .before .before .before .before .before in
+    let at-loop = met .before .before .before in
+    let so-far = at-loop .loop .inv .4 h known in
+    let listed = at-loop .before .before .before .tops-of .ensures (h .boxes) known in
     let step = next-box (met .before .before .step .ensures) (met .b .given .1) in
-    let told = c .before .before .before .before .before .before .before .segment-of .ensures .1 h (so-far .before) (so-far .known) (so-far .gathered) in
-    midway-refused _ h _ _ so-far step (is-kind pseg _ (c .before .before .before .before .before .before .before .before .before .before .if1 .taken)) (subst (Segmented _ h _ _ _ _ _ _) (c .before .n .given .1) told)
+    let told = c .before .before .before .before .before .before .before .segment-of .ensures .1 h (so-far .before) (so-far .known) listed (so-far .gathered) in
+    midway-refused _ h _ _ so-far step (is-kind pseg _ (c .before .before .before .before .before .before .before .before .before .before .before .if1 .taken)) (subst (Segmented _ h _ _ _ _ _ _) (c .before .n .given .1) told)
 
 enum-known-more : tie.Need-enum-known-more Inv-loop μ-loop
 enum-known-more c = search needs
 
 loop-less : tie.Need-loop-less Inv-loop μ-loop
 loop-less c =
-    let met = c .before .before .before .before .before .before .before .before .before .before .before .before .before .before in
+    let met = c .before .before .before .before .before .before .before .before .before .before .before .before .before .before .before in
     fewer _ _ (next-box (met .before .before .step .ensures) (met .b .given .1))
 
 loop-again : tie.Need-loop-again Inv-loop μ-loop
 unfolding Counted
 loop-again c =
-    let met = c .before .before .before .before .before .before .before .before .before .before .before .before .before .before in
-    let inv = met .before .before .before .loop .inv in
+    let met = c .before .before .before .before .before .before .before .before .before .before .before .before .before .before .before in
+    let at-loop = met .before .before .before in
+    let inv = at-loop .loop .inv in
     let step = next-box (met .before .before .step .ensures) (met .b .given .1) in
     let read = c .before .before .before .before .before .before .before .segment-of .ensures in
+    let kept = c .before .before .before .before .before .before .before .segment-of .kept in
     let counted = subst (Counted _) (c .before .more .given .1) (read .0) in (
       omega (arith, inv .0, counted .0, fewer _ _ step),
       counted .1,
-      search needs,
-      search needs,
+      kept .1 .1 .1 .1 .1 .0 ∙ inv .2,
+      kept .1 .1 .1 .1 .1 .1 .0 ∙ inv .3,
       λ h known.
           let so-far = inv .4 h known in
-          let told = read .1 h (so-far .before) (so-far .known) (so-far .gathered) in
-          midway-more _ h _ _ so-far step (is-kind pseg _ (c .before .before .before .before .before .before .before .before .before .before .if1 .taken)) (subst (Segmented _ h _ _ _ _ _ _) (c .before .more .given .1) told),
+          let listed = at-loop .before .before .before .tops-of .ensures (h .boxes) known in
+          let told = read .1 h (so-far .before) (so-far .known) listed (so-far .gathered) in
+          midway-more _ h _ _ so-far step (is-kind pseg _ (c .before .before .before .before .before .before .before .before .before .before .before .if1 .taken)) (subst (Segmented _ h _ _ _ _ _ _) (c .before .more .given .1) told),
     )
 
 loop-less-2 : tie.Need-loop-less-2 Inv-loop μ-loop
@@ -154,6 +163,7 @@ pass-spec =
     (tie.spec
     Inv-loop
     μ-loop
+    tops-of-requires
     new-requires
     none-requires
     loop-holds

@@ -1,0 +1,56 @@
+// The places of the boxes of a file, in a table: the box before a place is found there without a walk.
+use boxes::kinds::Container;
+use boxes::walk::Step;
+use boxes::walk::Walk;
+use numerals::place::Place;
+ghost use mathlib.Core.List.{List, []};
+ghost use mathlib.Core.Path.{_≡_};
+ghost use lib.ListN.{length};
+ghost use Rattle.boxes.specs.Answer.{given};
+ghost use Rattle.boxes.specs.Framing.{Box, boxesIn};
+ghost use Rattle.boxes.specs.declared.kinds.Container.the-variants.{File};
+ghost use Rattle.segment.specs.Tops.{Tops, Before};
+
+// As many places as a container may hold boxes.
+pub const TOPS: usize = 512;
+
+// What stands behind the last place. No box starts there, and the whole table ascends, so that it is searched without a count of its boxes.
+pub const NO_TOP: u64 = 0xffff_ffff_ffff_ffff;
+
+// Puts the places of the boxes of a file whose framing is right, in their order, into a table that has none yet.
+pub fn tops_of(s: &[u8], tops: &mut [u64; TOPS])
+    requires { ⌜ Tops [] (now tops) ⌝ }
+    ensures { λ r. ⌜ ((bs : List Box) → boxesIn File (now (s .entry)) 0 (length (now (s .entry))) ≡ given bs → Tops bs (now (tops .exit))) ⌝ }
+{
+    let mut walk = Walk::new(Container::File, Place(0), Place(s.len() as u64));
+    let mut i = 0;
+    loop {
+        match walk.step(s) {
+            Step::Next(b, next) => {
+                let at = b.at;
+                tops[i] = at.0;
+                i += 1;
+                walk = next;
+            }
+            Step::End => return,
+            Step::Refused(_) => return,
+        }
+    }
+}
+
+// The number of the last box that starts before a place, by halves; 0 if none does.
+pub(crate) fn top_before(tops: &[u64; TOPS], place: Place) -> usize
+    ensures { λ r. ⌜ Before (now (tops .entry)) (place .0) r ⌝ }
+{
+    let mut low = 0;
+    let mut high = TOPS;
+    while 1 < high - low {
+        let middle = low + (high - low) / 2;
+        if tops[middle] < place.0 {
+            low = middle;
+        } else {
+            high = middle;
+        }
+    }
+    low
+}
