@@ -1,6 +1,6 @@
 -- Each public call's contract determines its answer: two that it allows of the same arguments are equal. The table of a file's boxes is determined
 -- where these are known. So is a call that searches a file for a data box, where it is lent their table, and so is which box it names.
-use mathlib.Core.List.{List}
+use mathlib.Core.List.{List, []}
 use mathlib.Core.Path.{_≡_}
 use denote.Ref.{now}
 use lib.ListN.{length}
@@ -19,8 +19,8 @@ use Rattle.segment.proofs.data.held_at.Reads as held-at
 use Rattle.segment.proofs.tops.tops_of.Reads as tops-of
 
 tops-of-table : (bs : List Box)
-    → OneLeft (λ κs args x after. (boxesIn File (now (args .0)) 0 (length (now (args .0))) ≡ given bs) × tops-of.Post κs args x after) (λ κs after. now (after .1 .0))
-tops-of-table bs κs args x y after after′ (known, p) (_, q) = one-table (p bs known) (q bs known)
+    → OneLeft (λ κs args x after. Tops [] (now (args .1 .0)) × (boxesIn File (now (args .0)) 0 (length (now (args .0))) ≡ given bs) × tops-of.Post κs args x after) (λ κs after. now (after .1 .0))
+tops-of-table bs κs args x y after after′ (none, known, p) (_, _, q) = one-table (p bs none known) (q bs none known)
 
 held-at-result : OneKnown held-at.Post (λ κs args (h : Heading). Searched (now (args .0)) (boxOf (args .1 .1 .0)) (h .boxes) × Tops (h .boxes) (now (args .1 .0)))
 held-at-result κs args h (known, listed) x y after after′ p q = one-found h known listed x y p q

@@ -19,8 +19,7 @@ pub const NO_TOP: u64 = 0xffff_ffff_ffff_ffff;
 
 // Puts the places of the boxes of a file whose framing is right, in their order, into a table that has none yet.
 pub fn tops_of(s: &[u8], tops: &mut [u64; TOPS])
-    requires { ⌜ Tops [] (now tops) ⌝ }
-    ensures { λ r. ⌜ ((bs : List Box) → boxesIn File (now (s .entry)) 0 (length (now (s .entry))) ≡ given bs → Tops bs (now (tops .exit))) ⌝ }
+    ensures { λ r. ⌜ ((bs : List Box) → Tops [] (now (tops .entry)) → boxesIn File (now (s .entry)) 0 (length (now (s .entry))) ≡ given bs → Tops bs (now (tops .exit))) ⌝ }
 {
     let mut walk = Walk::new(Container::File, Place(0), Place(s.len() as u64));
     let mut i = 0;

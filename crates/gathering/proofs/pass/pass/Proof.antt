@@ -33,7 +33,7 @@ abbrev μ-loop : tie.MeasureT-loop
 μ-loop file segments₀ chunks₀ tops walk₀ gathered₀ last₀ segments chunks walk gathered last = walk .left
 
 tops-of-requires : tie.Need-tops-of-requires Inv-loop μ-loop
-tops-of-requires c κs = tops-none
+tops-of-requires c κs = tt
 
 new-requires : tie.Need-new-requires Inv-loop μ-loop
 new-requires c κs = tt
@@ -80,7 +80,7 @@ returns c = λ h known.
     let met = c .before .before .before .before .before .before .before .before .before .before .before .before .before .before .before in
     let at-loop = met .before .before .before in
     let so-far = at-loop .loop .inv .4 h known in
-    let listed = at-loop .before .before .before .tops-of .ensures (h .boxes) known in
+    let listed = at-loop .before .before .before .tops-of .ensures (h .boxes) tops-none known in
     let step = next-box (met .before .before .step .ensures) (met .b .given .1) in
     let told = c .before .before .before .before .before .before .before .segment-of .ensures .1 h (so-far .before) (so-far .known) listed (so-far .gathered) in
     midway-refused _ h _ _ so-far step (is-kind pseg _ (c .before .before .before .before .before .before .before .before .before .before .before .if1 .taken)) (subst (Segmented _ h _ _ _ _ _ _) (c .before .n .given .1) told)
@@ -109,7 +109,7 @@ loop-again c =
       kept .1 .1 .1 .1 .1 .1 .0 ∙ inv .3,
       λ h known.
           let so-far = inv .4 h known in
-          let listed = at-loop .before .before .before .tops-of .ensures (h .boxes) known in
+          let listed = at-loop .before .before .before .tops-of .ensures (h .boxes) tops-none known in
           let told = read .1 h (so-far .before) (so-far .known) listed (so-far .gathered) in
           midway-more _ h _ _ so-far step (is-kind pseg _ (c .before .before .before .before .before .before .before .before .before .before .before .if1 .taken)) (subst (Segmented _ h _ _ _ _ _ _) (c .before .more .given .1) told),
     )

@@ -15,7 +15,7 @@ use Rattle.segment.proofs.tops.tops_of.Statement.{statement}
 use Rattle.segment.proofs.tops.tops_of.Tie as tie
 
 abbrev Inv-loop : tie.InvT-loop
-Inv-loop s tops₀ walk₀ i₀ tops walk i = (bs : List Box) × Passed s walk₀ bs walk × (length bs ≡ i) × Tops bs tops
+Inv-loop s tops₀ walk₀ i₀ tops walk i = (bs : List Box) × Passed s walk₀ bs walk × (length bs ≡ i) × (Tops [] tops₀ → Tops bs tops)
 
 abbrev μ-loop : tie.MeasureT-loop
 μ-loop s tops₀ walk₀ i₀ tops walk i = walk .left
@@ -32,7 +32,7 @@ new-requires : tie.Need-new-requires Inv-loop μ-loop
 new-requires c κs = tt
 
 loop-holds : tie.Need-loop-holds Inv-loop μ-loop
-loop-holds c = ([], passed-none _ _, refl, c .before .before .pre)
+loop-holds c = ([], passed-none _ _, refl, λ none. none)
 
 step-requires : tie.Need-step-requires Inv-loop μ-loop
 step-requires c κs = tt
@@ -62,24 +62,24 @@ loop-again c =
       inv .0 ++ (boxOf b ∷ []),
       passed-more (inv .1) (next-box (met .before .before .step .ensures) (met .b .given .1)),
       omega (arith, length-append (inv .0) (boxOf b ∷ []), inv .2),
-      tops-more (boxOf b) (inv .2) (ap (λ (x : Box). x .at) (box-fields b)) (room c) (inv .3),
+      (λ none. tops-more (boxOf b) (inv .2) (ap (λ (x : Box). x .at) (box-fields b)) (room c) (inv .3 none)),
     )
 
 enum-told : tie.Need-enum-told Inv-loop μ-loop
 enum-told c = search needs
 
 returns : tie.Need-returns Inv-loop μ-loop
-returns c = λ bs known.
+returns c = λ bs none known.
     let at-loop = c .before .before .before in
     let inv = at-loop .loop .inv in
     let end = no-more (c .before .before .step .ensures) (c .enum-told .given .1) in
-    subst (λ (bs : List Box). Tops bs (at-loop .loop .tops)) (given-same (sym (all-boxes (at-loop .before .new .ensures) (inv .1) end) ∙ known)) (inv .3)
+    subst (λ (bs : List Box). Tops bs (at-loop .loop .tops)) (given-same (sym (all-boxes (at-loop .before .new .ensures) (inv .1) end) ∙ known)) (inv .3 none)
 
 enum-told-2 : tie.Need-enum-told-2 Inv-loop μ-loop
 enum-told-2 c = search needs
 
 returns-2 : tie.Need-returns-2 Inv-loop μ-loop
-returns-2 c = λ bs known.
+returns-2 c = λ bs none known.
     let at-loop = c .before .before .before in
     let fault = a-fault (c .before .before .step .ensures) (c .enum-told2 .given .1) in
     absurd (not-both (sym (first-fault (at-loop .before .new .ensures) (at-loop .loop .inv .1) fault) ∙ known))
