@@ -1,21 +1,23 @@
 -- Laws of listing: the lists of a file's chunks are those of the file, what each test decides, and what is left in the tables and lists.
 use Prim.Native.Nat.{ℕ, _*_, _<_, _≤_}
-use mathlib.Core.Bool.{and-false}
+use mathlib.Core.Bool.{true, false, and-false}
 use mathlib.Core.List.{List}
-use mathlib.Core.Path.{_≡_, refl, _∙_}
+use mathlib.Core.Path.{_≡_, refl, sym, ap, _∙_}
 use native.Mathlib.Omega.{arith}
 use borrow.Author.Tests.{le-leb, lt-leb}
 use lib.ListN.{length}
 use Rattle.boxes.specs.Answer.{refused, given}
 use Rattle.partial.specs.Answers.{listedAnswer}
 use Rattle.partial.specs.Limits.{sourceLimit}
-use Rattle.partial.specs.Meaning.{supplied, describedLength}
+use Rattle.partial.specs.Meaning.{supplies, supplied, describedLength}
 use Rattle.partial.specs.Memory.{fits, filled, after}
-use Rattle.partial.specs.Ranges.{ranges, classOf, rangesOf, hadList, missingList}
+use Rattle.partial.specs.Ranges.{had, missing, ranges, classOf, rangesOf, hadList, missingList}
 use Rattle.partial.specs.Segments.{Chunk, Segment, chunksOf}
+use Rattle.partial.specs.Sequences.{someOf}
 use Rattle.partial.specs.Tables.{tabled, listed, segmentRows, chunkRows, hadRows, missingRows, totals}
 use Rattle.partial.specs.declared.answers.Listed.{Listed}
 use Rattle.partial.specs.declared.answers.Listed.the-variants as Listed
+use Rattle.partial.proofs.Meaning.SupplyLaws.{supplied-some}
 use Rattle.partial.proofs.Reading.LimitLaws.{chunks-few}
 use Rattle.filling.specs.Rows.{Put}
 use Rattle.gathering.proofs.GatheredLaws.{gathered-chunks}
@@ -25,9 +27,13 @@ use Rattle.reading.proofs.JudgedLaws.{Accepted}
 use Rattle.reading.proofs.TableLaws.{chunks-filled}
 use Rattle.serving.specs.Rows.{chunksIn}
 use Rattle.serving.proofs.RowsLaws.{filled-chunks}
-use Rattle.listing.specs.Calls.{Known, Counted, Listing}
+use Rattle.spans.specs.Chunks.{SpansOf}
+use Rattle.spans.specs.Ranges.{classBy}
+use Rattle.spans.specs.Spans.{coveredBy, Same}
+use Rattle.spans.proofs.RangeLaws.{ranges-same}
+use Rattle.spans.proofs.SpanLaws.{same-covered}
+use Rattle.listing.specs.Calls.{Known, Spanned, Counted, Listing}
 use Rattle.listing.specs.Lists.{Lists}
-use Rattle.listing.specs.Ranges.{classIn}
 use Rattle.listing.specs.declared.lists.Totals.{Totals}
 use Rattle.listing.proofs.ListLaws.{range-rows-long}
 
@@ -47,23 +53,38 @@ known-few {f = f} k = omega (arith, k .many, chunks-few sourceLimit f (k .h) (k 
 
 -- ---- the lists of a file
 
-pub ranges-by : (ss : List Segment) → ranges (classIn (chunksOf ss)) (describedLength ss) 0 ≡ rangesOf ss
-unfolding rangesOf classOf classIn supplied
-ranges-by ss = refl
+-- the ordered spans of the file's rows
+pub spanned-by : {f : List ℕ} {count described : ℕ} {ss : List Segment} (k : Known f count described ss) {t₀ t t′ : List ℕ} {n : ℕ} → chunksIn t₀ count ≡ chunksOf ss
+    → SpansOf t₀ count described t n → Same n t t′
+    → Spanned ss t′ n described
+unfolding classBy classOf
+spanned-by {ss = ss} k {t′ = t′} {n} rows spans same =
+    record {
+      long = k .long;
+      class = λ q below.
+          let covered : coveredBy t′ n q ≡ supplied ss q =
+          same-covered same q ∙ spans .covers q below ∙ ap (λ (cs : List Chunk). someOf (supplies q) cs) rows ∙ sym (supplied-some ss q) in
+          λ i. elim (covered i) [ true ↦ had | false ↦ missing ];
+    }
 
--- lists of the file's chunks are the file's
+-- the ranges by the spans of a file are the file's
+pub spanned-ranges : {ss : List Segment} {t : List ℕ} {n described : ℕ} → Spanned ss t n described → ranges (classBy t n) described 0 ≡ rangesOf ss
+unfolding rangesOf
+spanned-ranges {ss} {t} {n} {described} s =
+    ranges-same (classBy t n) (classOf ss) described 0 (λ q from below. s .class q (omega arith)) ∙ ap (λ (end : ℕ). ranges (classOf ss) end 0) (s .long)
+
+-- lists by the file's spans are the file's
 pub record OfFile (ss : List Segment) (had₀ had₁ missing₀ missing₁ : List ℕ) (t : Totals) : Type 0 where
   pub counts : Counted ss t
   pub had : Put had₀ 0 (hadRows ss) had₁
   pub missing : Put missing₀ 0 (missingRows ss) missing₁
 
-pub of-file : {cs : List Chunk} {end : ℕ} {had₀ had₁ missing₀ missing₁ : List ℕ} {t : Totals} (ss : List Segment) → cs ≡ chunksOf ss → end ≡ describedLength ss
-    → Lists cs end had₀ had₁ missing₀ missing₁ t
+pub of-file : {table : List ℕ} {n end : ℕ} {had₀ had₁ missing₀ missing₁ : List ℕ} {t : Totals} {ss : List Segment} → Spanned ss table n end
+    → Lists (classBy table n) end had₀ had₁ missing₀ missing₁ t
     → OfFile ss had₀ had₁ missing₀ missing₁ t
 unfolding hadRows missingRows hadList missingList
-of-file ss chunks long s =
-    let all = (λ i. ranges (classIn (chunks i)) (long i) 0) ∙ ranges-by ss in
-    let s = rw all at s in
+of-file spanned s =
+    let s = rw (spanned-ranges spanned) at s in
     record {
       counts = record { hadMany = s .hadMany; missingMany = s .missingMany; received = s .received; missed = s .missed };
       had = s .hadRows;

@@ -1,28 +1,31 @@
 -- Each public call's contract determines its answer, and what it leaves in the lent tables and lists: two that it allows of the same arguments are equal.
--- The range of a position is determined where the position is below the end, and what is put into a list where all its ranges fit.
+-- The class of a position by the spans of a file is determined where the position is below the described length, and what is put into a list where all its
+-- ranges fit.
 use Prim.Native.Nat.{ℕ, _<_, _≤_}
 use mathlib.Core.List.{List}
 use mathlib.Core.Path.{_≡_, sym, _∙_}
 use denote.Ref.{now}
 use lib.ListN.{length}
-use Rattle.numerals.proofs.Determined.{OneResult, OneLeft, OneKnown}
+use Rattle.numerals.proofs.Determined.{OneResult, OneLeft}
 use Rattle.boxes.proofs.ToldLaws.{Tells}
 use Rattle.partial.specs.Answers.{listedAnswer}
 use Rattle.partial.specs.Ranges.{had, missing, ranges, ofClass}
+use Rattle.partial.specs.Segments.{Segment}
 use Rattle.partial.specs.Tables.{Totals, rangeRows}
 use Rattle.partial.specs.declared.answers.Listed.the-variants as Listed
 use Rattle.filling.specs.Rows.{Put}
 use Rattle.gathering.proofs.Determined.{OneLeftKnown}
 use Rattle.gathering.proofs.RowLaws.{put-filled}
-use Rattle.serving.specs.Rows.{chunksIn}
-use Rattle.listing.specs.Ranges.{classIn}
+use Rattle.spans.specs.Ranges.{classBy}
+use Rattle.spans.proofs.Determined.{OneMade}
+use Rattle.listing.specs.Calls.{Known}
+use Rattle.listing.proofs.calls.file_spans.Reads as file-spans
 use Rattle.listing.proofs.calls.list.Reads as list
 use Rattle.listing.proofs.lists.put_lists.Reads as put-lists
-use Rattle.listing.proofs.ranges.range_at.Reads as range-at
 
--- a list has room for the ranges of a class, of the positions below an end, by the first so many rows of a table
+-- a list has room for the ranges of a class, of the positions below an end, by the first so many spans of a table
 abbrev Fits : ℕ → List ℕ → ℕ → ℕ → List ℕ → Type 0
-Fits class table count end list = length (rangeRows (ofClass class (ranges (classIn (chunksIn table count)) end 0))) ≤ length list
+Fits class table n end list = length (rangeRows (ofClass class (ranges (classBy table n) end 0))) ≤ length list
 
 one-list : {before rows t t′ : List ℕ} → length rows ≤ length before → Put before 0 rows t → Put before 0 rows t′ → t ≡ t′
 one-list {rows = rows} room p q = put-filled rows p room ∙ sym (put-filled rows q room)
@@ -35,9 +38,6 @@ listed-told (Listed.Lists a b c d) (Listed.Refused m) e = cc
 listed-told (Listed.Lists a b c d) (Listed.Lists a′ b′ c′ d′) e =
     let same : _≡_ {A = Totals} (record { hadRanges = a; missingRanges = b; receivedTotal = c; missingTotal = d }) (record { hadRanges = a′; missingRanges = b′; receivedTotal = c′; missingTotal = d′ }) = cc in
     λ i. Listed.Lists (same i .hadRanges) (same i .missingRanges) (same i .receivedTotal) (same i .missingTotal)
-
-range-at-result : OneKnown range-at.Post (λ κs args (_ : Unit {0}). args .1 .1 .0 .0 < args .1 .1 .1 .0 .0)
-range-at-result κs args _ below x y after after′ p q = p below ∙ sym (q below)
 
 put-lists-result : OneResult put-lists.Post
 put-lists-result κs args x y after after′ p q =
@@ -54,6 +54,10 @@ put-lists-had κs args _ room x y after after′ p q = one-list room (p .hadRows
 put-lists-missing : OneLeftKnown put-lists.Post
     (λ κs args (_ : Unit {0}). Fits missing (now (args .0)) (args .1 .0) (args .1 .1 .0 .0) (now (args .1 .1 .1 .1 .0))) (λ κs after. now (after .1 .1 .1 .1 .0))
 put-lists-missing κs args _ room x y after after′ p q = one-list room (p .missingRows) (q .missingRows)
+
+file-spans-class : OneMade file-spans.Post
+    (λ κs args ((ss, q) : List Segment × ℕ). Known (now (args .0)) (args .1 .1 .0) (args .1 .1 .1 .0 .0) ss × (q < args .1 .1 .1 .0 .0)) (λ κs args n after (ss, q). classBy (now (after .1 .0)) n q)
+file-spans-class κs args (ss, q) (known, below) x y after after′ a b = a .1 ss known .class q below ∙ sym (b .1 ss known .class q below)
 
 list-result : OneResult list.Post
 list-result κs args x y after after′ p q = listed-told x y (p .answer ∙ sym (q .answer))

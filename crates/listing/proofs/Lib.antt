@@ -1,4 +1,3 @@
-pub mod SweepLaws
 pub mod ListLaws
 pub mod CallsLaws
 pub mod Determined

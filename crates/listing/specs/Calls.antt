@@ -1,5 +1,5 @@
 -- Document 01, "Lists" and refusal 26: what listing answers, and what it leaves in the lent tables and lists.
-use Prim.Native.Nat.{ℕ}
+use Prim.Native.Nat.{ℕ, _<_}
 use mathlib.Core.List.{List}
 use mathlib.Core.Path.{_≡_}
 use lib.ListN.{length}
@@ -13,8 +13,9 @@ use Rattle.partial.specs.Reading.{segments}
 use Rattle.partial.specs.Segments.{Segment, chunksOf}
 use Rattle.partial.specs.Tables.{listed, hadRows, missingRows, totals}
 use Rattle.partial.specs.declared.answers.Listed.{Listed}
-use Rattle.partial.specs.Ranges.{hadList, missingList, total}
+use Rattle.partial.specs.Ranges.{classOf, hadList, missingList, total}
 use Rattle.reading.specs.Tables.{Filled}
+use Rattle.spans.specs.Ranges.{classBy}
 use Rattle.listing.specs.declared.lists.Totals.{Totals}
 
 -- the segments of a file, how many chunks they have, and the described length
@@ -24,6 +25,11 @@ pub record Known (f : List ℕ) (count described : ℕ) (ss : List Segment) : Ty
   pub all : segments sourceLimit f h ≡ given ss
   pub many : count ≡ length (chunksOf ss)
   pub long : described ≡ describedLength ss
+
+-- below the described length, spans cover what the good chunks of a file do
+pub record Spanned (ss : List Segment) (t : List ℕ) (n described : ℕ) : Type 0 where
+  pub long : described ≡ describedLength ss
+  pub class : (q : ℕ) → q < described → classBy t n q ≡ classOf ss q
 
 -- what the two lists hold
 pub record Counted (ss : List Segment) (t : Totals) : Type 0 where

@@ -4,12 +4,10 @@ use mathlib.Core.List.{List, [], _∷_, _++_}
 use mathlib.Core.Path.{_≡_}
 use lib.ListN.{length}
 use Rattle.partial.specs.Ranges.{Range as Stretch, had, missing, ranges, ofClass, total}
-use Rattle.partial.specs.Segments.{Chunk}
 use Rattle.partial.specs.Tables.{rangeRows}
 use Rattle.filling.specs.Rows.{Put}
-use Rattle.listing.specs.Ranges.{classIn}
+use Rattle.spans.specs.declared.ranges.Range.{Range}
 use Rattle.listing.specs.declared.lists.Totals.{Totals}
-use Rattle.listing.specs.declared.ranges.Range.{Range}
 
 -- ranges stand in the two lists, each behind those of its class before it, and are counted
 pub record Stands (rs : List Stretch) (had₀ had₁ missing₀ missing₁ : List ℕ) (t : Totals) : Type 0 where
@@ -20,9 +18,9 @@ pub record Stands (rs : List Stretch) (had₀ had₁ missing₀ missing₁ : Lis
   pub hadRows : Put had₀ 0 (rangeRows (ofClass had rs)) had₁
   pub missingRows : Put missing₀ 0 (rangeRows (ofClass missing rs)) missing₁
 
--- all positions below an end are in the two lists
-abbrev pub Lists : List Chunk → ℕ → List ℕ → List ℕ → List ℕ → List ℕ → Totals → Type 0
-Lists cs end had₀ had₁ missing₀ missing₁ t = Stands (ranges (classIn cs) end 0) had₀ had₁ missing₀ missing₁ t
+-- all positions below an end are in the two lists, each by its class
+abbrev pub Lists : (ℕ → ℕ) → ℕ → List ℕ → List ℕ → List ℕ → List ℕ → Totals → Type 0
+Lists class end had₀ had₁ missing₀ missing₁ t = Stands (ranges class end 0) had₀ had₁ missing₀ missing₁ t
 
 -- what is counted of the positions before one is no more than they are
 pub record Bounded (t : Totals) (p : ℕ) : Type 0 where

@@ -10,24 +10,38 @@ use partial::position::Position;
 use partial::refusals::TABLE_TOO_SHORT;
 use reading::judging::Judgement;
 use reading::judging::judge;
+use spans::chunks::spans_of;
+use spans::ordering::order;
+ghost use Prim.Native.Nat.{_≤_};
 ghost use mathlib.Core.List.{List};
+ghost use lib.ListN.{length};
 ghost use Rattle.partial.specs.Segments.{Segment};
-ghost use Rattle.listing.specs.Calls.{Known, Counted, Listing};
+ghost use Rattle.spans.specs.Spans.{Ordered};
+ghost use Rattle.listing.specs.Calls.{Known, Spanned, Counted, Listing};
 
 // The numbers of the rows of as many chunks as a file may have.
 pub const ALL_ROWS: usize = 6144;
 
-// What the lists of an accepted file of so many chunks will hold. Its rows go into a table of our own, since nothing lent is touched before it is known
-// that both lists have room.
-fn counted(file: &[u8], count: u64, end: Position) -> Totals
-    ensures { λ t. ⌜ ((ss : List Segment) → Known (now (file .entry)) count (end .0) ss → Counted ss t) ⌝ }
+// The spans of an accepted file of so many chunks, ordered, in a table of our own that has room for all rows; the answer is how many.
+pub fn file_spans(file: &[u8], table: &mut [u64], count: u64, end: Position) -> usize
+    requires { ⌜ 6144 ≤ length (now table) ⌝ }
+    ensures { λ n. ⌜ Ordered (now (table .exit)) n (end .0) × ((ss : List Segment) → Known (now (file .entry)) count (end .0) ss → Spanned ss (now (table .exit)) n (end .0)) ⌝ }
 {
     let mut no_segments = [0; 1];
-    let mut rows = [0; ALL_ROWS];
+    pass(file, &mut no_segments, table);
+    let n = spans_of(table, count, end);
+    order(table, n);
+    n
+}
+
+// What the lists will hold: they are put where there is no room for them, since nothing lent is touched before it is known that both lists have room.
+fn counted(spans: &[u64], n: usize, end: Position) -> Totals
+    requires { ⌜ Ordered (now spans) n (end .0) ⌝ }
+    ensures { λ t. ⌜ ((ss : List Segment) → Spanned ss (now (spans .entry)) n (end .0) → Counted ss t) ⌝ }
+{
     let mut no_had = [0; 1];
     let mut no_missing = [0; 1];
-    pass(file, &mut no_segments, &mut rows);
-    put_lists(&rows, count, end, &mut no_had, &mut no_missing)
+    put_lists(spans, n, end, &mut no_had, &mut no_missing)
 }
 
 // Lists the ranges of positions that a file has and of those that are missing, and reads it into both tables. After a refusal all four are as they were.
@@ -46,7 +60,9 @@ pub fn list(
             let gathered = judged.gathered;
             let sizes = gathered.sizes;
             let end = Position(sizes.described());
-            let totals = counted(file, gathered.chunks, end);
+            let mut spans = [0; ALL_ROWS];
+            let n = file_spans(file, &mut spans, gathered.chunks, end);
+            let totals = counted(&spans, n, end);
             if segments.len() as u64 / SEGMENT_ROW < gathered.segments {
                 return Listed::Refused(TABLE_TOO_SHORT);
             }
@@ -60,7 +76,7 @@ pub fn list(
                 return Listed::Refused(TABLE_TOO_SHORT);
             }
             pass(file, segments, chunks);
-            put_lists(chunks, gathered.chunks, end, had, missing);
+            put_lists(&spans, n, end, had, missing);
             Listed::Lists {
                 had: totals.had,
                 missing: totals.missing,

@@ -1,13 +1,14 @@
 // The two lists: the ranges of each class in its own table, in the order of their positions.
-use crate::ranges::HAD;
-use crate::ranges::Range;
-use crate::ranges::range_at;
 use filling::rows::put_row;
 use partial::position::Position;
+use spans::ranges::HAD;
+use spans::ranges::Range;
+use spans::ranges::range_at;
 ghost use Prim.Native.Nat.{_+_, _*_};
 ghost use mathlib.Core.List.{[], _∷_};
 ghost use Rattle.filling.specs.Rows.{Put};
-ghost use Rattle.serving.specs.Rows.{chunksIn};
+ghost use Rattle.spans.specs.Ranges.{classBy};
+ghost use Rattle.spans.specs.Spans.{Ordered};
 ghost use Rattle.listing.specs.Lists.{Bounded, Proper, Joins, Lists};
 
 // The numbers of a range in a list.
@@ -52,15 +53,16 @@ impl Totals {
     }
 }
 
-// The lists of the positions below an end, in a table of so many rows.
+// The lists of the positions below an end, by so many ordered spans in a table.
 pub fn put_lists(
     table: &[u64],
-    count: u64,
+    n: usize,
     end: Position,
     had: &mut [u64],
     missing: &mut [u64],
 ) -> Totals
-    ensures { λ t. ⌜ Lists (chunksIn (now (table .entry)) count) (end .0) (now (had .entry)) (now (had .exit)) (now (missing .entry)) (now (missing .exit)) t ⌝ }
+    requires { ⌜ Ordered (now table) n (end .0) ⌝ }
+    ensures { λ t. ⌜ Lists (classBy (now (table .entry)) n) (end .0) (now (had .entry)) (now (had .exit)) (now (missing .entry)) (now (missing .exit)) t ⌝ }
 {
     let mut totals = Totals {
         had: 0,
@@ -68,10 +70,13 @@ pub fn put_lists(
         received: 0,
         missed: 0,
     };
+    let mut passed = 0;
     let mut p = 0;
     while p < end.0 {
-        let r = range_at(table, count, Position(p), end);
+        let found = range_at(table, n, passed, Position(p), end);
+        let r = found.range;
         totals = totals.with(Position(p), r, had, missing);
+        passed = found.passed;
         p += r.length;
     }
     totals

@@ -12,26 +12,26 @@ use Rattle.filling.specs.Rows.{Puts}
 use Rattle.ends.specs.Sizes.{sizesOf}
 use Rattle.ends.specs.declared.sizes.Sizes.{Sizes}
 use Rattle.gathering.proofs.RowLaws.{put-filled}
-use Rattle.listing.specs.Ranges.{classIn}
-use Rattle.listing.proofs.CallsLaws.{ranges-by}
+use Rattle.listing.specs.Calls.{Spanned}
+use Rattle.listing.proofs.CallsLaws.{spanned-ranges}
 use Rattle.partial.specs.Answers.{writtenAnswer}
 use Rattle.partial.specs.Limits.{sourceLimit}
 use Rattle.partial.specs.Map.{sourceLine, rangeLines, totalLine, mapOf, mapText, mapWritten}
-use Rattle.partial.specs.Meaning.{describedLength, isClosed}
+use Rattle.partial.specs.Meaning.{isClosed}
 use Rattle.partial.specs.Memory.{after, filled, written}
 use Rattle.partial.specs.Ranges.{ranges, rangesOf}
-use Rattle.partial.specs.Segments.{Chunk, Segment, chunksOf}
+use Rattle.partial.specs.Segments.{Segment}
 use Rattle.partial.specs.declared.answers.Written.{Written}
 use Rattle.partial.specs.declared.answers.Written.the-variants as Written
+use Rattle.spans.specs.Ranges.{classBy}
 use Rattle.mapping.specs.Call.{Maps}
 
 -- ---- the lines of a file's map
 
 module _ (ss : List Segment) where
-  -- the ranges of the file's chunks are the file's
-  pub range-lines : {cs : List Chunk} {end : ℕ} → cs ≡ chunksOf ss → end ≡ describedLength ss
-      → rangeLines (ranges (classIn cs) end 0) ≡ rangeLines (rangesOf ss)
-  range-lines chunks long = ap rangeLines ((λ i. ranges (classIn (chunks i)) (long i) 0) ∙ ranges-by ss)
+  -- the ranges by the file's spans are the file's
+  pub range-lines : {t : List ℕ} {n end : ℕ} → Spanned ss t n end → rangeLines (ranges (classBy t n) end 0) ≡ rangeLines (rangesOf ss)
+  range-lines spanned = ap rangeLines (spanned-ranges spanned)
 
   pub map-lines : sourceLine ss ++ (rangeLines (rangesOf ss) ++ totalLine ss) ≡ mapOf ss
   unfolding mapOf

@@ -6,12 +6,11 @@ use native.Mathlib.Omega.{arith}
 use Rattle.filling.specs.Rows.{Puts}
 use Rattle.filling.proofs.RowLaws.{put-none}
 use Rattle.filling.proofs.PutsLaws.{puts-same, puts-more}
-use Rattle.listing.specs.Ranges.{classIn, rangeIn}
-use Rattle.listing.specs.declared.ranges.Range.{Range}
-use Rattle.listing.proofs.ListLaws.{found-next}
 use Rattle.partial.specs.Map.{rangeLine, rangeLines}
 use Rattle.partial.specs.Ranges.{Range as Stretch, ranges}
-use Rattle.partial.specs.Segments.{Chunk}
+use Rattle.spans.specs.Ranges.{rangeIn}
+use Rattle.spans.specs.declared.ranges.Range.{Range}
+use Rattle.spans.proofs.RangeLaws.{found-next}
 
 lines-last : (rs : List Stretch) (r : Stretch) → rangeLines (rs ++ (r ∷ [])) ≡ rangeLines rs ++ rangeLine r
 unfolding rangeLines
@@ -19,22 +18,22 @@ lines-last [] r = append-nil (rangeLine r)
 lines-last (x ∷ rs) r = ap (λ (text : List ℕ). rangeLine x ++ text) (lines-last rs r) ∙ sym (append-assoc (rangeLine x) (rangeLines rs) (rangeLine r))
 
 -- the lines of the ranges so far are put, and the ranges from a position on are left
-pub record Midway (cs : List Chunk) (end : ℕ) (s : List ℕ) (at : ℕ) (t : List ℕ) (next p : ℕ) : Type 0 where
+pub record Midway (of : ℕ → ℕ) (end : ℕ) (s : List ℕ) (at : ℕ) (t : List ℕ) (next p : ℕ) : Type 0 where
   pub done : List Stretch
   pub put : Puts s at (rangeLines done) t next
-  pub rest : ranges (classIn cs) end 0 ≡ done ++ ranges (classIn cs) (end - p) p
+  pub rest : ranges of end 0 ≡ done ++ ranges of (end - p) p
 
-module _ (cs : List Chunk) (end : ℕ) (s : List ℕ) (at : ℕ) where
-  pub midway-none : Midway cs end s at s at 0
+module _ (of : ℕ → ℕ) (end : ℕ) (s : List ℕ) (at : ℕ) where
+  pub midway-none : Midway of end s at s at 0
   unfolding rangeLines
   midway-none =
       let all : end ≡ end - 0 = omega arith in
-      record { done = []; put = record { put = put-none s at; end = omega arith }; rest = ap (λ (n : ℕ). ranges (classIn cs) n 0) all }
+      record { done = []; put = record { put = put-none s at; end = omega arith }; rest = ap (λ (n : ℕ). ranges of n 0) all }
 
-  module _ {t : List ℕ} {next p : ℕ} (m : Midway cs end s at t next p) where
-    pub midway-more : p < end → {r : Range} → r ≡ rangeIn cs p end → {t′ : List ℕ} {next′ : ℕ}
+  module _ {t : List ℕ} {next p : ℕ} (m : Midway of end s at t next p) where
+    pub midway-more : p < end → {r : Range} → r ≡ rangeIn of p end → {t′ : List ℕ} {next′ : ℕ}
         → Puts t next (rangeLine (record { class = r .class; first = p; length = r .length })) t′ next′
-        → Midway cs end s at t′ next′ (p + r .length)
+        → Midway of end s at t′ next′ (p + r .length)
     midway-more some {r} found puts =
         let new : Stretch = record { class = r .class; first = p; length = r .length } in
         record {
@@ -42,13 +41,13 @@ module _ (cs : List Chunk) (end : ℕ) (s : List ℕ) (at : ℕ) where
           put = puts-same (sym (lines-last (m .done) new)) (puts-more (m .put) puts);
           rest =
               m .rest
-              ∙ ap (λ (rs : List Stretch). m .done ++ rs) (found-next cs p end some found)
-              ∙ sym (append-assoc (m .done) (new ∷ []) (ranges (classIn cs) (end - (p + r .length)) (p + r .length)));
+              ∙ ap (λ (rs : List Stretch). m .done ++ rs) (found-next of p end some found)
+              ∙ sym (append-assoc (m .done) (new ∷ []) (ranges of (end - (p + r .length)) (p + r .length)));
         }
 
-    pub midway-end : end ≤ p → Puts s at (rangeLines (ranges (classIn cs) end 0)) t next
+    pub midway-end : end ≤ p → Puts s at (rangeLines (ranges of end 0)) t next
     unfolding ranges
     midway-end over =
         let none : end - p ≡ 0 = omega arith in
-        let all = m .rest ∙ ap (λ (n : ℕ). m .done ++ ranges (classIn cs) n p) none ∙ append-nil (m .done) in
+        let all = m .rest ∙ ap (λ (n : ℕ). m .done ++ ranges of n p) none ∙ append-nil (m .done) in
         puts-same (ap rangeLines (sym all)) (m .put)

@@ -3,8 +3,8 @@ use crate::lines::put_refused;
 use crate::lines::put_source;
 use crate::lines::put_total;
 use crate::ranges::put_ranges;
-use gathering::pass::pass;
 use listing::calls::ALL_ROWS;
+use listing::calls::file_spans;
 use listing::lists::put_lists;
 use partial::answers::Written;
 use partial::position::Position;
@@ -16,36 +16,35 @@ ghost use Prim.Native.Nat.{_≤_};
 ghost use mathlib.Core.List.{List};
 ghost use mathlib.Core.Path.{_≡_};
 ghost use Rattle.filling.specs.Rows.{Puts};
-ghost use Rattle.listing.specs.Calls.{Known};
+ghost use Rattle.listing.specs.Calls.{Known, Spanned};
 ghost use Rattle.partial.specs.Limits.{sourceLimit};
 ghost use Rattle.partial.specs.Map.{mapOf, mapText};
-ghost use Rattle.partial.specs.Meaning.{describedLength, isClosed};
-ghost use Rattle.partial.specs.Segments.{Segment, chunksOf};
-ghost use Rattle.serving.specs.Rows.{chunksIn};
+ghost use Rattle.partial.specs.Meaning.{isClosed};
+ghost use Rattle.partial.specs.Segments.{Segment};
+ghost use Rattle.spans.specs.Spans.{Ordered};
 ghost use Rattle.mapping.specs.Call.{Maps};
 
-// Puts the map of the chunks in a table of so many rows.
-fn put_rows(buffer: &mut [u8], table: &[u64], count: u64, end: Position, closed: bool) -> u64
-    requires { ⌜ end .0 ≤ sourceLimit ⌝ }
-    ensures { λ r. ⌜ ((ss : List Segment) → chunksIn (now (table .entry)) count ≡ chunksOf ss → end .0 ≡ describedLength ss → closed ≡ isClosed ss → Puts (now (buffer .entry)) 0 (mapOf ss) (now (buffer .exit)) r) ⌝ }
+// Puts the map of a file by so many ordered spans of it in a table.
+fn put_spans(buffer: &mut [u8], table: &[u64], n: usize, end: Position, closed: bool) -> u64
+    requires { ⌜ (end .0 ≤ sourceLimit) × Ordered (now table) n (end .0) ⌝ }
+    ensures { λ r. ⌜ ((ss : List Segment) → Spanned ss (now (table .entry)) n (end .0) → closed ≡ isClosed ss → Puts (now (buffer .entry)) 0 (mapOf ss) (now (buffer .exit)) r) ⌝ }
 {
     let mut no_had = [0; 1];
     let mut no_missing = [0; 1];
-    let totals = put_lists(table, count, end, &mut no_had, &mut no_missing);
+    let totals = put_lists(table, n, end, &mut no_had, &mut no_missing);
     let first = put_source(buffer, end, closed);
-    let last = put_ranges(buffer, first, table, count, end);
+    let last = put_ranges(buffer, first, table, n, end);
     put_total(buffer, last, totals)
 }
 
-// Puts the map of an accepted file. Its rows go into a table of our own.
+// Puts the map of an accepted file. Its spans go into a table of our own.
 fn put_accepted(buffer: &mut [u8], file: &[u8], count: u64, end: Position, closed: bool) -> u64
     requires { ⌜ end .0 ≤ sourceLimit ⌝ }
     ensures { λ r. ⌜ ((ss : List Segment) → Known (now (file .entry)) count (end .0) ss → closed ≡ isClosed ss → Puts (now (buffer .entry)) 0 (mapOf ss) (now (buffer .exit)) r) ⌝ }
 {
-    let mut no_segments = [0; 1];
-    let mut rows = [0; ALL_ROWS];
-    pass(file, &mut no_segments, &mut rows);
-    put_rows(buffer, &rows, count, end, closed)
+    let mut spans = [0; ALL_ROWS];
+    let n = file_spans(file, &mut spans, count, end);
+    put_spans(buffer, &spans, n, end, closed)
 }
 
 // Puts what a program prints for a file that takes at most so many bytes.

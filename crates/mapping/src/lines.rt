@@ -2,9 +2,9 @@
 use crate::puts::put_decimal;
 use crate::puts::put_text;
 use listing::lists::Totals;
-use listing::ranges::HAD;
-use listing::ranges::Range;
 use partial::position::Position;
+use spans::ranges::HAD;
+use spans::ranges::Range;
 ghost use Prim.Native.Nat.{_+_, _<_, _≤_, _^_};
 ghost use mathlib.Core.List.{List, [], _∷_, _++_};
 ghost use mathlib.Core.Path.{_≡_};

@@ -13,10 +13,8 @@ use Rattle.reading.proofs.Determined.{OneOf, one-part}
 use Rattle.serving.proofs.calls.ask.Reads as ask
 use Rattle.serving.proofs.calls.serve.Reads as serve
 use Rattle.serving.proofs.rows.chunk_at.Reads as chunk-at
-use Rattle.serving.proofs.runs.clip.Reads as clip
 use Rattle.serving.proofs.runs.run_at.Reads as run-at
 use Rattle.serving.proofs.runs.smaller.Reads as smaller
-use Rattle.serving.proofs.runs.supplies.Reads as supplies
 
 chunk-told : Tells chunkOf
 chunk-told c d e = λ i. record { start = record { 0 = e i .start }; size = e i .size; state = e i .state; place = record { 0 = e i .place } }
@@ -45,12 +43,6 @@ chunk-at-result κs args x y after after′ p q = chunk-told x y (p ∙ sym q)
 
 smaller-result : OneResult smaller.Post
 smaller-result κs args x y after after′ p q = p ∙ sym q
-
-supplies-result : OneResult supplies.Post
-supplies-result κs args x y after after′ p q = p ∙ sym q
-
-clip-result : OneResult clip.Post
-clip-result κs args x y after after′ p q = p ∙ sym q
 
 run-at-result : OneResult run-at.Post
 run-at-result κs args x y after after′ p q = p ∙ sym q

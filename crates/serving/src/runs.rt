@@ -31,7 +31,7 @@ fn between(from: u64, to: u64) -> u64
 }
 
 // Whether a chunk is good and covers a position.
-pub fn supplies(c: Chunk, p: Position) -> bool
+fn supplies(c: Chunk, p: Position) -> bool
     ensures { λ r. ⌜ r ≡ supplies (p .0) (chunkOf c) ⌝ }
 {
     let start = c.start;
@@ -45,7 +45,7 @@ pub fn supplies(c: Chunk, p: Position) -> bool
 }
 
 // An end, or where a good chunk begins that comes before it and after a position: from there on it supplies what it covers.
-pub fn clip(c: Chunk, p: Position, end: u64) -> u64
+fn clip(c: Chunk, p: Position, end: u64) -> u64
     ensures { λ r. ⌜ r ≡ clip (p .0) end (chunkOf c) ⌝ }
 {
     let start = c.start;

@@ -9,7 +9,7 @@ use Rattle.gathering.proofs.GatheredLaws.{gathered-segments, gathered-chunks, g
 use Rattle.gathering.proofs.PassLaws.{rows-put}
 use Rattle.reading.proofs.JudgedLaws.{accepted, read-refused, read-given, read-segments, judgement-refused, judgement-given}
 use Rattle.reading.proofs.TableLaws.{tabled-refused, segments-short, chunks-short, tabled-given, segments-filled, chunks-filled}
-use Rattle.listing.proofs.CallsLaws.{known-by, rows-hold, of-file, listed-refused, had-short, missing-short, listed-given, lists-refused, lists-given}
+use Rattle.listing.proofs.CallsLaws.{known-by, of-file, listed-refused, had-short, missing-short, listed-given, lists-refused, lists-given}
 use borrow.Author.Needs.{needs}
 use Rattle.listing.proofs.calls.list.Statement.{statement}
 use Rattle.listing.proofs.calls.list.Tie as tie
@@ -26,40 +26,53 @@ enum-known-judged c = search needs
 described-requires : tie.Need-described-requires
 described-requires c κs = search needs
 
+slice-aggregate-file-spans : tie.Need-slice-aggregate-file-spans
+slice-aggregate-file-spans c = search needs
+
+file-spans-requires : tie.Need-file-spans-requires
+file-spans-requires c κs = search needs
+
+slice-aggregate-counted : tie.Need-slice-aggregate-counted
+slice-aggregate-counted c = search needs
+
 counted-requires : tie.Need-counted-requires
 counted-requires c κs = search needs
 
 returns : tie.Need-returns
 returns c =
-    let a = accepted _ (judgement-given (c .before .before .before .before .before .before .before .before .before .judge .ensures) (c .before .before .before .before .before .before .before .judged .given .1)) in
+    let a = accepted _ (judgement-given (c .before .before .before .before .before .before .before .before .before .before .before .before .before .judge .ensures) (c .before .before .before .before .before .before .before .before .before .before .before .judged .given .1)) in
     lists-refused _ _ _ _ _ (listed-refused _ _ _ _ _ (segments-short _ _ _ (a .ss) (read-given _ a) (omega (arith, gathered-segments (a .ss) (a .gathered)))))
 
 returns-2 : tie.Need-returns-2
 returns-2 c =
-    let a = accepted _ (judgement-given (c .before .before .before .before .before .before .before .before .before .before .before .judge .ensures) (c .before .before .before .before .before .before .before .before .before .judged .given .1)) in
+    let a = accepted _ (judgement-given (c .before .before .before .before .before .before .before .before .before .before .before .before .before .before .before .judge .ensures) (c .before .before .before .before .before .before .before .before .before .before .before .before .before .judged .given .1)) in
     lists-refused _ _ _ _ _ (listed-refused _ _ _ _ _ (chunks-short _ _ _ (a .ss) (read-given _ a) (omega (arith, gathered-chunks (a .ss) (a .gathered)))))
 
 returns-3 : tie.Need-returns-3
 returns-3 c =
-    let a = accepted _ (judgement-given (c .before .before .before .before .before .before .before .before .before .before .before .before .before .judge .ensures) (c .before .before .before .before .before .before .before .before .before .before .before .judged .given .1)) in
-    let counts = c .before .before .before .before .before .before .counted .ensures (a .ss) (known-by a (c .before .before .before .before .before .before .before .described .ensures (a .ss) (gathered-sizes (a .ss) (a .gathered)))) in
+    let a = accepted _ (judgement-given (c .before .before .before .before .before .before .before .before .before .before .before .before .before .before .before .before .before .judge .ensures) (c .before .before .before .before .before .before .before .before .before .before .before .before .before .before .before .judged .given .1)) in
+    let known = known-by a (c .before .before .before .before .before .before .before .before .before .before .before .described .ensures (a .ss) (gathered-sizes (a .ss) (a .gathered))) in
+    let counts = c .before .before .before .before .before .before .counted .ensures (a .ss) (c .before .before .before .before .before .before .before .before .before .file-spans .ensures .1 (a .ss) known) in
     lists-refused _ _ _ _ _ (had-short _ _ _ _ _ (a .ss) (tabled-given _ _ _ (a .ss) (read-given _ a) (omega (arith, gathered-segments (a .ss) (a .gathered))) (omega (arith, gathered-chunks (a .ss) (a .gathered)))) (omega (arith, counts .hadMany)))
 
 returns-4 : tie.Need-returns-4
 returns-4 c =
-    let a = accepted _ (judgement-given (c .before .before .before .before .before .before .before .before .before .before .before .before .before .before .before .judge .ensures) (c .before .before .before .before .before .before .before .before .before .before .before .before .before .judged .given .1)) in
-    let counts = c .before .before .before .before .before .before .before .before .counted .ensures (a .ss) (known-by a (c .before .before .before .before .before .before .before .before .before .described .ensures (a .ss) (gathered-sizes (a .ss) (a .gathered)))) in
+    let a = accepted _ (judgement-given (c .before .before .before .before .before .before .before .before .before .before .before .before .before .before .before .before .before .before .before .judge .ensures) (c .before .before .before .before .before .before .before .before .before .before .before .before .before .before .before .before .before .judged .given .1)) in
+    let known = known-by a (c .before .before .before .before .before .before .before .before .before .before .before .before .before .described .ensures (a .ss) (gathered-sizes (a .ss) (a .gathered))) in
+    let counts = c .before .before .before .before .before .before .before .before .counted .ensures (a .ss) (c .before .before .before .before .before .before .before .before .before .before .before .file-spans .ensures .1 (a .ss) known) in
     lists-refused _ _ _ _ _ (missing-short _ _ _ _ _ (a .ss) (tabled-given _ _ _ (a .ss) (read-given _ a) (omega (arith, gathered-segments (a .ss) (a .gathered))) (omega (arith, gathered-chunks (a .ss) (a .gathered)))) (omega (arith, counts .missingMany)))
 
 pass-requires : tie.Need-pass-requires
 pass-requires c κs = search needs
 
+slice-aggregate-put-lists : tie.Need-slice-aggregate-put-lists
+slice-aggregate-put-lists c = search needs
+
 put-lists-requires : tie.Need-put-lists-requires
 put-lists-requires c κs = search needs
 
 returns-5 : tie.Need-returns-5
-returns-5 c =
-    lists-refused _ _ _ _ _ (listed-refused _ _ _ _ _ (tabled-refused _ _ _ (read-refused _ (judgement-refused (c .before .before .before .judge .ensures) (c .before .n .given .1)))))
+returns-5 c = lists-refused _ _ _ _ _ (listed-refused _ _ _ _ _ (tabled-refused _ _ _ (read-refused _ (judgement-refused (c .before .before .before .judge .ensures) (c .before .n .given .1)))))
 
 same-length : tie.Need-same-length
 same-length c = search needs
@@ -75,17 +88,18 @@ same-length-4 c = search needs
 
 returns-6 : tie.Need-returns-6
 returns-6 c =
-    let a = accepted _ (judgement-given (c .before .before .before .before .before .before .before .before .before .before .before .before .before .before .before .before .before .before .before .before .before .before .before .before .before .before .before .before .before .before .judge .ensures) (c .before .before .before .before .before .before .before .before .before .before .before .before .before .before .before .before .before .before .before .before .before .before .before .before .before .before .before .before .judged .given .1)) in
-    let counts = c .before .before .before .before .before .before .before .before .before .before .before .before .before .before .before .before .before .before .before .before .before .before .before .counted .ensures (a .ss) (known-by a (c .before .before .before .before .before .before .before .before .before .before .before .before .before .before .before .before .before .before .before .before .before .before .before .before .described .ensures (a .ss) (gathered-sizes (a .ss) (a .gathered)))) in
-    let args = c .before .before .before .before .before .before .before .before .before .before .before .before .before .before .before .before .before .before .before .before .before .before .before .before .before .before .before .before .before .before .before .before .before .before .before .before .args in
+    let a = accepted _ (judgement-given (c .before .before .before .before .before .before .before .before .before .before .before .before .before .before .before .before .before .before .before .before .before .before .before .before .before .before .before .before .before .before .before .before .before .before .judge .ensures) (c .before .before .before .before .before .before .before .before .before .before .before .before .before .before .before .before .before .before .before .before .before .before .before .before .before .before .before .before .before .before .before .before .judged .given .1)) in
+    let known = known-by a (c .before .before .before .before .before .before .before .before .before .before .before .before .before .before .before .before .before .before .before .before .before .before .before .before .before .before .before .before .described .ensures (a .ss) (gathered-sizes (a .ss) (a .gathered))) in
+    let spanned = c .before .before .before .before .before .before .before .before .before .before .before .before .before .before .before .before .before .before .before .before .before .before .before .before .before .before .file-spans .ensures .1 (a .ss) known in
+    let counts = c .before .before .before .before .before .before .before .before .before .before .before .before .before .before .before .before .before .before .before .before .before .before .before .counted .ensures (a .ss) spanned in
+    let args = c .before .before .before .before .before .before .before .before .before .before .before .before .before .before .before .before .before .before .before .before .before .before .before .before .before .before .before .before .before .before .before .before .before .before .before .before .before .before .before .before .args in
     let segments : 7 * length (a .ss) ≤ length (args .segments .now) = omega (arith, gathered-segments (a .ss) (a .gathered)) in
     let chunks : 6 * length (chunksOf (a .ss)) ≤ length (args .chunks .now) = omega (arith, gathered-chunks (a .ss) (a .gathered)) in
     let had : 2 * length (hadList (a .ss)) ≤ length (args .had .now) = omega (arith, counts .hadMany) in
     let missing : 2 * length (missingList (a .ss)) ≤ length (args .missing .now) = omega (arith, counts .missingMany) in
     let read = tabled-given _ _ _ (a .ss) (read-given _ a) segments chunks in
     let (one, two) = rows-put _ (a .h) _ (c .before .before .before .before .before .before .before .before .before .before .before .before .pass .ensures (a .h) (headed _ (a .h) (a .head) .boxes)) (read-segments _ a) in
-    let known = known-by a (c .before .before .before .before .before .before .before .before .before .before .before .before .before .before .before .before .before .before .before .before .before .before .before .before .described .ensures (a .ss) (gathered-sizes (a .ss) (a .gathered))) in
-    let lists = of-file (a .ss) (rows-hold known two (omega (arith, gathered-chunks (a .ss) (a .gathered)))) (known .long) (c .before .before .before .before .put-lists .ensures) in
+    let lists = of-file spanned (c .before .before .before .before .put-lists .ensures) in
     lists-given _ _ _ _ _ (a .ss) (listed-given _ _ _ _ _ (a .ss) read had missing) counts (segments-filled (a .ss) one segments) (chunks-filled (a .ss) two chunks) (lists .had) (lists .missing) had missing
 
 pub list-spec : {M : Type 1} → statement M
@@ -96,12 +110,16 @@ list-spec =
     enum-known-n
     enum-known-judged
     described-requires
+    slice-aggregate-file-spans
+    file-spans-requires
+    slice-aggregate-counted
     counted-requires
     returns
     returns-2
     returns-3
     returns-4
     pass-requires
+    slice-aggregate-put-lists
     put-lists-requires
     returns-5
     same-length

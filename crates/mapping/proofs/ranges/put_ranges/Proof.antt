@@ -1,49 +1,55 @@
--- `mapping::ranges::put_ranges` meets its contract. The loop's invariant: the ranges so far have their lines, and those from here on are left. A line has no
--- more bytes than its range has positions, fifty times.
+-- `mapping::ranges::put_ranges` meets its contract. The loop's invariant: the ranges so far have their lines, those from here on are left, and so many spans are
+-- passed. A line has no more bytes than its range has positions, fifty times.
 use Prim.Native.Nat.{_+_, _-_, _*_, _≤_}
 use mathlib.Core.Path.{_≡_, refl, _∙_}
 use native.Mathlib.Omega.{arith}
-use borrow.Author.Needs.{needs}
 use lib.ListN.{length}
-use Rattle.listing.proofs.ListLaws.{found-some, found-most}
-use Rattle.serving.specs.Rows.{chunksIn}
+use Rattle.spans.specs.Ranges.{classBy, Passed}
+use Rattle.spans.proofs.RangeLaws.{found-some, found-most}
 use Rattle.mapping.proofs.RangesLaws.{Midway, midway-none, midway-more, midway-end}
+use borrow.Author.Needs.{needs}
 use Rattle.mapping.proofs.ranges.put_ranges.Statement.{statement}
 use Rattle.mapping.proofs.ranges.put_ranges.Tie as tie
 
 abbrev Inv-loop : tie.InvT-loop
-Inv-loop buffer₀ at table count end next₀ p₀ buffer next p =
-    (p ≤ end .0) × (next ≤ 50 + 50 * p) × (length buffer ≡ length buffer₀) × Midway (chunksIn table count) (end .0) buffer₀ at buffer next p
+Inv-loop buffer₀ at table n end next₀ passed₀ p₀ buffer next passed p =
+    (p ≤ end .0)
+    × (next ≤ 50 + 50 * p)
+    × (length buffer ≡ length buffer₀)
+    × Passed table n passed p
+    × Midway (classBy table n) (end .0) buffer₀ at buffer next p
 
 abbrev μ-loop : tie.MeasureT-loop
-μ-loop buffer₀ at table count end next₀ p₀ buffer next p = end .0 - p
+μ-loop buffer₀ at table n end next₀ passed₀ p₀ buffer next passed p = end .0 - p
 
 loop-holds : tie.Need-loop-holds Inv-loop μ-loop
-loop-holds c = (omega arith, omega arith, refl, midway-none _ _ _ _)
+loop-holds c = (omega arith, omega arith, refl, record { most = omega arith; ended = λ j less. absurd (omega arith) }, midway-none _ _ _ _)
 
 range-at-requires : tie.Need-range-at-requires Inv-loop μ-loop
-range-at-requires c κs = tt
+range-at-requires c κs = (c .before .before .before .before .before .pre .2, c .before .before .loop .inv .3, omega arith)
 
 put-range-requires : tie.Need-put-range-requires Inv-loop μ-loop
 put-range-requires c κs = omega arith
 
 add-p : tie.Need-add-p Inv-loop μ-loop
-add-p c = omega (arith, found-most _ _ _ (omega arith) (c .before .before .before .before .before .range-at .ensures (omega arith)))
+add-p c = omega (arith, found-most _ _ _ (omega arith) (c .before .before .before .before .before .before .range-at .ensures .range))
 
 loop-less : tie.Need-loop-less Inv-loop μ-loop
 loop-less c =
-    let found = c .before .before .before .before .before .range-at .ensures (omega arith) in
+    let found = c .before .before .before .before .before .before .range-at .ensures .range in
     omega (arith, found-most _ _ _ (omega arith) found, found-some _ _ _ (omega arith) found)
 
 loop-again : tie.Need-loop-again Inv-loop μ-loop
 loop-again c =
-    let inv = c .before .before .before .before .before .before .before .before .loop .inv in
-    let found = c .before .before .before .before .before .range-at .ensures (omega arith) in
+    let inv = c .before .before .before .before .before .before .before .before .before .loop .inv in
+    let finds = c .before .before .before .before .before .before .range-at .ensures in
+    let found = finds .range in
     let (puts, low) = c .before .before .before .put-range .ensures in (
       omega (arith, found-most _ _ _ (omega arith) found),
       omega (arith, found-some _ _ _ (omega arith) found),
       puts .put .long ∙ inv .2,
-      midway-more _ _ _ _ (inv .3) (omega arith) found puts,
+      finds .passed,
+      midway-more _ _ _ _ (inv .4) (omega arith) found puts,
     )
 
 same-length : tie.Need-same-length Inv-loop μ-loop
@@ -52,7 +58,7 @@ same-length c = search needs
 returns : tie.Need-returns Inv-loop μ-loop
 returns c =
     let inv = c .before .before .loop .inv in
-    (midway-end _ _ _ _ (inv .3) (omega arith), omega arith)
+    (midway-end _ _ _ _ (inv .4) (omega arith), omega arith)
 
 pub put-ranges-spec : {M : Type 1} → statement M
 put-ranges-spec =

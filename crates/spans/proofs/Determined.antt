@@ -1,0 +1,28 @@
+-- Each public call's contract determines what the spans cover, and the range of a position: two that it allows of the same arguments are equal. It leaves
+-- open which of the spans that start at one position comes first, and how many spans a call says are passed.
+use Prim.Native.Nat.{ℕ, _<_}
+use mathlib.Core.Path.{_≡_, sym, _∙_}
+use denote.Ref.{now}
+use Rattle.spans.specs.Spans.{coveredBy}
+use Rattle.spans.proofs.SpanLaws.{same-covered}
+use Rattle.spans.proofs.chunks.spans_of.Reads as spans-of
+use Rattle.spans.proofs.ordering.order.Reads as order
+use Rattle.spans.proofs.ranges.range_at.Reads as range-at
+
+-- where something is known of the arguments, a contract allows one value of something of the result and of what the call leaves behind
+module _ {L : Type 0} {A R E : L → Type 0} (post : (κs : L) → A κs → R κs → E κs → Type 0) where
+  abbrev pub OneMade : {X Y : Type 0} → ((κs : L) → A κs → X → Type 0) → ((κs : L) → A κs → R κs → E κs → X → Y) → Type 0
+  OneMade {X} known of =
+      (κs : L) (args : A κs) (what : X) → known κs args what → (x y : R κs) (after after′ : E κs)
+      → post κs args x after
+      → post κs args y after′
+      → of κs args x after what ≡ of κs args y after′ what
+
+spans-of-covered : OneMade spans-of.Post (λ κs args (q : ℕ). q < args .1 .1 .0 .0) (λ κs args r after q. coveredBy (now (after .0)) r q)
+spans-of-covered κs args q below x y after after′ a b = a .covers q below ∙ sym (b .covers q below)
+
+order-covered : OneMade order.Post (λ κs args (q : ℕ). Unit {0}) (λ κs args r after q. coveredBy (now (after .0)) (args .1 .0) q)
+order-covered κs args q _ x y after after′ a b = same-covered (a .0) q ∙ sym (same-covered (b .0) q)
+
+range-at-range : OneMade range-at.Post (λ κs args (_ : Unit {0}). Unit {0}) (λ κs args r after _. r .range)
+range-at-range κs args _ _ x y after after′ a b = a .range ∙ sym (b .range)

@@ -1,0 +1,5 @@
+pub mod SpanLaws
+pub mod ChunkLaws
+pub mod OrderLaws
+pub mod RangeLaws
+pub mod Determined

@@ -1,0 +1,4 @@
+pub mod Spans
+pub mod Chunks
+pub mod Order
+pub mod Ranges

@@ -1,0 +1,38 @@
+-- Document 01, "Lists": how far the positions from one on are of one class, and what a sweep over ordered spans tells of that.
+use Prim.Native.Nat.{ℕ, _+_, _-_, _<_, _≤_}
+use mathlib.Core.Bool.{true, false}
+use mathlib.Core.List.{List}
+use mathlib.Core.Path.{_≡_}
+use lib.Dec.{eqb}
+use Rattle.partial.specs.Ranges.{missing, had}
+use Rattle.partial.specs.Sequences.{stretch}
+use Rattle.spans.specs.Spans.{firstAt, Within, coveredBy}
+use Rattle.spans.specs.declared.ranges.Range.{Range}
+use Rattle.spans.specs.declared.ranges.Found.{Found}
+use Rattle.spans.specs.declared.ranges.Reach.{Reach}
+
+-- the class of a position by the first n spans: had if one of them holds it, else missing
+unfoldable pub classBy : List ℕ → ℕ → ℕ → ℕ
+classBy t n q = elim (coveredBy t n q) [ true ↦ had | false ↦ missing ]
+
+-- the class of a position, and how many from there on, below an end, are of that class
+unfoldable pub rangeIn : (ℕ → ℕ) → ℕ → ℕ → Range
+rangeIn class p end = record { class = class p; length = stretch (λ q. eqb (class q) (class p)) (end - p) p }
+
+-- the first so many of n spans end at or before a position
+pub record Passed (t : List ℕ) (n k p : ℕ) : Type 0 where
+  pub most : k ≤ n
+  pub ended : Within t k p
+
+-- the positions up to the reach are had, and the spans that are not passed there start behind it
+pub record Reaches (t : List ℕ) (n p : ℕ) (r : Reach) : Type 0 where
+  pub on : p ≤ r .to
+  pub most : (end : ℕ) → p ≤ end → Within t n end → r .to ≤ end
+  pub had : (q : ℕ) → p ≤ q → q < r .to → coveredBy t n q ≡ true
+  pub passed : Passed t n (r .passed) (r .to)
+  pub next : r .passed < n → r .to < firstAt t (r .passed)
+
+-- the range of a position, and the spans that are passed where it ends
+pub record Finds (t : List ℕ) (n p end : ℕ) (r : Found) : Type 0 where
+  pub range : r .range ≡ rangeIn (classBy t n) p end
+  pub passed : Passed t n (r .passed) (p + r .range .length)
