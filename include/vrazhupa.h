@@ -5,7 +5,7 @@
    Each call answers 0, or the number of its refusal (README.md, "Refusals"), and leaves its values in `told`. After a refusal all lent memory, `told`
    too, holds what it held. Nothing is required of the bytes and numbers that a call is given; a pointer may be anything where its length is 0. Memory that a call
    writes to may not overlap other memory that it is given. Nothing is kept between calls, and two threads may call at once, each with memory of its own
-   to write to. No call allocates, blocks or fails in another way. `vrazhupa_list` and `vrazhupa_map` need about 52 KiB of stack, the others under 2 KiB. */
+   to write to. No call allocates, blocks or fails in another way. `vrazhupa_list` and `vrazhupa_map` need about 54 KiB of stack, the others under 6 KiB. */
 #ifndef VRAZHUPA_H
 #define VRAZHUPA_H
 

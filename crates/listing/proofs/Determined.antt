@@ -1,12 +1,12 @@
 -- Each public call's contract determines its answer, and what it leaves in the lent tables and lists: two that it allows of the same arguments are equal.
--- The class of a position by the spans of a file is determined where the position is below the described length, and what is put into a list where all its
--- ranges fit.
+-- The class of a position by the spans of a file is determined where the position is below the described length and the table has room for all rows; the totals
+-- where the spans are ordered, and what is put into a list where all its ranges fit besides.
 use Prim.Native.Nat.{ℕ, _<_, _≤_}
 use mathlib.Core.List.{List}
 use mathlib.Core.Path.{_≡_, sym, _∙_}
 use denote.Ref.{now}
 use lib.ListN.{length}
-use Rattle.numerals.proofs.Determined.{OneResult, OneLeft}
+use Rattle.numerals.proofs.Determined.{OneResult, OneLeft, OneKnown}
 use Rattle.boxes.proofs.ToldLaws.{Tells}
 use Rattle.partial.specs.Answers.{listedAnswer}
 use Rattle.partial.specs.Ranges.{had, missing, ranges, ofClass}
@@ -17,6 +17,7 @@ use Rattle.filling.specs.Rows.{Put}
 use Rattle.gathering.proofs.Determined.{OneLeftKnown}
 use Rattle.gathering.proofs.RowLaws.{put-filled}
 use Rattle.spans.specs.Ranges.{classBy}
+use Rattle.spans.specs.Spans.{Ordered}
 use Rattle.spans.proofs.Determined.{OneMade}
 use Rattle.listing.specs.Calls.{Known}
 use Rattle.listing.proofs.calls.file_spans.Reads as file-spans
@@ -39,25 +40,28 @@ listed-told (Listed.Lists a b c d) (Listed.Lists a′ b′ c′ d′) e =
     let same : _≡_ {A = Totals} (record { hadRanges = a; missingRanges = b; receivedTotal = c; missingTotal = d }) (record { hadRanges = a′; missingRanges = b′; receivedTotal = c′; missingTotal = d′ }) = cc in
     λ i. Listed.Lists (same i .hadRanges) (same i .missingRanges) (same i .receivedTotal) (same i .missingTotal)
 
-put-lists-result : OneResult put-lists.Post
-put-lists-result κs args x y after after′ p q =
-    let had = p .hadMany ∙ sym (q .hadMany) in
-    let missing = p .missingMany ∙ sym (q .missingMany) in
-    let received = p .received ∙ sym (q .received) in
-    let missed = p .missed ∙ sym (q .missed) in
+put-lists-result : OneKnown put-lists.Post (λ κs args (_ : Unit {0}). Ordered (now (args .0)) (args .1 .0) (args .1 .1 .0 .0))
+put-lists-result κs args _ o x y after after′ p q =
+    let had = p o .hadMany ∙ sym (q o .hadMany) in
+    let missing = p o .missingMany ∙ sym (q o .missingMany) in
+    let received = p o .received ∙ sym (q o .received) in
+    let missed = p o .missed ∙ sym (q o .missed) in
     λ i. record { had = had i; missing = missing i; received = received i; missed = missed i }
 
 put-lists-had : OneLeftKnown put-lists.Post
-    (λ κs args (_ : Unit {0}). Fits had (now (args .0)) (args .1 .0) (args .1 .1 .0 .0) (now (args .1 .1 .1 .0))) (λ κs after. now (after .1 .1 .1 .0))
-put-lists-had κs args _ room x y after after′ p q = one-list room (p .hadRows) (q .hadRows)
+    (λ κs args (_ : Unit {0}). Ordered (now (args .0)) (args .1 .0) (args .1 .1 .0 .0) × Fits had (now (args .0)) (args .1 .0) (args .1 .1 .0 .0) (now (args .1 .1 .1 .0)))
+    (λ κs after. now (after .1 .1 .1 .0))
+put-lists-had κs args _ (o, room) x y after after′ p q = one-list room (p o .hadRows) (q o .hadRows)
 
 put-lists-missing : OneLeftKnown put-lists.Post
-    (λ κs args (_ : Unit {0}). Fits missing (now (args .0)) (args .1 .0) (args .1 .1 .0 .0) (now (args .1 .1 .1 .1 .0))) (λ κs after. now (after .1 .1 .1 .1 .0))
-put-lists-missing κs args _ room x y after after′ p q = one-list room (p .missingRows) (q .missingRows)
+    (λ κs args (_ : Unit {0}). Ordered (now (args .0)) (args .1 .0) (args .1 .1 .0 .0) × Fits missing (now (args .0)) (args .1 .0) (args .1 .1 .0 .0) (now (args .1 .1 .1 .1 .0)))
+    (λ κs after. now (after .1 .1 .1 .1 .0))
+put-lists-missing κs args _ (o, room) x y after after′ p q = one-list room (p o .missingRows) (q o .missingRows)
 
 file-spans-class : OneMade file-spans.Post
-    (λ κs args ((ss, q) : List Segment × ℕ). Known (now (args .0)) (args .1 .1 .0) (args .1 .1 .1 .0 .0) ss × (q < args .1 .1 .1 .0 .0)) (λ κs args n after (ss, q). classBy (now (after .1 .0)) n q)
-file-spans-class κs args (ss, q) (known, below) x y after after′ a b = a .1 ss known .class q below ∙ sym (b .1 ss known .class q below)
+    (λ κs args ((ss, q) : List Segment × ℕ). (6144 ≤ length (now (args .1 .0))) × Known (now (args .0)) (args .1 .1 .0) (args .1 .1 .1 .0 .0) ss × (q < args .1 .1 .1 .0 .0))
+    (λ κs args n after (ss, q). classBy (now (after .1 .0)) n q)
+file-spans-class κs args (ss, q) (room, known, below) x y after after′ a b = a .1 room ss known .class q below ∙ sym (b .1 room ss known .class q below)
 
 list-result : OneResult list.Post
 list-result κs args x y after after′ p q = listed-told x y (p .answer ∙ sym (q .answer))

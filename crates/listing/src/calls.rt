@@ -22,10 +22,9 @@ ghost use Rattle.listing.specs.Calls.{Known, Spanned, Counted, Listing};
 // The numbers of the rows of as many chunks as a file may have.
 pub const ALL_ROWS: usize = 6144;
 
-// The spans of an accepted file of so many chunks, ordered, in a table of our own that has room for all rows; the answer is how many.
+// The spans of an accepted file of so many chunks, ordered, in a table that has room for all rows; the answer is how many.
 pub fn file_spans(file: &[u8], table: &mut [u64], count: u64, end: Position) -> usize
-    requires { ⌜ 6144 ≤ length (now table) ⌝ }
-    ensures { λ n. ⌜ Ordered (now (table .exit)) n (end .0) × ((ss : List Segment) → Known (now (file .entry)) count (end .0) ss → Spanned ss (now (table .exit)) n (end .0)) ⌝ }
+    ensures { λ n. ⌜ Ordered (now (table .exit)) n (end .0) × (6144 ≤ length (now (table .entry)) → (ss : List Segment) → Known (now (file .entry)) count (end .0) ss → Spanned ss (now (table .exit)) n (end .0)) ⌝ }
 {
     let mut no_segments = [0; 1];
     pass(file, &mut no_segments, table);

@@ -61,8 +61,7 @@ pub fn put_lists(
     had: &mut [u64],
     missing: &mut [u64],
 ) -> Totals
-    requires { ⌜ Ordered (now table) n (end .0) ⌝ }
-    ensures { λ t. ⌜ Lists (classBy (now (table .entry)) n) (end .0) (now (had .entry)) (now (had .exit)) (now (missing .entry)) (now (missing .exit)) t ⌝ }
+    ensures { λ t. ⌜ (Ordered (now (table .entry)) n (end .0) → Lists (classBy (now (table .entry)) n) (end .0) (now (had .entry)) (now (had .exit)) (now (missing .entry)) (now (missing .exit)) t) ⌝ }
 {
     let mut totals = Totals {
         had: 0,

@@ -1,9 +1,11 @@
 -- Each public call's contract determines what the spans cover, and the range of a position: two that it allows of the same arguments are equal. It leaves
 -- open which of the spans that start at one position comes first, and how many spans a call says are passed.
-use Prim.Native.Nat.{ℕ, _<_}
+use Prim.Native.Nat.{ℕ, _*_, _<_, _≤_}
 use mathlib.Core.Path.{_≡_, sym, _∙_}
 use denote.Ref.{now}
-use Rattle.spans.specs.Spans.{coveredBy}
+use lib.ListN.{length}
+use Rattle.spans.specs.Spans.{Ordered, coveredBy}
+use Rattle.spans.specs.Ranges.{Passed}
 use Rattle.spans.proofs.SpanLaws.{same-covered}
 use Rattle.spans.proofs.chunks.spans_of.Reads as spans-of
 use Rattle.spans.proofs.ordering.order.Reads as order
@@ -21,8 +23,11 @@ module _ {L : Type 0} {A R E : L → Type 0} (post : (κs : L) → A κs → R �
 spans-of-covered : OneMade spans-of.Post (λ κs args (q : ℕ). q < args .1 .1 .0 .0) (λ κs args r after q. coveredBy (now (after .0)) r q)
 spans-of-covered κs args q below x y after after′ a b = a .covers q below ∙ sym (b .covers q below)
 
-order-covered : OneMade order.Post (λ κs args (q : ℕ). Unit {0}) (λ κs args r after q. coveredBy (now (after .0)) (args .1 .0) q)
-order-covered κs args q _ x y after after′ a b = same-covered (a .0) q ∙ sym (same-covered (b .0) q)
+order-covered : OneMade order.Post (λ κs args (q : ℕ). 2 * args .1 .0 ≤ length (now (args .0))) (λ κs args r after q. coveredBy (now (after .0)) (args .1 .0) q)
+order-covered κs args q room x y after after′ a b = same-covered (a room .0) q ∙ sym (same-covered (b room .0) q)
 
-range-at-range : OneMade range-at.Post (λ κs args (_ : Unit {0}). Unit {0}) (λ κs args r after _. r .range)
-range-at-range κs args _ _ x y after after′ a b = a .range ∙ sym (b .range)
+range-at-range :
+    OneMade range-at.Post
+    (λ κs args (_ : Unit {0}). Ordered (now (args .0)) (args .1 .0) (args .1 .1 .1 .1 .0 .0) × Passed (now (args .0)) (args .1 .0) (args .1 .1 .0) (args .1 .1 .1 .0 .0) × (args .1 .1 .1 .0 .0 < args .1 .1 .1 .1 .0 .0))
+    (λ κs args r after _. r .range)
+range-at-range κs args _ (o, before, below) x y after after′ a b = a .1 o before below .range ∙ sym (b .1 o before below .range)

@@ -1,9 +1,9 @@
 -- Laws of a sweep over ordered spans: what one span more tells, the maximal range that is found, and that ranges found one after another are all of them.
-use Prim.Native.Nat.{ℕ, zero, suc, _+_, _-_, _<_, _≤_, max}
+use Prim.Native.Nat.{ℕ, zero, suc, _+_, _-_, _<_, _≤_, _^_, max}
 use mathlib.Core.Bool.{true, false, false≢true}
 use mathlib.Core.List.{List, _∷_}
 use mathlib.Core.Logic.{inl, inr}
-use mathlib.Core.Path.{_≡_, refl, sym, ap, _∙_}
+use mathlib.Core.Path.{_≡_, refl, sym, ap, subst, _∙_}
 use native.Mathlib.Decide.{decLe}
 use native.Mathlib.Omega.{arith}
 use borrow.Author.Tests.{eq-eqb, ne-eqb, eqb-true, eqb-false}
@@ -14,27 +14,28 @@ use Rattle.partial.proofs.Meaning.RangeLaws.{first-range}
 use Rattle.partial.proofs.Meaning.SequenceLaws.{which}
 use Rattle.partial.proofs.Meaning.StretchLaws.{first-one, stretch-first}
 use Rattle.spans.specs.Spans.{firstAt, endAt, Within, coveredBy, Ordered}
-use Rattle.spans.specs.Ranges.{classBy, rangeIn, Passed, Reaches}
+use Rattle.spans.specs.Ranges.{classBy, rangeIn, Passed, Reaches, GoesOn, Finds}
 use Rattle.spans.specs.declared.ranges.Range.{Range}
+use Rattle.spans.specs.declared.ranges.Found.{Found}
 use Rattle.spans.specs.declared.ranges.Reach.{Reach}
 use Rattle.spans.proofs.SpanLaws.{covered-by, uncovered}
 
 -- ---- how far the positions are had
 
--- the positions up to a reach are had, and so many spans are passed there
-pub record Reached (t : List ℕ) (n p to k : ℕ) : Type 0 where
+-- the positions up to a reach are had, and so many spans are passed there where the first k₀ were passed before
+pub record Reached (t : List ℕ) (n k₀ p to k : ℕ) : Type 0 where
   pub on : p ≤ to
   pub most : (end : ℕ) → p ≤ end → Within t n end → to ≤ end
   pub had : (q : ℕ) → p ≤ q → q < to → coveredBy t n q ≡ true
-  pub passed : Passed t n k to
+  pub passed : Passed t n k₀ p → Passed t n k to
 
-module _ (t : List ℕ) (n p : ℕ) where
-  pub reached-none : (k : ℕ) → Passed t n k p → Reached t n p p k
-  reached-none k passed = record { on = omega arith; most = λ end low ends. low; had = λ q from to. absurd (omega arith); passed = passed }
+module _ (t : List ℕ) (n k₀ p : ℕ) where
+  pub reached-none : Reached t n k₀ p p k₀
+  reached-none = record { on = omega arith; most = λ end low ends. low; had = λ q from to. absurd (omega arith); passed = λ before. before }
 
-  module _ {to k : ℕ} (r : Reached t n p to k) where
+  module _ {to k : ℕ} (r : Reached t n k₀ p to k) where
     -- a span that touches
-    pub reached-more : k < n → firstAt t k ≤ to → {to′ : ℕ} → to′ ≡ max to (endAt t k) → Reached t n p to′ (k + 1)
+    pub reached-more : k < n → firstAt t k ≤ to → {to′ : ℕ} → to′ ≡ max to (endAt t k) → Reached t n k₀ p to′ (k + 1)
     reached-more less touches longer =
         record {
           on = omega (arith, r .on);
@@ -44,7 +45,7 @@ module _ (t : List ℕ) (n p : ℕ) where
                 | yes behind ↦ covered-by t n q k less (omega arith) (omega arith)
                 | no before ↦ r .had q from (omega arith)
               ];
-          passed =
+          passed = λ before.
               record {
                 most = omega arith;
                 ended = λ j low.
@@ -52,12 +53,12 @@ module _ (t : List ℕ) (n p : ℕ) where
                       | yes last ↦
                           let here : j ≡ k = omega arith in
                           omega (arith, ap (λ (i : ℕ). endAt t i) here)
-                      | no before ↦ omega (arith, r .passed .ended j (omega arith))
+                      | no less ↦ omega (arith, r .passed before .ended j (omega arith))
                     ];
               };
         }
 
-    pub reached-end : (k < n → to < firstAt t k) → Reaches t n p (record { to = to; passed = k })
+    pub reached-end : (k < n → to < firstAt t k) → Reaches t n k₀ p (record { to = to; passed = k })
     reached-end next = record { on = r .on; most = r .most; had = r .had; passed = r .passed; next = next }
 
 -- ---- the range that is found
@@ -106,20 +107,23 @@ range-of of p e end class other some most same differs apart =
     }) in
     λ i. record { class = sym here i; length = sym long i }
 
-module _ (t : List ℕ) (n p end : ℕ) {r : Reach} (o : Ordered t n end) (s : Reaches t n p r) where
+-- where nothing is had, the next range begins behind the position
+pub next-high : (t : List ℕ) (n k p end : ℕ) {r : Reach} → Reaches t n k p r → r .to ≤ p → p < end → {next : ℕ} → (r .passed < n → next ≡ firstAt t (r .passed))
+    → (n ≤ r .passed → next ≡ end)
+    → p < next
+next-high t n k p end {r} s stays below first last =
+    elim (decLe n (r .passed)) [
+      | yes none ↦ omega (arith, last none)
+      | no one ↦ omega (arith, first (omega arith), s .next (omega arith), s .on)
+    ]
+
+module _ (t : List ℕ) (n k p end : ℕ) {r : Reach} (o : Ordered t n end) (before : Passed t n k p) (s : Reaches t n k p r) where
   pub range-had : p ≤ end → p < r .to → record { class = had; length = r .to - p } ≡ rangeIn (classBy t n) p end
   range-had below some =
       range-of (classBy t n) p (r .to) end had missing some (s .most end below (o .spans .most)) (λ q from under. class-had t n q (s .had q from under))
-      (λ short. class-missing t n (r .to) (free t n end (r .passed) (r .to) (r .to) o (s .passed) (omega arith) (s .next))) (λ z. omega arith)
+      (λ short. class-missing t n (r .to) (free t n end (r .passed) (r .to) (r .to) o (s .passed before) (omega arith) (s .next))) (λ z. omega arith)
 
   module _ (stays : r .to ≤ p) (below : p < end) {next : ℕ} (first : r .passed < n → next ≡ firstAt t (r .passed)) (last : n ≤ r .passed → next ≡ end) where
-    next-high : p < next
-    next-high =
-        elim (decLe n (r .passed)) [
-          | yes none ↦ omega (arith, last none)
-          | no one ↦ omega (arith, first (omega arith), s .next (omega arith), s .on)
-        ]
-
     next-low : next ≤ end
     next-low =
         elim (decLe n (r .passed)) [
@@ -136,18 +140,36 @@ module _ (t : List ℕ) (n p end : ℕ) {r : Reach} (o : Ordered t n end) (s : R
               covered-by t n next (r .passed) (omega arith) (omega arith) (omega (arith, o .spans .some (r .passed) (omega arith)))
         ]
 
-    pub range-missing : (p ≤ next) × (record { class = missing; length = next - p } ≡ rangeIn (classBy t n) p end)
+    pub range-missing : record { class = missing; length = next - p } ≡ rangeIn (classBy t n) p end
     range-missing =
-        let high = next-high in (
-          omega arith,
-          range-of (classBy t n) p next end missing had high next-low
-              (λ q from under. class-missing t n q (free t n end (r .passed) (r .to) q o (s .passed) (omega arith) (λ one. omega (arith, first one))))
-              (λ short. class-had t n next (next-had short)) (λ z. omega arith),
-        )
+        range-of (classBy t n) p next end missing had (next-high t n k p end s stays below first last) next-low
+        (λ q from under. class-missing t n q (free t n end (r .passed) (r .to) q o (s .passed before) (omega arith) (λ one. omega (arith, first one))))
+        (λ short. class-had t n next (next-had short)) (λ z. omega arith)
 
   -- the spans that are passed at the reach are passed behind it
   pub passed-on : {to : ℕ} → r .to ≤ to → Passed t n (r .passed) to
-  passed-on on = record { most = s .passed .most; ended = λ j less. omega (arith, s .passed .ended j less) }
+  passed-on on = record { most = s .passed before .most; ended = λ j less. omega (arith, s .passed before .ended j less) }
+
+-- ---- so many positions that are missing
+
+module _ {length passed : ℕ} {r : Found} (nothing : r ≡ record { range = record { class = missing; length = length }; passed = passed }) where
+  long-nothing : r .range .length ≡ length
+  long-nothing = ap (λ (x : Found). x .range .length) nothing
+
+  pub nothing-goes : {p end : ℕ} → (p < end → 0 < length) → p + length < 2 ^ 64 → GoesOn p end r
+  nothing-goes some ends =
+      record {
+        class = omega (arith, ap (λ (x : Found). x .range .class) nothing);
+        some = λ below. omega (arith, some below, long-nothing);
+        ends = omega (arith, long-nothing);
+      }
+
+  pub nothing-found : {t : List ℕ} {n p end : ℕ} → record { class = missing; length = length } ≡ rangeIn (classBy t n) p end → Passed t n passed (p + length) → Finds t n p end r
+  nothing-found {t} {n} {p} found on =
+      record {
+        range = ap (λ (x : Found). x .range) nothing ∙ found;
+        passed = subst (λ (x : Found). Passed t n (x .passed) (p + x .range .length)) (sym nothing) on;
+      }
 
 -- ---- ranges one after another
 

@@ -1,5 +1,5 @@
 -- Document 01, "Lists": how far the positions from one on are of one class, and what a sweep over ordered spans tells of that.
-use Prim.Native.Nat.{ℕ, _+_, _-_, _<_, _≤_}
+use Prim.Native.Nat.{ℕ, _+_, _-_, _<_, _≤_, _^_}
 use mathlib.Core.Bool.{true, false}
 use mathlib.Core.List.{List}
 use mathlib.Core.Path.{_≡_}
@@ -24,13 +24,19 @@ pub record Passed (t : List ℕ) (n k p : ℕ) : Type 0 where
   pub most : k ≤ n
   pub ended : Within t k p
 
--- the positions up to the reach are had, and the spans that are not passed there start behind it
-pub record Reaches (t : List ℕ) (n p : ℕ) (r : Reach) : Type 0 where
+-- the positions up to the reach are had, and the spans that are not passed there start behind it, where the first k were passed before
+pub record Reaches (t : List ℕ) (n k p : ℕ) (r : Reach) : Type 0 where
   pub on : p ≤ r .to
   pub most : (end : ℕ) → p ≤ end → Within t n end → r .to ≤ end
   pub had : (q : ℕ) → p ≤ q → q < r .to → coveredBy t n q ≡ true
-  pub passed : Passed t n (r .passed) (r .to)
+  pub passed : Passed t n k p → Passed t n (r .passed) (r .to)
   pub next : r .passed < n → r .to < firstAt t (r .passed)
+
+-- a range is of one of the two classes and ends in 64 bits, and below an end it is not empty
+pub record GoesOn (p end : ℕ) (r : Found) : Type 0 where
+  pub class : r .range .class ≤ had
+  pub some : p < end → 0 < r .range .length
+  pub ends : p + r .range .length < 2 ^ 64
 
 -- the range of a position, and the spans that are passed where it ends
 pub record Finds (t : List ℕ) (n p end : ℕ) (r : Found) : Type 0 where

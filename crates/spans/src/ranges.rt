@@ -1,9 +1,11 @@
 // Maximal ranges: how far the positions from one on are all had, or all missing, by a sweep over ordered spans that never goes back.
 use partial::position::Position;
 ghost use Prim.Native.Nat.{_*_, _<_, _≤_};
+ghost use mathlib.Core.Path.{_≡_};
 ghost use lib.ListN.{length};
+ghost use Rattle.partial.specs.Ranges.{missing};
 ghost use Rattle.spans.specs.Spans.{Ordered};
-ghost use Rattle.spans.specs.Ranges.{Passed, Reaches, Finds};
+ghost use Rattle.spans.specs.Ranges.{Passed, Reaches, GoesOn, Finds};
 
 // The class of the positions that no span holds.
 pub const MISSING: u64 = 0;
@@ -22,6 +24,19 @@ pub struct Found {
     pub passed: usize,
 }
 
+// So many positions that are missing, with so many spans passed.
+fn nothing(passed: usize, length: u64) -> Found
+    ensures { λ r. ⌜ r ≡ record { range = record { class = missing; length = length }; passed = passed } ⌝ }
+{
+    Found {
+        range: Range {
+            class: MISSING,
+            length,
+        },
+        passed,
+    }
+}
+
 // How far the positions from one on are had, and how many spans are passed there.
 pub struct Reach {
     pub to: u64,
@@ -30,8 +45,8 @@ pub struct Reach {
 
 // Goes on over the spans as long as they touch what is reached.
 fn had_to(table: &[u64], n: usize, passed: usize, p: Position) -> Reach
-    requires { ⌜ (2 * n ≤ length (now table)) × Passed (now table) n passed (p .0) ⌝ }
-    ensures { λ r. ⌜ Reaches (now (table .entry)) n (p .0) r ⌝ }
+    requires { ⌜ 2 * n ≤ length (now table) ⌝ }
+    ensures { λ r. ⌜ Reaches (now (table .entry)) n passed (p .0) r ⌝ }
 {
     let mut to = p.0;
     let mut k = passed;
@@ -49,9 +64,14 @@ fn had_to(table: &[u64], n: usize, passed: usize, p: Position) -> Reach
 
 // The range of a position below an end, by so many ordered spans of which the first so many are passed.
 pub fn range_at(table: &[u64], n: usize, passed: usize, p: Position, end: Position) -> Found
-    requires { ⌜ Ordered (now table) n (end .0) × Passed (now table) n passed (p .0) × (p .0 < end .0) ⌝ }
-    ensures { λ r. ⌜ Finds (now (table .entry)) n (p .0) (end .0) r ⌝ }
+    ensures { λ r. ⌜ GoesOn (p .0) (end .0) r × (Ordered (now (table .entry)) n (end .0) → Passed (now (table .entry)) n passed (p .0) → p .0 < end .0 → Finds (now (table .entry)) n (p .0) (end .0) r) ⌝ }
 {
+    if end.0 <= p.0 {
+        return nothing(passed, 0);
+    }
+    if table.len() / 2 < n {
+        return nothing(passed, end.0 - p.0);
+    }
     let reached = had_to(table, n, passed, p);
     let to = reached.to;
     let k = reached.passed;
@@ -68,11 +88,5 @@ pub fn range_at(table: &[u64], n: usize, passed: usize, p: Position, end: Positi
     if k < n {
         next = table[2 * k];
     }
-    Found {
-        range: Range {
-            class: MISSING,
-            length: next - p.0,
-        },
-        passed: k,
-    }
+    nothing(k, next - p.0)
 }

@@ -26,13 +26,13 @@ same-length c = search needs
 
 returns : tie.Need-returns
 returns c =
-    let (same, up) = c .before .before .order .ensures in
-    let spans = c .before .before .before .before .before .before .spans-of .ensures in (
+    let spans = c .before .before .before .before .before .before .spans-of .ensures in
+    let (same, up) = c .before .before .order .ensures (spans .spans .room) in (
       same-ordered same (spans .spans) up,
-      λ ss k.
+      λ room ss k.
           let gathers = c .before .before .before .before .before .before .before .before .before .before .before .pass .ensures (k .h) (headed _ (k .h) (k .head) .boxes) in
           let (_, rows) = rows-put _ (k .h) _ gathers (segments-by _ (k .h) (k .all)) in
-          spanned-by k (rows-hold k rows (omega (arith, known-few k))) spans same,
+          spanned-by k (rows-hold k rows (omega (arith, room, known-few k))) spans same,
     )
 
 pub file-spans-spec : {M : Type 1} → statement M

@@ -52,14 +52,14 @@ returns-3 : tie.Need-returns-3
 returns-3 c =
     let a = accepted _ (judgement-given (c .before .before .before .before .before .before .before .before .before .before .before .before .before .before .before .before .before .judge .ensures) (c .before .before .before .before .before .before .before .before .before .before .before .before .before .before .before .judged .given .1)) in
     let known = known-by a (c .before .before .before .before .before .before .before .before .before .before .before .described .ensures (a .ss) (gathered-sizes (a .ss) (a .gathered))) in
-    let counts = c .before .before .before .before .before .before .counted .ensures (a .ss) (c .before .before .before .before .before .before .before .before .before .file-spans .ensures .1 (a .ss) known) in
+    let counts = c .before .before .before .before .before .before .counted .ensures (a .ss) (c .before .before .before .before .before .before .before .before .before .file-spans .ensures .1 (omega arith) (a .ss) known) in
     lists-refused _ _ _ _ _ (had-short _ _ _ _ _ (a .ss) (tabled-given _ _ _ (a .ss) (read-given _ a) (omega (arith, gathered-segments (a .ss) (a .gathered))) (omega (arith, gathered-chunks (a .ss) (a .gathered)))) (omega (arith, counts .hadMany)))
 
 returns-4 : tie.Need-returns-4
 returns-4 c =
     let a = accepted _ (judgement-given (c .before .before .before .before .before .before .before .before .before .before .before .before .before .before .before .before .before .before .before .judge .ensures) (c .before .before .before .before .before .before .before .before .before .before .before .before .before .before .before .before .before .judged .given .1)) in
     let known = known-by a (c .before .before .before .before .before .before .before .before .before .before .before .before .before .described .ensures (a .ss) (gathered-sizes (a .ss) (a .gathered))) in
-    let counts = c .before .before .before .before .before .before .before .before .counted .ensures (a .ss) (c .before .before .before .before .before .before .before .before .before .before .before .file-spans .ensures .1 (a .ss) known) in
+    let counts = c .before .before .before .before .before .before .before .before .counted .ensures (a .ss) (c .before .before .before .before .before .before .before .before .before .before .before .file-spans .ensures .1 (omega arith) (a .ss) known) in
     lists-refused _ _ _ _ _ (missing-short _ _ _ _ _ (a .ss) (tabled-given _ _ _ (a .ss) (read-given _ a) (omega (arith, gathered-segments (a .ss) (a .gathered))) (omega (arith, gathered-chunks (a .ss) (a .gathered)))) (omega (arith, counts .missingMany)))
 
 pass-requires : tie.Need-pass-requires
@@ -90,7 +90,7 @@ returns-6 : tie.Need-returns-6
 returns-6 c =
     let a = accepted _ (judgement-given (c .before .before .before .before .before .before .before .before .before .before .before .before .before .before .before .before .before .before .before .before .before .before .before .before .before .before .before .before .before .before .before .before .before .before .judge .ensures) (c .before .before .before .before .before .before .before .before .before .before .before .before .before .before .before .before .before .before .before .before .before .before .before .before .before .before .before .before .before .before .before .before .judged .given .1)) in
     let known = known-by a (c .before .before .before .before .before .before .before .before .before .before .before .before .before .before .before .before .before .before .before .before .before .before .before .before .before .before .before .before .described .ensures (a .ss) (gathered-sizes (a .ss) (a .gathered))) in
-    let spanned = c .before .before .before .before .before .before .before .before .before .before .before .before .before .before .before .before .before .before .before .before .before .before .before .before .before .before .file-spans .ensures .1 (a .ss) known in
+    let spanned = c .before .before .before .before .before .before .before .before .before .before .before .before .before .before .before .before .before .before .before .before .before .before .before .before .before .before .file-spans .ensures .1 (omega arith) (a .ss) known in
     let counts = c .before .before .before .before .before .before .before .before .before .before .before .before .before .before .before .before .before .before .before .before .before .before .before .counted .ensures (a .ss) spanned in
     let args = c .before .before .before .before .before .before .before .before .before .before .before .before .before .before .before .before .before .before .before .before .before .before .before .before .before .before .before .before .before .before .before .before .before .before .before .before .before .before .before .before .args in
     let segments : 7 * length (a .ss) ≤ length (args .segments .now) = omega (arith, gathered-segments (a .ss) (a .gathered)) in
@@ -99,7 +99,7 @@ returns-6 c =
     let missing : 2 * length (missingList (a .ss)) ≤ length (args .missing .now) = omega (arith, counts .missingMany) in
     let read = tabled-given _ _ _ (a .ss) (read-given _ a) segments chunks in
     let (one, two) = rows-put _ (a .h) _ (c .before .before .before .before .before .before .before .before .before .before .before .before .pass .ensures (a .h) (headed _ (a .h) (a .head) .boxes)) (read-segments _ a) in
-    let lists = of-file spanned (c .before .before .before .before .put-lists .ensures) in
+    let lists = of-file spanned (c .before .before .before .before .put-lists .ensures (c .before .before .before .before .before .before .before .before .before .before .before .before .before .before .before .before .before .before .before .before .before .before .before .before .before .before .file-spans .ensures .0)) in
     lists-given _ _ _ _ _ (a .ss) (listed-given _ _ _ _ _ (a .ss) read had missing) counts (segments-filled (a .ss) one segments) (chunks-filled (a .ss) two chunks) (lists .had) (lists .missing) had missing
 
 pub list-spec : {M : Type 1} → statement M

@@ -1,4 +1,5 @@
 -- `mapping::call::put_accepted` meets its contract: the table of our own has room for all rows.
+use native.Mathlib.Omega.{arith}
 use borrow.Author.Needs.{needs}
 use Rattle.mapping.proofs.call.put_accepted.Statement.{statement}
 use Rattle.mapping.proofs.call.put_accepted.Tie as tie
@@ -19,7 +20,7 @@ same-length : tie.Need-same-length
 same-length c = search needs
 
 returns : tie.Need-returns
-returns c = λ ss k closed. c .before .before .put-spans .ensures ss (c .before .before .before .before .before .before .file-spans .ensures .1 ss k) closed
+returns c = λ ss k closed. c .before .before .put-spans .ensures ss (c .before .before .before .before .before .before .file-spans .ensures .1 (omega arith) ss k) closed
 
 pub put-accepted-spec : {M : Type 1} → statement M
 put-accepted-spec =

@@ -29,7 +29,7 @@ same-length c = search needs
 
 returns : tie.Need-returns
 returns c = λ ss spanned closed.
-    let lists = of-file spanned (c .before .before .before .before .before .before .before .before .before .before .before .before .before .before .put-lists .ensures) in
+    let lists = of-file spanned (c .before .before .before .before .before .before .before .before .before .before .before .before .before .before .put-lists .ensures (c .before .before .before .before .before .before .before .before .before .before .before .before .before .before .before .before .before .before .before .pre .1)) in
     let source = c .before .before .before .before .before .before .before .before .before .before .put-source .ensures .0 ss (spanned .long) closed in
     let lines = puts-same (range-lines ss spanned) (c .before .before .before .before .before .before .put-ranges .ensures .0) in
     puts-same (map-lines ss) (puts-more source (puts-more lines (c .before .before .put-total .ensures ss (lists .counts))))

@@ -26,23 +26,22 @@ loop-holds : tie.Need-loop-holds Inv-loop μ-loop
 loop-holds c = (omega arith, omega arith, refl, record { most = omega arith; ended = λ j less. absurd (omega arith) }, midway-none _ _ _ _)
 
 range-at-requires : tie.Need-range-at-requires Inv-loop μ-loop
-range-at-requires c κs = (c .before .before .before .before .before .pre .2, c .before .before .loop .inv .3, omega arith)
+range-at-requires c κs = search needs
 
 put-range-requires : tie.Need-put-range-requires Inv-loop μ-loop
 put-range-requires c κs = omega arith
 
 add-p : tie.Need-add-p Inv-loop μ-loop
-add-p c = omega (arith, found-most _ _ _ (omega arith) (c .before .before .before .before .before .before .range-at .ensures .range))
+add-p c = omega (arith, c .before .before .before .before .before .before .range-at .ensures .0 .ends)
 
 loop-less : tie.Need-loop-less Inv-loop μ-loop
 loop-less c =
-    let found = c .before .before .before .before .before .before .range-at .ensures .range in
-    omega (arith, found-most _ _ _ (omega arith) found, found-some _ _ _ (omega arith) found)
+    omega (arith, c .before .before .before .before .before .before .range-at .ensures .0 .some (omega arith))
 
 loop-again : tie.Need-loop-again Inv-loop μ-loop
 loop-again c =
     let inv = c .before .before .before .before .before .before .before .before .before .loop .inv in
-    let finds = c .before .before .before .before .before .before .range-at .ensures in
+    let finds = c .before .before .before .before .before .before .range-at .ensures .1 (c .before .before .before .before .before .before .before .before .before .before .before .before .pre .2) (c .before .before .before .before .before .before .before .before .before .loop .inv .3) (omega arith) in
     let found = finds .range in
     let (puts, low) = c .before .before .before .put-range .ensures in (
       omega (arith, found-most _ _ _ (omega arith) found),

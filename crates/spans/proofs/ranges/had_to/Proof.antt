@@ -1,5 +1,5 @@
 -- `spans::ranges::had_to` meets its contract. The loop's invariant: the positions up to here are had.
-use Prim.Native.Nat.{_-_, _≤_}
+use Prim.Native.Nat.{_-_}
 use mathlib.Core.Logic.{⊎-elim}
 use native.Mathlib.Omega.{arith}
 use Rattle.spans.proofs.RangeLaws.{Reached, reached-none, reached-more, reached-end}
@@ -8,13 +8,13 @@ use Rattle.spans.proofs.ranges.had_to.Statement.{statement}
 use Rattle.spans.proofs.ranges.had_to.Tie as tie
 
 abbrev Inv-loop : tie.InvT-loop
-Inv-loop table n passed to₀ k₀ to k = (k ≤ n) × Reached table n to₀ to k
+Inv-loop table n passed to₀ k₀ to k = Reached table n k₀ to₀ to k
 
 abbrev μ-loop : tie.MeasureT-loop
 μ-loop table n passed to₀ k₀ to k = n - k
 
 loop-holds : tie.Need-loop-holds Inv-loop μ-loop
-loop-holds c = (c .pre .1 .most, reached-none _ _ _ _ (c .pre .1))
+loop-holds c = reached-none _ _ _ _
 
 mul-if1 : tie.Need-mul-if1 Inv-loop μ-loop
 mul-if1 c = search needs
@@ -26,7 +26,7 @@ shared-slice-read-if1 : tie.Need-shared-slice-read-if1 Inv-loop μ-loop
 shared-slice-read-if1 c = search needs
 
 returns : tie.Need-returns Inv-loop μ-loop
-returns c = reached-end _ _ _ (c .before .before .before .loop .inv .1) (λ less. omega arith)
+returns c = reached-end _ _ _ _ (c .before .before .before .loop .inv) (λ less. omega arith)
 
 mul-if2 : tie.Need-mul-if2 Inv-loop μ-loop
 mul-if2 c = search needs
@@ -61,10 +61,10 @@ loop-less c = search needs
 loop-again : tie.Need-loop-again Inv-loop μ-loop
 loop-again c =
     let at-loop = c .before .before .before .before .before in
-    (omega arith, reached-more _ _ _ (at-loop .loop .inv .1) (omega arith) (omega arith) (⊎-elim (λ w. omega arith) (λ w. omega arith) (c .if2 .came)))
+    reached-more _ _ _ _ (at-loop .loop .inv) (omega arith) (omega arith) (⊎-elim (λ w. omega arith) (λ w. omega arith) (c .if2 .came))
 
 returns-2 : tie.Need-returns-2 Inv-loop μ-loop
-returns-2 c = reached-end _ _ _ (c .before .loop .inv .1) (λ less. absurd (omega arith))
+returns-2 c = reached-end _ _ _ _ (c .before .loop .inv) (λ less. absurd (omega arith))
 
 pub had-to-spec : {M : Type 1} → statement M
 had-to-spec =
