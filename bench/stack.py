@@ -11,15 +11,23 @@ import sys
 
 FUNCTION = re.compile(r"^[0-9a-f]+ <(.+)>:$")
 PUSH = re.compile(r"\tpush ")
-# A frame of more than a page is taken page by page, up to a mark in r11 that lies below by the whole of it.
-TAKES = re.compile(r"\tsub +\$0x([0-9a-f]+),%(?:rsp|r11)")
-PAGE = "\tsub    $0x1000,%rsp"
+TAKES = re.compile(r"\tsub +\$0x([0-9a-f]+),%(rsp|r11)")
+PAGE = 0x1000
 CALLS = re.compile(r"\tcall ")
 LEAPS = re.compile(r"\tjmp ")
 TARGET = re.compile(r"R_X86_64_(?:PLT32|PC32)\t(?:\.text\.)?(.+?)-0x4")
 EXPORTED = "vrazhupa_"
 WORD = 8
 FROM_C = {"memcpy", "memset"}
+
+
+def taken_by(line):
+    """What a line takes off the stack. Of many pages each is taken in a loop, up to a mark in r11 that lies below by all of them: the mark is made once, and the
+    line of the loop takes the page that the mark counts too many."""
+    taken = TAKES.search(line)
+    if not taken:
+        return 0
+    return int(taken[1], 16) - (PAGE if taken[2] == "r11" else 0)
 
 
 def functions(archive):
@@ -32,8 +40,7 @@ def functions(archive):
             name = start[1]
             frames[name], calls[name] = WORD, set()
         elif name:
-            taken = None if PAGE in line else TAKES.search(line)
-            frames[name] += WORD if PUSH.search(line) else int(taken[1], 16) if taken else 0
+            frames[name] += WORD if PUSH.search(line) else taken_by(line)
             target = TARGET.search(line)
             if waiting and target:
                 calls[name].add(target[1])

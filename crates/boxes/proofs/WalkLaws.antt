@@ -146,13 +146,6 @@ module _ {s : List ℕ} {c : Container} {start end : Place} {w₀ w : Walk} {bs 
   unfolding boxesIn
   first-fault h = rw new at (p .rest) ∙ rw (walk-steps s w, h)
 
-  -- where the container's boxes are known, those passed are the first of them
-  pub passed-known : {all : List Box} → boxesIn c s (start .0) (end .0) ≡ given all → (more : List Box) × (all ≡ bs ++ more)
-  unfolding boxesIn
-  passed-known known =
-      let rest = both-given (ahead s w) (λ more. given (bs ++ more)) (sym (rw new at (p .rest)) ∙ known) in
-      (rest .0, sym (given-same (rest .2)))
-
 -- the boxes of a container are those that a walk from its start has before it
 pub walk-boxes : (s : List ℕ) {c : Container} {start end : Place} {w : Walk} → w ≡ walkOver c start end → boxesIn c s (start .0) (end .0) ≡ ahead s w
 unfolding boxesIn

@@ -1,6 +1,6 @@
 -- Laws of the spans of chunks: what the rows so far have become, with one row more that has a span or has none.
 use Prim.Native.Nat.{ℕ, _+_, _*_, _/_, _<_, _≤_}
-use mathlib.Core.Bool.{Bool, true, false, _||_, or-false, or-true, false≢true}
+use mathlib.Core.Bool.{Bool, true, false, _||_, or-false, or-true}
 use mathlib.Core.List.{List, [], _∷_, _++_}
 use mathlib.Core.Logic.{_⊎_, inl, inr}
 use mathlib.Core.Path.{_≡_, refl, sym, ap, subst, _∙_}
@@ -12,7 +12,7 @@ use lib.ListN.{length, getD}
 use Rattle.partial.specs.Meaning.{supplies}
 use Rattle.partial.specs.Segments.{Chunk, noChunk, good}
 use Rattle.partial.specs.Sequences.{someOf}
-use Rattle.partial.proofs.Meaning.RunLaws.{supplies-true, does-supply, not-supply}
+use Rattle.partial.proofs.Meaning.RunLaws.{supplies-true, does-supply}
 use Rattle.partial.proofs.Meaning.SequenceLaws.{which, some-append}
 use Rattle.serving.specs.Rows.{chunkIn, chunksFrom, chunksIn}
 use Rattle.serving.proofs.RowsLaws.{rows-last}

@@ -2,7 +2,6 @@
 use Prim.Native.Nat.{ℕ, zero, suc, _+_, _-_, _<_, _≤_, _^_, max}
 use mathlib.Core.Bool.{true, false, false≢true}
 use mathlib.Core.List.{List, _∷_}
-use mathlib.Core.Logic.{inl, inr}
 use mathlib.Core.Path.{_≡_, refl, sym, ap, subst, _∙_}
 use native.Mathlib.Decide.{decLe}
 use native.Mathlib.Omega.{arith}
@@ -11,7 +10,6 @@ use lib.Dec.{eqb}
 use Rattle.partial.specs.Ranges.{missing, had, ranges, joined}
 use Rattle.partial.specs.Sequences.{stretch}
 use Rattle.partial.proofs.Meaning.RangeLaws.{first-range}
-use Rattle.partial.proofs.Meaning.SequenceLaws.{which}
 use Rattle.partial.proofs.Meaning.StretchLaws.{first-one, stretch-first}
 use Rattle.spans.specs.Spans.{firstAt, endAt, Within, coveredBy, Ordered}
 use Rattle.spans.specs.Ranges.{classBy, rangeIn, Passed, Reaches, GoesOn, Finds}
@@ -81,14 +79,6 @@ module _ (t : List ℕ) (n q : ℕ) where
   class-missing : coveredBy t n q ≡ false → classBy t n q ≡ missing
   unfolding classBy
   class-missing e = rw (classBy, e)
-
-  class-two : classBy t n q ≤ had
-  unfolding classBy
-  class-two =
-      elim (which (coveredBy t n q)) [
-        | inl e ↦ rw (classBy, e) (omega arith)
-        | inr e ↦ rw (classBy, e) (omega arith)
-      ]
 
 -- so many positions of one class, and another class behind them
 range-of : (of : ℕ → ℕ) (p e end class other : ℕ) → p < e → e ≤ end → ((q : ℕ) → p ≤ q → q < e → of q ≡ class) → (e < end → of e ≡ other) → (other ≡ class → ⊥)
@@ -205,10 +195,6 @@ module _ (of : ℕ → ℕ) (p end : ℕ) (some : p < end) {r : Range} (found : 
       (λ i less. eqb-true _ _ (f .before i (omega (arith, long))))
       (λ short same. eqb-false _ _ (f .there (omega (arith, long))) (ap (λ (n : ℕ). of (p + n)) (sym long) ∙ same))
       ∙ (λ i. record { class = sym found-class i; first = p; length = r .length } ∷ ranges of (left i) (p + r .length))
-
--- its class is one of the two
-pub found-two : (t : List ℕ) (n p end : ℕ) → p < end → {r : Range} → r ≡ rangeIn (classBy t n) p end → r .class ≤ had
-found-two t n p end some found = omega (arith, found-class (classBy t n) p end some found, class-two t n p)
 
 -- ranges are decided by the classes of their positions
 pub ranges-same : (of by : ℕ → ℕ) (more p : ℕ) → ((q : ℕ) → p ≤ q → q < p + more → of q ≡ by q) → ranges of more p ≡ ranges by more p
