@@ -21,7 +21,7 @@ DRIVER := $(wildcard tests/scale/*.c)
 LIBRARY := crates.txt $(shell find crates -type f \( -name '*.rt' -o -name '*.antt' \))
 
 # How an x86-64 program is run here: on another processor under the kit's emulator.
-EMULATOR := $(if $(filter x86_64,$(shell uname -m)),,$(shell dirname "$$(dirname "$$(readlink -f "$$(command -v rt)")")")/toolchain/bin/qemu-x86_64)
+EMULATOR := $(shell sh command/emulator)
 
 .PHONY: all test bench
 .DELETE_ON_ERROR:
