@@ -1,5 +1,4 @@
 pub mod CallLaws
-pub mod DecimalLaws
 pub mod Determined
+pub mod LineLaws
 pub mod RangesLaws
-pub mod TextLaws

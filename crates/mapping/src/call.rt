@@ -1,5 +1,4 @@
 // The map of a file as text.
-use crate::lines::put_refused;
 use crate::lines::put_source;
 use crate::lines::put_total;
 use crate::ranges::put_ranges;
@@ -12,6 +11,7 @@ use partial::refusals::BUFFER_TOO_SHORT;
 use partial::refusals::INPUT_TOO_LONG;
 use reading::judging::Judgement;
 use reading::judging::judge;
+use texts::lines::put_refused;
 ghost use Prim.Native.Nat.{_≤_};
 ghost use mathlib.Core.List.{List};
 ghost use mathlib.Core.Path.{_≡_};
@@ -52,10 +52,10 @@ fn put_map(buffer: &mut [u8], file: &[u8], most: u64) -> u64
     ensures { λ r. ⌜ Puts (now (buffer .entry)) 0 (mapText sourceLimit most (now (file .entry))) (now (buffer .exit)) r ⌝ }
 {
     if most < file.len() as u64 {
-        return put_refused(buffer, INPUT_TOO_LONG);
+        return put_refused(buffer, 0, INPUT_TOO_LONG);
     }
     match judge(file) {
-        Judgement::Refused(n) => put_refused(buffer, n),
+        Judgement::Refused(n) => put_refused(buffer, 0, n),
         Judgement::Given(judged) => {
             let gathered = judged.gathered;
             let sizes = gathered.sizes;

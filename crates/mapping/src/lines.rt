@@ -1,17 +1,17 @@
 // The lines of the map.
-use crate::puts::put_decimal;
-use crate::puts::put_text;
 use listing::lists::Totals;
 use partial::position::Position;
 use spans::ranges::HAD;
 use spans::ranges::Range;
+use texts::puts::put_decimal;
+use texts::puts::put_text;
 ghost use Prim.Native.Nat.{_+_, _<_, _≤_, _^_};
 ghost use mathlib.Core.List.{List, [], _∷_, _++_};
 ghost use mathlib.Core.Path.{_≡_};
 ghost use lib.ListN.{length};
 ghost use Rattle.filling.specs.Rows.{Puts};
 ghost use Rattle.listing.specs.Calls.{Counted};
-ghost use Rattle.partial.specs.Map.{decimal, sourceLine, rangeLine, totalLine, refusedLine};
+ghost use Rattle.partial.specs.Map.{decimal, sourceLine, rangeLine, totalLine};
 ghost use Rattle.partial.specs.Meaning.{describedLength, isClosed};
 ghost use Rattle.partial.specs.Segments.{Segment};
 
@@ -56,13 +56,4 @@ pub(crate) fn put_total(buffer: &mut [u8], at: u64, totals: Totals) -> u64
     ensures { λ r. ⌜ ((ss : List Segment) → Counted ss totals → Puts (now (buffer .entry)) at (totalLine ss) (now (buffer .exit)) r) ⌝ }
 {
     put_numbers(buffer, at, b"total\t", totals.received, totals.missed)
-}
-
-// `refused` and the number.
-pub(crate) fn put_refused(buffer: &mut [u8], n: u64) -> u64
-    ensures { λ r. ⌜ Puts (now (buffer .entry)) 0 (refusedLine n) (now (buffer .exit)) r ⌝ }
-{
-    let number = put_text(buffer, 0, b"refused\t");
-    let end = put_decimal(buffer, number, n);
-    put_text(buffer, end, b"\n")
 }

@@ -8,6 +8,7 @@ use Rattle.partial.specs.Limits.{sourceLimit}
 use Rattle.partial.proofs.Reading.LimitLaws.{described-low}
 use Rattle.partial.proofs.Reading.PrintedLaws.{printed}
 use Rattle.reading.proofs.JudgedLaws.{accepted, read-refused, read-given, judgement-refused, judgement-given}
+use Rattle.texts.proofs.TextLaws.{piece-puts}
 use Rattle.mapping.proofs.CallLaws.{map-lines, known-closed}
 use borrow.Author.Needs.{needs}
 use Rattle.mapping.proofs.call.put_map.Statement.{statement}
@@ -20,7 +21,7 @@ same-length : tie.Need-same-length
 same-length c = search needs
 
 returns : tie.Need-returns
-returns c = puts-same (sym (printed sourceLimit _ _ .overLong (omega arith))) (c .before .before .put-refused .ensures)
+returns c = puts-same (sym (printed sourceLimit _ _ .overLong (omega arith))) (piece-puts (omega arith) (c .before .before .put-refused .ensures .0))
 
 judge-requires : tie.Need-judge-requires
 judge-requires c κs = search needs
@@ -48,7 +49,7 @@ same-length-2 c = search needs
 returns-2 : tie.Need-returns-2
 returns-2 c =
     let refusal = read-refused _ (judgement-refused (c .before .before .before .before .before .before .before .judge .ensures) (c .before .before .before .before .before .n .given .1)) in
-    puts-same (sym (printed sourceLimit _ _ .refusal _ (omega arith) refusal)) (c .before .before .put-refused2 .ensures)
+    puts-same (sym (printed sourceLimit _ _ .refusal _ (omega arith) refusal)) (piece-puts (omega arith) (c .before .before .put-refused2 .ensures .0))
 
 same-length-3 : tie.Need-same-length-3
 same-length-3 c = search needs

@@ -1,6 +1,6 @@
 -- `mapping::lines::put_numbers` meets its contract: five puts, one behind the other.
 use native.Mathlib.Omega.{arith}
-use Rattle.filling.proofs.PutsLaws.{puts-more}
+use Rattle.mapping.proofs.LineLaws.{numbers-put}
 use borrow.Author.Needs.{needs}
 use Rattle.mapping.proofs.lines.put_numbers.Statement.{statement}
 use Rattle.mapping.proofs.lines.put_numbers.Tie as tie
@@ -31,12 +31,9 @@ same-length c = search needs
 
 returns : tie.Need-returns
 returns c =
-    let word = c .before .before .before .before .before .before .before .before .before .before .before .before .before .before .before .before .before .before .before .before .put-text .ensures in
-    let (one, low) = c .before .before .before .before .before .before .before .before .before .before .before .before .before .before .before .before .put-decimal .ensures in
-    let tab = c .before .before .before .before .before .before .before .before .before .before .before .put-text2 .ensures in
-    let (two, most) = c .before .before .before .before .before .before .before .put-decimal2 .ensures in
-    let end = c .before .before .put-text3 .ensures in
-    (puts-more word (puts-more one (puts-more tab (puts-more two end))), omega (arith, word .end, tab .end, end .end))
+    let (first, low) = c .before .before .before .before .before .before .before .before .before .before .before .before .before .before .before .before .put-decimal .ensures in
+    let (second, most) = c .before .before .before .before .before .before .before .put-decimal2 .ensures in
+    numbers-put _ _ _ (omega arith) (omega arith) (c .before .before .before .before .before .before .before .before .before .before .before .before .before .before .before .before .before .before .before .before .put-text .ensures) first low (c .before .before .before .before .before .before .before .before .before .before .before .put-text2 .ensures) second most (c .before .before .put-text3 .ensures)
 
 pub put-numbers-spec : {M : Type 1} → statement M
 put-numbers-spec =

@@ -1,6 +1,6 @@
 -- `mapping::lines::put_range` meets its contract: the word goes by the class.
 use Rattle.filling.proofs.PutsLaws.{puts-same}
-use Rattle.mapping.proofs.TextLaws.{have-words, miss-words}
+use Rattle.mapping.proofs.LineLaws.{have-words, miss-words}
 use borrow.Author.Needs.{needs}
 use Rattle.mapping.proofs.lines.put_range.Statement.{statement}
 use Rattle.mapping.proofs.lines.put_range.Tie as tie

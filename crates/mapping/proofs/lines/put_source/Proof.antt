@@ -1,8 +1,8 @@
 -- `mapping::lines::put_source` meets its contract.
 use mathlib.Core.Path.{sym, _∙_}
 use native.Mathlib.Omega.{arith}
-use Rattle.filling.proofs.PutsLaws.{puts-same, puts-more}
-use Rattle.mapping.proofs.TextLaws.{closed-words, open-words}
+use Rattle.filling.proofs.PutsLaws.{puts-same}
+use Rattle.mapping.proofs.LineLaws.{front-put, closed-words, open-words}
 use borrow.Author.Needs.{needs}
 use Rattle.mapping.proofs.lines.put_source.Statement.{statement}
 use Rattle.mapping.proofs.lines.put_source.Tie as tie
@@ -27,10 +27,9 @@ same-length c = search needs
 
 returns : tie.Need-returns
 returns c =
-    let word = c .before .before .before .before .before .before .before .before .before .before .before .before .put-text .ensures in
-    let (number, low) = c .before .before .before .before .before .before .before .before .put-decimal .ensures in
-    let end = c .before .before .put-text2 .ensures in
-    (λ ss described closed. puts-same (closed-words ss _ described (sym (c .before .before .before .before .before .if1 .taken) ∙ closed)) (puts-more word (puts-more number end)), omega (arith, word .end, end .end))
+    let (digits, few) = c .before .before .before .before .before .before .before .before .put-decimal .ensures in
+    let (puts, low) = front-put _ _ (omega arith) (c .before .before .before .before .before .before .before .before .before .before .before .before .put-text .ensures) digits few (c .before .before .put-text2 .ensures) in
+    (λ ss described closed. puts-same (closed-words ss _ described (sym (c .before .before .before .before .before .if1 .taken) ∙ closed)) puts, low)
 
 slice-aggregate-put-text-3 : tie.Need-slice-aggregate-put-text-3
 slice-aggregate-put-text-3 c = search needs
@@ -43,10 +42,9 @@ same-length-2 c = search needs
 
 returns-2 : tie.Need-returns-2
 returns-2 c =
-    let word = c .before .before .before .before .before .before .before .before .before .before .before .before .put-text .ensures in
-    let (number, low) = c .before .before .before .before .before .before .before .before .put-decimal .ensures in
-    let end = c .before .before .put-text3 .ensures in
-    (λ ss described closed. puts-same (open-words ss _ described (sym (c .before .before .before .before .before .if1 .left) ∙ closed)) (puts-more word (puts-more number end)), omega (arith, word .end, end .end))
+    let (digits, few) = c .before .before .before .before .before .before .before .before .put-decimal .ensures in
+    let (puts, low) = front-put _ _ (omega arith) (c .before .before .before .before .before .before .before .before .before .before .before .before .put-text .ensures) digits few (c .before .before .put-text3 .ensures) in
+    (λ ss described closed. puts-same (open-words ss _ described (sym (c .before .before .before .before .before .if1 .left) ∙ closed)) puts, low)
 
 pub put-source-spec : {M : Type 1} → statement M
 put-source-spec =

@@ -1,6 +1,6 @@
 -- `mapping::lines::put_total` meets its contract.
 use Rattle.filling.proofs.PutsLaws.{puts-same}
-use Rattle.mapping.proofs.TextLaws.{total-words}
+use Rattle.mapping.proofs.LineLaws.{total-words}
 use borrow.Author.Needs.{needs}
 use Rattle.mapping.proofs.lines.put_total.Statement.{statement}
 use Rattle.mapping.proofs.lines.put_total.Tie as tie

@@ -1,48 +1,42 @@
--- Laws of text that is put: without room, by a copy, word by word and line by line.
-use Prim.Native.Nat.{ℕ, _+_, _-_, _≤_, _<_}
+-- Laws of the lines of the map, word by word.
+use Prim.Native.Nat.{ℕ, _+_, _^_, _≤_, _<_}
 use mathlib.Core.Bool.{true, false}
-use mathlib.Core.List.{List, [], _∷_, _++_, append-nil}
-use mathlib.Core.Path.{_≡_, refl, sym, ap, _∙_}
+use mathlib.Core.List.{List, [], _∷_, _++_}
+use mathlib.Core.Path.{_≡_, ap}
 use native.Mathlib.Omega.{arith}
 use borrow.Author.Tests.{eq-eqb, ne-eqb}
-use lib.ListN.{length, take, drop, length-take, length-drop}
-use lib.Seq.{take-length, drop-drop, drop-length}
-use Rattle.numerals.specs.Stored.{stored}
-use Rattle.numerals.proofs.StoredLaws.{stored-room}
+use lib.ListN.{length}
 use Rattle.filling.specs.Rows.{Puts}
+use Rattle.filling.proofs.PutsLaws.{puts-more}
 use Rattle.listing.specs.Calls.{Counted}
 use Rattle.listing.specs.declared.lists.Totals.{Totals}
-use Rattle.partial.specs.Map.{ascii, decimal, line, refusedLine, rangeLine, sourceLine, totalLine}
+use Rattle.partial.specs.Map.{ascii, decimal, line, rangeLine, sourceLine, totalLine}
 use Rattle.partial.specs.Meaning.{describedLength, isClosed}
 use Rattle.partial.specs.Ranges.{had}
 use Rattle.partial.specs.Segments.{Segment}
-
--- without room nothing is put
-pub puts-none : (s : List ℕ) (at : ℕ) (bytes : List ℕ) → length s < at + length bytes → Puts s at bytes s (at + length bytes)
-puts-none s at bytes short = record { put = record { long = refl; held = λ room. absurd (omega arith) }; end = refl }
-
--- a copy into a part of the buffer that is as long
-pub copied : (s : List ℕ) (at : ℕ) (bytes part : List ℕ) → at + length bytes ≤ length s
-    → part ≡ take (length bytes) bytes ++ drop (length bytes) (take (at + length bytes - at) (drop at s))
-    → take at s ++ (part ++ drop (at + length bytes - at) (drop at s)) ≡ stored s at bytes
-copied s at bytes part room e =
-    let many : at + length bytes - at ≡ length bytes = omega arith in
-    let long : length (take (at + length bytes - at) (drop at s)) ≡ length bytes = omega (arith, length-take (at + length bytes - at) (drop at s), length-drop at s) in
-    let none = ap (λ (n : ℕ). drop n (take (at + length bytes - at) (drop at s))) (sym long) ∙ drop-length (take (at + length bytes - at) (drop at s)) in
-    let whole : part ≡ bytes = e ∙ (λ i. take-length bytes i ++ none i) ∙ append-nil bytes in
-    (λ i. take at s ++ (whole i ++ drop (many i) (drop at s)))
-    ∙ ap (λ (rest : List ℕ). take at s ++ (bytes ++ rest)) (drop-drop (length bytes) at s)
-    ∙ sym (stored-room s at bytes room)
-
--- ---- the lines
+use Rattle.texts.specs.Pieces.{PutsPiece}
+use Rattle.texts.proofs.TextLaws.{piece-puts}
 
 -- a word with its tab, and two numbers
 abbrev pub numbers : List ℕ → ℕ → ℕ → List ℕ
 numbers word first second = word ++ (decimal first ++ (9 ∷ (decimal second ++ (10 ∷ []))))
 
-pub refused-words : (n : ℕ) → (114 ∷ 101 ∷ 102 ∷ 117 ∷ 115 ∷ 101 ∷ 100 ∷ 9 ∷ []) ++ (decimal n ++ (10 ∷ [])) ≡ refusedLine n
-unfolding refusedLine line ascii
-refused-words n = refl
+-- put piece by piece
+pub numbers-put : (word : List ℕ) (first second : ℕ) {s t₁ t₂ t₃ t₄ t : List ℕ} {at one tab two end next : ℕ} → at < 2 ^ 61 → length word ≤ 8
+    → PutsPiece s at word t₁ one
+    → PutsPiece t₁ one (decimal first) t₂ tab
+    → tab ≤ one + 20
+    → PutsPiece t₂ tab (9 ∷ []) t₃ two
+    → PutsPiece t₃ two (decimal second) t₄ end
+    → end ≤ two + 20
+    → PutsPiece t₄ end (10 ∷ []) t next
+    → Puts s at (numbers word first second) t next × (next ≤ at + 50)
+numbers-put word first second {at = at} {one = one} {tab = tab} {two = two} {end = end} {next = next} low short a b b-few c d d-few e =
+    let first-low : one ≤ at + 8 = omega (arith, a .end) in
+    let second-low : two ≤ at + 29 = omega (arith, c .end) in
+    let next-low : next ≤ at + 50 = omega (arith, e .end) in
+    let behind = puts-more (piece-puts (omega arith) c) (puts-more (piece-puts (omega arith) d) (piece-puts (omega arith) e)) in
+    (puts-more (piece-puts (omega arith) a) (puts-more (piece-puts (omega arith) b) behind), next-low)
 
 pub have-words : (class first long : ℕ) → class ≡ had
     → numbers (104 ∷ 97 ∷ 118 ∷ 101 ∷ 9 ∷ []) first long ≡ rangeLine (record { class = class; first = first; length = long })
@@ -61,6 +55,17 @@ total-words ss t counts = λ i. numbers (116 ∷ 111 ∷ 116 ∷ 97 ∷ 108 ∷ 
 -- `source` and the described length
 abbrev front : ℕ → List ℕ → List ℕ
 front described word = (115 ∷ 111 ∷ 117 ∷ 114 ∷ 99 ∷ 101 ∷ 9 ∷ []) ++ (decimal described ++ word)
+
+pub front-put : (described : ℕ) (word : List ℕ) {s t₁ t₂ t : List ℕ} {one tab next : ℕ} → length word ≤ 8
+    → PutsPiece s 0 (115 ∷ 111 ∷ 117 ∷ 114 ∷ 99 ∷ 101 ∷ 9 ∷ []) t₁ one
+    → PutsPiece t₁ one (decimal described) t₂ tab
+    → tab ≤ one + 20
+    → PutsPiece t₂ tab word t next
+    → Puts s 0 (front described word) t next × (next ≤ 50)
+front-put described word {one = one} {next = next} short a b b-few c =
+    let first-low : one ≤ 7 = omega (arith, a .end) in
+    let next-low : next ≤ 50 = omega (arith, c .end) in
+    (puts-more (piece-puts (omega arith) a) (puts-more (piece-puts (omega arith) b) (piece-puts (omega arith) c)), next-low)
 
 pub closed-words : (ss : List Segment) (described : ℕ) → described ≡ describedLength ss → true ≡ isClosed ss
     → front described (9 ∷ 99 ∷ 108 ∷ 111 ∷ 115 ∷ 101 ∷ 100 ∷ 10 ∷ []) ≡ sourceLine ss
