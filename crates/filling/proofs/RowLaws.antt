@@ -5,7 +5,7 @@ use mathlib.Core.Path.{_≡_, refl, sym, ap, subst, _∙_}
 use native.Mathlib.Decide.{decLe}
 use native.Mathlib.Nat.{add-zero}
 use native.Mathlib.Omega.{arith}
-use lib.ListN.{length, take, set, getD, take-append-drop, length-append}
+use lib.ListN.{length, take, drop, set, getD, take-append-drop, length-append}
 use lib.Seq.{take-suc, length-take-le}
 use Rattle.numerals.specs.Stored.{stored}
 use Rattle.numerals.proofs.StoredLaws.{stored-more, stored-room, stored-none, stored-append, length-stored}
@@ -32,6 +32,12 @@ put-stored t₀ at rows e =
       | yes room ↦ record { long = ap length e ∙ length-stored t₀ at rows room; held = λ h. e }
       | no short ↦ record { long = ap length (e ∙ stored-none t₀ at rows (omega arith)); held = λ h. e }
     ]
+
+-- from the front of a table that they fit they fill it
+pub put-fills : {t₀ t : List ℕ} (rows : List ℕ) → Put t₀ 0 rows t → length rows ≤ length t₀ → t ≡ rows ++ drop (length rows) t₀
+put-fills {t₀} rows p fits =
+    let front : 0 + length rows ≡ length rows = omega arith in
+    p .held (omega arith) ∙ stored-room t₀ 0 rows (omega arith) ∙ ap (λ (n : ℕ). rows ++ drop n t₀) front
 
 pub put-none : (t : List ℕ) (at : ℕ) → Put t at [] t
 put-none t at = record { long = refl; held = λ h. sym (row-none t at (omega arith)) }

@@ -4,9 +4,9 @@ use mathlib.Core.List.{List, [], _∷_, _++_, append-nil, append-assoc}
 use mathlib.Core.Path.{_≡_, refl, sym, ap, _∙_}
 use native.Mathlib.Nat.{add-zero}
 use native.Mathlib.Omega.{arith}
-use lib.ListN.{length, drop, length-append}
-use Rattle.numerals.proofs.StoredLaws.{stored-room}
+use lib.ListN.{length, length-append}
 use Rattle.filling.specs.Rows.{Put}
+use Rattle.filling.proofs.RowLaws.{put-fills}
 use Rattle.partial.specs.Memory.{filled}
 use Rattle.partial.specs.Segments.{Chunk, Segment, chunksOf}
 use Rattle.partial.specs.Tables.{chunkRow, chunkRowsOf, chunkRowsFrom, segmentRow, segmentRows}
@@ -14,9 +14,7 @@ use Rattle.partial.specs.Tables.{chunkRow, chunkRowsOf, chunkRowsFrom, segmentR
 -- from the front of a table that they fit they fill it
 pub put-filled : {t₀ t : List ℕ} (rows : List ℕ) → Put t₀ 0 rows t → length rows ≤ length t₀ → t ≡ filled rows t₀
 unfolding filled
-put-filled {t₀} rows p fits =
-    let front : 0 + length rows ≡ length rows = omega arith in
-    p .held (omega arith) ∙ stored-room t₀ 0 rows (omega arith) ∙ ap (λ (n : ℕ). rows ++ drop n t₀) front
+put-filled rows p fits = put-fills rows p fits
 
 -- ---- the rows of segments and of chunks
 

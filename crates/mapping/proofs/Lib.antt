@@ -1,4 +1,4 @@
-pub mod CallLaws
 pub mod Determined
 pub mod LineLaws
+pub mod MapLaws
 pub mod RangesLaws

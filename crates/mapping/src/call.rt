@@ -22,7 +22,7 @@ ghost use Rattle.partial.specs.Map.{mapOf, mapText};
 ghost use Rattle.partial.specs.Meaning.{isClosed};
 ghost use Rattle.partial.specs.Segments.{Segment};
 ghost use Rattle.spans.specs.Spans.{Ordered};
-ghost use Rattle.mapping.specs.Call.{Maps};
+ghost use Rattle.texts.specs.Writes.{Writes};
 
 // Puts the map of a file by so many ordered spans of it in a table.
 fn put_spans(buffer: &mut [u8], table: &[u64], n: usize, end: Position, closed: bool) -> u64
@@ -68,7 +68,7 @@ fn put_map(buffer: &mut [u8], file: &[u8], most: u64) -> u64
 // Writes the map of a file, or the line of its refusal, 27 for a file of more bytes than the caller takes, and answers how long it is. Where the buffer is too
 // short for it, it is as it was.
 pub fn map(file: &[u8], most: u64, buffer: &mut [u8]) -> Written
-    ensures { λ r. ⌜ Maps (now (file .entry)) most (now (buffer .entry)) (now (buffer .exit)) r ⌝ }
+    ensures { λ r. ⌜ Writes (mapText sourceLimit most (now (file .entry))) (now (buffer .entry)) (now (buffer .exit)) r ⌝ }
 {
     let mut no_room = [0; 1];
     let size = put_map(&mut no_room, file, most);

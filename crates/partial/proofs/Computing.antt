@@ -40,12 +40,11 @@ unfolding
     Meaning.supplied Meaning.placeOfByte Meaning.served Meaning.onward Meaning.servedRun Meaning.missingRun Meaning.reply
     Ranges.joined Ranges.ranges Ranges.classOf Ranges.rangesOf Ranges.ofClass Ranges.hadList Ranges.missingList Ranges.total
     Ranges.among Ranges.apart Ranges.inRow
-    Memory.fits Memory.filled Memory.after
+    Memory.fits Memory.filled Memory.after Memory.textWritten
     Tables.segmentRow Tables.segmentRows Tables.chunkRow Tables.chunkRowsOf Tables.chunkRowsFrom Tables.chunkRows Tables.rangeRows
     Tables.hadRows Tables.missingRows Tables.tabled Tables.listed Tables.summary Tables.totals Tables.bytesIn Tables.nowhere
     Tables.servedPart Tables.asked Tables.textOf
     Map.ascii Map.decimal Map.line Map.refusedLine Map.rangeLine Map.rangeLines Map.sourceLine Map.totalLine Map.mapOf Map.mapText
-    Map.mapWritten
     Begin.beginning Begin.isText Begin.begun
     Addition.asks Addition.items Addition.listRight Addition.dataSize Addition.dataRight Addition.anyPresent Addition.sayable
     Append.dataBox Append.addedBoxes Append.placed Append.lengthSize Append.offsetSize Append.flagByte Append.entryBytes

@@ -20,9 +20,9 @@ use Rattle.partial.specs.Meaning.{givesSize, describedLength, supplier, 
 use Rattle.partial.specs.Meaning.{reply, servedFor, missingFor, notBelow}
 use Rattle.partial.specs.Reading.{segments, reading, earlierSegments}
 use Rattle.partial.specs.Ranges.{rangesOf, hadList, missingList, total, among, apart, inRow}
-use Rattle.partial.specs.Memory.{after, written}
+use Rattle.partial.specs.Memory.{after, written, textWritten}
 use Rattle.partial.specs.Tables.{tabled, listed, totals, bytesIn, servedPart, asked, textOf}
-use Rattle.partial.specs.Map.{refusedLine, sourceLine, rangeLines, totalLine, mapText, mapWritten}
+use Rattle.partial.specs.Map.{refusedLine, sourceLine, rangeLines, totalLine, mapText}
 use Rattle.partial.specs.Begin.{beginning, isText, begun}
 use Rattle.partial.specs.Addition.{Addition, items, listRight, dataRight, sayable}
 use Rattle.partial.specs.Append.{addedBoxes, added, psegPlace, newSegment, appended, result}
@@ -51,7 +51,7 @@ pub record Demand1 (limit : ℕ) : Type 0 where
       (buffer : List ℕ) (size : ℕ) (a : Addition) (n : ℕ)
       → appended limit buffer size a ≡ refused n
       → (T (within 1 25 n) × (n ≡ 12 → ⊥)) ⊎ T (oneOf (30 ∷ 31 ∷ 32 ∷ 33 ∷ []) n)
-  pub mapNumbers : (most : ℕ) (input buffer : List ℕ) (n : ℕ) → mapWritten limit most input buffer ≡ refused n → n ≡ 33
+  pub textNumbers : (text buffer : List ℕ) (n : ℕ) → textWritten text buffer ≡ refused n → n ≡ 33
   -- asking answers that number too, and the two texts are empty
   pub askNumbers : (f a b : List ℕ) (p n : ℕ) → tabled limit f a b ≡ refused n → asked (tabled limit f a b) p ≡ refused n
   pub textsEmpty : (which : List ℕ → Box → Part) (f : List ℕ) (n : ℕ) → reading limit f ≡ refused n → bytesIn f (textOf which limit f) ≡ []
@@ -66,10 +66,7 @@ pub record Demand1 (limit : ℕ) : Type 0 where
       → after rows (listed limit f a b h m) table ≡ table
   pub beginKept : (buffer u m : List ℕ) (n : ℕ) → begun buffer u m ≡ refused n → written (beginning u m) (begun buffer u m) buffer ≡ buffer
   pub appendKept : NothingChanges limit
-  pub mapKept :
-      (most : ℕ) (input buffer : List ℕ) (n : ℕ)
-      → mapWritten limit most input buffer ≡ refused n
-      → written (mapText limit most input) (mapWritten limit most input buffer) buffer ≡ buffer
+  pub textKept : (text buffer : List ℕ) (n : ℕ) → textWritten text buffer ≡ refused n → written text (textWritten text buffer) buffer ≡ buffer
 
 -- "Lists": of an accepted file's segments
 pub record Listing (ss : List Segment) : Type 0 where
@@ -153,8 +150,8 @@ pub record Printed (limit most : ℕ) (input : List ℕ) : Type 0 where
   pub room :
       (buffer : List ℕ)
       → length (mapText limit most input) ≤ length buffer
-      → mapWritten limit most input buffer ≡ given (length (mapText limit most input))
-  pub noRoom : (buffer : List ℕ) → length buffer < length (mapText limit most input) → mapWritten limit most input buffer ≡ refused 33
+      → textWritten (mapText limit most input) buffer ≡ given (length (mapText limit most input))
+  pub noRoom : (buffer : List ℕ) → length buffer < length (mapText limit most input) → textWritten (mapText limit most input) buffer ≡ refused 33
 
 -- demand 2: in an accepted file each source byte is served or listed missing as document 01's rules say; a segment our writer adds
 -- reads back with the same chunks and bytes; writing again what was read from our writer's file gives that file

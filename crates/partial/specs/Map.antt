@@ -8,7 +8,7 @@ use mathlib.Core.List.{List, [], _∷_, _++_}
 use lib.ListN.{length}
 use lib.Dec.{leb, ltb, eqb}
 use Rattle.io.specs.Digits.{digits}
-use Rattle.boxes.specs.Answer.{Answer, refused, given, _>>=_, hold}
+use Rattle.boxes.specs.Answer.{refused, given}
 use Rattle.numerals.specs.Numbers.{least}
 use Rattle.partial.specs.Segments.{Segment}
 use Rattle.partial.specs.Meaning.{describedLength, isClosed}
@@ -62,11 +62,3 @@ mapText limit most input =
       | true ↦ elim (reading limit input) [ refused n ↦ refusedLine n | given ss ↦ mapOf ss ]
       | false ↦ refusedLine 27
     ]
-
--- what the library's call answers that writes that text into a lent buffer: its length, or 33 where the buffer is too short for it. The
--- buffer is left as `written` says, by `mapText`
-unfoldable pub mapWritten : ℕ → ℕ → List ℕ → List ℕ → Answer ℕ
-mapWritten limit most input buffer = do
-  let text = mapText limit most input
-  _ ← hold 33 (leb (length text) (length buffer))
-  given (length text)

@@ -5,7 +5,7 @@ use mathlib.Core.Bool.{Bool}
 use mathlib.Core.List.{List, _++_}
 use lib.ListN.{length, drop}
 use lib.Dec.{leb}
-use Rattle.boxes.specs.Answer.{Answer, refused, given}
+use Rattle.boxes.specs.Answer.{Answer, refused, given, _>>=_, hold}
 
 -- whether numbers fit a lent table, list or buffer
 unfoldable pub fits : List ℕ → List ℕ → Bool
@@ -23,3 +23,9 @@ after rows (given a) table = filled (rows a) table
 -- a buffer after a call that writes these bytes and answers their number
 abbrev pub written : List ℕ → Answer ℕ → List ℕ → List ℕ
 written bytes answer buffer = after (λ _. bytes) answer buffer
+
+-- what a call answers that writes a text into a buffer: its length, or 33 where the buffer is too short for it
+unfoldable pub textWritten : List ℕ → List ℕ → Answer ℕ
+textWritten text buffer = do
+  _ ← hold 33 (fits text buffer)
+  given (length text)

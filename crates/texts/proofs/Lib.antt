@@ -1,3 +1,4 @@
 pub mod DecimalLaws
 pub mod Determined
 pub mod TextLaws
+pub mod WritesLaws

@@ -9,8 +9,7 @@ use Rattle.partial.specs.Append.{appended, result}
 use Rattle.partial.specs.Begin.{begun, beginning}
 use Rattle.partial.specs.Heading.{Part}
 use Rattle.partial.specs.Limits.{sourceLimit}
-use Rattle.partial.specs.Map.{mapText, mapWritten}
-use Rattle.partial.specs.Memory.{after, written}
+use Rattle.partial.specs.Memory.{after, written, textWritten}
 use Rattle.partial.specs.Reading.{reading}
 use Rattle.partial.specs.Tables.{tabled, listed, summary, totals, servedPart, asked, textOf, hadRows, missingRows}
 use Rattle.reading.specs.Tables.{Filled}
@@ -39,9 +38,10 @@ pub record SaysListed (f segments segments′ chunks chunks′ had had′ missin
   pub hadTable : had′ ≡ after hadRows (listed sourceLimit f segments chunks had missing) had
   pub missingTable : missing′ ≡ after missingRows (listed sourceLimit f segments chunks had missing) missing
 
-pub record SaysMapped (f : List ℕ) (most : ℕ) (buffer buffer′ told told′ : List ℕ) (r : ℕ) : Type 0 where
-  pub said : Says lengthNumbers (mapWritten sourceLimit most f buffer) told told′ r
-  pub left : buffer′ ≡ written (mapText sourceLimit most f) (mapWritten sourceLimit most f buffer) buffer
+-- a text's length, and the text in the buffer
+pub record SaysPrinted (text buffer buffer′ told told′ : List ℕ) (r : ℕ) : Type 0 where
+  pub said : Says lengthNumbers (textWritten text buffer) told told′ r
+  pub left : buffer′ ≡ written text (textWritten text buffer) buffer
 
 pub record SaysBegun (url mime buffer buffer′ told told′ : List ℕ) (r : ℕ) : Type 0 where
   pub said : Says lengthNumbers (begun buffer url mime) told told′ r

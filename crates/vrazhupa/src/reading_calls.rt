@@ -14,7 +14,9 @@ use serving::calls::ask;
 use serving::rows::chunk_at;
 use serving::runs::run_at;
 ghost use Rattle.partial.specs.Heading.{url, mime};
-ghost use Rattle.vrazhupa.specs.Calls.{SaysRead, SaysText, SaysServed, SaysAsked, SaysListed, SaysMapped};
+ghost use Rattle.partial.specs.Limits.{sourceLimit};
+ghost use Rattle.partial.specs.Map.{mapText};
+ghost use Rattle.vrazhupa.specs.Calls.{SaysRead, SaysText, SaysServed, SaysAsked, SaysListed, SaysPrinted};
 
 // Reads a file into both tables.
 #[no_mangle]
@@ -129,7 +131,7 @@ pub extern "C" fn vrazhupa_map(
     buffer: &mut [u8],
     told: &mut [u64; 1],
 ) -> u64
-    ensures { λ r. ⌜ SaysMapped (now (file .entry)) most (now (buffer .entry)) (now (buffer .exit)) (now (told .entry)) (now (told .exit)) r ⌝ }
+    ensures { λ r. ⌜ SaysPrinted (mapText sourceLimit most (now (file .entry))) (now (buffer .entry)) (now (buffer .exit)) (now (told .entry)) (now (told .exit)) r ⌝ }
 {
     say_written(map(file, most, buffer), told)
 }

@@ -2,7 +2,7 @@
 use mathlib.Core.Path.{sym}
 use borrow.Author.Needs.{needs}
 use lib.Seq.{length-take-le}
-use Rattle.mapping.proofs.CallLaws.{maps-within}
+use Rattle.texts.proofs.WritesLaws.{writes-within}
 use Rattle.map.proofs.print.Statement.{statement}
 use Rattle.map.proofs.print.Tie as tie
 
@@ -20,7 +20,7 @@ enum-known-n-2 c = search needs
 
 -- where a length was answered, the buffer is as long as it was and has room for it
 within : tie.Need-slice-reshare-prefix-write-all
-within c = maps-within (c .before .before .before .before .before .map .ensures) (c .before .n2 .given .1)
+within c = writes-within (c .before .before .before .before .before .map .ensures) (c .before .n2 .given .1)
 
 slice-reshare-prefix-write-all : tie.Need-slice-reshare-prefix-write-all
 slice-reshare-prefix-write-all c = within c

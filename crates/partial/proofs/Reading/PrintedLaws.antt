@@ -3,11 +3,12 @@ use Prim.Native.Nat.{ℕ}
 use mathlib.Core.List.{List}
 use borrow.Author.Tests.{le-leb, lt-leb}
 use lib.ListN.{length}
-use Rattle.partial.specs.Map.{mapOf, mapText, mapWritten}
+use Rattle.partial.specs.Map.{mapOf, mapText}
+use Rattle.partial.specs.Memory.{fits, textWritten}
 use Rattle.partial.specs.Demands.{Printed}
 
 pub printed : (limit most : ℕ) (input : List ℕ) → Printed limit most input
-unfolding mapText mapOf mapWritten
+unfolding mapText mapOf fits textWritten
 printed limit most input =
     record {
       overLong = λ over. rw (mapText, lt-leb (length input) most over);

@@ -26,9 +26,8 @@ use Rattle.partial.specs.Entries.{Ploc, plocHead, state, stateOf, Entry,
 use Rattle.partial.specs.Entries.{Cursor}
 use Rattle.partial.specs.Meaning.{agree, knownSize}
 use Rattle.partial.specs.Reading.{pshdFields, pshdRight, segment, segmentsFrom, segments, reading, admitted, earlierSegments}
-use Rattle.partial.specs.Memory.{fits, after}
+use Rattle.partial.specs.Memory.{fits, after, textWritten}
 use Rattle.partial.specs.Tables.{segmentRows, chunkRows, hadRows, missingRows, tabled, listed, asked, textOf, bytesIn, nowhere}
-use Rattle.partial.specs.Map.{mapWritten, mapText}
 use Rattle.partial.specs.Begin.{beginning, isText, begun}
 use Rattle.partial.specs.Addition.{Addition, listRight, dataRight}
 use Rattle.partial.specs.Append.{addedBoxes, newSegment, added, appended, admission, psegPlace}
@@ -265,11 +264,9 @@ begun-only buffer u m =
     only-held OfBegin 34 (isText u && isText m) _ tt
     (only-held OfBegin 1 (leb n fileLimit) _ tt (only-held OfBegin 33 (leb n (length buffer)) _ tt (only-given OfBegin n)))
 
-map-only : (limit most : ℕ) (input buffer : List ℕ) → Only (λ n. n ≡ 33) (mapWritten limit most input buffer)
-unfolding mapWritten
-map-only limit most input buffer =
-    let text = mapText limit most input in
-    only-held (λ n. n ≡ 33) 33 (leb (length text) (length buffer)) _ refl (only-given (λ n. n ≡ 33) (length text))
+text-only : (text buffer : List ℕ) → Only (λ n. n ≡ 33) (textWritten text buffer)
+unfolding textWritten
+text-only text buffer = only-held (λ n. n ≡ 33) 33 (fits text buffer) _ refl (only-given (λ n. n ≡ 33) (length text))
 
 ask-refused : (r : Answer (List Segment)) (p n : ℕ) → r ≡ refused n → asked r p ≡ refused n
 unfolding asked
@@ -296,12 +293,12 @@ demand1 limit =
       listNumbers = listed-only limit;
       beginNumbers = begun-only;
       appendNumbers = appended-only limit;
-      mapNumbers = map-only limit;
+      textNumbers = text-only;
       askNumbers = λ f a b. ask-refused (tabled limit f a b);
       textsEmpty = text-empty limit;
       tablesKept = λ rows f a b. memory-kept rows (tabled limit f a b);
       listsKept = λ rows f a b h m. memory-kept rows (listed limit f a b h m);
       beginKept = λ buffer u m. memory-kept (λ _. beginning u m) (begun buffer u m) buffer;
       appendKept = append-kept limit;
-      mapKept = λ most input buffer. memory-kept (λ _. mapText limit most input) (mapWritten limit most input buffer) buffer;
+      textKept = λ text buffer. memory-kept (λ _. text) (textWritten text buffer) buffer;
     }

@@ -9,7 +9,7 @@ use Rattle.partial.proofs.Reading.LimitLaws.{described-low}
 use Rattle.partial.proofs.Reading.PrintedLaws.{printed}
 use Rattle.reading.proofs.JudgedLaws.{accepted, read-refused, read-given, judgement-refused, judgement-given}
 use Rattle.texts.proofs.TextLaws.{piece-puts}
-use Rattle.mapping.proofs.CallLaws.{map-lines, known-closed}
+use Rattle.mapping.proofs.MapLaws.{map-lines, known-closed}
 use borrow.Author.Needs.{needs}
 use Rattle.mapping.proofs.call.put_map.Statement.{statement}
 use Rattle.mapping.proofs.call.put_map.Tie as tie

@@ -1,7 +1,7 @@
 -- `mapping::call::put_spans` meets its contract: the line of the source, those of the ranges, that of the totals.
 use Rattle.filling.proofs.PutsLaws.{puts-same, puts-more}
 use Rattle.listing.proofs.CallsLaws.{of-file}
-use Rattle.mapping.proofs.CallLaws.{range-lines, map-lines}
+use Rattle.mapping.proofs.MapLaws.{range-lines, map-lines}
 use borrow.Author.Needs.{needs}
 use Rattle.mapping.proofs.call.put_spans.Statement.{statement}
 use Rattle.mapping.proofs.call.put_spans.Tie as tie

@@ -2,7 +2,7 @@
 use mathlib.Core.Path.{sym}
 use borrow.Author.Needs.{needs}
 use lib.Seq.{length-take-le}
-use Rattle.mapping.proofs.CallLaws.{maps-within}
+use Rattle.texts.proofs.WritesLaws.{writes-within}
 use Rattle.mapping_run.proofs.lent.mapped_in.Statement.{statement}
 use Rattle.mapping_run.proofs.lent.mapped_in.Tie as tie
 
@@ -35,7 +35,7 @@ answer-requires-2 c κs = search needs
 
 -- where a length was answered, the buffer has room for it
 slice-reshare-prefix-text : tie.Need-slice-reshare-prefix-text
-slice-reshare-prefix-text c = maps-within (c .before .before .before .before .before .before .before .map .ensures) (c .before .before .before .n2 .given .1)
+slice-reshare-prefix-text c = writes-within (c .before .before .before .before .before .before .before .map .ensures) (c .before .before .before .n2 .given .1)
 
 slice-aggregate-text : tie.Need-slice-aggregate-text
 slice-aggregate-text c = sym (length-take-le _ _ (slice-reshare-prefix-text (c .before)))
