@@ -1,10 +1,20 @@
 // What the programs share that print a text for the file on their standard input.
 use libc::STDOUT_FILENO;
 use partial::answers::Written;
+use partial::limits::PROGRAM_LIMIT;
+ghost use mathlib.Core.Path.{_≡_};
 ghost use Rattle.io.specs.Counts.{Counts};
+ghost use Rattle.partial.specs.Limits.{programLimit};
 
 // One byte more than a program takes, so that a longer input is seen.
 pub const INPUT: usize = 65_537;
+
+// How many bytes a program takes.
+pub fn limit() -> u64
+    ensures { λ r. ⌜ r ≡ programLimit ⌝ }
+{
+    PROGRAM_LIMIT
+}
 
 // Prints the text that a call wrote, or the line of its refusal. No text of so short a file is longer than the buffer; if one were, it would be said.
 pub fn print(answer: Written, text: &[u8], name: &[u8]) {
