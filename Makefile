@@ -17,6 +17,7 @@ ARCHIVE := target/staticlib/libvrazhupa.a
 SOURCES := $(wildcard command/*.c)
 HEADERS := $(wildcard command/*.h) include/vrazhupa.h
 PLAIN := $(wildcard bench/plain*.c)
+PLAIN_HEADERS := $(wildcard bench/plain*.h)
 DRIVER := $(wildcard tests/scale/*.c)
 LIBRARY := crates.txt $(shell find crates -type f \( -name '*.rt' -o -name '*.antt' \))
 
@@ -39,7 +40,7 @@ $(OUT)/paff-undefined: $(SOURCES) $(HEADERS) $(ARCHIVE)
 	mkdir -p $(OUT)
 	$(CC) $(CFLAGS) $(UNDEFINED) -static -o $@ $(SOURCES) $(ARCHIVE)
 
-$(OUT)/paff-sanitized: $(SOURCES) $(HEADERS) $(PLAIN) bench/plain.h
+$(OUT)/paff-sanitized: $(SOURCES) $(HEADERS) $(PLAIN) $(PLAIN_HEADERS)
 	mkdir -p $(OUT)
 	$(OWN_CC) $(CFLAGS) -g $(SANITIZED) -o $@ $(SOURCES) $(PLAIN)
 
@@ -47,7 +48,7 @@ $(OUT)/scale: $(DRIVER) $(wildcard tests/scale/*.h) include/vrazhupa.h $(ARCHIVE
 	mkdir -p $(OUT)
 	$(CC) $(CFLAGS) -static -o $@ $(DRIVER) $(ARCHIVE)
 
-$(OUT)/scale-sanitized: $(DRIVER) $(wildcard tests/scale/*.h) include/vrazhupa.h $(PLAIN) bench/plain.h
+$(OUT)/scale-sanitized: $(DRIVER) $(wildcard tests/scale/*.h) include/vrazhupa.h $(PLAIN) $(PLAIN_HEADERS)
 	mkdir -p $(OUT)
 	$(OWN_CC) $(CFLAGS) -g $(SANITIZED) -o $@ $(DRIVER) $(PLAIN)
 
@@ -58,7 +59,7 @@ $(OUT)/proved.o: $(ARCHIVE) bench/calls.c bench/calls.h include/vrazhupa.h
 	x86_64-linux-gnu-ld -r -o $@ $(OUT)/proved-calls.o $(ARCHIVE)
 	x86_64-linux-gnu-objcopy --keep-global-symbol=proved $@
 
-$(OUT)/plain.o: $(PLAIN) bench/plain.h bench/calls.c bench/calls.h include/vrazhupa.h
+$(OUT)/plain.o: $(PLAIN) $(PLAIN_HEADERS) bench/calls.c bench/calls.h include/vrazhupa.h
 	mkdir -p $(OUT)/plain
 	cd $(OUT)/plain && $(CC) $(CFLAGS) -O3 -I$(CURDIR)/include -DWHOSE=plain -c $(CURDIR)/bench/calls.c $(PLAIN:%=$(CURDIR)/%)
 	x86_64-linux-gnu-ld -r -o $@ $(OUT)/plain/*.o

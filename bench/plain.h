@@ -58,6 +58,10 @@ enum { MOST_BOXES = 512 };
 #define PDAT FOUR('p', 'd', 'a', 't')
 #define PAFF FOUR('p', 'a', 'f', 'f')
 
+/* The type of a vendor's box, whose header ends with the vendor's own type. */
+#define UUID FOUR('u', 'u', 'i', 'd')
+enum { USER_TYPE = 16 };
+
 /* The flag of `pshd` for the last segment, and the flag bytes of a chunk's entry. */
 enum { LAST_SEGMENT = 1 };
 enum { CORRUPTED = 0x80, PRESENT = 0x40, RESERVED = 0x3f };
@@ -137,6 +141,53 @@ static inline uint32_t load32(const uint8_t *at)
 static inline uint64_t load64(const uint8_t *at)
 {
     return (uint64_t)load32(at) << 32 | load32(at + 4);
+}
+
+struct container {
+    file_place place, end; /* of the next box, and of the byte after the last one */
+    uint32_t boxes;        /* framed so far */
+};
+
+struct box {
+    uint32_t type;
+    file_place place, body, end;
+};
+
+/* Frames the next box of a container that has bytes left. */
+static inline enum refusal next_box(const uint8_t *file, struct container *in, struct box *box)
+{
+    const uint8_t *header = file + in->place;
+    uint32_t left = in->end - in->place;
+    uint32_t header_size = 8;
+    uint64_t size;
+
+    if (in->boxes == MOST_BOXES)
+        return TOO_MANY_BOXES;
+    if (left < header_size)
+        return HEADER_CUT_SHORT;
+    size = load32(header);
+    if (size == 0)
+        return SIZE_FIELD_ZERO;
+    if (size == 1) {
+        header_size = 16;
+        if (left < header_size)
+            return HEADER_CUT_SHORT;
+        size = load64(header + 8);
+    }
+    box->type = load32(header + 4);
+    if (box->type == UUID)
+        header_size += USER_TYPE;
+    if (size < header_size)
+        return SIZE_UNDER_HEADER;
+    if (size > left)
+        return BOX_PAST_CONTAINER;
+
+    box->place = in->place;
+    box->body = in->place + header_size;
+    box->end = in->place + (uint32_t)size;
+    in->place = box->end;
+    in->boxes++;
+    return ACCEPTED;
 }
 
 #endif

@@ -1,42 +1,6 @@
 /* Writes the map of a file, or the line of its refusal, as text into a lent buffer. */
 #include "plain.h"
-
-#include <string.h>
-
-static size_t digits(uint32_t number)
-{
-    static const uint32_t powers[9] = {10, 100, 1000, 10000, 100000, 1000000, 10000000, 100000000, 1000000000};
-    size_t count = 1;
-
-    for (int i = 0; i < 9; i++)
-        count += number >= powers[i];
-    return count;
-}
-
-static uint8_t *put_text(uint8_t *at, const char *text, size_t length)
-{
-    memcpy(at, text, length);
-    return at + length;
-}
-
-/* Writes a number, two digits at a time from its end, and the byte that closes its field. */
-static uint8_t *put_number(uint8_t *at, uint32_t number, char closing)
-{
-    static const char pairs[] = "00010203040506070809101112131415161718192021222324252627282930313233343536373839404142434445464748"
-                                "4950515253545556575859606162636465666768697071727374757677787980818283848586878889909192939495969798"
-                                "99";
-    uint8_t *end = at + digits(number), *digit = end;
-
-    while (number >= 10) {
-        digit -= 2;
-        memcpy(digit, pairs + 2 * (number % 100), 2);
-        number /= 100;
-    }
-    if (digit > at)
-        *--digit = (uint8_t)('0' + number);
-    *end = (uint8_t)closing;
-    return end + 1;
-}
+#include "plain_text.h"
 
 /* A `have`, `miss` or `total` line: a word with its tab, and two numbers. */
 static uint8_t *put_line(uint8_t *at, const char *word, size_t word_length, uint32_t first, uint32_t second)
@@ -98,12 +62,9 @@ static uint8_t *put_map(uint8_t *at, const struct had *had, uint32_t described, 
 
 static enum refusal write_refusal(enum refusal refusal, uint8_t *buffer, size_t buffer_length, uint64_t told[1])
 {
-    size_t length = sizeof "refused\t\n" - 1 + digits(refusal);
-
-    if (buffer_length < length)
+    if (buffer_length < refusal_length(refusal))
         return BUFFER_TOO_SHORT;
-    put_number(put_text(buffer, "refused\t", 8), refusal, '\n');
-    told[0] = length;
+    told[0] = (uint64_t)(put_refusal(buffer, refusal) - buffer);
     return ACCEPTED;
 }
 

@@ -3,51 +3,6 @@
 
 #include <string.h>
 
-struct container {
-    file_place place, end; /* of the next box, and of the byte after the last one */
-    uint32_t boxes;        /* framed so far */
-};
-
-struct box {
-    uint32_t type;
-    file_place place, body, end;
-};
-
-/* Frames the next box of a container that has bytes left. */
-static inline enum refusal next_box(const uint8_t *file, struct container *in, struct box *box)
-{
-    const uint8_t *header = file + in->place;
-    uint32_t left = in->end - in->place;
-    uint32_t header_size = 8;
-    uint64_t size;
-
-    if (in->boxes == MOST_BOXES)
-        return TOO_MANY_BOXES;
-    if (left < header_size)
-        return HEADER_CUT_SHORT;
-    size = load32(header);
-    if (size == 0)
-        return SIZE_FIELD_ZERO;
-    if (size == 1) {
-        header_size = 16;
-        if (left < header_size)
-            return HEADER_CUT_SHORT;
-        size = load64(header + 8);
-    }
-    if (size < header_size)
-        return SIZE_UNDER_HEADER;
-    if (size > left)
-        return BOX_PAST_CONTAINER;
-
-    box->type = load32(header + 4);
-    box->place = in->place;
-    box->body = in->place + header_size;
-    box->end = in->place + (uint32_t)size;
-    in->place = box->end;
-    in->boxes++;
-    return ACCEPTED;
-}
-
 /* What the rules for the first boxes of the file ask about. */
 struct opening {
     struct box first, second;

@@ -96,6 +96,8 @@ int main(int count, char **words)
     const char *command = words[1];
     if (strcmp(command, "map") == 0 && count == 3) {
         show_map(words[2]);
+    } else if (strcmp(command, "boxes") == 0 && count == 3) {
+        show_boxes(words[2]);
     } else if (strcmp(command, "rows") == 0 && count == 3) {
         show_rows(words[2]);
     } else if (strcmp(command, "get") == 0 && count == 5) {

@@ -1,4 +1,4 @@
-/* What is shown of a partial file: its map, its tables, its bytes. */
+/* What is shown of a partial file: its map, its boxes, its tables, its bytes. */
 #include "show.h"
 
 #include "files.h"
@@ -6,10 +6,11 @@
 #include "vrazhupa.h"
 
 #include <inttypes.h>
+#include <stdbool.h>
 #include <stdio.h>
 
-/* More than the lines of the two lists and of the source and the totals take. */
-enum { LONGEST_LINE = 64, MAP_ROOM = (2 * VRAZHUPA_RANGES + 2) * LONGEST_LINE };
+/* More than the lines of the two lists and of the source and the totals take; a line of each of 512 boxes, of 72 bytes at most, takes less. */
+enum { LONGEST_LINE = 64, TEXT_ROOM = (2 * VRAZHUPA_RANGES + 2) * LONGEST_LINE };
 
 static uint64_t segments[VRAZHUPA_SEGMENTS * VRAZHUPA_SEGMENT_ROW];
 static uint64_t chunks[VRAZHUPA_CHUNKS * VRAZHUPA_CHUNK_ROW];
@@ -23,18 +24,38 @@ static void put(const uint8_t *bytes, size_t length)
     }
 }
 
-void show_map(const char *name)
+/* Whether a text ends with the line `refused`, which is its last one and the only one that begins so. */
+static bool ends_refused(const uint8_t *text, uint64_t length)
 {
-    static uint8_t text[MAP_ROOM];
+    uint64_t line = length;
+    while (line > 0 && (line == length || text[line - 1] != '\n')) {
+        line--;
+    }
+    return line < length && text[line] == 'r';
+}
+
+/* Prints the text that a call writes of a file. */
+static _Noreturn void show_text(const char *name, __typeof__(&vrazhupa_map) call)
+{
+    static uint8_t text[TEXT_ROOM];
     uint64_t told[1];
     struct bytes file = map_locked(name);
-    uint64_t number = vrazhupa_map(file.at, file.length, UINT64_MAX, text, sizeof text, told);
+    uint64_t number = call(file.at, file.length, UINT64_MAX, text, sizeof text, told);
     if (number != 0) {
         refused(number);
     }
     put(text, told[0]);
-    /* The text of a file is either its map, which begins with `source`, or the line `refused`. */
-    end(text[0] == 'r' ? REFUSED : DONE);
+    end(ends_refused(text, told[0]) ? REFUSED : DONE);
+}
+
+void show_map(const char *name)
+{
+    show_text(name, vrazhupa_map);
+}
+
+void show_boxes(const char *name)
+{
+    show_text(name, vrazhupa_boxes);
 }
 
 /* A text of the file, so that no byte of it does anything to a terminal. */

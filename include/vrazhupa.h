@@ -60,6 +60,11 @@ uint64_t vrazhupa_list(const uint8_t *file, size_t file_length, uint64_t *segmen
    are 65,536 for the map program. told: how many bytes. Refuses with 33 where the buffer is too short. */
 uint64_t vrazhupa_map(const uint8_t *file, size_t file_length, uint64_t most, uint8_t *buffer, size_t buffer_length, uint64_t told[1]);
 
+/* Writes the list of the top-level boxes of a file into the buffer as the program `boxlist` prints it: of each its place, its size and its type, and of a `uuid` box
+   its user type, and after the first fault of their framing, 2 to 6, the line of that refusal. That line is the whole text where the file has more than `most` bytes,
+   which are 65,536 for the program (27), or over its limit (1). told: how many bytes, 0 for an empty file. Refuses with 33 where the buffer is too short. */
+uint64_t vrazhupa_boxes(const uint8_t *file, size_t file_length, uint64_t most, uint8_t *buffer, size_t buffer_length, uint64_t told[1]);
+
 /* Begins a file in the buffer. told: its length. Refuses with 34, 1 or 33. */
 uint64_t vrazhupa_begin(uint8_t *buffer, size_t buffer_length, const uint8_t *url, size_t url_length, const uint8_t *mime, size_t mime_length,
                         uint64_t told[1]);

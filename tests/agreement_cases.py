@@ -152,13 +152,17 @@ def map_case(name, file, source):
     return Case(name, "mapOfInput %s" % octets(file), list(model.map_text(file)), number_of(model.read(file)), source)
 
 
+def boxes_case(name, file, source):
+    return Case(name, "boxesOfInput %s" % octets(file), list(model.boxes_text(file)), 0, source)
+
+
 def file_cases(rng, name, file):
     """What the definitions are asked of one file."""
     source = "file " + file.hex()
     answer = model.length(file)
     if len(file) > SMALL:
         return [map_case(name + "-map", file, source)]
-    cases = [read_case(rng, name, file, source)]
+    cases = [read_case(rng, name, file, source), boxes_case(name + "-boxes", file, source)]
     if rng.random() < 0.3:
         cases.append(tables_case(rng, name + "-tables", file, source))
     if answer[0] == "refused" or answer[1] <= LISTED:

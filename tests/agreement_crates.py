@@ -32,6 +32,7 @@ use Rattle.partial.specs.Ranges.{among, apart, inRow, rangesOf}
 use Rattle.partial.specs.Memory.{after, written}
 use Rattle.partial.specs.Tables.{segmentRows, chunkRows, hadRows, missingRows, tabled, listed, summary, totals, bytesIn, servedPart, asked, textOf}
 use Rattle.partial.specs.Map.{mapText}
+use Rattle.partial.specs.BoxList.{boxesText}
 use Rattle.partial.specs.Begin.{beginning, begun}
 use Rattle.partial.specs.Addition.{Addition}
 use Rattle.partial.specs.Append.{appended, psegPlace, newSegment, result}
@@ -177,10 +178,14 @@ againOf f = elim (reading sourceLimit f) [ refused k ↦ 0 ∷ k ∷ [] | given 
 unfoldable pub mapOfInput : List ℕ → List ℕ
 unfolding computing
 mapOfInput input = mapText sourceLimit programLimit input
+
+unfoldable pub boxesOfInput : List ℕ → List ℕ
+unfolding computing
+boxesOfInput input = boxesText programLimit input
 """
 
 BATCH_USES = """use Rattle.numerals.specs.Numbers.{bytesOf}
-use Rattle.computed.specs.Computed.{readOf, tablesOf, listsOf, begunOf, appendedOf, demandsOf, mappedOf, againOf, mapOfInput}
+use Rattle.computed.specs.Computed.{readOf, tablesOf, listsOf, begunOf, appendedOf, demandsOf, mappedOf, againOf, mapOfInput, boxesOfInput}
 """
 
 # A file of more than 1,073,741,824 bytes and an input of more than 65,536 are not written out: only their length is looked at.

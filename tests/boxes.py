@@ -9,6 +9,16 @@ def box(kind, *parts, large=False):
     return (8 + len(body)).to_bytes(4, "big") + kind + body
 
 
+def sized(size, kind=b"free"):
+    """The header of a box in the 32-bit form, whatever its size says."""
+    return size.to_bytes(4, "big") + kind
+
+
+def sized_large(size, kind=b"free"):
+    """The same in the 64-bit form."""
+    return sized(1, kind) + size.to_bytes(8, "big")
+
+
 def full(version=0, flags=0):
     """The version and flags at the front of a full box."""
     return bytes([version]) + flags.to_bytes(3, "big")

@@ -21,7 +21,7 @@ import expecting
 from command_run import Command
 
 GROUPS = [
-    ("usage", command_usage), ("map, rows and get", command_show), ("begin and append", command_write), ("failing", command_failing),
+    ("usage", command_usage), ("map, boxes, rows and get", command_show), ("begin and append", command_write), ("failing", command_failing),
     ("together", command_together), ("traced", command_traced), ("killed", command_killed), ("1 GiB", command_large)]
 
 

@@ -1,4 +1,4 @@
-"""Claims that a film of 1 GiB is mapped, got and appended to up to the limit, in little memory, and that a file over the limit is refused."""
+"""Claims that a film of 1 GiB is mapped, its boxes listed, got and appended to up to the limit, in little memory, and that a file over the limit is refused."""
 
 import os
 import sys
@@ -72,6 +72,9 @@ def reading(command):
     answer = ended(measured(command, "map", "film"))
     claim("map of 1 GiB", answer, 0, b"source\t%d\topen\nhave\t0\t%d\ntotal\t%d\t0\n" % (SIZE, SIZE, SIZE))
     claim_measure("map of 1 GiB", command)
+    boxes = b"0\t20\tftyp\n20\t35\tpfil\n55\t%d\tpdat\n%d\t%d\tpseg\n" % (8 + SIZE, 63 + SIZE, SEGMENT)
+    claim("boxes of 1 GiB", ended(measured(command, "boxes", "film")), 0, boxes)
+    claim_measure("boxes of 1 GiB", command)
     rows = b"url\tu\nmime\t\nsegment\tplace\toffset\tflags\ttime\tchunks\theader\tlength\n0\t%d\t0\t0\t0\t1\t%d\t16\n"
     rows += b"segment\tindex\tstart\tsize\tstate\tplace\n0\t0\t0\t%d\t2\t%d\n"
     place = len(FRONT) + 8
@@ -119,12 +122,12 @@ def adding(command):
 
 def over_the_limit(command):
     os.truncate(command.path("film"), LIMIT + 1)
-    for words in [("map", "film"), ("rows", "film"), ("get", "film", "0", "1"), ("append", "film", "--offset", "0", "--lost", "1")]:
+    for words in [("map", "film"), ("boxes", "film"), ("rows", "film"), ("get", "film", "0", "1"), ("append", "film", "--offset", "0", "--lost", "1")]:
         claim_refused(f"{words[0]} of a file over the limit", command.run(*words), 1)
     expect("the length of that file", os.path.getsize(command.path("film")), LIMIT + 1)
     command.put("far", b"")
     os.truncate(command.path("far"), 2 ** 40)
-    for words in [("map", "far"), ("rows", "far"), ("get", "far", "0", "0"), ("append", "far", "--offset", "0", "--lost", "1")]:
+    for words in [("map", "far"), ("boxes", "far"), ("rows", "far"), ("get", "far", "0", "0"), ("append", "far", "--offset", "0", "--lost", "1")]:
         claim_refused(f"{words[0]} of a file of 1 TiB", command.run(*words), 1)
     command.remove("far")
 

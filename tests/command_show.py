@@ -1,13 +1,13 @@
-"""Claims every byte that map, rows and get print, of files made by hand and generated, spoiled and cut, against the manual page and the model."""
+"""Claims every byte that map, boxes, rows and get print, of files made by hand and generated, spoiled and cut, against the manual page and the model."""
 
 import os
 import random
 
 import generate
 import model
-from boxes import box, head, open_segment
+from boxes import box, head, open_segment, sized, sized_large
 from command_run import claim, claim_held, claim_missing, damaged, good, lost
-from command_wanted import appended, claim_get, claim_map, claim_rows, film_of, number_of
+from command_wanted import appended, claim_boxes, claim_get, claim_map, claim_rows, film_of, number_of
 from corpus import ROOT
 
 SEED = 23_001_140
@@ -17,6 +17,7 @@ TOP = 2 ** 64 - 1
 # The sample, of which the manual page prints the map: bytes 11 to 14 came for 0 to 3 and 21 to 25 for 2 to 6, so 22 and 23 are not served.
 SAMPLE = os.path.join(ROOT, "samples", "lesson.paff")
 SAMPLE_MAP = b"source\t10\tclosed\nhave\t0\t7\nmiss\t7\t3\ntotal\t7\t3\n"
+SAMPLE_BOXES = b"0\t20\tftyp\n20\t35\tpfil\n55\t12\tpdat\n67\t54\tpseg\n121\t13\tpdat\n134\t52\tpseg\n"
 SEGMENT_HEADING = b"segment\tplace\toffset\tflags\ttime\tchunks\theader\tlength\n"
 CHUNK_HEADING = b"segment\tindex\tstart\tsize\tstate\tplace\n"
 SAMPLE_ROWS = (b"url\ta\nmime\t\n" + SEGMENT_HEADING + b"0\t67\t0\t1\t0\t2\t83\t16\n1\t134\t2\t0\t0\t1\t150\t16\n"
@@ -29,6 +30,7 @@ def clerk(command):
     with open(SAMPLE, "rb") as file:
         command.put("lesson.paff", file.read())
     claim("the sample's map", command.run("map", "lesson.paff"), 0, SAMPLE_MAP)
+    claim("the sample's boxes", command.run("boxes", "lesson.paff"), 0, SAMPLE_BOXES)
     claim("the sample's rows", command.run("rows", "lesson.paff"), 0, SAMPLE_ROWS)
     for first in range(8):
         for length in range(8 - first):
@@ -74,6 +76,27 @@ def texts(command):
     claim_all("long texts", command, film_of((0, [lost(1)]), url=every * 300, mime=b"m" * 70_000))
 
 
+def vendors(command):
+    """By hand: whose a box is, in both forms of its size; types that do not print; and where the boxes break off, which one comes last."""
+    film = film_of((0, [good(b"abcd"), lost(6)]))
+    front = b"0\t20\tftyp\n20\t35\tpfil\n55\t12\tpdat\n67\t54\tpseg\n"
+    one, two = bytes.fromhex("00112233445566778899aabbccddeeff"), bytes(range(16))
+    between = box(b"uuid", one) + box(b"uuid", two, b"whose", large=True) + box(b"\xa9\n\\~", b"x")
+    listed = b"121\t24\tuuid\t00112233445566778899aabbccddeeff\n145\t37\tuuid\t000102030405060708090a0b0c0d0e0f\n182\t9\t\\xa9\\x0a\\~\n"
+    command.put("film", film + between)
+    claim("boxes of two vendors", command.run("boxes", "film"), 0, front + listed)
+    claim("the map beside them", command.run("map", "film"), 0, b"source\t10\topen\nhave\t0\t4\nmiss\t4\t6\ntotal\t4\t6\n")
+    for tail, number in [
+            (b"\0", 2), (sized(0) + between, 3), (sized(23, b"uuid") + one, 4), (sized(20, b"uuid") + one[:12], 4), (sized_large(31, b"uuid") + one, 4),
+            (sized(24, b"uuid") + one[:15], 5), (sized_large(32, b"uuid"), 5), (506 * box(b"free"), 6)]:
+        command.put("film", film + between + tail)
+        more = b"".join(b"%d\t8\tfree\n" % (191 + 8 * at) for at in range(505)) if number == 6 else b""
+        claim(f"boxes up to {number}", command.run("boxes", "film"), 1, front + listed + more + b"refused\t%d\n" % number)
+        claim(f"a map refused with {number}", command.run("map", "film"), 1, b"refused\t%d\n" % number)
+    command.put("film", box(b"free") + box(b"pfil", b"\0"))
+    claim("boxes of what is no film", command.run("boxes", "film"), 0, b"0\t8\tfree\n8\t9\tpfil\n")
+
+
 def names(command):
     """A file is read whatever its name is."""
     file = film_of((0, [good(b"abcd"), lost(6)]))
@@ -101,6 +124,7 @@ def asked(rng, file):
 def claim_all(name, command, file, ranges=()):
     command.put("film", file)
     claim_map(name, command, "film", file)
+    claim_boxes(name, command, "film", file)
     claim_rows(name, command, "film", file)
     for first, length in ranges:
         claim_get(name, command, "film", file, first, length)
@@ -156,5 +180,5 @@ def generated(command):
 
 
 def check(command):
-    for part in (clerk, missing, texts, names, refusals, limits, generated):
+    for part in (clerk, missing, texts, vendors, names, refusals, limits, generated):
         part(command)

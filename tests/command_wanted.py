@@ -2,6 +2,7 @@
 
 import model
 from command_run import claim, claim_missing
+from maps import refusal_in
 
 STATES = {"lost": model.LOST, "damaged": model.DAMAGED, "good": model.GOOD}
 SEGMENT_HEADING = ("segment", "place", "offset", "flags", "time", "chunks", "header", "length")
@@ -16,6 +17,10 @@ def number_of(file):
 
 def map_text(file):
     return model.map_text(file, most=len(file))
+
+
+def boxes_text(file):
+    return model.boxes_text(file, most=len(file))
 
 
 def shown(text):
@@ -82,6 +87,11 @@ def film_of(*additions, url=b"u", mime=b""):
 
 def claim_map(name, command, film, file):
     claim(f"map of {name}", command.run("map", film), 1 if number_of(file) else 0, map_text(file))
+
+
+def claim_boxes(name, command, film, file):
+    text = boxes_text(file)
+    claim(f"boxes of {name}", command.run("boxes", film), 1 if refusal_in(text) else 0, text)
 
 
 def claim_rows(name, command, film, file):

@@ -1,20 +1,11 @@
 """Makes records on the boxes of a file, of pfil and of pseg: framing, heads, and how many boxes there are."""
 
-from boxes import box, ftyp, full, head, open_segment, pfhd, ploc, pshd, surl
+from boxes import box, ftyp, full, head, open_segment, pfhd, ploc, pshd, sized, sized_large, surl
 from record import refused, taken
 
 FREE = box(b"free")
 PFIL = box(b"pfil", pfhd(), surl())
 SEGMENT = open_segment(7)
-
-
-def sized(size, kind=b"free"):
-    """The header of a box, whatever its size says."""
-    return size.to_bytes(4, "big") + kind
-
-
-def large(size, kind=b"free"):
-    return sized(1, kind) + size.to_bytes(8, "big")
 
 
 FRAMES = [
@@ -28,16 +19,31 @@ FRAMES = [
     (3, "size 0 before 1 byte", FREE + sized(0) + b"\0"),
     (4, "size 2", sized(2)),
     (4, "size 7", sized(7)),
-    (4, "large size 0", large(0)),
-    (4, "large size 8", large(8)),
-    (4, "large size 15", large(15)),
+    (4, "large size 0", sized_large(0)),
+    (4, "large size 8", sized_large(8)),
+    (4, "large size 15", sized_large(15)),
     (5, "size 9 of 8", sized(9)),
     (5, "size 4294967295", sized(2 ** 32 - 1)),
-    (5, "large size 17 of 16", large(17)),
-    (5, "large size 4294967312", large(2 ** 32 + 16)),
-    (5, "large size 9223372036854775824", large(2 ** 63 + 16)),
-    (5, "large size 18446744073709551615", large(2 ** 64 - 1)),
+    (5, "large size 17 of 16", sized_large(17)),
+    (5, "large size 4294967312", sized_large(2 ** 32 + 16)),
+    (5, "large size 9223372036854775824", sized_large(2 ** 63 + 16)),
+    (5, "large size 18446744073709551615", sized_large(2 ** 64 - 1)),
 ]
+
+
+# The number, the size of a uuid, and how many bytes its container has left.
+VENDORS = [(3, 0, 24), (4, 2, 24), (4, 7, 8), (4, 8, 8), (4, 8, 40), (4, 16, 16), (4, 20, 8), (4, 20, 20), (4, 20, 40), (4, 23, 23), (4, 23, 24), (5, 24, 8), (5, 24, 9),
+           (5, 24, 23), (5, 25, 24), (5, 2 ** 32 - 1, 24)]
+LARGE_VENDORS = [(2, 32, 8), (2, 32, 15), (4, 15, 32), (4, 16, 16), (4, 24, 24), (4, 31, 16), (4, 31, 31), (4, 31, 48), (5, 32, 16), (5, 32, 31), (5, 33, 32),
+                 (5, 2 ** 64 - 1, 32)]
+USER_TYPE = bytes(range(160, 176))
+
+
+def vendor_frames():
+    for form, header, vendors in [("size", sized, VENDORS), ("large size", sized_large, LARGE_VENDORS)]:
+        for number, size, left in vendors:
+            content = header(size, b"uuid") + USER_TYPE + 2 * FREE
+            yield number, f"a uuid of {form} {size} with {left} left", content[:left]
 
 
 def with_last(content):
@@ -49,12 +55,23 @@ def with_last(content):
 
 
 def framing():
-    for number, name, content in FRAMES:
+    for number, name, content in [*FRAMES, *vendor_frames()]:
         for container, file in with_last(content):
             yield refused(number, f"{name} at the end of {container}", file)
-    for name, content in [("size 8", FREE), ("large size 16", large(16))]:
+    vendors = [("a uuid of size 24", box(b"uuid", USER_TYPE)), ("a uuid of size 25 and a box", box(b"uuid", USER_TYPE, b"x") + FREE),
+               ("a uuid of large size 32", box(b"uuid", USER_TYPE, large=True)),
+               ("a uuid of large size 49 and a box", box(b"uuid", USER_TYPE, bytes(17), large=True) + FREE)]
+    for name, content in [("size 8", FREE), ("large size 16", sized_large(16)), *vendors]:
         for container, file in with_last(content):
             yield taken(f"{name} at the end of {container}", file)
+
+
+def files_of_types():
+    """Every byte in a type and in a user type."""
+    types = b"".join(box(4 * bytes([byte])) for byte in range(256))
+    yield taken("a type of each byte", head() + SEGMENT + types)
+    user_types = b"".join(box(b"uuid", bytes(range(byte, byte + 16))) for byte in range(0, 256, 16))
+    yield taken("user types of each byte", head() + SEGMENT + user_types)
 
 
 def box_counts():
@@ -151,5 +168,5 @@ def files_of_psegs():
 
 
 def records():
-    for made in (framing, box_counts, files_of_ftyp, files_of_pfil, files_of_pfhd, files_of_surl, files_of_psegs):
+    for made in (framing, files_of_types, box_counts, files_of_ftyp, files_of_pfil, files_of_pfhd, files_of_surl, files_of_psegs):
         yield from made()

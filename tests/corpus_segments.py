@@ -40,7 +40,7 @@ def files_of_parts():
     yield refused(16, "surl before ploc", of_parts(pshd(7), surl(), OPEN))
     yield refused(16, "an empty surl behind ploc", of_parts(pshd(7), OPEN, box(b"surl")))
     yield taken("boxes of every kind that a pseg skips", of_parts(
-        pshd(7), *[box(kind, b"\0\0") for kind in (b"ftyp", b"pfil", b"pfhd", b"uuid")], OPEN,
+        pshd(7), *[box(kind, b"\0\0") for kind in (b"ftyp", b"pfil", b"pfhd")], box(b"uuid", bytes(18)), OPEN,
         *[box(kind, large=True) for kind in (b"pseg", b"pdat", b"free")]))
     yield taken("a large pseg, pshd and ploc", of_parts(
         pshd(7, large=True), ploc(1, 1, [entry(GOOD, 1, 6, 1, -6)], large=True), large=True))

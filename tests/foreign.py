@@ -5,7 +5,7 @@ from plan import Data, Entry, Other, Plan, Segment
 
 LIMIT = 4_294_967_295
 LOST, DAMAGED, GOOD = 0x80, 0xC0, 0x40
-NOT_KNOWN = [b"free", b"skip", b"uuid", b"ptle", b"fidx", b"mdat", b"dref"]
+NOT_KNOWN = [b"free", b"skip", b"uuid", b"uuid", b"ptle", b"fidx", b"mdat", b"dref"]
 OUT_OF_PLACE = {
     "file": [b"pfhd", b"surl", b"pshd", b"ploc"],
     "pfil": [b"ftyp", b"pfil", b"pseg", b"pshd", b"ploc", b"pdat"],
@@ -26,13 +26,22 @@ def width(rng):
     return rng.choice([0, 0, 0, rng.randint(0, 8)])
 
 
+def odd_type(rng):
+    """A type with bytes that do not print, or that a list of boxes might take for something else."""
+    return bytes(rng.choice([0, 9, 10, 31, 32, 92, 126, 127, 128, 255, rng.randrange(256)]) for _ in range(4))
+
+
+def user_type(rng):
+    """Whose a vendor's box is; the standard writes a type that it knows in sixteen bytes too."""
+    known = rng.choice([b"pseg", b"pdat", b"surl"]) + bytes.fromhex("00110010800000aa00389b71")
+    return rng.choice([rng.randbytes(16), rng.randbytes(16), bytes(16), known])
+
+
 def skipped_box(rng, container):
     """A box that a reader skips in this container."""
-    kind = rng.choice(NOT_KNOWN + OUT_OF_PLACE[container])
-    body = rng.randbytes(rng.choice([0, 4, rng.randint(0, 12)]))
-    if kind == b"uuid" and rng.random() < 0.7:
-        body = rng.randbytes(16) + body
-    return box(kind, body, large=seldom(rng))
+    kind = rng.choice(NOT_KNOWN + OUT_OF_PLACE[container] + [odd_type(rng)])
+    vendor = user_type(rng) if kind == b"uuid" else b""
+    return box(kind, vendor, rng.randbytes(rng.choice([0, 4, rng.randint(0, 12)])), large=seldom(rng))
 
 
 def foreign_ftyp(rng):

@@ -9,6 +9,7 @@ import model
 from boxes import head
 from expecting import close, expect
 from spoiling import boxes_in
+from vendors import containers, faulty_vendors, refused_for_its_size
 
 KNOWN = [b"ftyp", b"pfil", b"pfhd", b"surl", b"pseg", b"pshd", b"ploc", b"pdat"]
 
@@ -47,6 +48,7 @@ def check_foreign(files):
     versions = {version for _, version in widths}
     expect("pshd of version 0, 1 and above", {0, 1} < versions)
     check_size_forms(files)
+    check_skipped(files)
     check_states(files)
 
 
@@ -56,6 +58,18 @@ def check_size_forms(files):
     for kind in KNOWN + [b"uuid", b"free"]:
         for header in (8, 16):
             expect(f"{kind} with a header of {header}", (kind, header) in forms)
+
+
+def check_skipped(files):
+    """Vendor boxes in both forms, and types that do not print, in each container."""
+    met = set()
+    for file in files:
+        for name, place, end in containers(file):
+            for box in model.frame(file, place, end):
+                met.add((name, f"{box.kind.decode('latin-1')} with a header of {box.body - box.place}" if box.kind.isalnum() else "odd type"))
+    for name in ("file", "pfil", "pseg"):
+        for wanted in ("uuid with a header of 24", "uuid with a header of 32", "odd type"):
+            expect(f"{wanted} in {name}", (name, wanted) in met)
 
 
 def check_states(files):
@@ -145,17 +159,38 @@ def check_faulty(rng, runs):
                    [model.url(file), model.mime(file), model.serve(file, 0)], 3 * [(0, 0)])
 
 
+def check_faulty_vendors(rng, runs):
+    """Each size of a uuid around its header, and each container that ends in a user type."""
+    files = [generate.faulty_file(rng, number) for number in (2, 3, 4, 5) for _ in range(runs if number > 3 else 60)]
+    met = {(name, number, size, plain, left) for file in files for name, number, (kind, size, plain), left in faulty_vendors(file)}
+    short = {(name, size, plain) for name, number, size, plain, left in met if number == 4}
+    inside = {(name, plain, left) for name, number, size, plain, left in met if number == 5}
+    for name in ("file", "pfil", "pseg"):
+        for size in (2, 7, 8, 9, 15, 16, 17, 19, 20, 22, 23):
+            expect(f"uuid of size {size} in {name}", (name, size, 8) in short)
+        for size in (0, 8, 15, 16, 17, 23, 24, 25, 30, 31):
+            expect(f"uuid of large size {size} in {name}", (name, size, 16) in short)
+        for plain in (8, 16):
+            for part in (0, 1, 15):
+                expect(f"{part} bytes of a user type after {plain} in {name}", (name, plain, plain + part) in inside)
+    expect("uuid of size 20 at 20 and fewer and more", {left - 20 for name, number, size, plain, left in met if size == 20} > {-12, 0, 4})
+    for number in (2, 3):
+        expect(f"uuid for {number}", any(number == other for name, other, size, plain, left in met))
+
+
 def check_spoiled(rng, files):
     """Every spoiled file gets some answer, and no part outside of itself."""
-    numbers = set()
+    numbers, too_short = set(), 0
     for file in files:
         spoiled = generate.spoil(rng, file)
         answer = model.read(spoiled)
+        too_short += refused_for_its_size(spoiled)
         numbers.add(answer[1] if answer[0] == "refused" else 0)
         if answer[0] == "read":
             ends = [row[5] + row[3] for row in answer[2] if row[5] > 0]
             expect("places in the spoiled file", all(end <= len(spoiled) for end in ends))
     expect("spoiled files meet many numbers", len(numbers) >= 15)
+    expect("spoiled files have a uuid that is too short", too_short >= 20)
 
 
 # Arguments of append and begin.
@@ -213,6 +248,7 @@ def main(seed):
         if model.length(file)[1] < 80:
             check_meaning(file)
     check_faulty(rng, 30)
+    check_faulty_vendors(rng, 1500)
     check_spoiled(rng, files)
     check_additions(rng, good[:40] + 10 * [head()])
     check_mixed_additions(rng, good[:1200])

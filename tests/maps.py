@@ -118,9 +118,9 @@ def answers(record):
 # The command.
 
 def refusal_in(text):
-    """The number in the line of a refusal, 0 for a map."""
-    word, number = text.split()[:2]
-    return int(number) if word == b"refused" else 0
+    """The number in the line of a refusal, which is the last one of a text; 0 where there is none."""
+    last = text[text.rfind(b"\n", 0, -1) + 1:].split()
+    return int(last[1]) if last[:1] == [b"refused"] else 0
 
 
 def ranges_in(text, word):

@@ -1,8 +1,8 @@
-"""Models the reader, the server, the lists, the map and the writer of partial files.
+"""Models the reader, the server, the lists, the map, the list of boxes and the writer of partial files.
 
-Written from the paper "What is to be made, with rules" in its order, and from
-5.1.1 to 5.1.8 of ISO/IEC 23001-14 for the layout of fields.  Every function is
-pure, on bytes.
+Written from the paper "What is to be made, with rules" in its order, from
+5.1.1 to 5.1.8 of ISO/IEC 23001-14 for the layout of fields, and from the change
+requests that are landed.  Every function is pure, on bytes.
 
 Readings, where the paper can be read in two ways:
 
@@ -44,6 +44,16 @@ Readings, where the paper can be read in two ways:
     also where a list is so long that `chunk_count` could not hold it (22).
 20. What does append write after 12?  The same as after any acceptable file:
     "serving nothing with described length 0", so 25 sees the new segment only.
+
+Of request 1, vendor boxes:
+
+21. A `uuid` of size 20 with 20 bytes left or fewer: 4 or 5?  4: "4 also for a
+    `uuid` size below 24", and per box 4 is asked before 5.
+22. The container ends inside the user type of a `uuid` of size 24 or more: 2 or
+    5?  5, as the request says, though the user type counts as header now.
+23. What is the user type of any other box?  Empty.
+24. Is a `uuid` whose user type stands for `pseg` a `pseg`?  No: the table knows
+    types of four bytes.
 """
 
 from collections import namedtuple
@@ -117,8 +127,9 @@ LOST, DAMAGED, GOOD = 0, 1, 2
 SEGMENT_ROW_LENGTH = 7
 CHUNK_ROW_LENGTH = 6
 RANGE_LENGTH = 2
+USER_TYPE_LENGTH = 16
 
-Box = namedtuple("Box", "kind place body end")
+Box = namedtuple("Box", "kind place user_type body end")
 Segment = namedtuple(
     "Segment", "place offset flags repair_time chunk_count pshd_body pshd_length end")
 Chunk = namedtuple("Chunk", "segment index start size state place")
@@ -171,25 +182,34 @@ def frame_box(file, place, end):
     """The box at a place of a container that ends at `end`."""
     header = 8
     refuse_if(end - place < header, HEADER_CUT_SHORT)
-    size = unsigned(file, place, 4)
+    size, kind = unsigned(file, place, 4), file[place + 4:place + 8]
     refuse_if(size == 0, SIZE_FIELD_0)
     if size == 1:
         header = 16
         refuse_if(end - place < header, HEADER_CUT_SHORT)
         size = unsigned(file, place + 8, 8)
+    user_type = place + header
+    if kind == b"uuid":
+        header += USER_TYPE_LENGTH
     refuse_if(size < header, SIZE_BELOW_HEADER)
     refuse_if(place + size > end, BOX_ENDS_AFTER_CONTAINER)
-    return Box(file[place + 4:place + 8], place, place + header, place + size)
+    body = place + header
+    return Box(kind, place, file[user_type:body], body, place + size)
+
+
+def framed(file, place, end):
+    """The boxes of one container one by one, from a place to its end or up to the first fault."""
+    count = 0
+    while place < end:
+        refuse_if(count == LIMITS["boxes in one container"], TOO_MANY_BOXES)
+        box = frame_box(file, place, end)
+        yield box
+        count, place = count + 1, box.end
 
 
 def frame(file, place, end):
-    """The boxes of one container, from a place to its end."""
-    boxes = []
-    while place < end:
-        refuse_if(len(boxes) == LIMITS["boxes in one container"], TOO_MANY_BOXES)
-        boxes.append(frame_box(file, place, end))
-        place = boxes[-1].end
-    return boxes
+    """All boxes of one container."""
+    return list(framed(file, place, end))
 
 
 def of_kind(boxes, kind):
@@ -699,3 +719,24 @@ def map_text(data, most=LIMITS["program input"]):
     for first, word, run in sorted(merged):
         text += line(word, first, run)
     return text + line("total", received_total, missing_total)
+
+
+# The program that lists boxes.
+
+def shown_type(kind):
+    """The four bytes of a type, those that do not print in two digits."""
+    return "".join(chr(byte) if 32 <= byte <= 126 else "\\x%02x" % byte for byte in kind)
+
+
+def boxes_text(data, most=LIMITS["program input"]):
+    """What the program writes: a line for each box of the file, and one for the first fault of their framing."""
+    text = b""
+    try:
+        refuse_if(len(data) > most, INPUT_OVER_LIMIT)
+        refuse_if(len(data) > LIMITS["file"], FILE_OVER_LIMIT)
+        for box in framed(data, 0, len(data)):
+            vendor = [box.user_type.hex()] if box.user_type else []
+            text += line(box.place, box.end - box.place, shown_type(box.kind), *vendor)
+    except Refused as refusal:
+        text += line("refused", refusal.number)
+    return text

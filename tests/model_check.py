@@ -132,6 +132,15 @@ def check_box_counts():
 
 # Order of refusals, and the errors this trade makes.
 
+def expect_at_each_end(name, tail, number):
+    """The same bytes at the end of the file, of pfil and of a pseg."""
+    expect(f"{name} in the file", model.read(tail), refused(number))
+    pfil = box(b"pfil", tail)
+    expect(f"{name} in pfil", model.read(ftyp() + pfil), refused(number))
+    pseg = box(b"pseg", tail)
+    expect(f"{name} in pseg", model.read(head() + pseg), refused(number))
+
+
 def check_framing_order():
     for name, tail, number in [
             ("one byte", b"\0", 2), ("seven bytes", bytes(7), 2), ("size 0", bytes(8), 3),
@@ -140,11 +149,7 @@ def check_framing_order():
             ("large size 15", bytes.fromhex("00000001") + b"free" + bytes(7) + b"\x0f", 4),
             ("size 7", bytes.fromhex("00000007") + b"free", 4),
             ("size 9 of 8", bytes.fromhex("00000009") + b"free", 5)]:
-        expect(f"{name} in the file", model.read(tail), refused(number))
-        pfil = box(b"pfil", tail)
-        expect(f"{name} in pfil", model.read(ftyp() + pfil), refused(number))
-        pseg = box(b"pseg", tail)
-        expect(f"{name} in pseg", model.read(head() + pseg), refused(number))
+        expect_at_each_end(name, tail, number)
     expect("513th box cut short", model.read(512 * box(b"free") + b"\0"), refused(6))
 
 
@@ -246,6 +251,73 @@ def check_lowered_file_limit():
     model.LIMITS["file"] = held
 
 
+# Vendor boxes, and the list of boxes.
+
+def check_vendor_framing():
+    """4 below 24, or below 32 in the large form, however much is left; 5 where the container ends in the user type."""
+    for size, left, number in [
+            (0, 24, 3), (2, 8, 4), (7, 24, 4), (8, 8, 4), (8, 24, 4), (9, 9, 4), (16, 16, 4), (17, 40, 4), (20, 8, 4), (20, 19, 4), (20, 20, 4), (20, 40, 4),
+            (23, 8, 4), (23, 23, 4), (23, 24, 4), (24, 8, 5), (24, 9, 5), (24, 23, 5), (25, 24, 5), (31, 30, 5), (2 ** 32 - 1, 24, 5), (24, 7, 2)]:
+        tail = size.to_bytes(4, "big") + b"uuid" + 40 * b"\x08"
+        expect_at_each_end(f"uuid of size {size} with {left} bytes left", tail[:left], number)
+    for size, left, number in [
+            (32, 8, 2), (0, 15, 2), (0, 32, 4), (15, 16, 4), (16, 16, 4), (24, 24, 4), (31, 16, 4), (31, 31, 4), (31, 56, 4), (32, 16, 5), (32, 17, 5),
+            (32, 31, 5), (33, 32, 5), (2 ** 64 - 1, 32, 5)]:
+        tail = bytes([0, 0, 0, 1]) + b"uuid" + size.to_bytes(8, "big") + 40 * b"\x08"
+        expect_at_each_end(f"uuid of large size {size} with {left} bytes left", tail[:left], number)
+
+
+def check_vendor_boxes():
+    """The user type is header, other boxes have none, and a vendor's box is a box but of no kind that is known."""
+    known = b"pseg" + bytes.fromhex("00110010800000aa00389b71")
+    for name, vendor, body in [
+            ("24 bytes", box(b"uuid", known), 24), ("25 bytes", box(b"uuid", known, b"x"), 24),
+            ("32 bytes, large", box(b"uuid", known, large=True), 32), ("40 bytes, large", box(b"uuid", known, bytes(8), large=True), 32)]:
+        expect(f"uuid of {name}", model.frame(vendor, 0, len(vendor)), [(b"uuid", 0, known, body, len(vendor))])
+        for container, file in [
+                ("the file", head() + vendor + open_segment(7)), ("pfil", ftyp() + box(b"pfil", pfhd(), vendor, surl()) + open_segment(7)),
+                ("a pseg", head() + box(b"pseg", pshd(7), vendor, ploc(0, 0, [])))]:
+            expect(f"uuid of {name} in {container}", model.length(file), ("length", 7, False))
+        expect(f"uuid of {name} and no pseg", model.read(head() + vendor), refused(12))
+        expect(f"uuid of {name} before pshd", model.read(head() + box(b"pseg", vendor, pshd(7))), refused(14))
+    expect("user type of another box", model.frame(box(b"free", known), 0, 24), [(b"free", 0, b"", 8, 24)])
+    vendors = 510 * box(b"uuid", known)
+    expect("512 boxes, 509 of them a vendor's", model.length(head() + open_segment(7) + vendors[24:]), ("length", 7, False))
+    expect("513 boxes, 510 of them a vendor's", model.length(head() + open_segment(7) + vendors), refused(6))
+
+
+def check_boxes_text():
+    """By hand: place, size, type and user type, and where the framing breaks off the number."""
+    begun_lines = b"0\t20\tftyp\n20\t35\tpfil\n"
+    expect("boxes of nothing", model.boxes_text(b""), b"")
+    expect("boxes of a file begun", model.boxes_text(begun()), begun_lines)
+    vendors = box(b"uuid", bytes(range(16))) + box(b"uuid", bytes(range(240, 256)), b"x", large=True)
+    vendor_lines = b"55\t24\tuuid\t000102030405060708090a0b0c0d0e0f\n79\t33\tuuid\tf0f1f2f3f4f5f6f7f8f9fafbfcfdfeff\n"
+    expect("boxes of vendors", model.boxes_text(begun() + vendors), begun_lines + vendor_lines)
+    for kind, shown in [(b"\x1f ~\x7f", rb"\x1f ~\x7f"), (rb"\x41", rb"\x41"), (b"\t\n\r\0", rb"\x09\x0a\x0d\x00"), (b"\xa9nam", rb"\xa9nam"),
+                        (b"\xff\x80ZZ", rb"\xff\x80ZZ"), (b"UUID", b"UUID"), (b"uui\0", rb"uui\x00")]:
+        expect(f"boxes of type {kind}", model.boxes_text(box(kind, bytes(16))), b"0\t24\t" + shown + b"\n")
+    free = box(b"free")
+    for tail, number in [
+            (b"\0", 2), (bytes(8) + free, 3), (bytes([0, 0, 0, 20]) + b"uuid" + bytes(12) + free, 4), (bytes([0, 0, 0, 24]) + b"uuid" + free, 5)]:
+        expect(f"boxes before {number}", model.boxes_text(begun() + tail), begun_lines + b"refused\t%d\n" % number)
+    lines = b"".join(b"%d\t8\tfree\n" % (8 * at) for at in range(512))
+    expect("512 boxes listed", model.boxes_text(512 * free), lines)
+    for name, more in [("513th box", free), ("513th box cut short", b"\0")]:
+        expect(f"{name} listed", model.boxes_text(512 * free + more), lines + b"refused\t6\n")
+    expect("no other refusal", model.boxes_text(box(b"pfil", b"\0") + box(b"ftyp")), b"0\t9\tpfil\n9\t8\tftyp\n")
+
+
+def check_boxes_limits():
+    expect("boxes of an input over its limit", model.boxes_text(bytes(65_537)), b"refused\t27\n")
+    expect("boxes of an input at its limit", model.boxes_text(bytes(65_536)), b"refused\t3\n")
+    expect("boxes of 55 bytes of 54", model.boxes_text(begun(), 54), b"refused\t27\n")
+    expect("boxes of 55 bytes of 55", model.boxes_text(begun(), 55), b"0\t20\tftyp\n20\t35\tpfil\n")
+    over = bytes(1_073_741_825)
+    expect("boxes of a file over its limit", model.boxes_text(over, 2 ** 64 - 1), b"refused\t1\n")
+    expect("27 before 1", model.boxes_text(over, 1_073_741_824), b"refused\t27\n")
+
+
 # The writer against the reader, over random runs.
 
 def random_chunks(rng, room):
@@ -331,6 +403,10 @@ if __name__ == "__main__":
     check_limits()
     check_box_counts()
     check_framing_order()
+    check_vendor_framing()
+    check_vendor_boxes()
+    check_boxes_text()
+    check_boxes_limits()
     check_entry_order()
     check_errors_of_the_trade()
     check_rooms()

@@ -28,7 +28,7 @@ from scale_stream import Shown, Stream
 # So many cases have to meet each of these.
 LONG_ENOUGH = 10_000
 REFUSALS = set(range(1, 27)) | {30, 31, 32, 33, 34}
-IN_MAPS = set(range(1, 26)) | {27}
+IN_TEXTS = {"map": set(range(1, 26)) | {27}, "boxes": set(range(1, 7)) | {27}}
 AT_ONCE = 1 << 20
 
 
@@ -74,10 +74,12 @@ def sent_to(driver, stream, cases):
 
 def all_met(stream):
     """Whether so many cases met every refusal; says which they did not."""
-    unmet = sorted(REFUSALS - set(stream.refusals)), sorted(IN_MAPS - set(stream.refusals_in_maps))
-    if stream.cases < LONG_ENOUGH or unmet == ([], []):
+    unmet = {"answers": sorted(REFUSALS - set(stream.refusals))}
+    for name, numbers in IN_TEXTS.items():
+        unmet["texts of " + name] = sorted(numbers - set(stream.refusals_in_texts[name]))
+    if stream.cases < LONG_ENOUGH or not any(unmet.values()):
         return True
-    print("refusals not met: %s, in maps: %s" % unmet)
+    print(f"refusals not met: {unmet}")
     return False
 
 
@@ -88,8 +90,8 @@ def compare(given):
     stream = Stream(random.Random(given.seed), driver.stdin.write)
     whole = sent_to(driver, stream, given.cases)
     status = driver.wait()
-    in_maps = [f"{number}: {count}" for number, count in sorted(stream.refusals_in_maps.items()) if number]
-    print("refusals in maps: " + ", ".join(in_maps))
+    for name, refusals in stream.refusals_in_texts.items():
+        print(f"refusals in texts of {name}: " + ", ".join(f"{number}: {count}" for number, count in sorted(refusals.items()) if number))
     print(f"seed {given.seed}, {stream.cases} cases in {time.monotonic() - start:.0f} seconds")
     return status or (0 if whole and all_met(stream) else 1)
 

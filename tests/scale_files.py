@@ -10,15 +10,16 @@ from foreign import close, foreign_entry, foreign_plan, foreign_segment
 from plan import Data, Plan, Segment
 from spoiling import boxes_in, cut
 
-FREE = box(b"free")
+# What a container is filled with.
+FILLINGS = [box(b"free"), box(b"\0\x7f\xff\n"), box(b"uuid", bytes(range(240, 256)))]
 LONGEST = 200_000
 
 
 # Cut.
 
 def cut_at_a_box(rng, file):
-    """Cut where a box begins, where its body does or where it ends, or one byte beside."""
-    places = [place for begin, end, header in boxes_in(file, 0, len(file)) for place in (begin, begin + header, end)]
+    """Cut where a box begins, where its body or its user type does or where it ends, or one byte beside."""
+    places = [place for begin, end, header in boxes_in(file, 0, len(file)) for place in (begin, begin + header, begin + header + 16, end)]
     at = rng.choice(places) + rng.choice([-1, 0, 1])
     return file[:max(0, at)]
 
@@ -58,13 +59,13 @@ def many_segments(rng):
 
 
 def many_boxes(rng):
-    plan = foreign_plan(rng)
+    plan, filling = foreign_plan(rng), rng.choice(FILLINGS)
     if rng.random() < 0.4:
         too_many_boxes(rng, plan)
     elif rng.random() < 0.5:
-        plan.tail = (BOXES - 2 - len(plan.items)) * FREE
+        plan.tail = (BOXES - 2 - len(plan.items)) * filling
     else:
-        plan.pfil_parts += (BOXES - len(plan.pfil_parts)) * [FREE]
+        plan.pfil_parts += (BOXES - len(plan.pfil_parts)) * [filling]
     return plan.assemble()
 
 

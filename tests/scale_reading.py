@@ -1,4 +1,4 @@
-"""Makes the cases of reading a file: its rows, texts, served positions, lists and map, with tables, lists and buffers of every awkward length."""
+"""Makes the cases of reading a file: its rows, texts, served positions, lists, map and boxes, with tables, lists and buffers of every awkward length."""
 
 import model
 from maps import refusal_in
@@ -92,14 +92,25 @@ def list_case(stream, file, rooms):
     stream.call("list", refusal, (), memories(stream, refusal, rooms), told)
 
 
-def map_cases(stream, rng, file, most, count):
-    text = model.map_text(file, most)
-    stream.refusals_in_maps[refusal_in(text)] += count
+def text_cases(stream, name, text, most, rooms):
+    """A call that writes this text into buffers of these lengths."""
+    stream.refusals_in_texts[name][refusal_in(text)] += len(rooms)
     stream.hold(TEXT, text)
-    for room in rng.sample(awkward(len(text)), count):
+    for room in rooms:
         refusal = model.BUFFER_TOO_SHORT if room < len(text) else 0
         buffer = Memory(room, NONE, NONE if refusal else TEXT)
-        stream.call("map", refusal, (most,), [stream.whole(FILE), buffer], (len(text),))
+        stream.call(name, refusal, (most,), [stream.whole(FILE), buffer], (len(text),))
+
+
+def map_cases(stream, rng, file, most, count):
+    text = model.map_text(file, most)
+    text_cases(stream, "map", text, most, rng.sample(awkward(len(text)), count))
+
+
+def boxes_cases(stream, rng, file, most, others):
+    """An exact buffer, so that every line is seen, and so many others."""
+    text = model.boxes_text(file, most)
+    text_cases(stream, "boxes", text, most, [len(text), *rng.sample(awkward(len(text)), others)])
 
 
 # All cases of a file.
@@ -140,6 +151,7 @@ def few_cases(stream, rng, file):
     read_case(stream, file, rooms_enough(rng, needed[:2]))
     list_case(stream, file, rooms_enough(rng, needed))
     map_cases(stream, rng, file, len(file), 1)
+    boxes_cases(stream, rng, file, len(file), 0)
 
 
 def file_cases(stream, rng, file):
@@ -159,3 +171,5 @@ def file_cases(stream, rng, file):
     list_case(stream, file, any_rooms(rng, needed))
     for most in (len(file), max(0, len(file) - 1), model.LIMITS["program input"], 2 ** 64 - 1):
         map_cases(stream, rng, file, most, 1 if few else 2)
+    for most in (len(file), max(0, len(file) - 1), 0, 2 ** 64 - 1):
+        boxes_cases(stream, rng, file, most, 1)

@@ -1,8 +1,8 @@
-"""Spoils a file: cuts, flips, splices, wrong sizes, boxes dropped, doubled or swapped."""
+"""Spoils a file: cuts, flips, splices, wrong sizes and types, boxes dropped, doubled or swapped."""
 
 
 def boxes_in(file, place, end):
-    """Place, end and header length of the boxes in reach, also in pfil and pseg."""
+    """Place, end and header length, that of the size and the type, of the boxes in reach, also in pfil and pseg."""
     found = []
     while end - place >= 8:
         size, header = int.from_bytes(file[place:place + 4], "big"), 8
@@ -70,9 +70,19 @@ def resize(rng, file):
         return insert(rng, file)
     place, end, header = rng.choice(boxes)
     if header == 16 and rng.random() < 0.6:
-        return with_size(file, place, 16, rng.choice([0, 15, 16, 2 ** 64 - 1]))
+        return with_size(file, place, 16, rng.choice([0, 15, 16, 31, 32, 2 ** 64 - 1]))
     return with_size(file, place, 8, rng.choice(
-        [0, 1, 7, 8, 2 ** 32 - 1, end - place - 1, end - place + 1]))
+        [0, 1, 7, 8, 23, 24, 2 ** 32 - 1, end - place - 1, end - place + 1]))
+
+
+def retype(rng, file):
+    """Makes a vendor's box of another, which mostly has no room for a user type, or another of it."""
+    boxes = boxes_in(file, 0, len(file))
+    if not boxes:
+        return file
+    place = rng.choice(boxes)[0]
+    kind = b"free" if file[place + 4:place + 8] == b"uuid" else b"uuid"
+    return file[:place + 4] + kind + file[place + 8:]
 
 
 def drop(rng, file):
@@ -102,7 +112,7 @@ def swap(rng, file):
             + file[one[0]:one[1]] + file[two[1]:])
 
 
-SPOILINGS = [cut, cut_out, flip, flip, flip, flip, insert, splice, resize, drop, double, swap]
+SPOILINGS = [cut, cut_out, flip, flip, flip, flip, insert, splice, resize, retype, drop, double, swap]
 
 
 def spoil(rng, file):

@@ -1,4 +1,5 @@
-/* Makes the calls of a stream on whatever implements include/vrazhupa.h, compares all that comes of each, and counts. It knows nothing of partial files. */
+/* Makes the calls of a stream on whatever implements include/vrazhupa.h, compares all that comes of each, and counts. It knows nothing of partial files.
+   With the word `report` it compares nothing, and prints of each call the answer and a sum of each memory afterwards; with `calls`, the calls that are there. */
 #include "lent.h"
 #include "stream.h"
 
@@ -9,9 +10,13 @@
 #include <stdbool.h>
 #include <stdio.h>
 #include <stdlib.h>
+#include <string.h>
 #include <unistd.h>
 
-enum { BLOCK, READ, URL, MIME, SERVE, ASK, LIST, MAP, BEGIN, APPEND, KINDS, ZEROS = 254, END = 255 };
+/* An implementation from before request 1 lacks this call. */
+#pragma weak vrazhupa_boxes
+
+enum { BLOCK, READ, URL, MIME, SERVE, ASK, LIST, MAP, BEGIN, APPEND, BOXES, KINDS, ZEROS = 254, END = 255 };
 enum { ANSWERS = 64 };
 
 /* What a kind of call takes: its numbers, its memories with their width in bytes, and how many numbers it tells. */
@@ -37,6 +42,7 @@ static const struct shape shapes[KINDS] = {
     [MAP] = {"map", {1, 2}, 1, {{"file", 1}, {"buffer", 1}}},
     [BEGIN] = {"begin", {0, 3}, 1, {{"buffer", 1}, {"url", 1}, {"mime", 1}}},
     [APPEND] = {"append", {4, 3}, 1, {{"buffer", 1}, {"list", 8}, {"data", 1}}},
+    [BOXES] = {"boxes", {1, 2}, 1, {{"file", 1}, {"buffer", 1}}},
 };
 
 static struct lent lent[MEMORIES];
@@ -46,6 +52,7 @@ static uint64_t differing;
 static uint64_t by_kind[KINDS];
 static uint64_t by_answer[ANSWERS];
 static unsigned kind;
+static bool reporting;
 
 static uint64_t call_on_tables(uint64_t p)
 {
@@ -80,6 +87,8 @@ static uint64_t make(const uint64_t *numbers)
     case APPEND:
         return vrazhupa_append(lent[0].at, lent[0].length, numbers[0], numbers[1], numbers[2], numbers[3] != 0, numbers_of(&lent[1]), lent[1].length,
                                lent[2].at, lent[2].length, numbers_of(&told));
+    case BOXES:
+        return vrazhupa_boxes(lent[0].at, lent[0].length, numbers[0], lent[1].at, lent[1].length, numbers_of(&told));
     default:
         return call_on_tables(numbers[0]);
     }
@@ -110,6 +119,15 @@ static bool all_as_wanted(const struct shape *shape, const struct call *call, ui
     return wanted;
 }
 
+static void report(const struct shape *shape, uint64_t answer)
+{
+    printf("%" PRIu64, answer);
+    for (size_t at = 0; at < shape->takes.memories; at++) {
+        printf(" %" PRIx64, sum_of(&lent[at]));
+    }
+    printf(" %" PRIx64 "\n", sum_of(&told));
+}
+
 static void run_case(void)
 {
     struct call call = {0};
@@ -122,9 +140,26 @@ static void run_case(void)
     if (answer < ANSWERS) {
         by_answer[answer]++;
     }
-    if (!all_as_wanted(shape, &call, answer)) {
+    if (reporting) {
+        report(shape, answer);
+    } else if (!all_as_wanted(shape, &call, answer)) {
         differing++;
     }
+}
+
+static bool is_there(unsigned call)
+{
+    return call > BLOCK && call < KINDS && (call != BOXES || vrazhupa_boxes != NULL);
+}
+
+static int say_calls(void)
+{
+    for (unsigned at = READ; at < KINDS; at++) {
+        if (is_there(at)) {
+            printf("%s\n", shapes[at].name);
+        }
+    }
+    return EXIT_SUCCESS;
 }
 
 static void say_counts(void)
@@ -160,23 +195,29 @@ static void catch_faults(void)
     }
 }
 
-int main(void)
+int main(int count, char **words)
 {
+    if (count > 1 && strcmp(words[1], "calls") == 0) {
+        return say_calls();
+    }
+    reporting = count > 1 && strcmp(words[1], "report") == 0;
     catch_faults();
     for (kind = take_byte(); kind != END; kind = take_byte()) {
         if (kind == BLOCK) {
             take_block();
         } else if (kind == ZEROS) {
             take_zeros();
-        } else if (kind < KINDS) {
+        } else if (is_there(kind)) {
             run_case();
         } else {
-            give_up("no such record");
+            give_up("no such record or call");
         }
     }
     if (take_number() != cases) {
         give_up("the stream has another number of cases");
     }
-    say_counts();
+    if (!reporting) {
+        say_counts();
+    }
     return differing > 0 ? EXIT_FAILURE : EXIT_SUCCESS;
 }

@@ -1,4 +1,4 @@
-/* Lends memory with marks and canaries, and compares it. */
+/* Lends memory with marks and canaries, and compares it or sums it up. */
 #include "lent.h"
 
 #include <inttypes.h>
@@ -8,6 +8,10 @@
 #include <sys/mman.h>
 
 enum { CANARY = 64, PAGE = 4096, MARKS = 251 };
+
+/* The sum is that of Fowler, Noll and Vo. */
+#define FIRST_SUM UINT64_C(14695981039346656037)
+#define SUM_FACTOR UINT64_C(1099511628211)
 
 /* The marks from the first byte before a memory on: never a small byte, and no period that rows or fields have. */
 static uint8_t *marks;
@@ -152,4 +156,17 @@ bool as_wanted(const struct lent *lent, const struct block *after, const char *w
     bool rest = same(lent, front, bytes, marked, who, name);
     bool behind = same(lent, bytes, bytes + (ptrdiff_t)lent->behind, marked, who, name);
     return before && first && rest && behind;
+}
+
+uint64_t sum_of(const struct lent *lent)
+{
+    if (lent->zeros != NULL) {
+        return 0;
+    }
+    uint64_t sum = FIRST_SUM;
+    const uint8_t *end = lent->start + lent->length * lent->width + lent->behind;
+    for (const uint8_t *at = lent->start - CANARY; at < end; at++) {
+        sum = (sum ^ *at) * SUM_FACTOR;
+    }
+    return sum;
 }

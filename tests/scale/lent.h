@@ -1,4 +1,4 @@
-/* Memory that is lent to a call: marked all over and around beforehand, and compared to the last byte afterwards. */
+/* Memory that is lent to a call: marked all over and around beforehand, and compared or summed up to the last byte afterwards. */
 #ifndef LENT_H
 #define LENT_H
 
@@ -30,5 +30,8 @@ uint64_t *numbers_of(const struct lent *lent);
 
 /* Whether all of a memory is as it must be; prints what is not, each line opened with `who` and the memory's name. */
 bool as_wanted(const struct lent *lent, const struct block *after, const char *who, const char *name);
+
+/* A sum over each byte of a memory and the marks around it; 0 for zeros, which nobody could change. */
+uint64_t sum_of(const struct lent *lent);
 
 #endif

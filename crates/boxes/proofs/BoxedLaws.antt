@@ -5,13 +5,15 @@ use mathlib.Core.List.{List, [], _∷_, _++_, append-assoc, append-nil}
 use mathlib.Core.Path.{_≡_, refl, sym, _∙_}
 use native.Mathlib.Nat.{add-zero, add-assoc}
 use native.Mathlib.Omega.{arith}
+use borrow.Author.Tests.{eqb-false}
+use lib.Dec.{eqb}
 use lib.ListN.{length, getD, length-append}
 use Rattle.boxes.specs.Answer.{given}
 use Rattle.numerals.specs.Numbers.{number, bytesOf, holds}
-use Rattle.boxes.specs.Framing.{Box, header, frontSize, front, boxed, boxesIn, boxLimit}
+use Rattle.boxes.specs.Framing.{Box, uuid, header, frontSize, front, boxed, boxesIn, boxLimit}
 use Rattle.boxes.specs.declared.kinds.Container.{Container}
 use Rattle.boxes.proofs.ContainerLaws.{box-limit, boxes-end, boxes-next, boxes-stand, boxes-appended}
-use Rattle.boxes.proofs.HeaderLaws.{sized-fits, header-short, moved}
+use Rattle.boxes.proofs.HeaderLaws.{user-none, sized-fits, header-short, moved}
 use Rattle.numerals.proofs.NumberLaws.{length-bytesOf, number-bytesOf, bytesOf-joined}
 use Rattle.numerals.proofs.WidthLaws.{below-holds, over-holds}
 
@@ -48,9 +50,9 @@ pub length-boxed : (kind : ℕ) (body : List ℕ) → length (boxed kind body) �
 unfolding boxed
 length-boxed kind body = rw (length-append, length-front)
 
--- a box that was written is read back: the box of that kind, at that place, with a body of n bytes
+-- a box that was written, of another type than `uuid`, is read back: the box of that kind, at that place, with a body of n bytes
 abbrev pub boxedAt : ℕ → ℕ → ℕ → Box
-boxedAt at kind n = record { kind = kind; at = at; body = at + frontSize; end = at + (frontSize + n) }
+boxedAt at kind n = record { kind = kind; at = at; user = at + frontSize; body = at + frontSize; end = at + (frontSize + n) }
 
 module _ (p q : List ℕ) (kind : ℕ) (body : List ℕ) where
   boxed-in : List ℕ
@@ -66,35 +68,35 @@ module _ (p q : List ℕ) (kind : ℕ) (body : List ℕ) where
       let size : List ℕ = bytesOf 4 (frontSize + length body) in
       simp append-assoc (simp (append-assoc, length-append, length-bytesOf) at (number-bytesOf (p ++ size) (body ++ q) 4 kind fits))
 
-  pub header-boxed : (end : ℕ) → kind < 2 ^ 32 → frontSize + length body < 2 ^ 32 → length p + (frontSize + length body) ≤ end
+  pub header-boxed : (end : ℕ) → kind < 2 ^ 32 → eqb kind uuid ≡ false → frontSize + length body < 2 ^ 32 → length p + (frontSize + length body) ≤ end
       → header (p ++ (boxed kind body ++ q)) (length p) end ≡ given (boxedAt (length p) kind (length body))
   unfolding boxed-in frontSize
-  header-boxed end code fits inside =
+  header-boxed end code known fits inside =
       let size = size-boxed fits in
+      let none = user-none kind (eqb-false kind uuid known) in
       header-short boxed-in (length p) end (omega arith) (sym size) (omega arith) (omega arith)
-      ∙ sized-fits boxed-in (length p) end 8 (8 + length body) (omega arith) inside
-      ∙ rw (kind-boxed code)
+      ∙ sized-fits boxed-in (length p) end 8 (8 + length body) (sym (kind-boxed code)) (omega (arith, none)) (omega arith) inside
 
 -- such a box so many bytes further on
 pub moved-boxedAt : (m at kind n : ℕ) → moved m (boxedAt at kind n) ≡ boxedAt (m + at) kind n
 moved-boxedAt m at kind n = simp add-assoc
 
 -- a box that was written is the one box of its own bytes
-module _ (c : Container) (kind : ℕ) (body : List ℕ) (code : kind < 2 ^ 32) (fits : frontSize + length body < 2 ^ 32) where
+module _ (c : Container) (kind : ℕ) (body : List ℕ) (code : kind < 2 ^ 32) (known : eqb kind uuid ≡ false) (fits : frontSize + length body < 2 ^ 32) where
   pub boxed-alone : boxesIn c (boxed kind body) 0 (length (boxed kind body)) ≡ given (boxedAt 0 kind (length body) ∷ [])
   unfolding boxesIn boxLimit frontSize
   boxed-alone =
       let end : ℕ = frontSize + length body in
-      let read = simp append-nil at (header-boxed [] [] kind body end code fits (omega arith)) in
+      let read = simp append-nil at (header-boxed [] [] kind body end code known fits (omega arith)) in
       rw length-boxed (boxes-next c (boxed kind body) end 0 (omega arith) 511 ∙ rw (read, boxes-end c (boxed kind body) end (0 + end) 511 (omega arith)))
 
 -- two boxes, one after the other
-module _ (c : Container) (first second : ℕ) (one two : List ℕ) (code : first < 2 ^ 32) (code′ : second < 2 ^ 32) (fits : length (boxed first one ++ boxed second two) < 2 ^ 32) where
+module _ (c : Container) (first second : ℕ) (one two : List ℕ) (code : first < 2 ^ 32) (code′ : second < 2 ^ 32) (known : eqb first uuid ≡ false) (known′ : eqb second uuid ≡ false) (fits : length (boxed first one ++ boxed second two) < 2 ^ 32) where
   pub boxed-then : boxesIn c (boxed first one ++ boxed second two) 0 (length (boxed first one ++ boxed second two))
       ≡ given (boxedAt 0 first (length one) ∷ boxedAt (frontSize + length one) second (length two) ∷ [])
   boxed-then =
       let size = simp (length-append, length-boxed) at fits in
-      boxes-appended c (boxed first one) (boxed second two) (boxed-alone c first one code (omega arith)) (boxed-alone c second two code′ (omega arith)) (rw box-limit (omega arith))
+      boxes-appended c (boxed first one) (boxed second two) (boxed-alone c first one code known (omega arith)) (boxed-alone c second two code′ known′ (omega arith)) (rw box-limit (omega arith))
       ∙ rw (moved-boxedAt (length (boxed first one)) 0 second (length two), add-zero, length-boxed)
 
   -- and where they stand in a list, at a place

@@ -6,29 +6,49 @@ use mathlib.Core.Path.{_≡_, refl, sym, ap, subst, _∙_}
 use native.Mathlib.Decide.{decLe, ℕ-discrete}
 use native.Mathlib.Nat.{add-assoc}
 use native.Mathlib.Omega.{arith}
-use borrow.Author.Tests.{le-leb, lt-leb, ne-eqb, leb-true, eqb-true, eqb-false, not-true}
+use borrow.Author.Tests.{le-leb, lt-leb, eq-eqb, ne-eqb, leb-true, eqb-true, eqb-false, not-true}
 use lib.Dec.{leb, eqb, lit≤}
 use lib.ListN.{getD}
 use Rattle.boxes.specs.Answer.{refused, given, _>>=_}
 use Rattle.numerals.specs.Numbers.{number}
-use Rattle.boxes.specs.Framing.{Box, sized, large, header}
+use Rattle.boxes.specs.Framing.{Box, uuid, userSize, sized, large, header}
 use Rattle.boxes.proofs.AnswerLaws.{held, given-same, Only, only-given, only-held, only-either}
 use Rattle.numerals.proofs.NumberLaws.{number-same}
 
--- what the tests decide
+-- a box of `uuid` has a user type of sixteen bytes, one of another type has none
+module _ (kind : ℕ) where
+  pub user-vendor : kind ≡ uuid → userSize kind ≡ 16
+  unfolding userSize
+  user-vendor e = simp (userSize, eq-eqb kind uuid e)
+
+  pub user-none : (kind ≡ uuid → ⊥) → userSize kind ≡ 0
+  unfolding userSize
+  user-none e = simp (userSize, ne-eqb kind uuid e)
+
+  pub user-most : userSize kind ≤ 16
+  unfolding userSize
+  user-most = go (eqb kind uuid)
+    where
+      go : (vendor : Bool) → elim vendor [ true ↦ 16 | false ↦ 0 ] ≤ 16
+      go true = lit≤ tt
+      go false = lit≤ tt
+
+-- what the tests decide, for a box of that kind
 module _ (s : List ℕ) (at end : ℕ) where
-  pub sized-under : (width size : ℕ) → size < width → sized s at end width size ≡ refused 4
-  unfolding sized
-  sized-under width size h = simp (lt-leb width size h)
+  module _ (width size : ℕ) {kind front : ℕ} (read : kind ≡ number s (at + 4) 4) (wide : front ≡ width + userSize kind) where
+    pub sized-under : size < front → sized s at end width size ≡ refused 4
+    unfolding sized
+    sized-under h = simp (← read, ← wide, lt-leb front size h)
 
-  pub sized-past : (width size : ℕ) → width ≤ size → end < at + size → sized s at end width size ≡ refused 5
-  unfolding sized
-  sized-past width size h past = simp (le-leb width size h, lt-leb (at + size) end past)
+    module _ (over : front ≤ size) where
+      pub sized-past : end < at + size → sized s at end width size ≡ refused 5
+      unfolding sized
+      sized-past past = simp (← read, ← wide, le-leb front size over, lt-leb (at + size) end past)
 
-  pub sized-fits : (width size : ℕ) → width ≤ size → at + size ≤ end
-      → sized s at end width size ≡ given (record { kind = number s (at + 4) 4; at = at; body = at + width; end = at + size })
-  unfolding sized
-  sized-fits width size h fits = simp (le-leb width size h, le-leb (at + size) end fits)
+      pub sized-fits : at + size ≤ end
+          → sized s at end width size ≡ given (record { kind = kind; at = at; user = at + width; body = at + front; end = at + size })
+      unfolding sized
+      sized-fits fits = simp (← read, ← wide, le-leb front size over, le-leb (at + size) end fits)
 
   pub large-cut : end < at + 16 → large s at end ≡ refused 2
   unfolding large
@@ -55,26 +75,28 @@ module _ (s : List ℕ) (at end : ℕ) where
     unfolding header
     header-short not-zero not-one = simp (le-leb (at + 8) end whole, ← read, ne-eqb size 0 not-zero, ne-eqb size 1 not-one)
 
--- a box that was read lies inside its container, and the place after it is further on
+-- a box that was read lies inside its container, its user type stands right before its body, and the place after it is further on
 pub record Inside (at end : ℕ) (b : Box) : Type 0 where
   pub starts : b .at ≡ at
-  pub front : at + 8 ≤ b .body
+  pub front : at + 8 ≤ b .user
+  pub typed : b .body ≡ b .user + userSize (b .kind)
   pub whole : b .body ≤ b .end
   pub ends : b .end ≤ end
 
 module _ (s : List ℕ) (at end : ℕ) {b : Box} where
   sized-given : (width size : ℕ) → sized s at end width size ≡ given b
-      → (width ≤ size) × (at + size ≤ end) × (record { kind = number s (at + 4) 4; at = at; body = at + width; end = at + size } ≡ b)
+      → let kind : ℕ = number s (at + 4) 4 in
+      (width + userSize kind ≤ size) × (at + size ≤ end) × (record { kind = kind; at = at; user = at + width; body = at + (width + userSize kind); end = at + size } ≡ b)
   unfolding sized
   sized-given width size h =
-      let under = held 4 (leb width size) _ h in
+      let under = held 4 (leb (width + userSize (number s (at + 4) 4)) size) _ h in
       let past = held 5 (leb (at + size) end) _ (under .1) in
       (leb-true _ _ (under .0), leb-true _ _ (past .0), given-same (past .1))
 
   sized-inside : (width size : ℕ) → 8 ≤ width → sized s at end width size ≡ given b → Inside at end b
   sized-inside width size wide h =
       let g = sized-given width size h in
-      subst (Inside at end) (g .2) (record { starts = refl; front = omega arith; whole = omega arith; ends = omega arith })
+      subst (Inside at end) (g .2) (record { starts = refl; front = omega arith; typed = omega arith; whole = omega arith; ends = omega arith })
 
   large-inside : large s at end ≡ given b → Inside at end b
   unfolding large
@@ -104,7 +126,7 @@ module _ (s : List ℕ) (at end end′ : ℕ) (on : end ≤ end′) {b : Box} wh
   sized-further : (width size : ℕ) → sized s at end width size ≡ given b → sized s at end′ width size ≡ given b
   sized-further width size h =
       let g = sized-given s at end width size h in
-      sized-fits s at end′ width size (g .0) (omega arith) ∙ ap given (g .2)
+      sized-fits s at end′ width size refl refl (g .0) (omega arith) ∙ ap given (g .2)
 
   large-further : large s at end ≡ given b → large s at end′ ≡ given b
   unfolding large
@@ -120,7 +142,7 @@ module _ (s : List ℕ) (at end end′ : ℕ) (on : end ≤ end′) {b : Box} wh
 
 -- a box so many bytes further on
 abbrev pub moved : ℕ → Box → Box
-moved n b = record { kind = b .kind; at = n + b .at; body = n + b .body; end = n + b .end }
+moved n b = record { kind = b .kind; at = n + b .at; user = n + b .user; body = n + b .body; end = n + b .end }
 
 -- a header is read the same where the same bytes stand so many bytes further on
 module _ (s t : List ℕ) (n at end : ℕ) (same : (i : ℕ) → i < end → getD t (n + i) 0 ≡ getD s i 0) where
@@ -130,16 +152,19 @@ module _ (s t : List ℕ) (n at end : ℕ) (same : (i : ℕ) → i < end → get
 
   sized-moved : (width size : ℕ) → at + 8 ≤ end → sized t (n + at) (n + end) width size ≡ (sized s at end width size >>= λ b. given (moved n b))
   sized-moved width size whole =
-      elim (decLe width size) [
+      let kind : ℕ = number s (at + 4) 4 in
+      let front : ℕ = width + userSize kind in
+      let same-kind : kind ≡ number t (n + at + 4) 4 = sym (rw (add-assoc n at 4) (number-moved (at + 4) 4 (omega arith))) in
+      elim (decLe front size) [
         | no under ↦
-            sized-under t (n + at) (n + end) width size (omega arith) ∙ rw (sized-under s at end width size (omega arith))
+            sized-under t (n + at) (n + end) width size same-kind refl (omega arith) ∙ rw (sized-under s at end width size refl refl (omega arith))
         | yes over ↦
             elim (decLe (at + size) end) [
               | no past ↦
-                  sized-past t (n + at) (n + end) width size over (omega arith) ∙ rw (sized-past s at end width size over (omega arith))
+                  sized-past t (n + at) (n + end) width size same-kind refl over (omega arith) ∙ rw (sized-past s at end width size refl refl over (omega arith))
               | yes fits ↦
-                  sized-fits t (n + at) (n + end) width size over (omega arith)
-                  ∙ rw (sized-fits s at end width size over fits, add-assoc n at 4, number-moved (at + 4) 4 (omega arith), add-assoc n at width, add-assoc n at size)
+                  sized-fits t (n + at) (n + end) width size same-kind refl over (omega arith)
+                  ∙ rw (sized-fits s at end width size refl refl over fits, add-assoc n at width, add-assoc n at front, add-assoc n at size)
             ]
       ]
 
@@ -180,7 +205,7 @@ module _ (s : List ℕ) (at end : ℕ) where
   sized-numbers : (width size : ℕ) → Only Faults (sized s at end width size)
   unfolding sized
   sized-numbers width size =
-      only-held Faults 4 (leb width size) _ (omega arith) (only-held Faults 5 (leb (at + size) end) _ (omega arith) (only-given Faults _))
+      only-held Faults 4 (leb (width + userSize (number s (at + 4) 4)) size) _ (omega arith) (only-held Faults 5 (leb (at + size) end) _ (omega arith) (only-given Faults _))
 
   pub header-numbers : (n : ℕ) → header s at end ≡ refused n → (2 ≤ n) × (n ≤ 5)
   unfolding header large

@@ -15,13 +15,13 @@ abbrev pub Tells : {R A : Type 0} → (R → A) → Type 0
 Tells {R} says = (r t : R) → says r ≡ says t → r ≡ t
 
 -- a box that was read, field by field
-pub box-fields : (b : Framed) → boxOf b ≡ record { kind = b .kind; at = b .at .0; body = b .body .0; end = b .end .0 }
+pub box-fields : (b : Framed) → boxOf b ≡ record { kind = b .kind; at = b .at .0; user = b .user .0; body = b .body .0; end = b .end .0 }
 unfolding boxOf
 box-fields b = refl
 
 pub box-told : Tells boxOf
 unfolding boxOf
-box-told b c e = λ i. record { kind = e i .kind; at = record { 0 = e i .at }; body = record { 0 = e i .body }; end = record { 0 = e i .end } }
+box-told b c e = λ i. record { kind = e i .kind; at = record { 0 = e i .at }; user = record { 0 = e i .user }; body = record { 0 = e i .body }; end = record { 0 = e i .end } }
 
 -- what each answer about a header says of it
 module _ {r : Header} {read : Answer Box} (answer : headerAnswer r ≡ read) where

@@ -11,19 +11,30 @@ use Rattle.boxes.specs.declared.framing.Header.{Header}
 use Rattle.boxes.specs.declared.framing.Header.the-variants.{Found, Refused}
 use Rattle.boxes.specs.declared.kinds.Container.{Container}
 
--- a box: its type as a number, and the places of its first byte, of its body and of the first byte after it
+-- a box: its type as a number, and the places of its first byte, of its user type, of its body and of the first byte after it. The user type stands
+-- right before the body
 pub record Box : Type 0 where
   pub kind : ℕ
   pub at : ℕ
+  pub user : ℕ
   pub body : ℕ
   pub end : ℕ
 
--- the box at a place whose header is so many bytes wide and states that size
+-- the type `uuid`
+abbrev pub uuid : ℕ
+uuid = 0x75756964
+
+-- how many bytes the user type has of a box of a type: sixteen of `uuid`, none of another
+unfoldable pub userSize : ℕ → ℕ
+userSize kind = elim (eqb kind uuid) [ true ↦ 16 | false ↦ 0 ]
+
+-- the box at a place whose size and type take so many bytes and state that size. The user type after them counts as header
 unfoldable pub sized : List ℕ → ℕ → ℕ → ℕ → ℕ → Answer Box
 sized s at end width size = do
-  _ ← hold 4 (leb width size)
+  let kind = number s (at + 4) 4
+  _ ← hold 4 (leb (width + userSize kind) size)
   _ ← hold 5 (leb (at + size) end)
-  given (record { kind = number s (at + 4) 4; at = at; body = at + width; end = at + size })
+  given (record { kind = kind; at = at; user = at + width; body = at + (width + userSize kind); end = at + size })
 
 -- the box at a place whose 64-bit size follows its type
 unfoldable pub large : List ℕ → ℕ → ℕ → Answer Box
@@ -31,7 +42,7 @@ large s at end = do
   _ ← hold 2 (leb (at + 16) end)
   sized s at end 16 (number s (at + 8) 8)
 
--- a 32-bit size, then the type; size 1 means that a 64-bit size follows. For `uuid` the sixteen extra bytes count as body
+-- a 32-bit size, then the type; size 1 means that a 64-bit size follows
 unfoldable pub header : List ℕ → ℕ → ℕ → Answer Box
 header s at end = do
   _ ← hold 2 (leb (at + 8) end)
@@ -57,7 +68,7 @@ boxesIn c s start end = boxesFrom c s end boxLimit start
 
 -- what a box that was read says
 unfoldable pub boxOf : Framed → Box
-boxOf b = record { kind = b .kind; at = b .at .0; body = b .body .0; end = b .end .0 }
+boxOf b = record { kind = b .kind; at = b .at .0; user = b .user .0; body = b .body .0; end = b .end .0 }
 
 -- what an answer about a header says
 unfoldable pub headerAnswer : Header → Answer Box

@@ -69,7 +69,7 @@ right c k bs = rightCount c k (length (those k bs))
 
 -- what stands past the end of a list of boxes
 abbrev pub noBox : Box
-noBox = record { kind = 0; at = 0; body = 0; end = 0 }
+noBox = record { kind = 0; at = 0; user = 0; body = 0; end = 0 }
 
 -- the box of that number in its container, counted from 0; past the last one a box of nothing
 unfoldable pub boxAt : ℕ → List Box → Box

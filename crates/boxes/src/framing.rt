@@ -1,4 +1,4 @@
-// Box headers, read and written: where a box starts, where its body starts and where it ends.
+// Box headers, read and written: where a box starts, where its user type and its body start and where it ends.
 use crate::refusals::BOX_PAST_END;
 use crate::refusals::HEADER_CUT;
 use crate::refusals::SIZE_UNDER_HEADER;
@@ -8,14 +8,16 @@ use numerals::numbers::unsigned;
 use numerals::place::Place;
 ghost use Prim.Native.Nat.{_+_, _-_, _≤_};
 ghost use mathlib.Core.Path.{_≡_};
-ghost use Rattle.boxes.specs.Framing.{header, large, sized, headerAnswer, frontSize, front};
+ghost use Rattle.boxes.specs.Framing.{header, large, sized, userSize, headerAnswer, frontSize, front};
 ghost use Rattle.numerals.specs.Numbers.{holds};
 ghost use Rattle.numerals.specs.Stored.{Stores};
 
-// A box that was read: its kind, its first byte, the first byte of its body, and the first byte after it.
+// A box that was read: its kind, its first byte, the first bytes of its user type and of its body, and the first byte after it. The user type ends
+// where the body starts; only a `uuid` box has one that is not empty.
 pub struct Framed {
     pub kind: u32,
     pub at: Place,
+    pub user: Place,
     pub body: Place,
     pub end: Place,
 }
@@ -35,6 +37,18 @@ const LARGE_FRONT_SIZE: u64 = 16;
 // The largest body whose box has a 32-bit size.
 const LARGEST_BODY: u64 = 0xffff_ffff - FRONT_SIZE;
 
+// The type `uuid`, and the bytes of the user type that ends the header of such a box.
+const UUID: u32 = 0x7575_6964;
+
+const USER_SIZE: u64 = 16;
+
+// How many bytes the user type has of a box of a type.
+fn user_size(kind: u32) -> u64
+    ensures { λ r. ⌜ r ≡ userSize kind ⌝ }
+{
+    if kind == UUID { USER_SIZE } else { 0 }
+}
+
 // How many bytes stand from a place to an end, none where the end comes first.
 fn between(at: Place, end: Place) -> u64
     ensures { λ r. ⌜ r ≡ end .0 - at .0 ⌝ }
@@ -42,21 +56,24 @@ fn between(at: Place, end: Place) -> u64
     if at.0 <= end.0 { end.0 - at.0 } else { 0 }
 }
 
-// The box whose header is so many bytes wide and states that size.
+// The box whose size and type take so many bytes and state that size.
 fn sized_at(s: &[u8], at: Place, end: Place, width: u64, size: u64) -> Header
-    requires { ⌜ (4 ≤ width) × (at .0 + width ≤ end .0) ⌝ }
+    requires { ⌜ (8 ≤ width) × (width ≤ 16) × (at .0 + width ≤ end .0) ⌝ }
     ensures { λ r. ⌜ headerAnswer r ≡ sized (now (s .entry)) (at .0) (end .0) width size ⌝ }
 {
-    if size < width {
+    let kind = unsigned(s, Place(at.0 + 4), 4) as u32;
+    let front = width + user_size(kind);
+    if size < front {
         return Header::Refused(SIZE_UNDER_HEADER);
     }
     if between(at, end) < size {
         return Header::Refused(BOX_PAST_END);
     }
     Header::Found(Framed {
-        kind: unsigned(s, Place(at.0 + 4), 4) as u32,
+        kind,
         at,
-        body: Place(at.0 + width),
+        user: Place(at.0 + width),
+        body: Place(at.0 + front),
         end: Place(at.0 + size),
     })
 }

@@ -10,6 +10,7 @@ fn main() {
     reading::by_size();
     reading::by_large_size();
     reading::by_place();
+    reading::by_user_type();
     walking::by_number_of_boxes();
     walking::by_kind();
     walking::by_rule();

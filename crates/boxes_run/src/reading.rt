@@ -137,3 +137,29 @@ fn by_place_in(s: &[u8]) {
     read(b"7 before the largest end", s, LAST - 7, LAST);
     read(b"8 before the largest end", s, LAST - 8, LAST);
 }
+
+// `uuid` boxes of that size. The bytes of their user type are past the slice.
+fn vendor(asked: &[u8], size: u8, end: u64) {
+    let s = [0, 0, 0, size, 117, 117, 105, 100];
+    read(asked, &s, 0, end);
+}
+
+fn large_vendor(asked: &[u8], size: u8, end: u64) {
+    let s = [0, 0, 0, 1, 117, 117, 105, 100, 0, 0, 0, 0, 0, 0, 0, size];
+    read(asked, &s, 0, end);
+}
+
+// Sizes around the header with a user type, and containers that end inside it.
+pub fn by_user_type() {
+    vendor(b"uuid of 8", 8, 32);
+    vendor(b"uuid of 23", 23, 32);
+    vendor(b"uuid of 24", 24, 32);
+    vendor(b"uuid of 25", 25, 32);
+    vendor(b"uuid of 24, 23 left", 24, 23);
+    vendor(b"uuid of 20, 20 left", 20, 20);
+    large_vendor(b"large uuid of 16", 16, 40);
+    large_vendor(b"large uuid of 31", 31, 40);
+    large_vendor(b"large uuid of 32", 32, 40);
+    large_vendor(b"large uuid of 32, 31 left", 32, 31);
+    large_vendor(b"large uuid of 32, 15 left", 32, 15);
+}

@@ -19,14 +19,17 @@ fn refused(n: u64) {
     text(b"\n");
 }
 
-// A box: its type, its place, the place of its body, and its end.
+// A box: its type, its place, the places of its user type and of its body, and its end.
 fn framed(b: Framed) {
     let at = b.at;
+    let user = b.user;
     let body = b.body;
     let end = b.end;
     io::print_hex(STDOUT_FILENO, b.kind as u64, 8);
     text(b" ");
     number(at.0);
+    text(b" ");
+    number(user.0);
     text(b" ");
     number(body.0);
     text(b" ");

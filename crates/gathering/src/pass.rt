@@ -29,6 +29,7 @@ pub enum Passed {
 const NO_BOX: Framed = Framed {
     kind: 0,
     at: Place(0),
+    user: Place(0),
     body: Place(0),
     end: Place(0),
 };

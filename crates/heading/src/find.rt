@@ -17,6 +17,7 @@ ghost use Rattle.boxes.specs.declared.kinds.Container.the-variants.{File};
 const NO_BOX: Framed = Framed {
     kind: 0,
     at: Place(0),
+    user: Place(0),
     body: Place(0),
     end: Place(0),
 };

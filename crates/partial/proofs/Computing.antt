@@ -12,6 +12,7 @@ use Rattle.partial.specs.Ranges
 use Rattle.partial.specs.Memory
 use Rattle.partial.specs.Tables
 use Rattle.partial.specs.Map
+use Rattle.partial.specs.BoxList
 use Rattle.partial.specs.Begin
 use Rattle.partial.specs.Addition
 use Rattle.partial.specs.Append
@@ -23,7 +24,7 @@ unfoldable pub computing : Unit {0}
 unfolding
     Numbers.number Numbers.bytesOf Numbers.valueOf Numbers.signed Numbers.twosComplement Numbers.holds Numbers.holdsOffset Numbers.least
     Numbers.leastWidth
-    Framing.sized Framing.large Framing.header Framing.boxesFrom Framing.boxLimit Framing.boxesIn Framing.boxOf
+    Framing.userSize Framing.sized Framing.large Framing.header Framing.boxesFrom Framing.boxLimit Framing.boxesIn Framing.boxOf
     Framing.headerAnswer Framing.frontSize Framing.front Framing.boxed
     Kinds.is Kinds.those Kinds.keeps Kinds.containerNo Kinds.rightCount Kinds.right Kinds.boxAt Kinds.firstOf
     Sequences.someOf Sequences.allOf Sequences.sum Sequences.largest Sequences.within Sequences.stretch
@@ -45,6 +46,7 @@ unfolding
     Tables.hadRows Tables.missingRows Tables.tabled Tables.listed Tables.summary Tables.totals Tables.bytesIn Tables.nowhere
     Tables.servedPart Tables.asked Tables.textOf
     Map.ascii Map.decimal Map.line Map.refusedLine Map.rangeLine Map.rangeLines Map.sourceLine Map.totalLine Map.mapOf Map.mapText
+    BoxList.hex BoxList.prints BoxList.shown BoxList.each BoxList.typeBytes BoxList.userBytes BoxList.boxLine BoxList.boxLines BoxList.boxesText
     Begin.beginning Begin.isText Begin.begun
     Addition.asks Addition.items Addition.listRight Addition.dataSize Addition.dataRight Addition.anyPresent Addition.sayable
     Append.dataBox Append.addedBoxes Append.placed Append.lengthSize Append.offsetSize Append.flagByte Append.entryBytes

@@ -3,6 +3,7 @@ pub mod HeadingAppendLaws
 pub mod KeptLaws
 pub mod LimitLaws
 pub mod PartLaws
+pub mod BoxListLaws
 pub mod PrintedLaws
 pub mod ReadingLaws
 pub mod RefusalLaws

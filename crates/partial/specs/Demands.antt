@@ -10,8 +10,9 @@ use mathlib.Core.Path.{_≡_}
 use lib.ListN.{length, getD}
 use lib.Dec.{T, leb, eqb}
 use Rattle.boxes.specs.Answer.{refused, given, _>>=_, hold}
-use Rattle.boxes.specs.Framing.{Box, boxLimit}
+use Rattle.boxes.specs.Framing.{Box, boxLimit, boxesIn}
 use Rattle.boxes.specs.Kinds.{pdat, is, boxAt}
+use Rattle.boxes.specs.declared.kinds.Container.the-variants.{File}
 use Rattle.partial.specs.Limits.{fileLimit, segmentLimit, chunkLimit}
 use Rattle.partial.specs.Sequences.{someOf, sum, within}
 use Rattle.partial.specs.Segments.{Chunk, Segment, good, endOf, chunksOf}
@@ -23,6 +24,7 @@ use Rattle.partial.specs.Ranges.{rangesOf, hadList, missingList, total, 
 use Rattle.partial.specs.Memory.{after, written, textWritten}
 use Rattle.partial.specs.Tables.{tabled, listed, totals, bytesIn, servedPart, asked, textOf}
 use Rattle.partial.specs.Map.{refusedLine, sourceLine, rangeLines, totalLine, mapText}
+use Rattle.partial.specs.BoxList.{each, boxLine, boxesText}
 use Rattle.partial.specs.Begin.{beginning, isText, begun}
 use Rattle.partial.specs.Addition.{Addition, items, listRight, dataRight, sayable}
 use Rattle.partial.specs.Append.{addedBoxes, added, psegPlace, newSegment, appended, result}
@@ -152,6 +154,25 @@ pub record Printed (limit most : ℕ) (input : List ℕ) : Type 0 where
       → length (mapText limit most input) ≤ length buffer
       → textWritten (mapText limit most input) buffer ≡ given (length (mapText limit most input))
   pub noRoom : (buffer : List ℕ) → length buffer < length (mapText limit most input) → textWritten (mapText limit most input) buffer ≡ refused 33
+
+-- document 02, [1]: what the program prints that lists the boxes of its input, whatever the most is that it takes
+pub record BoxesPrinted (most : ℕ) (input : List ℕ) : Type 0 where
+  -- 27 and 1 come first
+  pub overLong : most < length input → boxesText most input ≡ refusedLine 27
+  pub overLimit : length input ≤ most → fileLimit < length input → boxesText most input ≡ refusedLine 1
+  -- a line for each box, and after the first framing fault that of its refusal, the last one
+  pub whole :
+      (bs : List Box)
+      → length input ≤ most
+      → length input ≤ fileLimit
+      → boxesIn File input 0 (length input) ≡ given bs
+      → boxesText most input ≡ each (boxLine input) bs
+  pub fault :
+      (n : ℕ)
+      → length input ≤ most
+      → length input ≤ fileLimit
+      → boxesIn File input 0 (length input) ≡ refused n
+      → (before : List ℕ) × (boxesText most input ≡ before ++ refusedLine n)
 
 -- demand 2: in an accepted file each source byte is served or listed missing as document 01's rules say; a segment our writer adds
 -- reads back with the same chunks and bytes; writing again what was read from our writer's file gives that file

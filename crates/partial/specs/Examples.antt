@@ -9,7 +9,7 @@ use lib.ListN.{length, drop, replicate}
 use lib.IntN.{ℤ, pos, negsuc}
 use Rattle.boxes.specs.Answer.{Answer, refused, given, _>>=_, hold}
 use Rattle.numerals.specs.Numbers.{number, bytesOf, valueOf, signed, holdsOffset, leastWidth}
-use Rattle.boxes.specs.Framing.{header, boxed}
+use Rattle.boxes.specs.Framing.{uuid, header, boxed}
 use Rattle.boxes.specs.Kinds.{pdat, pseg, pshd, ploc, is}
 use Rattle.numerals.specs.declared.numbers.Offset.the-variants.{Back}
 use Rattle.partial.specs.Limits.{programLimit, sourceLimit}
@@ -19,6 +19,7 @@ use Rattle.partial.specs.Reading.{reading}
 use Rattle.partial.specs.Memory.{after}
 use Rattle.partial.specs.Tables.{missingRows, tabled, summary, segmentRows, chunkRows}
 use Rattle.partial.specs.Map.{ascii, mapText, refusedLine}
+use Rattle.partial.specs.BoxList.{boxesText}
 use Rattle.partial.specs.Addition.{Addition}
 use Rattle.partial.specs.Append.{added}
 use Rattle.partial.specs.Runs.{lent, fileIn, begin, append}
@@ -256,10 +257,48 @@ otherFlags =
       paper = pos 7 ∷ pos 1 ∷ pos 0 ∷ pos 7 ∷ pos 7 ∷ pos 0 ∷ pos 0 ∷ pos 7 ∷ [];
     }
 
+-- a `uuid` box's header in the two forms, up to its user type, with that size
+abbrev vendor : ℕ → List ℕ
+vendor size = bytesOf 4 size ++ bytesOf 4 uuid
+
+abbrev largeVendor : ℕ → List ℕ
+largeVendor size = bytesOf 4 1 ++ (bytesOf 4 uuid ++ bytesOf 8 size)
+
+-- of a box in a container that ends there: the places of its user type, of its body and of its end
+abbrev placesIn : List ℕ → ℕ → List ℤ
+placesIn f end = says (header f 0 end >>= λ b. given (pos (b .user) ∷ pos (b .body) ∷ pos (b .end) ∷ []))
+
+-- document 02, [1]: the user type counts as header; 4 below 24, in the large form below 32; 5 where the container ends inside the user type
+abbrev vendorForms : Example
+vendorForms =
+    record {
+      defined = placesIn (vendor 24) 24 ++ (placesIn (vendor 23) 32 ++ (placesIn (vendor 24) 23 ++ placesIn (vendor 20) 20));
+      paper = pos 8 ∷ pos 24 ∷ pos 24 ∷ pos 4 ∷ pos 5 ∷ pos 4 ∷ [];
+    }
+
+abbrev largeVendorForms : Example
+largeVendorForms =
+    record {
+      defined =
+          placesIn (largeVendor 32) 40
+          ++ (placesIn (largeVendor 31) 40 ++ (placesIn (largeVendor 32) 31 ++ placesIn (largeVendor 32) 15));
+      paper = pos 16 ∷ pos 32 ∷ pos 32 ∷ pos 4 ∷ pos 5 ∷ pos 2 ∷ [];
+    }
+
+-- document 02, [1]: the list of the boxes of a file with a vendor's box, a box whose type does not print, and a cut header
+abbrev boxes3 : Example
+boxes3 =
+    let user : List ℕ = 0x00 ∷ 0x01 ∷ 0x23 ∷ 0x45 ∷ 0x67 ∷ 0x89 ∷ 0xab ∷ 0xcd ∷ 0xef ∷ 0x10 ∷ 0x32 ∷ 0x54 ∷ 0x76 ∷ 0x98 ∷ 0xba ∷ 0xdc ∷ [] in
+    record {
+      defined = map pos (boxesText 100 (vendor 26 ++ (user ++ (7 ∷ 7 ∷ (bytesOf 4 8 ++ (0x09 ∷ 0x20 ∷ 0x7e ∷ 0x7f ∷ 0 ∷ 0 ∷ 0 ∷ []))))));
+      paper = map pos (ascii "0\t26\tuuid\t000123456789abcdef1032547698badc\n26\t8\t\\x09 ~\\x7f\nrefused\t2\n");
+    }
+
 unfoldable pub table : List Example
 table =
     P1 ∷ P2 ∷ P3 ∷ P4 ∷ P5 ∷ P6 ∷ P7 ∷ P8 ∷ P9 ∷ P10 ∷ P11 ∷ P12 ∷
-    map10 ∷ map11 ∷ rowsFit ∷ rowsShort ∷ ahead ∷ overHeader ∷ damagedBytes ∷ openLast ∷ otherFlags ∷ []
+    map10 ∷ map11 ∷ rowsFit ∷ rowsShort ∷ ahead ∷ overHeader ∷ damagedBytes ∷ openLast ∷ otherFlags ∷
+    vendorForms ∷ largeVendorForms ∷ boxes3 ∷ []
 
 -- at every row the definitions say what the paper says
 abbrev pub AsThePaperSays : Type 0

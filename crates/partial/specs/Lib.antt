@@ -9,6 +9,7 @@ pub mod Ranges
 pub mod Memory
 pub mod Tables
 pub mod Map
+pub mod BoxList
 pub mod Begin
 pub mod Addition
 pub mod Append

@@ -4,6 +4,7 @@ use denote.Ref.{now}
 use Rattle.numerals.proofs.Determined.{OneResult, OneLeft}
 use Rattle.vrazhupa.proofs.reading_calls.vrazhupa_ask.Reads as ask
 use Rattle.vrazhupa.proofs.reading_calls.vrazhupa_list.Reads as list
+use Rattle.vrazhupa.proofs.reading_calls.vrazhupa_boxes.Reads as boxes
 use Rattle.vrazhupa.proofs.reading_calls.vrazhupa_map.Reads as map
 use Rattle.vrazhupa.proofs.reading_calls.vrazhupa_mime.Reads as mime
 use Rattle.vrazhupa.proofs.reading_calls.vrazhupa_read.Reads as read
@@ -86,6 +87,15 @@ map-told κs args x y after after′ p q = p .said .values ∙ sym (q .said .val
 
 map-bytes : OneLeft map.Post (λ κs after. now (after .1 .1 .0))
 map-bytes κs args x y after after′ p q = p .left ∙ sym (q .left)
+
+boxes-result : OneResult boxes.Post
+boxes-result κs args x y after after′ p q = p .said .number ∙ sym (q .said .number)
+
+boxes-told : OneLeft boxes.Post (λ κs after. now (after .1 .1 .1 .0))
+boxes-told κs args x y after after′ p q = p .said .values ∙ sym (q .said .values)
+
+boxes-bytes : OneLeft boxes.Post (λ κs after. now (after .1 .1 .0))
+boxes-bytes κs args x y after after′ p q = p .left ∙ sym (q .left)
 
 begin-result : OneResult begin.Post
 begin-result κs args x y after after′ p q = p .said .number ∙ sym (q .said .number)

@@ -1,8 +1,9 @@
-// The exported calls that read a file: its tables and texts, positions, lists and the map.
+// The exported calls that read a file: its tables and texts, positions, lists, the map and the list of its boxes.
 use crate::answers::say_asked;
 use crate::answers::say_listed;
 use crate::answers::say_read;
 use crate::answers::say_written;
+use boxlisting::call::boxes;
 use listing::calls::list;
 use mapping::call::map;
 use partial::answers::Read;
@@ -13,6 +14,7 @@ use reading::tables::read;
 use serving::calls::ask;
 use serving::rows::chunk_at;
 use serving::runs::run_at;
+ghost use Rattle.partial.specs.BoxList.{boxesText};
 ghost use Rattle.partial.specs.Heading.{url, mime};
 ghost use Rattle.partial.specs.Limits.{sourceLimit};
 ghost use Rattle.partial.specs.Map.{mapText};
@@ -134,4 +136,17 @@ pub extern "C" fn vrazhupa_map(
     ensures { λ r. ⌜ SaysPrinted (mapText sourceLimit most (now (file .entry))) (now (buffer .entry)) (now (buffer .exit)) (now (told .entry)) (now (told .exit)) r ⌝ }
 {
     say_written(map(file, most, buffer), told)
+}
+
+// Writes a line for each top-level box, 27 for a file of more bytes than the caller takes.
+#[no_mangle]
+pub extern "C" fn vrazhupa_boxes(
+    file: &[u8],
+    most: u64,
+    buffer: &mut [u8],
+    told: &mut [u64; 1],
+) -> u64
+    ensures { λ r. ⌜ SaysPrinted (boxesText most (now (file .entry))) (now (buffer .entry)) (now (buffer .exit)) (now (told .entry)) (now (told .exit)) r ⌝ }
+{
+    say_written(boxes(file, most, buffer), told)
 }

@@ -35,8 +35,8 @@ boxes-part : (bytes body : List ℕ) (there : Bool)
     length whole < 2 ^ 32
     → boxesIn File whole 0 (length whole)
     ≡ given (dataBoxes there 0 (length bytes) ++ (boxedAt (length {A = ℕ} (elim there [ true ↦ boxed (pdat .code) bytes | false ↦ [] ])) (pseg .code) (length body) ∷ []))
-boxes-part bytes body true fits = rw length-boxed (boxed-then File (pdat .code) (pseg .code) bytes body (lit< tt) (lit< tt) fits)
-boxes-part bytes body false fits = boxed-alone File (pseg .code) body (lit< tt) (rw length-boxed at fits)
+boxes-part bytes body true fits = rw length-boxed (boxed-then File (pdat .code) (pseg .code) bytes body (lit< tt) (lit< tt) refl refl fits)
+boxes-part bytes body false fits = boxed-alone File (pseg .code) body (lit< tt) refl (rw length-boxed at fits)
 
 pub length-added : (a : Addition) → length (added a) ≡ length (dataBox a) + (frontSize + length (psegBody a))
 unfolding added

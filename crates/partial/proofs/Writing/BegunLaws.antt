@@ -132,7 +132,7 @@ module _ (u m : List ℕ) where
   unfolding beginning
   begun-boxes small =
       rw (zero-add (length (beginning u m))) at
-      (boxed-stand File (ftyp .code) (pfil .code) brandBody fileBody (lit< tt) (lit< tt) (omega arith) (beginning u m) 0 stands-all)
+      (boxed-stand File (ftyp .code) (pfil .code) brandBody fileBody (lit< tt) (lit< tt) refl refl (omega arith) (beginning u m) 0 stands-all)
 
   begun-inner : length (beginning u m) ≤ fileLimit → boxesIn Pfil (beginning u m) (fileBox .body) (fileBox .end) ≡ given (begunHeading .inner)
   unfolding beginning
@@ -140,7 +140,7 @@ module _ (u m : List ℕ) where
       let long = length-append (boxed (ftyp .code) brandBody) (boxed (pfil .code) fileBody) in
       let long-file = length-boxed (pfil .code) fileBody in
       rw (add-assoc (0 + (frontSize + length brandBody)) frontSize (length fileBody)) at
-      (boxed-stand Pfil (pfhd .code) (surl .code) versionAndFlags (sourceBody u m) (lit< tt) (lit< tt) (omega arith) (beginning u m) filePlace stands-file)
+      (boxed-stand Pfil (pfhd .code) (surl .code) versionAndFlags (sourceBody u m) (lit< tt) (lit< tt) refl refl (omega arith) (beginning u m) filePlace stands-file)
 
   pub source-stands : Stands (beginning u m) (sourceBox .body) (sourceBody u m)
   source-stands = stands-two (beginning u m) filePlace (pfhd .code) (surl .code) versionAndFlags (sourceBody u m) stands-file .1

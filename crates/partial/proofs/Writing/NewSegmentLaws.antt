@@ -111,7 +111,7 @@ module _ (limit : ℕ) (g : List ℕ) (h : Heading) (before : List Segment) (a :
       let (head, stands-entries, ends) = head-back g locationBox ps stands-ploc (add-assoc second frontSize (length (plocBody ps))) (rw length-placed (says .count)) in
       let whole : here + frontSize + length (pshdBody a) ≡ here + (frontSize + length (pshdBody a)) = omega arith in
       let same-end : here + length (psegBody a) ≡ at + (frontSize + length (psegBody a)) = omega arith in
-      let boxes = rw same-end at (boxed-stand Pseg (pshd .code) (ploc .code) (pshdBody a) (plocBody ps) (lit< tt) (lit< tt) small g here stands) in
+      let boxes = rw same-end at (boxed-stand Pseg (pshd .code) (ploc .code) (pshdBody a) (plocBody ps) (lit< tt) (lit< tt) refl refl small g here stands) in
       let long : here + (frontSize + length (pshdBody a)) - (here + frontSize) ≡ length (pshdBody a) = omega arith in
       let right-header = header-right (rw fields whole) in
       let chunks = chunks-back limit g h at (plocOf locationBox ps) ps (record { at = second + frontSize + 9; start = a .sourceOffset }) stands-entries ends

@@ -1,0 +1,4 @@
+pub mod BytesLaws
+pub mod Determined
+pub mod LineLaws
+pub mod ListLaws

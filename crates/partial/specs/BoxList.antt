@@ -1,0 +1,63 @@
+-- Document 02, [1]: the list of a file's top-level boxes, with whose a vendor's box is, as the bytes that a program prints.
+use Prim.Native.Nat.{ℕ, zero, suc, _+_, _-_}
+use mathlib.Core.Bool.{Bool, true, false, _&&_}
+use mathlib.Core.List.{List, [], _∷_, _++_}
+use lib.ListN.{length}
+use lib.Dec.{leb, eqb}
+use Rattle.io.specs.Digits.{digits}
+use Rattle.boxes.specs.Answer.{refused, given, _>>=_, hold}
+use Rattle.boxes.specs.Framing.{Box, uuid, header, boxLimit}
+use Rattle.partial.specs.Limits.{fileLimit}
+use Rattle.partial.specs.Map.{ascii, decimal, line, refusedLine}
+use Rattle.partial.specs.Tables.{bytesIn}
+
+-- a byte in two hex digits
+unfoldable pub hex : ℕ → List ℕ
+hex b = digits 16 2 b
+
+-- whether a byte prints: from the space to `~`
+unfoldable pub prints : ℕ → Bool
+prints b = leb 32 b && leb b 126
+
+-- a byte as it is where it prints, and else `\x` and two hex digits
+unfoldable pub shown : ℕ → List ℕ
+shown b = elim (prints b) [ true ↦ b ∷ [] | false ↦ ascii "\\x" ++ hex b ]
+
+-- a text of each, one behind the other
+module _ {A : Type 0} where
+  unfoldable pub each : (A → List ℕ) → List A → List ℕ
+  each text [] = []
+  each text (x ∷ xs) = text x ++ each text xs
+
+-- the four bytes of a box's type, which follow those of its size
+unfoldable pub typeBytes : List ℕ → Box → List ℕ
+typeBytes f b = bytesIn f (record { place = b .at + 4; size = 4 })
+
+-- the bytes of a box's user type, which its body follows
+unfoldable pub userBytes : List ℕ → Box → List ℕ
+userBytes f b = bytesIn f (record { place = b .user; size = b .body - b .user })
+
+-- place, size, type and, for `uuid`, the user type
+unfoldable pub boxLine : List ℕ → Box → List ℕ
+boxLine f b =
+    line (decimal (b .at))
+    (decimal (b .end - b .at)
+    ∷ each shown (typeBytes f b)
+    ∷ elim (eqb (b .kind) uuid) [ true ↦ each hex (userBytes f b) ∷ [] | false ↦ [] ])
+
+-- a line for each box from a place on, of which so many more are allowed; after the first framing fault the line of its refusal
+unfoldable pub boxLines : List ℕ → ℕ → ℕ → List ℕ
+boxLines f zero at = elim (leb (length f) at) [ true ↦ [] | false ↦ refusedLine 6 ]
+boxLines f (suc more) at =
+    elim (leb (length f) at) [
+      | true ↦ []
+      | false ↦ elim (header f at (length f)) [ refused n ↦ refusedLine n | given b ↦ boxLine f b ++ boxLines f more (b .end) ]
+    ]
+
+-- what a program prints that takes an input of at most so many bytes; 27 and 1 come first
+unfoldable pub boxesText : ℕ → List ℕ → List ℕ
+boxesText most input =
+    elim (hold 27 (leb (length input) most) >>= λ _. hold 1 (leb (length input) fileLimit)) [
+      | refused n ↦ refusedLine n
+      | given _ ↦ boxLines input boxLimit 0
+    ]

@@ -1,0 +1,134 @@
+"""Holds two implementations of include/vrazhupa.h against each other, one from before a change and one from after it, and says where their answers or lent bytes differ.
+
+usage: python3 tests/between.py [--cases N] [--seed S] [--request R] --old WORDS --new WORDS
+
+WORDS, in quotes, are how each driver is run; both are made of tests/scale/*.c, as tests/scale.py says. They are sent the cases that tests/scale.py makes with that
+seed, without the calls that only one of them has. Of each call its answer and a sum of each lent memory, with what lies around it, are compared. Differences are
+counted by old answer, new answer and call. With --request R one is expected where the model says of the call's file that this request changes its answer, and the
+new answer is the model's; without, none is. The status is 1 where one is not expected; `tests/scale.py --seed S --show CASE` shows a case.
+"""
+
+import argparse
+import contextlib
+import random
+import shlex
+import subprocess
+import sys
+import tempfile
+from collections import Counter, defaultdict, namedtuple
+
+import remembering
+import vendors
+from scale import AT_ONCE, send
+from scale_stream import BEFORE, END, FILE, TOO_LARGE, Stream
+
+# Of each request that changes answers, whether it changes those about a file.
+CHANGES = {1: vendors.refused_for_its_size}
+SHOWN = 10
+
+# A call that both made: its number in the stream, the model's answer, and the file that it was about, None where that is too large to be kept.
+Made = namedtuple("Made", "case name answer file")
+
+
+class Driver:
+    """A driver that reports, its report in a file, so that it never waits for a reader."""
+
+    def __init__(self, words):
+        self.calls = set(subprocess.run([*words, "calls"], stdout=subprocess.PIPE, check=True).stdout.decode().split())
+        self.report = tempfile.TemporaryFile()
+        self.process = subprocess.Popen([*words, "report"], stdin=subprocess.PIPE, stdout=self.report, bufsize=AT_ONCE)
+
+    def lines(self, count):
+        """What it reported, once it has ended well with so many calls."""
+        with contextlib.suppress(BrokenPipeError):
+            self.process.stdin.close()
+        status = self.process.wait()
+        self.report.seek(0)
+        lines = self.report.read().decode().splitlines()
+        if status != 0 or len(lines) != count:
+            sys.exit(f"{self.process.args}: status {status} after {len(lines)} of {count} calls")
+        return lines
+
+
+class Both(Stream):
+    """A stream to two drivers."""
+
+    def __init__(self, rng, drivers):
+        super().__init__(rng, self.write_to_both)
+        self.drivers = drivers
+        self.shared = set.intersection(*[driver.calls for driver in drivers])
+        self.made = []
+        self.left_out = Counter()
+
+    def write_to_both(self, content):
+        for driver in self.drivers:
+            driver.process.stdin.write(content)
+
+    def send(self, name, refusal, numbers, record):
+        if name in self.shared:
+            self.made.append(Made(self.cases, name, refusal, self.file_of(name, numbers)))
+            self.write(record)
+        else:
+            self.left_out[name] += 1
+
+    def file_of(self, name, numbers):
+        content = {"begin": b"", "append": self.held.get(BEFORE)}.get(name, self.held.get(FILE))
+        if len(content) >= TOO_LARGE:
+            return None
+        return content[:numbers[0]] if name == "append" else content
+
+    def end(self):
+        self.write(bytes([END]) + len(self.made).to_bytes(8, "little"))
+
+
+def differences(made, old, new, changes):
+    """How many there are of each call, by answers and whether they are expected, and the first that are not."""
+    found, shown = defaultdict(Counter), []
+    for call, before, after in zip(made, old, new):
+        if before == after:
+            continue
+        old_answer, new_answer = [int(line.split()[0]) for line in (before, after)]
+        expected = new_answer == call.answer and call.file is not None and changes(call.file)
+        found[old_answer, new_answer, expected][call.name] += 1
+        if not expected and len(shown) < SHOWN:
+            shown.append(f"case {call.case}, {call.name}: {before}, then {after}")
+    return found, shown
+
+
+def listed(counts):
+    return ", ".join(f"{name} {count}" for name, count in sorted(counts.items()))
+
+
+def say(stream, found, shown):
+    print(f"{len(stream.made)} calls compared: {listed(Counter(call.name for call in stream.made))}")
+    if stream.left_out:
+        print(f"{stream.left_out.total()} calls left out, which only one has: {listed(stream.left_out)}")
+    for (old, new, expected), calls in sorted(found.items()):
+        bytes_only = " with other bytes" if old == new else ""
+        print(f"  {old} -> {new}{bytes_only}, {'expected' if expected else 'NOT EXPECTED'}: {listed(calls)}")
+    for line in shown:
+        print(line)
+    unexpected = sum(calls.total() for (old, new, expected), calls in found.items() if not expected)
+    print(f"{sum(calls.total() for calls in found.values())} differ, {unexpected} of them not expected")
+    return 1 if unexpected else 0
+
+
+def main():
+    parser = argparse.ArgumentParser(description=__doc__.split("\n")[0])
+    parser.add_argument("--cases", type=int, default=40_000)
+    parser.add_argument("--seed", type=int, default=1)
+    parser.add_argument("--request", type=int, choices=sorted(CHANGES))
+    parser.add_argument("--old", type=shlex.split, required=True)
+    parser.add_argument("--new", type=shlex.split, required=True)
+    given = parser.parse_args()
+    remembering.remember()
+    drivers = [Driver(given.old), Driver(given.new)]
+    stream = Both(random.Random(given.seed), drivers)
+    with contextlib.suppress(BrokenPipeError):
+        send(stream, given.cases)
+    old, new = [driver.lines(len(stream.made)) for driver in drivers]
+    return say(stream, *differences(stream.made, old, new, CHANGES.get(given.request, lambda file: False)))
+
+
+if __name__ == "__main__":
+    sys.exit(main())
