@@ -83,16 +83,22 @@ uint64_t vrazhupa_read(const uint8_t *file, size_t file_length, uint64_t *segmen
     return ACCEPTED;
 }
 
+/* Tells where a part of an accepted file lies. */
+static uint64_t say_part(enum refusal refusal, const struct part *part, uint64_t told[2])
+{
+    if (refusal != ACCEPTED)
+        return refusal;
+    told[0] = part->place;
+    told[1] = part->length;
+    return ACCEPTED;
+}
+
 uint64_t vrazhupa_url(const uint8_t *file, size_t file_length, uint64_t told[2])
 {
     struct partial partial;
     enum refusal refusal = plain_read(file, file_length, &partial);
 
-    if (refusal != ACCEPTED)
-        return refusal;
-    told[0] = partial.url.place;
-    told[1] = partial.url.length;
-    return ACCEPTED;
+    return say_part(refusal, &partial.url, told);
 }
 
 uint64_t vrazhupa_mime(const uint8_t *file, size_t file_length, uint64_t told[2])
@@ -100,11 +106,7 @@ uint64_t vrazhupa_mime(const uint8_t *file, size_t file_length, uint64_t told[2]
     struct partial partial;
     enum refusal refusal = plain_read(file, file_length, &partial);
 
-    if (refusal != ACCEPTED)
-        return refusal;
-    told[0] = partial.mime.place;
-    told[1] = partial.mime.length;
-    return ACCEPTED;
+    return say_part(refusal, &partial.mime, told);
 }
 
 uint64_t vrazhupa_serve(const uint8_t *file, size_t file_length, uint64_t *segments, size_t segments_length, uint64_t *chunks, size_t chunks_length,
