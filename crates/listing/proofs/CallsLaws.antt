@@ -12,7 +12,8 @@ use Rattle.partial.specs.Limits.{sourceLimit}
 use Rattle.partial.specs.Meaning.{supplies, supplied, describedLength}
 use Rattle.partial.specs.Memory.{fits, filled, after}
 use Rattle.partial.specs.Ranges.{had, missing, ranges, classOf, rangesOf, hadList, missingList}
-use Rattle.partial.specs.Segments.{Chunk, Segment, chunksOf}
+use Rattle.partial.specs.Reading.{reading}
+use Rattle.partial.specs.Segments.{Chunk, Segment}
 use Rattle.partial.specs.Sequences.{someOf}
 use Rattle.partial.specs.Tables.{tabled, listed, segmentRows, chunkRows, hadRows, missingRows, totals}
 use Rattle.partial.specs.declared.answers.Listed.{Listed}
@@ -22,8 +23,8 @@ use Rattle.partial.proofs.Reading.LimitLaws.{chunks-few}
 use Rattle.filling.specs.Rows.{Put}
 use Rattle.gathering.proofs.GatheredLaws.{gathered-chunks}
 use Rattle.gathering.proofs.RowLaws.{put-filled}
-use Rattle.reading.specs.Judged.{Judged}
-use Rattle.reading.proofs.JudgedLaws.{Accepted}
+use Rattle.reading.specs.Judged.{Judged, RowsIn}
+use Rattle.reading.proofs.JudgedLaws.{Accepted, read-given}
 use Rattle.reading.proofs.TableLaws.{chunks-filled}
 use Rattle.serving.specs.Rows.{chunksIn}
 use Rattle.serving.proofs.RowsLaws.{filled-chunks}
@@ -37,33 +38,28 @@ use Rattle.listing.specs.Lists.{Lists}
 use Rattle.listing.specs.declared.lists.Totals.{Totals}
 use Rattle.listing.proofs.ListLaws.{range-rows-long}
 
--- what is known of an accepted file
-pub known-by : {f : List ℕ} {j : Judged} (a : Accepted f j) {described : ℕ} → described ≡ describedLength (a .ss) → Known f (j .gathered .chunks) described (a .ss)
-known-by a long = record { h = a .h; head = a .head; all = a .all; many = gathered-chunks (a .ss) (a .gathered); long = long }
-
--- rows that were put into a table that has room for them hold the chunks
-pub rows-hold : {f : List ℕ} {count described : ℕ} {ss : List Segment} (k : Known f count described ss) {t₀ t : List ℕ} → Put t₀ 0 (chunkRows ss) t → 6 * count ≤ length t₀
-    → chunksIn t count ≡ chunksOf ss
-rows-hold {ss = ss} k {t₀} put room =
-    let full = chunks-filled ss put (omega (arith, k .many)) in
-    (λ i. chunksIn (full i) (k .many i)) ∙ filled-chunks ss t₀
-
-pub known-few : {f : List ℕ} {count described : ℕ} {ss : List Segment} → Known f count described ss → 6 * count ≤ 6144
-known-few {f = f} k = omega (arith, k .many, chunks-few sourceLimit f (k .h) (k .all))
+-- what is known of an accepted file whose rows were put into a table that has room for all
+pub known-by : {f : List ℕ} {j : Judged} (a : Accepted f j) {t₀ t : List ℕ} {described : ℕ} → RowsIn (reading sourceLimit f) t₀ t → 6144 ≤ length t₀
+    → described ≡ describedLength (a .ss)
+    → Known t (j .gathered .chunks) described (a .ss)
+known-by {f} a {t₀} rows room long =
+    let few = chunks-few sourceLimit f (a .h) (a .all) in
+    let full = chunks-filled (a .ss) (rows (a .ss) (read-given f a)) (omega (arith, few)) in
+    let many = gathered-chunks (a .ss) (a .gathered) in
+    record { rows = (λ i. chunksIn (full i) (many i)) ∙ filled-chunks (a .ss) t₀; long = long }
 
 -- ---- the lists of a file
 
 -- the ordered spans of the file's rows
-pub spanned-by : {f : List ℕ} {count described : ℕ} {ss : List Segment} (k : Known f count described ss) {t₀ t t′ : List ℕ} {n : ℕ} → chunksIn t₀ count ≡ chunksOf ss
-    → SpansOf t₀ count described t n → Same n t t′
+pub spanned-by : {count described : ℕ} {ss : List Segment} {t₀ t t′ : List ℕ} {n : ℕ} → Known t₀ count described ss → SpansOf t₀ count described t n → Same n t t′
     → Spanned ss t′ n described
 unfolding classBy classOf
-spanned-by {ss = ss} k {t′ = t′} {n} rows spans same =
+spanned-by {ss = ss} {t′ = t′} {n = n} k spans same =
     record {
       long = k .long;
       class = λ q below.
           let covered : coveredBy t′ n q ≡ supplied ss q =
-          same-covered same q ∙ spans .covers q below ∙ ap (λ (cs : List Chunk). someOf (supplies q) cs) rows ∙ sym (supplied-some ss q) in
+          same-covered same q ∙ spans .covers q below ∙ ap (λ (cs : List Chunk). someOf (supplies q) cs) (k .rows) ∙ sym (supplied-some ss q) in
           λ i. elim (covered i) [ true ↦ had | false ↦ missing ];
     }
 

@@ -1,5 +1,5 @@
 -- Each public call's contract determines its answer, and what it leaves in the lent tables and lists: two that it allows of the same arguments are equal.
--- The class of a position by the spans of a file is determined where the position is below the described length and the table has room for all rows; the totals
+-- The class of a position by the spans of a file is determined where the position is below the described length and the table holds the rows of the file; the totals
 -- where the spans are ordered, and what is put into a list where all its ranges fit besides.
 use Prim.Native.Nat.{ℕ, _<_, _≤_}
 use mathlib.Core.List.{List}
@@ -19,7 +19,9 @@ use Rattle.gathering.proofs.RowLaws.{put-filled}
 use Rattle.spans.specs.Ranges.{classBy}
 use Rattle.spans.specs.Spans.{Ordered}
 use Rattle.spans.proofs.Determined.{OneMade}
-use Rattle.listing.specs.Calls.{Known}
+use Rattle.listing.specs.Calls.{Known, Spanned, Counted}
+use Rattle.listing.specs.declared.lists.Totals.{Totals as ListTotals}
+use Rattle.listing.proofs.calls.counted.Reads as counted
 use Rattle.listing.proofs.calls.file_spans.Reads as file-spans
 use Rattle.listing.proofs.calls.list.Reads as list
 use Rattle.listing.proofs.lists.put_lists.Reads as put-lists
@@ -59,9 +61,21 @@ put-lists-missing : OneLeftKnown put-lists.Post
 put-lists-missing κs args _ (o, room) x y after after′ p q = one-list room (p o .missingRows) (q o .missingRows)
 
 file-spans-class : OneMade file-spans.Post
-    (λ κs args ((ss, q) : List Segment × ℕ). (6144 ≤ length (now (args .1 .0))) × Known (now (args .0)) (args .1 .1 .0) (args .1 .1 .1 .0 .0) ss × (q < args .1 .1 .1 .0 .0))
-    (λ κs args n after (ss, q). classBy (now (after .1 .0)) n q)
-file-spans-class κs args (ss, q) (room, known, below) x y after after′ a b = a .1 room ss known .class q below ∙ sym (b .1 room ss known .class q below)
+    (λ κs args ((ss, q) : List Segment × ℕ). Known (now (args .0)) (args .1 .0) (args .1 .1 .0 .0) ss × (q < args .1 .1 .0 .0))
+    (λ κs args n after (ss, q). classBy (now (after .0)) n q)
+file-spans-class κs args (ss, q) (known, below) x y after after′ a b = a .1 ss known .class q below ∙ sym (b .1 ss known .class q below)
+
+one-counted : {ss : List Segment} {t t′ : ListTotals} → Counted ss t → Counted ss t′ → t ≡ t′
+one-counted p q =
+    let had = p .hadMany ∙ sym (q .hadMany) in
+    let missing = p .missingMany ∙ sym (q .missingMany) in
+    let received = p .received ∙ sym (q .received) in
+    let missed = p .missed ∙ sym (q .missed) in
+    λ i. record { had = had i; missing = missing i; received = received i; missed = missed i }
+
+counted-result : OneKnown counted.Post
+    (λ κs args (ss : List Segment). Ordered (now (args .0)) (args .1 .0) (args .1 .1 .0 .0) × Spanned ss (now (args .0)) (args .1 .0) (args .1 .1 .0 .0))
+counted-result κs args ss (ordered, spanned) x y after after′ p q = one-counted (p ordered ss spanned) (q ordered ss spanned)
 
 list-result : OneResult list.Post
 list-result κs args x y after after′ p q = listed-told x y (p .answer ∙ sym (q .answer))

@@ -5,25 +5,21 @@ use mathlib.Core.Path.{_≡_}
 use lib.ListN.{length}
 use Rattle.boxes.specs.Answer.{given, _>>=_}
 use Rattle.partial.specs.Answers.{listedAnswer}
-use Rattle.partial.specs.Heading.{Heading, heading}
 use Rattle.partial.specs.Limits.{sourceLimit}
 use Rattle.partial.specs.Meaning.{describedLength}
 use Rattle.partial.specs.Memory.{after}
-use Rattle.partial.specs.Reading.{segments}
 use Rattle.partial.specs.Segments.{Segment, chunksOf}
 use Rattle.partial.specs.Tables.{listed, hadRows, missingRows, totals}
 use Rattle.partial.specs.declared.answers.Listed.{Listed}
 use Rattle.partial.specs.Ranges.{classOf, hadList, missingList, total}
 use Rattle.reading.specs.Tables.{Filled}
+use Rattle.serving.specs.Rows.{chunksIn}
 use Rattle.spans.specs.Ranges.{classBy}
 use Rattle.listing.specs.declared.lists.Totals.{Totals}
 
--- the segments of a file, how many chunks they have, and the described length
-pub record Known (f : List ℕ) (count described : ℕ) (ss : List Segment) : Type 0 where
-  pub h : Heading
-  pub head : heading f ≡ given h
-  pub all : segments sourceLimit f h ≡ given ss
-  pub many : count ≡ length (chunksOf ss)
+-- the rows of so many chunks are those of a file's segments, and the described length is theirs
+pub record Known (t : List ℕ) (count described : ℕ) (ss : List Segment) : Type 0 where
+  pub rows : chunksIn t count ≡ chunksOf ss
   pub long : described ≡ describedLength ss
 
 -- below the described length, spans cover what the good chunks of a file do

@@ -9,12 +9,10 @@ use partial::answers::Listed;
 use partial::position::Position;
 use partial::refusals::TABLE_TOO_SHORT;
 use reading::judging::Judgement;
-use reading::judging::judge;
+use reading::judging::judge_into;
 use spans::chunks::spans_of;
 use spans::ordering::order;
-ghost use Prim.Native.Nat.{_≤_};
 ghost use mathlib.Core.List.{List};
-ghost use lib.ListN.{length};
 ghost use Rattle.partial.specs.Segments.{Segment};
 ghost use Rattle.spans.specs.Spans.{Ordered};
 ghost use Rattle.listing.specs.Calls.{Known, Spanned, Counted, Listing};
@@ -22,21 +20,18 @@ ghost use Rattle.listing.specs.Calls.{Known, Spanned, Counted, Listing};
 // The numbers of the rows of as many chunks as a file may have.
 pub const ALL_ROWS: usize = 6144;
 
-// The spans of an accepted file of so many chunks, ordered, in a table that has room for all rows; the answer is how many.
-pub fn file_spans(file: &[u8], table: &mut [u64], count: u64, end: Position) -> usize
-    ensures { λ n. ⌜ Ordered (now (table .exit)) n (end .0) × (6144 ≤ length (now (table .entry)) → (ss : List Segment) → Known (now (file .entry)) count (end .0) ss → Spanned ss (now (table .exit)) n (end .0)) ⌝ }
+// The rows of the chunks of a file become its spans, ordered; the answer is how many.
+pub fn file_spans(table: &mut [u64], count: u64, end: Position) -> usize
+    ensures { λ n. ⌜ Ordered (now (table .exit)) n (end .0) × ((ss : List Segment) → Known (now (table .entry)) count (end .0) ss → Spanned ss (now (table .exit)) n (end .0)) ⌝ }
 {
-    let mut no_segments = [0; 1];
-    pass(file, &mut no_segments, table);
     let n = spans_of(table, count, end);
     order(table, n);
     n
 }
 
 // What the lists will hold: they are put where there is no room for them, since nothing lent is touched before it is known that both lists have room.
-fn counted(spans: &[u64], n: usize, end: Position) -> Totals
-    requires { ⌜ Ordered (now spans) n (end .0) ⌝ }
-    ensures { λ t. ⌜ ((ss : List Segment) → Spanned ss (now (spans .entry)) n (end .0) → Counted ss t) ⌝ }
+pub fn counted(spans: &[u64], n: usize, end: Position) -> Totals
+    ensures { λ t. ⌜ (Ordered (now (spans .entry)) n (end .0) → (ss : List Segment) → Spanned ss (now (spans .entry)) n (end .0) → Counted ss t) ⌝ }
 {
     let mut no_had = [0; 1];
     let mut no_missing = [0; 1];
@@ -53,14 +48,15 @@ pub fn list(
 ) -> Listed
     ensures { λ r. ⌜ Listing (now (file .entry)) (now (segments .entry)) (now (segments .exit)) (now (chunks .entry)) (now (chunks .exit)) (now (had .entry)) (now (had .exit)) (now (missing .entry)) (now (missing .exit)) r ⌝ }
 {
-    match judge(file) {
+    // The table is our own: it is filled while the file is judged, so that the file is passed once for both.
+    let mut spans = [0; ALL_ROWS];
+    match judge_into(file, &mut spans) {
         Judgement::Refused(n) => Listed::Refused(n),
         Judgement::Given(judged) => {
             let gathered = judged.gathered;
             let sizes = gathered.sizes;
             let end = Position(sizes.described());
-            let mut spans = [0; ALL_ROWS];
-            let n = file_spans(file, &mut spans, gathered.chunks, end);
+            let n = file_spans(&mut spans, gathered.chunks, end);
             let totals = counted(&spans, n, end);
             if segments.len() as u64 / SEGMENT_ROW < gathered.segments {
                 return Listed::Refused(TABLE_TOO_SHORT);

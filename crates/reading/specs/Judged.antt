@@ -1,12 +1,16 @@
 -- Document 01, refusals 1 to 25, as the calls are told of them before any table is filled.
 use Prim.Native.Nat.{ℕ}
 use mathlib.Core.List.{List}
+use mathlib.Core.Path.{_≡_}
 use Rattle.boxes.specs.Answer.{Answer, refused, given, _>>=_, hold}
 use Rattle.boxes.specs.Kinds.{pseg, right}
 use Rattle.boxes.specs.declared.kinds.Container.the-variants.{File}
 use Rattle.partial.specs.Heading.{Heading, heading}
 use Rattle.partial.specs.Limits.{sourceLimit}
 use Rattle.partial.specs.Reading.{segments}
+use Rattle.partial.specs.Segments.{Segment}
+use Rattle.partial.specs.Tables.{chunkRows}
+use Rattle.filling.specs.Rows.{Put}
 use Rattle.heading.specs.Facts.{Facts, factsOf, factsBy}
 use Rattle.gathering.specs.Gathered.{gatheredOf}
 use Rattle.gathering.specs.declared.gathered.Gathered.{Gathered}
@@ -54,3 +58,7 @@ gatheredAnswer (Passed.Given g) = given g
 unfoldable pub judgedAnswer : Judgement → Answer Judged
 judgedAnswer (Refused n) = refused n
 judgedAnswer (Given j) = given (record { facts = factsBy (j .head); gathered = j .gathered })
+
+-- where segments were read, the rows of their chunks were put into a table; after a refusal it may hold anything
+abbrev pub RowsIn : Answer (List Segment) → List ℕ → List ℕ → Type 0
+RowsIn read t₀ t = (ss : List Segment) → read ≡ given ss → Put t₀ 0 (chunkRows ss) t

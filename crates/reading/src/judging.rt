@@ -1,4 +1,4 @@
-// Stages 1 to 25: what a file says, before any table is filled.
+// Stages 1 to 25: what a file says, before any lent table is filled.
 use boxes::kinds::Container;
 use boxes::kinds::PSEG;
 use gathering::gathered::Gathered;
@@ -19,7 +19,9 @@ ghost use Rattle.boxes.specs.Framing.{boxesIn};
 ghost use Rattle.boxes.specs.Kinds.{pseg, those};
 ghost use Rattle.boxes.specs.declared.kinds.Container.the-variants.{File};
 ghost use Rattle.partial.specs.Heading.{Heading};
-ghost use Rattle.reading.specs.Judged.{gatheredIn, gatheredAnswer, judgedAnswer, earlierTold, readingTold};
+ghost use Rattle.partial.specs.Limits.{sourceLimit};
+ghost use Rattle.partial.specs.Reading.{segments, reading};
+ghost use Rattle.reading.specs.Judged.{gatheredIn, gatheredAnswer, judgedAnswer, earlierTold, readingTold, RowsIn};
 
 // What the heading of a file tells, and what is gathered of its segments.
 pub struct Judged {
@@ -33,17 +35,15 @@ pub enum Judgement {
     Given(Judged),
 }
 
-// Stages 13 to 25 of a file whose framing is right and that has so many `pseg` boxes.
-fn segments_of(file: &[u8], count: u64) -> Passed
-    ensures { λ r. ⌜ ((h : Heading) → boxesIn File (now (file .entry)) 0 (length (now (file .entry))) ≡ given (h .boxes) → count ≡ length (those pseg (h .boxes)) → gatheredAnswer r ≡ gatheredIn (now (file .entry)) h) ⌝ }
+// Stages 13 to 25 of a file whose framing is right and that has so many `pseg` boxes; the rows of its chunks go into a table that has room for them all.
+fn segments_of(file: &[u8], count: u64, chunks: &mut [u64]) -> Passed
+    ensures { λ r. ⌜ ((h : Heading) → boxesIn File (now (file .entry)) 0 (length (now (file .entry))) ≡ given (h .boxes) → count ≡ length (those pseg (h .boxes)) → (gatheredAnswer r ≡ gatheredIn (now (file .entry)) h) × RowsIn (segments sourceLimit (now (file .entry)) h) (now (chunks .entry)) (now (chunks .exit))) ⌝ }
 {
     if SEGMENT_LIMIT < count {
         return Passed::Refused(TOO_MANY_SEGMENTS);
     }
-    // Tables that hold no row: nothing is filled before the whole file is judged.
     let mut no_segments = [0; 1];
-    let mut no_chunks = [0; 1];
-    match pass(file, &mut no_segments, &mut no_chunks) {
+    match pass(file, &mut no_segments, chunks) {
         Passed::Refused(n) => Passed::Refused(n),
         Passed::Given(gathered) => {
             let sizes = gathered.sizes;
@@ -59,18 +59,19 @@ fn segments_of(file: &[u8], count: u64) -> Passed
 pub fn earlier_of(file: &[u8]) -> Judgement
     ensures { λ r. ⌜ judgedAnswer r ≡ earlierTold (now (file .entry)) ⌝ }
 {
+    let mut no_chunks = [0; 1];
     match heading_of(file) {
         Headed::Refused(n) => Judgement::Refused(n),
-        Headed::Found(head) => match segments_of(file, head.segments) {
+        Headed::Found(head) => match segments_of(file, head.segments, &mut no_chunks) {
             Passed::Refused(n) => Judgement::Refused(n),
             Passed::Given(gathered) => Judgement::Given(Judged { head, gathered }),
         },
     }
 }
 
-// What an acceptable file says.
-pub fn judge(file: &[u8]) -> Judgement
-    ensures { λ r. ⌜ judgedAnswer r ≡ readingTold (now (file .entry)) ⌝ }
+// What an acceptable file says; the rows of its chunks go into a table that has room for them all. The table is the caller's own: after a refusal it may hold some.
+pub fn judge_into(file: &[u8], chunks: &mut [u64]) -> Judgement
+    ensures { λ r. ⌜ (judgedAnswer r ≡ readingTold (now (file .entry))) × RowsIn (reading sourceLimit (now (file .entry))) (now (chunks .entry)) (now (chunks .exit)) ⌝ }
 {
     match heading_of(file) {
         Headed::Refused(n) => Judgement::Refused(n),
@@ -78,10 +79,18 @@ pub fn judge(file: &[u8]) -> Judgement
             if !keeps(Container::File, PSEG, head.segments) {
                 return Judgement::Refused(NO_SEGMENT);
             }
-            match segments_of(file, head.segments) {
+            match segments_of(file, head.segments, chunks) {
                 Passed::Refused(n) => Judgement::Refused(n),
                 Passed::Given(gathered) => Judgement::Given(Judged { head, gathered }),
             }
         }
     }
+}
+
+// The same where no row is wanted: the table holds none.
+pub fn judge(file: &[u8]) -> Judgement
+    ensures { λ r. ⌜ judgedAnswer r ≡ readingTold (now (file .entry)) ⌝ }
+{
+    let mut no_chunks = [0; 1];
+    judge_into(file, &mut no_chunks)
 }

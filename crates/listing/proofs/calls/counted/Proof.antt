@@ -14,7 +14,7 @@ put-lists-requires : tie.Need-put-lists-requires
 put-lists-requires c κs = search needs
 
 returns : tie.Need-returns
-returns c = λ ss spanned. of-file spanned (c .before .before .put-lists .ensures (c .before .before .before .before .before .before .pre)) .counts
+returns c = λ ordered ss spanned. of-file spanned (c .before .before .put-lists .ensures ordered) .counts
 
 pub counted-spec : {M : Type 1} → statement M
 counted-spec =

@@ -14,8 +14,11 @@ use borrow.Author.Needs.{needs}
 use Rattle.listing.proofs.calls.list.Statement.{statement}
 use Rattle.listing.proofs.calls.list.Tie as tie
 
-judge-requires : tie.Need-judge-requires
-judge-requires c κs = search needs
+slice-aggregate-judge-into : tie.Need-slice-aggregate-judge-into
+slice-aggregate-judge-into c = search needs
+
+judge-into-requires : tie.Need-judge-into-requires
+judge-into-requires c κs = search needs
 
 enum-known-n : tie.Need-enum-known-n
 enum-known-n c = search needs
@@ -40,26 +43,32 @@ counted-requires c κs = search needs
 
 returns : tie.Need-returns
 returns c =
-    let a = accepted _ (judgement-given (c .before .before .before .before .before .before .before .before .before .before .before .before .before .judge .ensures) (c .before .before .before .before .before .before .before .before .before .before .before .judged .given .1)) in
+    let met = c .before .before .before .before .before .before .before .before .before .before .before in
+    let a = accepted _ (judgement-given (met .before .before .before .judge-into .ensures .0) (met .judged .given .1)) in
     lists-refused _ _ _ _ _ (listed-refused _ _ _ _ _ (segments-short _ _ _ (a .ss) (read-given _ a) (omega (arith, gathered-segments (a .ss) (a .gathered)))))
 
 returns-2 : tie.Need-returns-2
 returns-2 c =
-    let a = accepted _ (judgement-given (c .before .before .before .before .before .before .before .before .before .before .before .before .before .before .before .judge .ensures) (c .before .before .before .before .before .before .before .before .before .before .before .before .before .judged .given .1)) in
+    let met = c .before .before .before .before .before .before .before .before .before .before .before .before .before in
+    let a = accepted _ (judgement-given (met .before .before .before .judge-into .ensures .0) (met .judged .given .1)) in
     lists-refused _ _ _ _ _ (listed-refused _ _ _ _ _ (chunks-short _ _ _ (a .ss) (read-given _ a) (omega (arith, gathered-chunks (a .ss) (a .gathered)))))
 
 returns-3 : tie.Need-returns-3
 returns-3 c =
-    let a = accepted _ (judgement-given (c .before .before .before .before .before .before .before .before .before .before .before .before .before .before .before .before .before .judge .ensures) (c .before .before .before .before .before .before .before .before .before .before .before .before .before .before .before .judged .given .1)) in
-    let known = known-by a (c .before .before .before .before .before .before .before .before .before .before .before .described .ensures (a .ss) (gathered-sizes (a .ss) (a .gathered))) in
-    let counts = c .before .before .before .before .before .before .counted .ensures (a .ss) (c .before .before .before .before .before .before .before .before .before .file-spans .ensures .1 (omega arith) (a .ss) known) in
+    let met = c .before .before .before .before .before .before .before .before .before .before .before .before .before .before .before in
+    let a = accepted _ (judgement-given (met .before .before .before .judge-into .ensures .0) (met .judged .given .1)) in
+    let known = known-by a (met .before .before .before .judge-into .ensures .1) (omega arith) (c .before .before .before .before .before .before .before .before .before .before .before .described .ensures (a .ss) (gathered-sizes (a .ss) (a .gathered))) in
+    let (ordered, spans) = c .before .before .before .before .before .before .before .before .before .file-spans .ensures in
+    let counts = c .before .before .before .before .before .before .counted .ensures ordered (a .ss) (spans (a .ss) known) in
     lists-refused _ _ _ _ _ (had-short _ _ _ _ _ (a .ss) (tabled-given _ _ _ (a .ss) (read-given _ a) (omega (arith, gathered-segments (a .ss) (a .gathered))) (omega (arith, gathered-chunks (a .ss) (a .gathered)))) (omega (arith, counts .hadMany)))
 
 returns-4 : tie.Need-returns-4
 returns-4 c =
-    let a = accepted _ (judgement-given (c .before .before .before .before .before .before .before .before .before .before .before .before .before .before .before .before .before .before .before .judge .ensures) (c .before .before .before .before .before .before .before .before .before .before .before .before .before .before .before .before .before .judged .given .1)) in
-    let known = known-by a (c .before .before .before .before .before .before .before .before .before .before .before .before .before .described .ensures (a .ss) (gathered-sizes (a .ss) (a .gathered))) in
-    let counts = c .before .before .before .before .before .before .before .before .counted .ensures (a .ss) (c .before .before .before .before .before .before .before .before .before .before .before .file-spans .ensures .1 (omega arith) (a .ss) known) in
+    let met = c .before .before .before .before .before .before .before .before .before .before .before .before .before .before .before .before .before in
+    let a = accepted _ (judgement-given (met .before .before .before .judge-into .ensures .0) (met .judged .given .1)) in
+    let known = known-by a (met .before .before .before .judge-into .ensures .1) (omega arith) (c .before .before .before .before .before .before .before .before .before .before .before .before .before .described .ensures (a .ss) (gathered-sizes (a .ss) (a .gathered))) in
+    let (ordered, spans) = c .before .before .before .before .before .before .before .before .before .before .before .file-spans .ensures in
+    let counts = c .before .before .before .before .before .before .before .before .counted .ensures ordered (a .ss) (spans (a .ss) known) in
     lists-refused _ _ _ _ _ (missing-short _ _ _ _ _ (a .ss) (tabled-given _ _ _ (a .ss) (read-given _ a) (omega (arith, gathered-segments (a .ss) (a .gathered))) (omega (arith, gathered-chunks (a .ss) (a .gathered)))) (omega (arith, counts .missingMany)))
 
 pass-requires : tie.Need-pass-requires
@@ -72,7 +81,7 @@ put-lists-requires : tie.Need-put-lists-requires
 put-lists-requires c κs = search needs
 
 returns-5 : tie.Need-returns-5
-returns-5 c = lists-refused _ _ _ _ _ (listed-refused _ _ _ _ _ (tabled-refused _ _ _ (read-refused _ (judgement-refused (c .before .before .before .judge .ensures) (c .before .n .given .1)))))
+returns-5 c = lists-refused _ _ _ _ _ (listed-refused _ _ _ _ _ (tabled-refused _ _ _ (read-refused _ (judgement-refused (c .before .before .before .before .judge-into .ensures .0) (c .before .n .given .1)))))
 
 same-length : tie.Need-same-length
 same-length c = search needs
@@ -88,25 +97,28 @@ same-length-4 c = search needs
 
 returns-6 : tie.Need-returns-6
 returns-6 c =
-    let a = accepted _ (judgement-given (c .before .before .before .before .before .before .before .before .before .before .before .before .before .before .before .before .before .before .before .before .before .before .before .before .before .before .before .before .before .before .before .before .before .before .judge .ensures) (c .before .before .before .before .before .before .before .before .before .before .before .before .before .before .before .before .before .before .before .before .before .before .before .before .before .before .before .before .before .before .before .before .judged .given .1)) in
-    let known = known-by a (c .before .before .before .before .before .before .before .before .before .before .before .before .before .before .before .before .before .before .before .before .before .before .before .before .before .before .before .before .described .ensures (a .ss) (gathered-sizes (a .ss) (a .gathered))) in
-    let spanned = c .before .before .before .before .before .before .before .before .before .before .before .before .before .before .before .before .before .before .before .before .before .before .before .before .before .before .file-spans .ensures .1 (omega arith) (a .ss) known in
-    let counts = c .before .before .before .before .before .before .before .before .before .before .before .before .before .before .before .before .before .before .before .before .before .before .before .counted .ensures (a .ss) spanned in
-    let args = c .before .before .before .before .before .before .before .before .before .before .before .before .before .before .before .before .before .before .before .before .before .before .before .before .before .before .before .before .before .before .before .before .before .before .before .before .before .before .before .before .args in
-    let segments : 7 * length (a .ss) ≤ length (args .segments .now) = omega (arith, gathered-segments (a .ss) (a .gathered)) in
-    let chunks : 6 * length (chunksOf (a .ss)) ≤ length (args .chunks .now) = omega (arith, gathered-chunks (a .ss) (a .gathered)) in
-    let had : 2 * length (hadList (a .ss)) ≤ length (args .had .now) = omega (arith, counts .hadMany) in
-    let missing : 2 * length (missingList (a .ss)) ≤ length (args .missing .now) = omega (arith, counts .missingMany) in
+    let met = c .before .before .before .before .before .before .before .before .before .before .before .before .before .before .before .before .before .before .before .before .before .before .before .before .before .before .before .before .before .before .before .before in
+    let a = accepted _ (judgement-given (met .before .before .before .judge-into .ensures .0) (met .judged .given .1)) in
+    let known = known-by a (met .before .before .before .judge-into .ensures .1) (omega arith) (c .before .before .before .before .before .before .before .before .before .before .before .before .before .before .before .before .before .before .before .before .before .before .before .before .before .before .before .before .described .ensures (a .ss) (gathered-sizes (a .ss) (a .gathered))) in
+    let (ordered, spans) = c .before .before .before .before .before .before .before .before .before .before .before .before .before .before .before .before .before .before .before .before .before .before .before .before .before .before .file-spans .ensures in
+    let spanned = spans (a .ss) known in
+    let counts = c .before .before .before .before .before .before .before .before .before .before .before .before .before .before .before .before .before .before .before .before .before .before .before .counted .ensures ordered (a .ss) spanned in
+    let args = c .before .before .before .before .before .before .before .before .before .before .before .before .before .before .before .before .before .before .before .before .before .before .before .before .before .before .before .before .before .before .before .before .before .before .before .before .before .before .before .before .before .before .args in
+    let segments : 7 * length (a .ss) ≤ length (args .segments .now) = omega (arith, gathered-segments (a .ss) (a .gathered), c .before .before .before .before .before .before .before .before .before .before .before .before .before .before .before .before .before .before .before .before .before .if1 .left) in
+    let chunks : 6 * length (chunksOf (a .ss)) ≤ length (args .chunks .now) = omega (arith, gathered-chunks (a .ss) (a .gathered), c .before .before .before .before .before .before .before .before .before .before .before .before .before .before .before .before .before .before .before .if2 .left) in
+    let had : 2 * length (hadList (a .ss)) ≤ length (args .had .now) = omega (arith, counts .hadMany, c .before .before .before .before .before .before .before .before .before .before .before .before .before .before .before .before .before .if3 .left) in
+    let missing : 2 * length (missingList (a .ss)) ≤ length (args .missing .now) = omega (arith, counts .missingMany, c .before .before .before .before .before .before .before .before .before .before .before .before .before .before .before .if4 .left) in
     let read = tabled-given _ _ _ (a .ss) (read-given _ a) segments chunks in
     let (one, two) = rows-put _ (a .h) _ (c .before .before .before .before .before .before .before .before .before .before .before .before .pass .ensures (a .h) (headed _ (a .h) (a .head) .boxes)) (read-segments _ a) in
-    let lists = of-file spanned (c .before .before .before .before .put-lists .ensures (c .before .before .before .before .before .before .before .before .before .before .before .before .before .before .before .before .before .before .before .before .before .before .before .before .before .before .file-spans .ensures .0)) in
+    let lists = of-file spanned (c .before .before .before .before .put-lists .ensures ordered) in
     lists-given _ _ _ _ _ (a .ss) (listed-given _ _ _ _ _ (a .ss) read had missing) counts (segments-filled (a .ss) one segments) (chunks-filled (a .ss) two chunks) (lists .had) (lists .missing) had missing
 
 pub list-spec : {M : Type 1} → statement M
 list-spec =
     tie.close
     (tie.spec
-    judge-requires
+    slice-aggregate-judge-into
+    judge-into-requires
     enum-known-n
     enum-known-judged
     described-requires

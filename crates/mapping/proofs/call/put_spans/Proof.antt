@@ -1,19 +1,9 @@
 -- `mapping::call::put_spans` meets its contract: the line of the source, those of the ranges, that of the totals.
 use Rattle.filling.proofs.PutsLaws.{puts-same, puts-more}
-use Rattle.listing.proofs.CallsLaws.{of-file}
 use Rattle.mapping.proofs.MapLaws.{range-lines, map-lines}
 use borrow.Author.Needs.{needs}
 use Rattle.mapping.proofs.call.put_spans.Statement.{statement}
 use Rattle.mapping.proofs.call.put_spans.Tie as tie
-
-slice-aggregate-put-lists : tie.Need-slice-aggregate-put-lists
-slice-aggregate-put-lists c = search needs
-
-slice-aggregate-put-lists-2 : tie.Need-slice-aggregate-put-lists-2
-slice-aggregate-put-lists-2 c = search needs
-
-put-lists-requires : tie.Need-put-lists-requires
-put-lists-requires c κs = search needs
 
 put-source-requires : tie.Need-put-source-requires
 put-source-requires c κs = search needs
@@ -28,21 +18,12 @@ same-length : tie.Need-same-length
 same-length c = search needs
 
 returns : tie.Need-returns
-returns c = λ ss spanned closed.
-    let lists = of-file spanned (c .before .before .before .before .before .before .before .before .before .before .before .before .before .before .put-lists .ensures (c .before .before .before .before .before .before .before .before .before .before .before .before .before .before .before .before .before .before .before .pre .1)) in
+returns c = λ ss spanned closed counts.
     let source = c .before .before .before .before .before .before .before .before .before .before .put-source .ensures .0 ss (spanned .long) closed in
     let lines = puts-same (range-lines ss spanned) (c .before .before .before .before .before .before .put-ranges .ensures .0) in
-    puts-same (map-lines ss) (puts-more source (puts-more lines (c .before .before .put-total .ensures ss (lists .counts))))
+    puts-same (map-lines ss) (puts-more source (puts-more lines (c .before .before .put-total .ensures ss counts)))
 
 pub put-spans-spec : {M : Type 1} → statement M
 put-spans-spec =
     tie.close
-    (tie.spec
-    slice-aggregate-put-lists
-    slice-aggregate-put-lists-2
-    put-lists-requires
-    put-source-requires
-    put-ranges-requires
-    put-total-requires
-    same-length
-    returns)
+    (tie.spec put-source-requires put-ranges-requires put-total-requires same-length returns)

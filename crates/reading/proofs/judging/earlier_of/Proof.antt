@@ -17,6 +17,9 @@ enum-known-n c = search needs
 enum-known-head : tie.Need-enum-known-head
 enum-known-head c = search needs
 
+slice-aggregate-segments-of : tie.Need-slice-aggregate-segments-of
+slice-aggregate-segments-of c = search needs
+
 segments-of-requires : tie.Need-segments-of-requires
 segments-of-requires c κs = search needs
 
@@ -33,17 +36,17 @@ returns c = sym (earlier-headless _ (heading-refused _ (c .before .before .befor
 returns-2 : tie.Need-returns-2
 unfolding judgedAnswer
 returns-2 c =
-    let met = c .before .before .before .before .before in
+    let met = c .before .before .before .before .before .before .before in
     let (h, known, same) = heading-found _ (met .before .before .heading-of .ensures) (met .head .given .1) in
-    let answer = c .before .before .before .segments-of .ensures h (headed _ h known .boxes) (facts-segments _ h _ same) in
+    let (answer, _) = c .before .before .before .before .segments-of .ensures h (headed _ h known .boxes) (facts-segments _ h _ same) in
     sym (earlier-by _ known ∙ judged-refused _ h (answer-refused answer (c .before .n2 .given .1)))
 
 returns-3 : tie.Need-returns-3
 unfolding judgedAnswer
 returns-3 c =
-    let met = c .before .before .before .before .before in
+    let met = c .before .before .before .before .before .before .before in
     let (h, known, same) = heading-found _ (met .before .before .heading-of .ensures) (met .head .given .1) in
-    let answer = c .before .before .before .segments-of .ensures h (headed _ h known .boxes) (facts-segments _ h _ same) in
+    let (answer, _) = c .before .before .before .before .segments-of .ensures h (headed _ h known .boxes) (facts-segments _ h _ same) in
     sym (earlier-by _ known ∙ judged-given _ h (answer-given answer (c .before .gathered .given .1)) same)
 
 pub earlier-of-spec : {M : Type 1} → statement M
@@ -53,6 +56,7 @@ earlier-of-spec =
     heading-of-requires
     enum-known-n
     enum-known-head
+    slice-aggregate-segments-of
     segments-of-requires
     enum-known-n-2
     enum-known-gathered

@@ -1,25 +1,24 @@
 -- `reading::judging::segments_of` meets its contract: 13, then the pass, then 25.
-use mathlib.Core.Path.{sym, ap, subst, _∙_}
+use mathlib.Core.Path.{sym, ap, _∙_}
 use native.Mathlib.Omega.{arith}
 use borrow.Author.Tests.{not-true, not-false}
 use Rattle.boxes.specs.Answer.{given}
-use Rattle.gathering.specs.Pass.{Gathers}
 use Rattle.gathering.proofs.GatheredLaws.{gathered-sizes}
 use Rattle.reading.specs.Judged.{gatheredAnswer}
-use Rattle.reading.proofs.JudgedLaws.{gathered-crowded, gathered-refused, gathered-differ, gathered-given}
+use Rattle.reading.proofs.JudgedLaws.{gathered-crowded, gathered-refused, gathered-differ, gathered-given, rows-ungathered}
+use Rattle.reading.proofs.JudgedLaws.{passed-refused, passed-given, passed-rows}
 use borrow.Author.Needs.{needs}
 use Rattle.reading.proofs.judging.segments_of.Statement.{statement}
 use Rattle.reading.proofs.judging.segments_of.Tie as tie
 
 returns : tie.Need-returns
 unfolding gatheredAnswer
-returns c = λ h known count. sym (gathered-crowded _ h (omega (arith, count)))
+returns c = λ h known count.
+    let crowded = gathered-crowded _ h (omega (arith, count)) in
+    (sym crowded, rows-ungathered _ h crowded)
 
 slice-aggregate-pass : tie.Need-slice-aggregate-pass
 slice-aggregate-pass c = search needs
-
-slice-aggregate-pass-2 : tie.Need-slice-aggregate-pass-2
-slice-aggregate-pass-2 c = search needs
 
 pass-requires : tie.Need-pass-requires
 pass-requires c κs = search needs
@@ -33,26 +32,38 @@ enum-known-gathered c = search needs
 agree-requires : tie.Need-agree-requires
 agree-requires c κs = search needs
 
+same-length : tie.Need-same-length
+same-length c = search needs
+
 returns-2 : tie.Need-returns-2
-unfolding gatheredAnswer Gathers
+unfolding gatheredAnswer
 returns-2 c = λ h known count.
     let met = c .before .before .before .before in
-    let (ss, read, same, _, _) = subst (Gathers _ h _ _ _ _) (met .gathered .given .1) (met .before .before .before .before .pass .ensures h known) in
+    let gathers = met .before .before .before .before .before .pass .ensures h known in
+    let (ss, read, same) = passed-given _ h _ _ _ _ _ gathers (met .gathered .given .1) in
     let differ = sym (c .before .agree .ensures ss (gathered-sizes ss same)) ∙ not-true _ (c .if2 .taken) in
-    sym (gathered-differ _ h (omega (arith, count)) read differ)
+    (sym (gathered-differ _ h (omega (arith, count)) read differ), passed-rows _ h _ _ _ _ _ gathers)
+
+same-length-2 : tie.Need-same-length-2
+same-length-2 c = search needs
 
 returns-3 : tie.Need-returns-3
-unfolding gatheredAnswer Gathers
+unfolding gatheredAnswer
 returns-3 c = λ h known count.
-    sym (gathered-refused _ h (omega (arith, count)) (subst (Gathers _ h _ _ _ _) (c .before .n .given .1) (c .before .before .before .before .before .pass .ensures h known)))
+    let gathers = c .before .before .before .before .before .before .pass .ensures h known in
+    (sym (gathered-refused _ h (omega (arith, count)) (passed-refused _ h _ _ _ _ _ gathers (c .before .n .given .1))), passed-rows _ h _ _ _ _ _ gathers)
+
+same-length-3 : tie.Need-same-length-3
+same-length-3 c = search needs
 
 returns-4 : tie.Need-returns-4
-unfolding gatheredAnswer Gathers
+unfolding gatheredAnswer
 returns-4 c = λ h known count.
     let met = c .before .before .before .before in
-    let (ss, read, same, _, _) = subst (Gathers _ h _ _ _ _) (met .gathered .given .1) (met .before .before .before .before .pass .ensures h known) in
+    let gathers = met .before .before .before .before .before .pass .ensures h known in
+    let (ss, read, same) = passed-given _ h _ _ _ _ _ gathers (met .gathered .given .1) in
     let agrees = sym (c .before .agree .ensures ss (gathered-sizes ss same)) ∙ not-false _ (c .if2 .left) in
-    ap given same ∙ sym (gathered-given _ h (omega (arith, count)) read agrees)
+    (ap given same ∙ sym (gathered-given _ h (omega (arith, count)) read agrees), passed-rows _ h _ _ _ _ _ gathers)
 
 pub segments-of-spec : {M : Type 1} → statement M
 segments-of-spec =
@@ -60,11 +71,13 @@ segments-of-spec =
     (tie.spec
     returns
     slice-aggregate-pass
-    slice-aggregate-pass-2
     pass-requires
     enum-known-n
     enum-known-gathered
     agree-requires
+    same-length
     returns-2
+    same-length-2
     returns-3
+    same-length-3
     returns-4)
