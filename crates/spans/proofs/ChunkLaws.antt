@@ -16,7 +16,7 @@ use Rattle.partial.proofs.Meaning.RunLaws.{supplies-true, does-supply}
 use Rattle.partial.proofs.Meaning.SequenceLaws.{which, some-append}
 use Rattle.serving.specs.Rows.{chunkIn, chunksFrom, chunksIn}
 use Rattle.serving.proofs.RowsLaws.{rows-last}
-use Rattle.spans.specs.Spans.{firstAt, endAt, coveredBy, Spans, Stored}
+use Rattle.spans.specs.Spans.{firstAt, endAt, coveredBy, Spans, Joined}
 use Rattle.spans.specs.Chunks.{SpanEnd, SpansOf}
 use Rattle.spans.proofs.SpanLaws.{same-truth, covered-at, covered-by}
 
@@ -147,67 +147,88 @@ module _ (t₀ : List ℕ) (end k : ℕ) {t : List ℕ} {n : ℕ} (m : Midway t�
               ]));
         }
 
-    -- a chunk with one, which is stored
-    module _ {t′ : List ℕ} (some : c .start < to) (s : Stored t n (c .start) to t′) where
-      kept : (j : ℕ) → j < n → (firstAt t′ j ≡ firstAt t j) × (endAt t′ j ≡ endAt t j)
-      kept j less = (s .before (2 * j) (omega arith), s .before (2 * j + 1) (omega arith))
+    -- a chunk with one, which is stored or makes the last longer
+    module _ {t′ : List ℕ} {n′ : ℕ} (some : c .start < to) (j : Joined t n (c .start) to t′ n′) where
+      on : j .from ≤ c .start
+      on = j .on (m .spans .some (j .at))
 
-      last-first : (j : ℕ) → j ≡ n → firstAt t′ j ≡ c .start
-      last-first j here = ap (λ (i : ℕ). firstAt t′ i) here ∙ s .one
+      kept : (i : ℕ) → i < j .at → (firstAt t′ i ≡ firstAt t i) × (endAt t′ i ≡ endAt t i)
+      kept i less = (j .stored .before (2 * i) (omega arith), j .stored .before (2 * i + 1) (omega arith))
 
-      last-end : (j : ℕ) → j ≡ n → endAt t′ j ≡ to
-      last-end j here = ap (λ (i : ℕ). endAt t′ i) here ∙ s .two
+      last-first : (i : ℕ) → i ≡ j .at → firstAt t′ i ≡ j .from
+      last-first i here = ap (λ (i : ℕ). firstAt t′ i) here ∙ j .stored .one
 
-      new-spans : Spans t′ (n + 1) end
+      last-end : (i : ℕ) → i ≡ j .at → endAt t′ i ≡ to
+      last-end i here = ap (λ (i : ℕ). endAt t′ i) here ∙ j .stored .two
+
+      new-spans : Spans t′ n′ end
       new-spans =
           record {
-            room = omega (arith, span-room some, s .long);
-            some = λ j less.
-                elim (decLe n j) [
+            room = omega (arith, span-room some, j .stored .long, j .many, j .low);
+            some = λ i less.
+                elim (decLe (j .at) i) [
                   | yes last ↦
-                      let here : j ≡ n = omega arith in
-                      omega (arith, last-first j here, last-end j here)
-                  | no before ↦ omega (arith, kept j (omega arith), m .spans .some j (omega arith))
+                      let here : i ≡ j .at = omega (arith, j .many) in
+                      omega (arith, last-first i here, last-end i here, on)
+                  | no before ↦ omega (arith, kept i (omega arith), m .spans .some i (omega (arith, j .low)))
                 ];
-            most = λ j less.
-                elim (decLe n j) [
+            most = λ i less.
+                elim (decLe (j .at) i) [
                   | yes last ↦
-                      let here : j ≡ n = omega arith in
-                      omega (arith, last-end j here, span .most some)
-                  | no before ↦ omega (arith, kept j (omega arith), m .spans .most j (omega arith))
+                      let here : i ≡ j .at = omega (arith, j .many) in
+                      omega (arith, last-end i here, span .most some)
+                  | no before ↦ omega (arith, kept i (omega arith), m .spans .most i (omega (arith, j .low)))
                 ];
           }
 
-      to-some : (q : ℕ) → q < end → coveredBy t′ (n + 1) q ≡ true → someOf (supplies q) (chunksIn t₀ k ++ (c ∷ [])) ≡ true
-      to-some q below e =
-          let (j, less, from, under) = covered-at t′ (n + 1) q e in
-          elim (decLe n j) [
-            | yes last ↦
-                let here : j ≡ n = omega arith in
-                some-last (chunksIn t₀ k) c q (span .all q (omega (arith, last-first j here)) (omega (arith, last-end j here)))
-            | no before ↦
-                let (first, end) = kept j (omega arith) in
-                some-before (chunksIn t₀ k) c q (sym (m .covers q below) ∙ covered-by t n q j (omega arith) (omega arith) (omega arith))
+      -- the positions of the last span
+      last-some : (q : ℕ) → q < end → j .from ≤ q → q < to → someOf (supplies q) (chunksIn t₀ k ++ (c ∷ [])) ≡ true
+      last-some q below from under =
+          elim (decLe (c .start) q) [
+            | yes new ↦ some-last (chunksIn t₀ k) c q (span .all q new under)
+            | no old ↦ some-before (chunksIn t₀ k) c q (sym (m .covers q below) ∙ j .gap q from (omega arith))
           ]
 
-      from-some : (q : ℕ) → q < end → someOf (supplies q) (chunksIn t₀ k ++ (c ∷ [])) ≡ true → coveredBy t′ (n + 1) q ≡ true
+      to-some : (q : ℕ) → q < end → coveredBy t′ n′ q ≡ true → someOf (supplies q) (chunksIn t₀ k ++ (c ∷ [])) ≡ true
+      to-some q below e =
+          let (i, less, from, under) = covered-at t′ n′ q e in
+          elim (decLe (j .at) i) [
+            | yes last ↦
+                let here : i ≡ j .at = omega (arith, j .many) in
+                last-some q below (omega (arith, last-first i here)) (omega (arith, last-end i here))
+            | no before ↦
+                let (first, end) = kept i (omega arith) in
+                some-before (chunksIn t₀ k) c q (sym (m .covers q below) ∙ covered-by t n q i (omega (arith, j .low)) (omega arith) (omega arith))
+          ]
+
+      -- a position of the last span
+      last-by : (q : ℕ) → j .from ≤ q → q < to → coveredBy t′ n′ q ≡ true
+      last-by q from under = covered-by t′ n′ q (j .at) (omega (arith, j .many)) (omega (arith, j .stored .one)) (omega (arith, j .stored .two))
+
+      from-some : (q : ℕ) → q < end → someOf (supplies q) (chunksIn t₀ k ++ (c ∷ [])) ≡ true → coveredBy t′ n′ q ≡ true
       from-some q below e =
           elim (some-either (chunksIn t₀ k) c q e) [
             | inl before ↦
-                let (j, less, from, under) = covered-at t n q (m .covers q below ∙ before) in
-                let (first, end) = kept j less in
-                covered-by t′ (n + 1) q j (omega arith) (omega arith) (omega arith)
+                let (i, less, from, under) = covered-at t n q (m .covers q below ∙ before) in
+                elim (decLe (j .at) i) [
+                  | yes last ↦
+                      let (first, end) = j .held i last less in
+                      last-by q (omega arith) (omega arith)
+                  | no old ↦
+                      let (first, end) = kept i (omega arith) in
+                      covered-by t′ n′ q i (omega (arith, j .many)) (omega arith) (omega arith)
+                ]
             | inr last ↦
                 let (_, from, _) = supplies-true c q last in
-                covered-by t′ (n + 1) q n (omega arith) (omega (arith, s .one)) (omega (arith, s .two, span .only q below last))
+                last-by q (omega (arith, on)) (span .only q below last)
           ]
 
-      pub midway-more : Midway t₀ end (k + 1) t′ (n + 1)
+      pub midway-more : Midway t₀ end (k + 1) t′ n′
       midway-more =
           record {
-            fewer = omega (arith, m .fewer);
-            long = s .long ∙ m .long;
-            left = λ i from. s .behind i (omega (arith, m .fewer)) ∙ m .left i (omega arith);
+            fewer = omega (arith, m .fewer, j .many, j .low);
+            long = j .stored .long ∙ m .long;
+            left = λ i from. j .stored .behind i (omega (arith, m .fewer, j .low)) ∙ m .left i (omega arith);
             spans = new-spans;
             covers = λ q below. rw rows (same-truth _ _ (to-some q below) (from-some q below));
           }

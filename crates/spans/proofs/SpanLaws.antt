@@ -10,7 +10,7 @@ use borrow.Author.Tests.{le-leb, lt-ltb, leb-true, ltb-true}
 use lib.ListN.{length, set, length-set}
 use lib.Seq.{getD-set-same, getD-set-other}
 use Rattle.partial.proofs.Meaning.SequenceLaws.{which, both}
-use Rattle.spans.specs.Spans.{firstAt, endAt, coveredBy, Spans, Ascending, Ordered, Same, Stored}
+use Rattle.spans.specs.Spans.{firstAt, endAt, coveredBy, Spans, Ascending, Ordered, Same, Stored, Joined}
 
 -- two tests that pass together are equal
 pub same-truth : (a b : Bool) → (a ≡ true → b ≡ true) → (b ≡ true → a ≡ true) → a ≡ b
@@ -73,6 +73,36 @@ span-stored t n first end room =
       before = λ i less. getD-set-other half (2 * n + 1) i end 0 (λ e. omega arith) ∙ getD-set-other t (2 * n) i first 0 (λ e. omega arith);
       behind = λ i more. getD-set-other half (2 * n + 1) i end 0 (λ e. omega arith) ∙ getD-set-other t (2 * n) i first 0 (λ e. omega arith);
     }
+
+-- a span behind n others, and one that makes the last of them longer
+module _ {t t′ : List ℕ} (n first end : ℕ) where
+  pub joined-behind : Stored t n first end t′ → Joined t n first end t′ (n + 1)
+  joined-behind s =
+      record {
+        at = n;
+        from = first;
+        many = refl;
+        low = omega arith;
+        stored = s;
+        on = λ some. omega arith;
+        gap = λ q from under. absurd (omega arith);
+        held = λ i from under. absurd (omega arith);
+      }
+
+  pub joined-longer : (last : ℕ) → n ≡ last + 1 → endAt t last ≡ first → Stored t last (firstAt t last) end t′ → Joined t n first end t′ n
+  joined-longer last many touches s =
+      record {
+        at = last;
+        from = firstAt t last;
+        many = many;
+        low = omega arith;
+        stored = s;
+        on = λ some. omega (arith, some (omega arith));
+        gap = λ q from under. covered-by t n q last (omega arith) from (omega arith);
+        held = λ i from under.
+            let here : i ≡ last = omega arith in
+            (omega (arith, ap (λ (i : ℕ). firstAt t i) here), omega (arith, ap (λ (i : ℕ). endAt t i) here));
+      }
 
 -- ---- the same spans
 

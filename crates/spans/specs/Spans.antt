@@ -1,6 +1,6 @@
 -- Spans in a table: each is a first position and an end, two numbers, from the front; and the positions that they cover.
 use Prim.Native.Nat.{ℕ, zero, suc, _+_, _*_, _<_, _≤_}
-use mathlib.Core.Bool.{Bool, false, _&&_, _||_}
+use mathlib.Core.Bool.{Bool, true, false, _&&_, _||_}
 use mathlib.Core.List.{List}
 use mathlib.Core.Path.{_≡_}
 use lib.Dec.{leb, ltb}
@@ -53,3 +53,14 @@ pub record Stored (t : List ℕ) (n first end : ℕ) (t′ : List ℕ) : Type 0 
   pub two : endAt t′ n ≡ end
   pub before : (i : ℕ) → i < 2 * n → getD t′ i 0 ≡ getD t i 0
   pub behind : (i : ℕ) → 2 * n + 2 ≤ i → getD t′ i 0 ≡ getD t i 0
+
+-- a span is stored behind those before it, or holds the last of them too, where that ends at its start
+pub record Joined (t : List ℕ) (n first end : ℕ) (t′ : List ℕ) (n′ : ℕ) : Type 0 where
+  pub at : ℕ
+  pub from : ℕ
+  pub many : n′ ≡ at + 1
+  pub low : at ≤ n
+  pub stored : Stored t at from end t′
+  pub on : (at < n → firstAt t at < endAt t at) → from ≤ first
+  pub gap : (q : ℕ) → from ≤ q → q < first → coveredBy t n q ≡ true
+  pub held : (j : ℕ) → at ≤ j → j < n → (from ≤ firstAt t j) × (endAt t j ≤ first)

@@ -1,5 +1,5 @@
 // The spans of the good chunks in a table of rows, written over the rows: nothing else is kept of them.
-use crate::put::put_span;
+use crate::put::join_span;
 use fields::state::GOOD;
 use partial::position::Position;
 use segment::chunk::Chunk;
@@ -34,8 +34,7 @@ pub fn spans_of(table: &mut [u64], count: u64, end: Position) -> usize
         let start = c.start.0;
         let to = span_end(c, end);
         if start < to {
-            put_span(table, n, start, to);
-            n += 1;
+            n = join_span(table, n, start, to);
         }
         k += 1;
     }

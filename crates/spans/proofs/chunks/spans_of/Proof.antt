@@ -22,13 +22,10 @@ chunk-at-requires c κs = search needs
 span-end-requires : tie.Need-span-end-requires Inv-loop μ-loop
 span-end-requires c κs = search needs
 
-put-span-requires : tie.Need-put-span-requires Inv-loop μ-loop
-put-span-requires c κs =
+join-span-requires : tie.Need-join-span-requires Inv-loop μ-loop
+join-span-requires c κs =
     let at-loop = c .before .before .before .before .before .before in
     span-room _ _ _ (at-loop .loop .inv .1) _ (c .before .before .before .chunk-at .ensures) (c .before .before .span-end .ensures) (omega arith)
-
-add-n : tie.Need-add-n Inv-loop μ-loop
-add-n c = search needs
 
 add-k : tie.Need-add-k Inv-loop μ-loop
 add-k c = search needs
@@ -63,8 +60,7 @@ spans-of-spec =
     loop-holds
     chunk-at-requires
     span-end-requires
-    put-span-requires
-    add-n
+    join-span-requires
     add-k
     loop-less
     loop-again
