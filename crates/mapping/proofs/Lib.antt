@@ -1,4 +1,5 @@
 pub mod Determined
+pub mod LengthLaws
 pub mod LineLaws
 pub mod MapLaws
 pub mod RangesLaws

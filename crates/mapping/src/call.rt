@@ -13,7 +13,8 @@ use partial::refusals::INPUT_TOO_LONG;
 use reading::judging::Judgement;
 use reading::judging::judge_into;
 use texts::lines::put_refused;
-ghost use Prim.Native.Nat.{_≤_};
+ghost use Prim.Native.Nat.{_+_, _*_, _≤_};
+ghost use mathlib.Core.Bool.{true};
 ghost use mathlib.Core.List.{List};
 ghost use mathlib.Core.Path.{_≡_};
 ghost use Rattle.filling.specs.Rows.{Puts};
@@ -25,6 +26,17 @@ ghost use Rattle.partial.specs.Segments.{Segment};
 ghost use Rattle.spans.specs.Spans.{Ordered};
 ghost use Rattle.texts.specs.Writes.{Writes};
 
+// The bytes of two lines, one of each list, are no more than this.
+const TWO_LINES: u64 = 100;
+
+// Whether a text surely fits: where there is room for one line more of each list than there are.
+fn surely_fits(room: u64, totals: Totals) -> bool
+    ensures { λ r. ⌜ (r ≡ true → 100 + 50 * (totals .had + totals .missing) ≤ room) ⌝ }
+{
+    let each = room / TWO_LINES;
+    totals.had < each && totals.missing < each
+}
+
 // Puts the map of a file by so many ordered spans of it in a table, and by what its lists hold.
 fn put_spans(
     buffer: &mut [u8],
@@ -35,26 +47,28 @@ fn put_spans(
     totals: Totals,
 ) -> u64
     requires { ⌜ (end .0 ≤ sourceLimit) × Ordered (now table) n (end .0) ⌝ }
-    ensures { λ r. ⌜ ((ss : List Segment) → Spanned ss (now (table .entry)) n (end .0) → closed ≡ isClosed ss → Counted ss totals → Puts (now (buffer .entry)) 0 (mapOf ss) (now (buffer .exit)) r) ⌝ }
+    ensures { λ r. ⌜ ((ss : List Segment) → Spanned ss (now (table .entry)) n (end .0) → closed ≡ isClosed ss → Counted ss totals → Puts (now (buffer .entry)) 0 (mapOf ss) (now (buffer .exit)) r × (r ≤ 100 + 50 * (totals .had + totals .missing))) ⌝ }
 {
     let first = put_source(buffer, end, closed);
     let last = put_ranges(buffer, first, table, n, end);
     put_total(buffer, last, totals)
 }
 
-// Writes the map of a file by the same: it is put where there is no room for it, to learn how long it is, since a buffer that is too short is left as it was.
+// Writes the map of a file by the same. Where it may not fit, it is first put where there is no room for it, to learn how long it is, since a buffer that is too
+// short is left as it was.
 fn write_spans(buffer: &mut [u8], table: &[u64], n: usize, end: Position, closed: bool) -> Written
     requires { ⌜ (end .0 ≤ sourceLimit) × Ordered (now table) n (end .0) ⌝ }
     ensures { λ r. ⌜ ((ss : List Segment) → Spanned ss (now (table .entry)) n (end .0) → closed ≡ isClosed ss → Writes (mapOf ss) (now (buffer .entry)) (now (buffer .exit)) r) ⌝ }
 {
     let totals = counted(table, n, end);
-    let mut no_room = [0; 1];
-    let size = put_spans(&mut no_room, table, n, end, closed, totals);
-    if (buffer.len() as u64) < size {
-        return Written::Refused(BUFFER_TOO_SHORT);
+    if !surely_fits(buffer.len() as u64, totals) {
+        let mut no_room = [0; 1];
+        let size = put_spans(&mut no_room, table, n, end, closed, totals);
+        if (buffer.len() as u64) < size {
+            return Written::Refused(BUFFER_TOO_SHORT);
+        }
     }
-    put_spans(buffer, table, n, end, closed, totals);
-    Written::Length(size)
+    Written::Length(put_spans(buffer, table, n, end, closed, totals))
 }
 
 // Writes the line of a refusal.

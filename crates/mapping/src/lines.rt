@@ -53,7 +53,7 @@ pub(crate) fn put_range(buffer: &mut [u8], at: u64, first: Position, r: Range) -
 // `total`, received, missing.
 pub(crate) fn put_total(buffer: &mut [u8], at: u64, totals: Totals) -> u64
     requires { ⌜ at < 2 ^ 61 ⌝ }
-    ensures { λ r. ⌜ ((ss : List Segment) → Counted ss totals → Puts (now (buffer .entry)) at (totalLine ss) (now (buffer .exit)) r) ⌝ }
+    ensures { λ r. ⌜ ((ss : List Segment) → Counted ss totals → Puts (now (buffer .entry)) at (totalLine ss) (now (buffer .exit)) r) × (r ≤ at + 50) ⌝ }
 {
     put_numbers(buffer, at, b"total\t", totals.received, totals.missed)
 }

@@ -15,7 +15,9 @@ same-length : tie.Need-same-length
 same-length c = search needs
 
 returns : tie.Need-returns
-returns c = λ ss counts. puts-same (total-words ss _ counts) (c .before .before .put-numbers .ensures .0)
+returns c =
+    let (puts, low) = c .before .before .put-numbers .ensures in
+    (λ ss counts. puts-same (total-words ss _ counts) puts, low)
 
 pub put-total-spec : {M : Type 1} → statement M
 put-total-spec =

@@ -48,7 +48,7 @@ loop-again c =
       omega (arith, found-some _ _ _ (omega arith) found),
       puts .put .long ∙ inv .2,
       finds .passed,
-      midway-more _ _ _ _ (inv .4) (omega arith) found puts,
+      midway-more _ _ _ _ (inv .4) (omega arith) found puts low,
     )
 
 same-length : tie.Need-same-length Inv-loop μ-loop
@@ -57,7 +57,8 @@ same-length c = search needs
 returns : tie.Need-returns Inv-loop μ-loop
 returns c =
     let inv = c .before .before .loop .inv in
-    (midway-end _ _ _ _ (inv .4) (omega arith), omega arith)
+    let (puts, few) = midway-end _ _ _ _ (inv .4) (omega arith) in
+    (puts, omega arith, omega arith)
 
 pub put-ranges-spec : {M : Type 1} → statement M
 put-ranges-spec =
