@@ -17,7 +17,7 @@ ghost use Rattle.partial.specs.Segments.{Segment};
 ghost use Rattle.spans.specs.Spans.{Ordered};
 ghost use Rattle.listing.specs.Calls.{Known, Spanned, Counted, Listing};
 
-// The numbers of the rows of as many chunks as a file may have.
+// The numbers of the rows of as many chunks as a file may have. A table of so many is a call's own, so that it is filled while the file is judged, in one pass.
 pub const ALL_ROWS: usize = 6144;
 
 // The rows of the chunks of a file become its spans, ordered; the answer is how many.
@@ -48,7 +48,6 @@ pub fn list(
 ) -> Listed
     ensures { λ r. ⌜ Listing (now (file .entry)) (now (segments .entry)) (now (segments .exit)) (now (chunks .entry)) (now (chunks .exit)) (now (had .entry)) (now (had .exit)) (now (missing .entry)) (now (missing .exit)) r ⌝ }
 {
-    // The table is our own: it is filled while the file is judged, so that the file is passed once for both.
     let mut spans = [0; ALL_ROWS];
     match judge_into(file, &mut spans) {
         Judgement::Refused(n) => Listed::Refused(n),

@@ -29,7 +29,7 @@ ghost use Rattle.texts.specs.Writes.{Writes};
 // The bytes of two lines, one of each list, are no more than this.
 const TWO_LINES: u64 = 100;
 
-// Whether a text surely fits: where there is room for one line more of each list than there are.
+// Whether a text surely fits: half of the room takes a line more than either list has ranges.
 fn surely_fits(room: u64, totals: Totals) -> bool
     ensures { λ r. ⌜ (r ≡ true → 100 + 50 * (totals .had + totals .missing) ≤ room) ⌝ }
 {
@@ -71,7 +71,7 @@ fn write_spans(buffer: &mut [u8], table: &[u64], n: usize, end: Position, closed
     Written::Length(put_spans(buffer, table, n, end, closed, totals))
 }
 
-// Writes the line of a refusal.
+// Writes the line of a refusal. It is one piece, put whole or not at all, so that nothing has to be measured first.
 fn write_refused(buffer: &mut [u8], n: u64) -> Written
     ensures { λ r. ⌜ Writes (refusedLine n) (now (buffer .entry)) (now (buffer .exit)) r ⌝ }
 {
