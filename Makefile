@@ -1,6 +1,6 @@
 # Builds the library's archive, which is proved first, and the command `paff` over it. `make test` holds the archive and the plain C program against the model, runs the
-# command as a person would, a build of it that stops at undefined behaviour and one over the plain C program under both sanitizers, and passes the clerk's
-# evening. `make bench` measures the library beside the plain C program (docs/PERFORMANCE.md).
+# command as a person would, a build of it that stops at undefined behaviour and one over the plain C program under both sanitizers, passes the clerk's
+# evening, and keeps a real film in a mixed file. `make bench` measures the library beside the plain C program (docs/PERFORMANCE.md).
 
 # Debian has this name for its own compiler on x86-64 and for its cross compiler elsewhere (gcc-x86-64-linux-gnu).
 CC := x86_64-linux-gnu-gcc
@@ -80,3 +80,4 @@ test: $(OUT)/paff $(OUT)/paff-undefined $(OUT)/paff-sanitized $(OUT)/scale $(OUT
 	python3 tests/command.py $(EMULATOR) $(OUT)/paff-undefined
 	ASAN_OPTIONS=detect_leaks=0 python3 tests/command.py $(OUT)/paff-sanitized
 	sh tests/evening.sh $(EMULATOR) $(OUT)/paff
+	sh tests/film.sh $(EMULATOR) $(OUT)/paff

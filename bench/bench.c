@@ -92,7 +92,7 @@ static void append_once(int program, void *given)
         return;
     }
     uint64_t list[2] = {a->size, 2}, told[1];
-    if (a->program->append(a->buffer, HEAD + a->length + a->size, a->length, 0, 0, true, list, 2, a->data, a->size, told) != 0) {
+    if (a->program->append(a->buffer, HEAD + a->length + a->size, a->length, 0, 0, true, false, list, 2, a->data, a->size, told) != 0) {
         fprintf(stderr, "append refused\n");
         exit(2);
     }
@@ -103,7 +103,7 @@ static void compare_append(const char *name, const struct calls *program, size_t
     static const uint8_t url[] = "http://films.example/lesson";
     struct adding adding = {malloc(2 * HEAD + size), 0, malloc(size), size, program};
     uint64_t told[1];
-    if (adding.buffer == NULL || adding.data == NULL || program->begin(adding.buffer, HEAD, url, sizeof url - 1, url, 0, told) != 0) {
+    if (adding.buffer == NULL || adding.data == NULL || program->begin(adding.buffer, HEAD, false, url, sizeof url - 1, url, 0, told) != 0) {
         fprintf(stderr, "no room\n");
         exit(2);
     }

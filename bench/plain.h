@@ -14,7 +14,7 @@ enum refusal {
     BOX_PAST_CONTAINER = 5,
     TOO_MANY_BOXES = 6,
     BAD_FTYP = 7,
-    NO_PAFF_BRAND = 8,
+    NEITHER_BRAND = 8,
     BAD_PFIL = 9,
     BAD_PFHD = 10,
     BAD_SURL = 11,
@@ -30,7 +30,7 @@ enum refusal {
     NEITHER_BIT = 21,
     TOO_MANY_CHUNKS = 22,
     POSITION_OVER_LIMIT = 23,
-    NOT_IN_ONE_PDAT = 24,
+    MAY_NOT_LIE_THERE = 24,
     SIZES_DISAGREE = 25,
     TABLE_TOO_SHORT = 26,
     INPUT_OVER_LIMIT = 27,
@@ -38,7 +38,8 @@ enum refusal {
     BAD_CHUNK_LIST = 31,
     DATA_NOT_EQUAL = 32,
     BUFFER_TOO_SHORT = 33,
-    ZERO_BYTE_IN_TEXT = 34
+    ZERO_BYTE_IN_TEXT = 34,
+    NOT_TO_GO_OUTSIDE = 35
 };
 
 enum { MOST_BOXES = 512 };
@@ -56,7 +57,10 @@ enum { MOST_BOXES = 512 };
 #define PSHD FOUR('p', 's', 'h', 'd')
 #define PLOC FOUR('p', 'l', 'o', 'c')
 #define PDAT FOUR('p', 'd', 'a', 't')
+
+/* The brands of a partial file and of a mixed one. */
 #define PAFF FOUR('p', 'a', 'f', 'f')
+#define PMFF FOUR('p', 'm', 'f', 'f')
 
 /* The type of a vendor's box, whose header ends with the vendor's own type. */
 #define UUID FOUR('u', 'u', 'i', 'd')
@@ -100,12 +104,15 @@ struct partial {
     const uint8_t *file;
     uint32_t length;
     uint32_t boxes; /* in the file itself */
+    bool mixed;
     uint32_t pdat_count, segment_count, chunk_count;
     uint32_t nearest;   /* the `pdat` that held the last chunk */
     uint64_t size;      /* the least size known of the source, or SIZE_UNKNOWN */
     uint64_t described; /* the largest segment end or open offset: the described length once the file is accepted */
     struct part url, mime;
     struct part pdat[MOST_BOXES]; /* bodies, ascending */
+    file_place end[MOST_BOXES];   /* of each box of the file, the byte after it */
+    uint16_t barred[MOST_BOXES];  /* how many boxes up to it, itself counted, no chunk may be made of */
     struct segment segment[VRAZHUPA_SEGMENTS];
     struct chunk chunk[VRAZHUPA_CHUNKS];
 };
@@ -153,41 +160,59 @@ struct box {
     file_place place, body, end;
 };
 
+/* What the header of a box says: its type, its own size and that of the box. */
+struct header {
+    uint32_t type, header_size;
+    uint64_t size;
+};
+
+/* Reads the header of a box in a container that has so many bytes left. */
+static inline enum refusal read_header(const uint8_t *at, uint64_t left, struct header *header)
+{
+    header->header_size = 8;
+    if (left < header->header_size)
+        return HEADER_CUT_SHORT;
+    header->size = load32(at);
+    if (header->size == 0)
+        return SIZE_FIELD_ZERO;
+    if (header->size == 1) {
+        header->header_size = 16;
+        if (left < header->header_size)
+            return HEADER_CUT_SHORT;
+        header->size = load64(at + 8);
+    }
+    header->type = load32(at + 4);
+    if (header->type == UUID)
+        header->header_size += USER_TYPE;
+    if (header->size < header->header_size)
+        return SIZE_UNDER_HEADER;
+    return header->size > left ? BOX_PAST_CONTAINER : ACCEPTED;
+}
+
 /* Frames the next box of a container that has bytes left. */
 static inline enum refusal next_box(const uint8_t *file, struct container *in, struct box *box)
 {
-    const uint8_t *header = file + in->place;
-    uint32_t left = in->end - in->place;
-    uint32_t header_size = 8;
-    uint64_t size;
+    struct header header;
+    enum refusal refusal;
 
     if (in->boxes == MOST_BOXES)
         return TOO_MANY_BOXES;
-    if (left < header_size)
-        return HEADER_CUT_SHORT;
-    size = load32(header);
-    if (size == 0)
-        return SIZE_FIELD_ZERO;
-    if (size == 1) {
-        header_size = 16;
-        if (left < header_size)
-            return HEADER_CUT_SHORT;
-        size = load64(header + 8);
-    }
-    box->type = load32(header + 4);
-    if (box->type == UUID)
-        header_size += USER_TYPE;
-    if (size < header_size)
-        return SIZE_UNDER_HEADER;
-    if (size > left)
-        return BOX_PAST_CONTAINER;
-
+    refusal = read_header(file + in->place, in->end - in->place, &header);
+    if (refusal != ACCEPTED)
+        return refusal;
+    box->type = header.type;
     box->place = in->place;
-    box->body = in->place + header_size;
-    box->end = in->place + (uint32_t)size;
+    box->body = in->place + header.header_size;
+    box->end = in->place + (uint32_t)header.size;
     in->place = box->end;
     in->boxes++;
     return ACCEPTED;
+}
+
+/* Whether a chunk outside `pdat` may be made of boxes of this type. */
+static inline bool may_be_outside(uint32_t type)
+{
+    return type != FTYP && type != PFIL && type != PSEG && type != PDAT;
 }
 
 #endif

@@ -35,6 +35,15 @@ static void note_box(struct partial *partial, const struct box *box, struct open
     }
 }
 
+/* Notes where a box of the file ends, which the next does as a chunk of boxes may. */
+static void note_end(struct partial *partial, const struct box *box, uint32_t number)
+{
+    uint16_t earlier = number == 0 ? 0 : partial->barred[number - 1];
+
+    partial->end[number] = box->end;
+    partial->barred[number] = (uint16_t)(earlier + (may_be_outside(box->type) ? 0 : 1));
+}
+
 /* Frames the boxes of the file and notes those that the base knows. */
 static enum refusal read_file_boxes(struct partial *partial, struct opening *opening)
 {
@@ -50,29 +59,32 @@ static enum refusal read_file_boxes(struct partial *partial, struct opening *ope
         else if (in.boxes == 2)
             opening->second = box;
         note_box(partial, &box, opening);
+        note_end(partial, &box, in.boxes - 1);
     }
     partial->boxes = in.boxes;
     return ACCEPTED;
 }
 
-/* Whether `paff` is among the compatible brands, which follow the major brand and the minor version. */
-static bool has_paff_brand(const uint8_t *file, const struct box *ftyp)
+/* Whether a brand is among the compatible ones, which follow the major brand and the minor version. */
+static bool has_brand(const uint8_t *file, const struct box *ftyp, uint32_t brand)
 {
     for (file_place place = ftyp->body + 8; place < ftyp->end; place += 4)
-        if (load32(file + place) == PAFF)
+        if (load32(file + place) == brand)
             return true;
     return false;
 }
 
-static enum refusal check_opening(const uint8_t *file, const struct opening *opening)
+static enum refusal check_opening(struct partial *partial, const struct opening *opening)
 {
+    const uint8_t *file = partial->file;
     const struct box *ftyp = &opening->first;
     uint32_t ftyp_length = ftyp->end - ftyp->body;
 
     if (ftyp->type != FTYP || ftyp_length < 8 || ftyp_length % 4 != 0 || opening->ftyps != 1)
         return BAD_FTYP;
-    if (!has_paff_brand(file, ftyp))
-        return NO_PAFF_BRAND;
+    partial->mixed = has_brand(file, ftyp, PMFF);
+    if (!partial->mixed && !has_brand(file, ftyp, PAFF))
+        return NEITHER_BRAND;
     if (opening->second.type != PFIL || opening->pfils != 1)
         return BAD_PFIL;
     return ACCEPTED;
@@ -236,6 +248,39 @@ static inline bool in_one_pdat(struct partial *partial, uint64_t place, uint64_t
     return size <= body->length - (place - body->place);
 }
 
+/* Finds the box of the file that ends at a place; MOST_BOXES if none does. */
+static uint32_t box_that_ends(const struct partial *partial, uint64_t place)
+{
+    uint32_t low = 0, high = partial->boxes;
+
+    while (low < high) {
+        uint32_t middle = low + (high - low) / 2;
+        if (partial->end[middle] < place)
+            low = middle + 1;
+        else
+            high = middle;
+    }
+    return low < partial->boxes && partial->end[low] == place ? low : MOST_BOXES;
+}
+
+/* Whether `size` bytes, at least one, from a place on are neighbouring boxes of the file, none of them barred: they start where a box ends, as the first box is barred. */
+static bool are_whole_boxes(const struct partial *partial, uint64_t place, uint64_t size)
+{
+    uint32_t before, last;
+
+    if (place >= partial->length || size > partial->length - place)
+        return false;
+    before = box_that_ends(partial, place);
+    last = box_that_ends(partial, place + size);
+    return before != MOST_BOXES && last != MOST_BOXES && partial->barred[before] == partial->barred[last];
+}
+
+/* Whether a present chunk of at least one byte may lie there. */
+static inline bool may_lie(struct partial *partial, uint8_t state, uint64_t place, uint64_t size)
+{
+    return in_one_pdat(partial, place, size) || (partial->mixed && state == GOOD && are_whole_boxes(partial, place, size));
+}
+
 /* The entries of a `ploc`: their bytes and the widths of their fields. */
 struct entries {
     const uint8_t *at, *end;
@@ -272,8 +317,8 @@ static enum refusal read_entries(struct partial *partial, uint32_t number, struc
         uint64_t place = 0;
         if (flags & PRESENT && size > 0) {
             place = segment->place + signed_field(at + entries.length_size, file_end, entries.offset_size);
-            if (!in_one_pdat(partial, place, size))
-                return NOT_IN_ONE_PDAT;
+            if (!may_lie(partial, state_of(flags), place, size))
+                return MAY_NOT_LIE_THERE;
         }
         *chunk++ = (struct chunk){(source_position)start, (uint32_t)size, (file_place)place, (uint16_t)index, (uint8_t)number, state_of(flags)};
         at += rest;
@@ -346,7 +391,7 @@ enum refusal plain_read(const uint8_t *file, size_t file_length, struct partial 
 
     refusal = read_file_boxes(partial, &opening);
     if (refusal == ACCEPTED)
-        refusal = check_opening(file, &opening);
+        refusal = check_opening(partial, &opening);
     if (refusal == ACCEPTED)
         refusal = read_pfil(partial, &opening.second);
     if (refusal != ACCEPTED)

@@ -32,15 +32,15 @@ static bool has_zero(const uint8_t *text, size_t length)
 /* Sizes of the boxes of a beginning; those of `pfil` and `surl` follow from the texts. */
 enum { FTYP_SIZE = 20, PFHD_SIZE = 12 };
 
-static uint8_t *put_ftyp(uint8_t *at)
+static uint8_t *put_ftyp(uint8_t *at, uint32_t brand)
 {
     at = put_header(at, FTYP_SIZE, FTYP);
-    at = put(at, PAFF, 4);   /* major brand */
-    at = put(at, 0, 4);      /* minor version */
-    return put(at, PAFF, 4); /* the one compatible brand */
+    at = put(at, brand, 4);   /* major brand */
+    at = put(at, 0, 4);       /* minor version */
+    return put(at, brand, 4); /* the one compatible brand */
 }
 
-uint64_t vrazhupa_begin(uint8_t *buffer, size_t buffer_length, const uint8_t *url, size_t url_length, const uint8_t *mime, size_t mime_length,
+uint64_t vrazhupa_begin(uint8_t *buffer, size_t buffer_length, bool mixed, const uint8_t *url, size_t url_length, const uint8_t *mime, size_t mime_length,
                         uint64_t told[1])
 {
     uint64_t surl, pfil;
@@ -57,7 +57,7 @@ uint64_t vrazhupa_begin(uint8_t *buffer, size_t buffer_length, const uint8_t *ur
     if (FTYP_SIZE + pfil > buffer_length)
         return BUFFER_TOO_SHORT;
 
-    at = put_ftyp(buffer);
+    at = put_ftyp(buffer, mixed ? PMFF : PAFF);
     at = put_header(at, pfil, PFIL);
     at = put_header(at, PFHD_SIZE, PFHD);
     at = put(at, 0, 4); /* version and flags */
@@ -74,12 +74,13 @@ uint64_t vrazhupa_begin(uint8_t *buffer, size_t buffer_length, const uint8_t *ur
 /* A segment to be appended: what is asked, and what follows from it. */
 struct addition {
     uint64_t offset, repair_time;
-    bool last;
+    bool last, outside;
     const uint64_t *list;
     const uint8_t *data;
     uint64_t data_length;
     uint64_t count, present;           /* chunks, and those whose bytes are kept */
     uint64_t size;                     /* of all chunks together, UINT64_MAX if more */
+    uint64_t out, out_boxes;           /* bytes and boxes that go outside the `pdat` */
     unsigned length_size, offset_size; /* widths in the `ploc` */
     uint64_t pdat, pseg, pshd, ploc;   /* sizes of the boxes, `pdat` 0 for none */
 };
@@ -122,17 +123,56 @@ static enum refusal check_list(struct addition *add, size_t list_length)
     return over || left != 0 ? DATA_NOT_EQUAL : ACCEPTED;
 }
 
-/* Finds the sizes of the boxes; whether they are within a file's limit. The first present chunk stands furthest before the `pseg`, at -data_length. */
+static bool goes_outside(const struct addition *add, uint64_t state)
+{
+    return add->outside && state == GOOD;
+}
+
+/* Counts the boxes that a chunk's bytes are, which no file has to hold yet; false if they are not whole boxes that may go outside. */
+static bool count_boxes(struct addition *add, const uint8_t *bytes, uint64_t left)
+{
+    while (left > 0) {
+        struct header header;
+        if (read_header(bytes, left, &header) != ACCEPTED || !may_be_outside(header.type))
+            return false;
+        bytes += header.size;
+        left -= header.size;
+        add->out_boxes++;
+    }
+    return true;
+}
+
+/* Checks the good chunks that are to go outside, and sums them up. */
+static enum refusal check_outside(const struct partial *partial, struct addition *add)
+{
+    const uint8_t *bytes = add->data;
+
+    add->out = add->out_boxes = 0;
+    for (uint64_t i = 0; i < add->count; i++) {
+        uint64_t size = add->list[2 * i], state = add->list[2 * i + 1];
+        if (goes_outside(add, state)) {
+            if (!partial->mixed || !count_boxes(add, bytes, size))
+                return NOT_TO_GO_OUTSIDE;
+            add->out += size;
+        }
+        if (state != LOST)
+            bytes += size;
+    }
+    return ACCEPTED;
+}
+
+/* Finds the sizes of the boxes; whether they are within a file's limit. Of all data the first in the `pdat`, or else the first outside, stands furthest before the
+   `pseg`, at -data_length. */
 static bool measure(struct addition *add, uint64_t file_length)
 {
     if (add->data_length > VRAZHUPA_FILE || add->count > VRAZHUPA_FILE)
         return false;
     add->offset_size = add->data_length == 0 ? 0 : width_of(2 * (add->data_length - 1) + 1);
-    add->pdat = add->data_length == 0 ? 0 : 8 + add->data_length;
+    add->pdat = add->data_length == add->out ? 0 : 8 + add->data_length - add->out;
     add->pshd = add->offset <= UINT32_MAX ? 24 : 28;
     add->ploc = 17 + add->count * (1 + add->length_size) + add->present * add->offset_size;
     add->pseg = 8 + add->pshd + add->ploc;
-    return file_length + add->pdat + add->pseg <= VRAZHUPA_FILE;
+    return file_length + add->pdat + add->out + add->pseg <= VRAZHUPA_FILE;
 }
 
 /* Checks what the file would be with the segment: 1, 6, 13, 22, 23 and 25. */
@@ -142,7 +182,7 @@ static enum refusal check_result(const struct partial *partial, struct addition 
 
     if (!measure(add, partial->length))
         return FILE_OVER_LIMIT;
-    if (partial->boxes + (add->pdat != 0) + 1 > MOST_BOXES)
+    if (partial->boxes + (add->pdat != 0) + add->out_boxes + 1 > MOST_BOXES)
         return TOO_MANY_BOXES;
     if (partial->segment_count + 1 > VRAZHUPA_SEGMENTS)
         return TOO_MANY_SEGMENTS;
@@ -161,7 +201,7 @@ static enum refusal check_result(const struct partial *partial, struct addition 
 static uint8_t *put_ploc(uint8_t *at, const struct addition *add)
 {
     static const uint8_t flags[] = {[LOST] = CORRUPTED, [DAMAGED] = CORRUPTED | PRESENT, [GOOD] = PRESENT};
-    uint64_t offset = 0 - add->data_length; /* from the `pseg` to the chunk's bytes, in two's complement */
+    uint64_t inside = 0 - add->data_length, outside = 0 - add->out; /* from the `pseg` to the next chunk's bytes, in two's complement */
 
     at = put_header(at, add->ploc, PLOC);
     at = put(at, 0, 4);
@@ -173,9 +213,26 @@ static uint8_t *put_ploc(uint8_t *at, const struct addition *add)
         *at++ = flags[state];
         at = put(at, size, add->length_size);
         if (state != LOST) {
-            at = put(at, offset, add->offset_size);
-            offset += size;
+            uint64_t *offset = goes_outside(add, state) ? &outside : &inside;
+            at = put(at, *offset, add->offset_size);
+            *offset += size;
         }
+    }
+    return at;
+}
+
+/* Writes the data of the chunks that go outside, or that of the others. */
+static uint8_t *put_data(uint8_t *at, const struct addition *add, bool outside)
+{
+    const uint8_t *bytes = add->data;
+
+    for (uint64_t i = 0; i < add->count; i++) {
+        uint64_t size = add->list[2 * i], state = add->list[2 * i + 1];
+        if (state == LOST)
+            continue;
+        if (goes_outside(add, state) == outside)
+            at = put_bytes(at, bytes, (size_t)size);
+        bytes += size;
     }
     return at;
 }
@@ -184,8 +241,9 @@ static uint8_t *put_segment(uint8_t *at, const struct addition *add)
 {
     if (add->pdat != 0) {
         at = put_header(at, add->pdat, PDAT);
-        at = put_bytes(at, add->data, (size_t)add->data_length);
+        at = put_data(at, add, false);
     }
+    at = put_data(at, add, true);
     at = put_header(at, add->pseg, PSEG);
     at = put_header(at, add->pshd, PSHD);
     *at++ = add->pshd == 24 ? 0 : 1; /* version: the 32-bit form of the offset where it holds it */
@@ -195,11 +253,12 @@ static uint8_t *put_segment(uint8_t *at, const struct addition *add)
     return put_ploc(at, add);
 }
 
-uint64_t vrazhupa_append(uint8_t *buffer, size_t buffer_length, uint64_t length, uint64_t offset, uint64_t repair_time, bool last, const uint64_t *list,
-                         size_t list_length, const uint8_t *data, size_t data_length, uint64_t told[1])
+uint64_t vrazhupa_append(uint8_t *buffer, size_t buffer_length, uint64_t length, uint64_t offset, uint64_t repair_time, bool last, bool outside,
+                         const uint64_t *list, size_t list_length, const uint8_t *data, size_t data_length, uint64_t told[1])
 {
     struct partial partial;
-    struct addition add = {.offset = offset, .repair_time = repair_time, .last = last, .list = list, .data = data, .data_length = data_length};
+    struct addition add = {
+        .offset = offset, .repair_time = repair_time, .last = last, .outside = outside, .list = list, .data = data, .data_length = data_length};
     enum refusal refusal;
 
     if (length > buffer_length)
@@ -209,10 +268,12 @@ uint64_t vrazhupa_append(uint8_t *buffer, size_t buffer_length, uint64_t length,
         return refusal;
     refusal = check_list(&add, list_length);
     if (refusal == ACCEPTED)
+        refusal = check_outside(&partial, &add);
+    if (refusal == ACCEPTED)
         refusal = check_result(&partial, &add);
     if (refusal != ACCEPTED)
         return refusal;
-    if (length + add.pdat + add.pseg > buffer_length)
+    if (length + add.pdat + add.out + add.pseg > buffer_length)
         return BUFFER_TOO_SHORT;
     told[0] = (uint64_t)(put_segment(buffer + length, &add) - buffer);
     return ACCEPTED;

@@ -18,13 +18,16 @@ enum { ROOM_FOR_BOXES = 256, ROOM_FOR_ENTRY = 17 };
 /* The size and the type of a box. */
 enum { BOX_HEADER = 8 };
 
-void begin_file(const char *name, const char *url, const char *mime)
+/* Refusals of an addition. */
+enum { FILE_OVER_LIMIT = 1, NOT_TO_GO_OUTSIDE = 35 };
+
+void begin_file(const char *name, bool mixed, const char *url, const char *mime)
 {
     size_t url_length = strlen(url), mime_length = strlen(mime);
     size_t room = url_length + mime_length + ROOM_FOR_BOXES;
     uint8_t *buffer = lend(room);
     uint64_t told[1];
-    uint64_t number = vrazhupa_begin(buffer, room, (const uint8_t *)url, url_length, (const uint8_t *)mime, mime_length, told);
+    uint64_t number = vrazhupa_begin(buffer, room, mixed, (const uint8_t *)url, url_length, (const uint8_t *)mime, mime_length, told);
     if (number != 0) {
         refused(number);
     }
@@ -50,8 +53,7 @@ static size_t map_chunks(const struct segment *segment, struct bytes *parts, uin
     return total;
 }
 
-/* The data in one piece: a single part as it is mapped, several copied behind each other. Data that no file has room for are refused by their length, so they
-   need not be copied. */
+/* The data in one piece: a single part as it is mapped, several copied behind each other. Data that no file has room for are not copied. */
 static const uint8_t *joined(const struct bytes *parts, size_t count, size_t total)
 {
     uint8_t *data = lend(total);
@@ -66,6 +68,20 @@ static const uint8_t *joined(const struct bytes *parts, size_t count, size_t tot
         at += parts[i].length;
     }
     return data;
+}
+
+/* What append answers about data that no file has room for, of which the library was shown no byte: 35 if it is that for one of the good chunks alone, as each is
+   mapped, and else that the file would be over its limit. */
+static uint64_t answer_by_chunk(struct bytes file, const struct bytes *parts, const uint64_t *list, size_t count)
+{
+    for (size_t i = 0; i < count; i++) {
+        uint64_t told[1];
+        if (list[2 * i + 1] == GOOD &&
+            vrazhupa_append(file.at, file.length, file.length, 0, 0, false, true, list + 2 * i, 2, parts[i].at, parts[i].length, told) == NOT_TO_GO_OUTSIDE) {
+            return NOT_TO_GO_OUTSIDE;
+        }
+    }
+    return FILE_OVER_LIMIT;
 }
 
 /* The place of the last segment's box in a file that is accepted. */
@@ -115,8 +131,11 @@ void append_segment(const char *name, const struct segment *segment)
     size_t room = total + segment->count * ROOM_FOR_ENTRY + ROOM_FOR_BOXES;
     struct bytes file = map_with_room(fd, name, room);
     uint64_t told[1];
-    uint64_t number = vrazhupa_append(file.at, file.length + room, file.length, segment->offset, segment->time, segment->last, list, 2 * segment->count,
-                                      data, total, told);
+    uint64_t number = vrazhupa_append(file.at, file.length + room, file.length, segment->offset, segment->time, segment->last, segment->outside, list,
+                                      2 * segment->count, data, total, told);
+    if (number == NOT_TO_GO_OUTSIDE && total > VRAZHUPA_FILE) {
+        number = answer_by_chunk(file, parts, list, segment->count);
+    }
     if (number != 0) {
         refused(number);
     }

@@ -20,11 +20,12 @@ struct segment {
     uint64_t offset;
     uint64_t time;
     bool last;
+    bool outside; /* the good chunks as boxes of the file, not in its `pdat` */
     struct chunk *chunks;
     size_t count;
 };
 
-_Noreturn void begin_file(const char *name, const char *url, const char *mime);
+_Noreturn void begin_file(const char *name, bool mixed, const char *url, const char *mime);
 _Noreturn void append_segment(const char *name, const struct segment *segment);
 
 #endif

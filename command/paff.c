@@ -24,7 +24,7 @@ static uint64_t number_in(const char *word)
     return n;
 }
 
-/* The words of append after the file's name, one by one. */
+/* The words of begin, or those of append after the file's name, one by one. */
 struct words {
     char **next;
     char **end;
@@ -44,6 +44,31 @@ static void once(bool *given, const char *option)
         misused("given twice", option);
     }
     *given = true;
+}
+
+/* Whether a file with this brand is mixed. */
+static bool mixed_by(const char *brand)
+{
+    bool mixed = strcmp(brand, "pmff") == 0;
+    if (!mixed && strcmp(brand, "paff") != 0) {
+        misused("not a brand", brand);
+    }
+    return mixed;
+}
+
+/* Begins a file; returns where there are not just its name and one or two texts. */
+static void begin_in(struct words words)
+{
+    bool brand = false, mixed = false;
+    while (words.next != words.end && strcmp(*words.next, "--brand") == 0) {
+        const char *option = *words.next++;
+        once(&brand, option);
+        mixed = mixed_by(value_of(&words, option));
+    }
+    size_t count = (size_t)(words.end - words.next);
+    if (count == 2 || count == 3) {
+        begin_file(words.next[0], mixed, words.next[1], count == 3 ? words.next[2] : "");
+    }
 }
 
 /* Adds a chunk to the segment; false where the option names none. */
@@ -77,6 +102,8 @@ static struct segment segment_in(struct words words)
             segment.time = number_in(value_of(&words, option));
         } else if (strcmp(option, "--last") == 0) {
             once(&segment.last, option);
+        } else if (strcmp(option, "--outside") == 0) {
+            once(&segment.outside, option);
         } else if (!take_chunk(&segment, option, &words)) {
             misused("not an option", option);
         }
@@ -102,8 +129,8 @@ int main(int count, char **words)
         show_rows(words[2]);
     } else if (strcmp(command, "get") == 0 && count == 5) {
         show_bytes(words[2], number_in(words[3]), number_in(words[4]));
-    } else if (strcmp(command, "begin") == 0 && (count == 4 || count == 5)) {
-        begin_file(words[2], words[3], count == 5 ? words[4] : "");
+    } else if (strcmp(command, "begin") == 0) {
+        begin_in((struct words){words + 2, words + count});
     } else if (strcmp(command, "append") == 0 && count > 2) {
         struct segment segment = segment_in((struct words){words + 3, words + count});
         append_segment(words[2], &segment);

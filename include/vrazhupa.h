@@ -65,15 +65,17 @@ uint64_t vrazhupa_map(const uint8_t *file, size_t file_length, uint64_t most, ui
    which are 65,536 for the program (27), or over its limit (1). told: how many bytes, 0 for an empty file. Refuses with 33 where the buffer is too short. */
 uint64_t vrazhupa_boxes(const uint8_t *file, size_t file_length, uint64_t most, uint8_t *buffer, size_t buffer_length, uint64_t told[1]);
 
-/* Begins a file in the buffer. told: its length. Refuses with 34, 1 or 33. */
-uint64_t vrazhupa_begin(uint8_t *buffer, size_t buffer_length, const uint8_t *url, size_t url_length, const uint8_t *mime, size_t mime_length,
+/* Begins a file in the buffer, a mixed one (brand `pmff`) or one with all its data in `pdat` (brand `paff`). told: its length. Refuses with 34, 1 or 33. */
+uint64_t vrazhupa_begin(uint8_t *buffer, size_t buffer_length, bool mixed, const uint8_t *url, size_t url_length, const uint8_t *mime, size_t mime_length,
                         uint64_t told[1]);
 
 /* Appends a segment to the file in the first `length` bytes of the buffer. The list has a size and a state (0 lost, 1 damaged but kept, 2 good) for each chunk, its
-   length in numbers; an empty list with no data is an open segment. The data are the bytes of the chunks of states 1 and 2, in order. Bytes before `length` and
-   behind the new end keep their values. told: the new length. Refuses with 30, the file's own refusal, 31, 32, 1, 6, 13, 22, 23, 25 or 33, in this order. */
-uint64_t vrazhupa_append(uint8_t *buffer, size_t buffer_length, uint64_t length, uint64_t offset, uint64_t repair_time, bool last, const uint64_t *list,
-                         size_t list_length, const uint8_t *data, size_t data_length, uint64_t told[1]);
+   length in numbers; an empty list with no data is an open segment. The data are the bytes of the chunks of states 1 and 2, in order. With `outside` the good chunks
+   are stored as boxes of the file, behind the `pdat` of the damaged ones: the file has to be mixed and each good chunk whole boxes, none of type `ftyp`, `pfil`, `pseg`
+   or `pdat`; without it all data goes into one `pdat`. Bytes before `length` and behind the new end keep their values. told: the new length. Refuses with 30, the
+   file's own refusal, 31, 32, 35, 1, 6, 13, 22, 23, 25 or 33, in this order. */
+uint64_t vrazhupa_append(uint8_t *buffer, size_t buffer_length, uint64_t length, uint64_t offset, uint64_t repair_time, bool last, bool outside,
+                         const uint64_t *list, size_t list_length, const uint8_t *data, size_t data_length, uint64_t told[1]);
 
 #ifdef __cplusplus
 }

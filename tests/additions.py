@@ -10,21 +10,24 @@ FREE = box(b"free")
 BOXES = 512
 SEGMENTS = 64
 CHUNKS = 1_024
-LOST = 0
-FAULTS_OF_APPEND = [30, "own", 31, 32, 6, 13, 22, 23, 25, 33]
+LOST, DAMAGED, GOOD = 0, 1, 2
+OUTSIDE = [b"moof", b"mdat", b"free", b"surl", b"ploc", b"moov"]
+NEVER_OUTSIDE = [b"ftyp", b"pfil", b"pseg", b"pdat"]
+FAULTS_OF_APPEND = [30, "own", 31, 32, 35, 6, 13, 22, 23, 25, 33]
 FAULTS_OF_BEGIN = [33, 34]
+BRANDS = [b"paff", b"pmff"]
 
 
 def sizes(chunk_list):
     return sum(chunk_list[0::2])
 
 
-def kept(chunk_list):
-    """How many data bytes a chunk list asks for."""
-    return sum(size for size, state in zip(chunk_list[0::2], chunk_list[1::2]) if state != LOST)
+def any_inside(chunk_list, outside):
+    """Whether append writes a pdat."""
+    return any(state == DAMAGED or state == GOOD and not outside for state in chunk_list[1::2])
 
 
-def added_length(source_offset, chunk_list, data):
+def added_length(source_offset, chunk_list, data, outside=False):
     """How many bytes the paper lets append write for these arguments."""
     chunk_sizes, states = chunk_list[0::2], chunk_list[1::2]
     present = len([state for state in states if state != LOST])
@@ -32,15 +35,44 @@ def added_length(source_offset, chunk_list, data):
     offset_size = 0
     while present and len(data) > 2 ** (8 * offset_size - 1):
         offset_size += 1
-    pdat = 8 + len(data) if present else 0
+    stored = len(data) + (8 if any_inside(chunk_list, outside) else 0)
     pshd_length = 24 if source_offset < 2 ** 32 else 28
     ploc_length = 17 + len(chunk_sizes) * (1 + length_size) + present * offset_size
-    return pdat + 8 + pshd_length + ploc_length
+    return stored + 8 + pshd_length + ploc_length
 
 
 def end_of(given):
     return given["stated_length"] + added_length(
-        given["source_offset"], given["chunk_list"], given["data"])
+        given["source_offset"], given["chunk_list"], given["data"], given["outside"])
+
+
+def is_mixed(file):
+    """Whether append may store good chunks outside."""
+    number, head = model.attempt(model.read_head, file)
+    return number == 0 and head.mixed
+
+
+def boxes_of(rng, size):
+    """So many bytes of whole boxes, eight at least."""
+    first = size
+    if size >= 16 and rng.random() < 0.4:
+        first = rng.randint(8, size - 8)
+    kind, large, header = rng.choice(OUTSIDE), first >= 16 and rng.random() < 0.2, 8
+    if large:
+        header = 16
+    if first >= header + 16 and rng.random() < 0.3:
+        kind = b"uuid"
+    made = box(kind, rng.randbytes(first - header), large=large)
+    return made if first == size else made + boxes_of(rng, size - first)
+
+
+def data_for(rng, chunk_list, outside):
+    """The data of a chunk list: whole boxes for the chunks that go outside, any bytes for the others."""
+    parts = []
+    for size, state in zip(chunk_list[0::2], chunk_list[1::2]):
+        if state != LOST:
+            parts.append(boxes_of(rng, size) if outside and state == GOOD else rng.randbytes(size))
+    return b"".join(parts)
 
 
 def described(file):
@@ -49,12 +81,14 @@ def described(file):
     return answer[1:] if answer[0] == "length" else (0, False)
 
 
-def random_chunk_list(rng, room):
-    """A chunk list of at most `room` positions; open once in a while."""
+def random_chunk_list(rng, room, outside):
+    """A chunk list of at most `room` positions; open once in a while. A good chunk that goes outside has room for a box."""
     chunk_list = []
     for _ in range(rng.choice([0, 1, 1, 2, 2, 3, 4])):
         size = rng.choice([1, 2, rng.randint(1, 9), rng.randint(1, 15)])
-        state = rng.choice([0, 1, 2, 2, 2])
+        state = rng.choice([LOST, DAMAGED, GOOD, GOOD, GOOD])
+        if outside and state == GOOD:
+            size = rng.choice([8, 9, rng.randint(8, 20), rng.randint(16, 60)])
         if rng.random() < 0.02:
             size = rng.choice([128, 129, 255, 256, 300])
         if rng.random() < 0.02:
@@ -78,7 +112,10 @@ def acceptable(rng, file):
     end, closed = described(file)
     limit = end if closed else LIMIT
     reach = limit if rng.random() < 0.1 else min(limit, 60)
-    chunk_list = random_chunk_list(rng, limit)
+    outside = rng.random() < (0.6 if is_mixed(file) else 0.1)
+    chunk_list = random_chunk_list(rng, limit, outside)
+    if outside and not is_mixed(file):
+        chunk_list = [number if at % 2 == 0 else min(number, DAMAGED) for at, number in enumerate(chunk_list)]
     room = max(0, reach - sizes(chunk_list))
     source_offset = rng.choice([0, room, rng.randint(0, room), min(end, room)])
     return {
@@ -87,8 +124,9 @@ def acceptable(rng, file):
         "source_offset": source_offset,
         "repair_time": rng.choice([0, rng.getrandbits(64)]),
         "last": last_flag(rng, file, source_offset, chunk_list),
+        "outside": outside,
         "chunk_list": chunk_list,
-        "data": rng.randbytes(kept(chunk_list)),
+        "data": data_for(rng, chunk_list, outside),
     }
 
 
@@ -100,8 +138,11 @@ def lend_buffer(rng, given):
 
 
 def set_chunks(rng, given, chunk_list):
+    """A good chunk that has no room for a box does not go outside, nor do the others then."""
+    small = any(size < 8 and state == GOOD for size, state in zip(chunk_list[0::2], chunk_list[1::2]))
+    given["outside"] = given["outside"] and not small
     given["chunk_list"] = chunk_list
-    given["data"] = rng.randbytes(kept(chunk_list))
+    given["data"] = data_for(rng, chunk_list, given["outside"])
 
 
 def set_file(given, file):
@@ -142,13 +183,44 @@ def spoil_data(rng, given):
         given["data"] += rng.randbytes(rng.randint(1, 3))
 
 
+def outside_parts(given):
+    """The data of the chunks that go outside."""
+    parts, at = [], 0
+    for size, state in zip(given["chunk_list"][0::2], given["chunk_list"][1::2]):
+        if given["outside"] and state == GOOD:
+            parts.append(given["data"][at:at + size])
+        at += size if state != LOST else 0
+    return parts
+
+
 def fill_with_boxes(rng, given):
-    """Leaves no room for a pseg, or for a pdat and a pseg."""
-    left = 0
-    if kept(given["chunk_list"]) > 0:
-        left = rng.choice([0, 1])
+    """Leaves room for fewer boxes than the pseg, the pdat and those that go outside."""
+    added = 1 + any_inside(given["chunk_list"], given["outside"]) + sum(map(top_level_count, outside_parts(given)))
+    left = rng.choice([0, added - 1, rng.randrange(added)])
     file = given["buffer"]
     set_file(given, file + (BOXES - left - top_level_count(file)) * FREE)
+
+
+def not_whole_boxes(rng):
+    """Bytes that may not go outside as a good chunk."""
+    right = boxes_of(rng, rng.randint(16, 40))
+    return rng.choice([
+        right[:-1], right + b"\0", right + rng.randbytes(rng.randint(1, 7)), right[1:], rng.randbytes(rng.randint(1, 7)), right + bytes(4) + b"mdat" + bytes(8),
+        right + box(rng.choice(NEVER_OUTSIDE), rng.randbytes(rng.choice([0, 9]))), box(rng.choice(NEVER_OUTSIDE)) + right,
+        right + box(b"uuid", rng.randbytes(rng.choice([0, 1, 15]))), right + (24).to_bytes(4, "big") + b"uuid" + rng.randbytes(rng.choice([0, 15]))])
+
+
+def spoil_outside(rng, given):
+    """One more chunk to go outside that may not, before the others, or behind; where the file is not mixed it may be whole boxes."""
+    part = not_whole_boxes(rng)
+    if not is_mixed(given["buffer"]) and rng.random() < 0.5:
+        part = boxes_of(rng, rng.randint(8, 40))
+    chunk_list, data = given["chunk_list"], given["data"]
+    if not given["outside"]:
+        chunk_list, data = [], b""
+    given["outside"] = True
+    given["chunk_list"], given["data"] = rng.choice([
+        (chunk_list + [len(part), GOOD], data + part), ([len(part), GOOD] + chunk_list, part + data)])
 
 
 def fill_with_segments(rng, given):
@@ -207,7 +279,7 @@ def faulty_addition(rng, file, number):
     if number == "own":
         faulty = faulty_file(rng, rng.choice([2, 5, 8, 14, 24]))
         set_file(given, rng.choice([spoil(rng, file), faulty]))
-    steps = {31: spoil_chunk_list, 32: spoil_data, 6: fill_with_boxes, 13: fill_with_segments,
+    steps = {31: spoil_chunk_list, 32: spoil_data, 35: spoil_outside, 6: fill_with_boxes, 13: fill_with_segments,
              22: fill_with_chunks, 23: overstep_limit, 25: overstep_size}
     if number in steps:
         steps[number](rng, given)
@@ -227,7 +299,7 @@ def addition(rng, file):
         return lend_buffer(rng, acceptable(rng, file))
     weights = [1 if number in (6, 13, 22) else 4 for number in FAULTS_OF_APPEND]
     number = rng.choices(FAULTS_OF_APPEND, weights)[0]
-    if model.append(file, len(file), 0, 0, False, [], b"")[0] != ("refused", 33):
+    if model.append(file, len(file), 0, 0, False, False, [], b"")[0] != ("refused", 33):
         number = "own"
     return faulty_addition(rng, file, number)
 
@@ -250,7 +322,7 @@ def faulty_beginning(rng, number):
     room = end + rng.choice([0, 0, 1, rng.randint(0, 30)])
     if number == 33 or number == 34 and rng.random() < 0.3:
         room = rng.choice([end - 1, end - 1, rng.randint(0, end - 1)])
-    return {"buffer": rng.randbytes(room), "url": url, "mime": mime}
+    return {"buffer": rng.randbytes(room), "brand": rng.choice(BRANDS), "url": url, "mime": mime}
 
 
 def beginning(rng):

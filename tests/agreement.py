@@ -17,7 +17,7 @@ import agreement_crates
 
 # Every refusal of the base; 1 and 27 are met by statements on the length of a list that is not written out.
 BY_LENGTH = {1, 27}
-REFUSALS = set(range(1, 28)) | set(range(30, 35))
+REFUSALS = set(range(1, 28)) | set(range(30, 36))
 
 
 def arguments():

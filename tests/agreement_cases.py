@@ -183,10 +183,14 @@ def mapped_case(rng, name, file, source):
     return Case(name, "mappedOf %s (%s)" % (octets(file), listing(points)), numbers, 0, source)
 
 
+def truth(value):
+    return "true" if value else "false"
+
+
 def addition_term(given):
-    return "%s %d %d %d %s (%s) %s" % (
-        octets(given["buffer"]), given["stated_length"], given["source_offset"], given["repair_time"],
-        "true" if given["last"] else "false", listing(given["chunk_list"]), octets(given["data"]))
+    return "%s %d %d %d %s %s (%s) %s" % (
+        octets(given["buffer"]), given["stated_length"], given["source_offset"], given["repair_time"], truth(given["last"]), truth(given["outside"]),
+        listing(given["chunk_list"]), octets(given["data"]))
 
 
 def addition_cases(rng, name, given):
@@ -204,7 +208,7 @@ def addition_cases(rng, name, given):
 def rewriting_case(rng, name):
     """Demand 2: a file that begin and append alone made, written again."""
     buffer = bytes(2 * SMALL)
-    answer, buffer = model.begin(buffer, b"u", b"")
+    answer, buffer = model.begin(buffer, rng.choice([model.PAFF, model.PMFF]), b"u", b"")
     size = answer[1]
     for _ in range(rng.randint(1, 3)):
         given = generate.addition(rng, buffer[:size])
@@ -218,18 +222,21 @@ def rewriting_case(rng, name):
 
 def beginning_case(name, given):
     answer, buffer = model.begin(**given)
-    term = "begunOf %s %s %s" % (octets(given["buffer"]), octets(given["url"]), octets(given["mime"]))
+    brand = "Pmff" if given["brand"] == model.PMFF else "Paff"
+    term = "begunOf %s %s %s %s" % (octets(given["buffer"]), brand, octets(given["url"]), octets(given["mime"]))
     return Case(name, term, written_numbers(answer, buffer), number_of(answer), "beginning %r" % given)
 
 
 def some_file(rng, index):
-    """First each fault once; then of ten files four as another writer makes them, four spoiled, two with a fault.
+    """First each fault once; then of ten files four as another writer makes them, one of them mixed at least, four spoiled, two with a fault.
 
     A file with a 513th box is large, so that fault is chosen once.
     """
     faults = sorted(generate.FAULTS)
     if index < len(faults):
         return generate.faulty_file(rng, faults[index])
+    if index % 10 == 0:
+        return generate.mixed_file(rng)
     if index % 10 < 4:
         return generate.foreign_file(rng)
     if index % 10 < 8:
@@ -238,10 +245,12 @@ def some_file(rng, index):
 
 
 def some_addition(rng, index):
-    """Mostly as a clerk would add, and each fault of append in turn; those that need a large file once."""
+    """Mostly as a clerk would add, one in four outside, and each fault of append in turn; those that need a large file once."""
     file = generate.foreign_file(rng)
     if index < len(generate.FAULTS_OF_APPEND):
         return generate.faulty_addition(rng, file, generate.FAULTS_OF_APPEND[index])
+    if index % 4 == 1:
+        return outside_addition(rng)
     if index % 4 == 0:
         small = [number for number in generate.FAULTS_OF_APPEND if number not in (6, 13, 22)]
         return generate.faulty_addition(rng, file, small[index // 4 % len(small)])
@@ -253,6 +262,14 @@ def addition_to(rng, file):
     while True:
         given = generate.addition(rng, file)
         if len(given["buffer"]) < 1_000:
+            return given
+
+
+def outside_addition(rng):
+    """Good chunks that go outside and are taken."""
+    while True:
+        given = addition_to(rng, generate.mixed_file(rng))
+        if given["outside"] and model.GOOD in given["chunk_list"][1::2] and model.append(**given)[0][0] == "length":
             return given
 
 

@@ -24,7 +24,7 @@ use Rattle.boxes.specs.Answer.{Answer, refused, given}
 use Rattle.numerals.specs.Numbers.{bytesOf}
 use Rattle.partial.specs.Limits.{programLimit, sourceLimit}
 use Rattle.partial.specs.Segments.{Segment}
-use Rattle.partial.specs.Heading.{url, mime}
+use Rattle.partial.specs.Heading.{url, mime, heading}
 use Rattle.partial.specs.Reading.{reading, earlierSegments}
 use Rattle.partial.specs.Meaning.{Reply, servedFor, missingFor, notBelow, describedLength, supplied, served}
 use Rattle.partial.specs.Ranges.{hadList, missingList, total}
@@ -33,11 +33,12 @@ use Rattle.partial.specs.Memory.{after, written}
 use Rattle.partial.specs.Tables.{segmentRows, chunkRows, hadRows, missingRows, tabled, listed, summary, totals, bytesIn, servedPart, asked, textOf}
 use Rattle.partial.specs.Map.{mapText}
 use Rattle.partial.specs.BoxList.{boxesText}
+use Rattle.partial.specs.declared.brand.Brand.{Brand}
 use Rattle.partial.specs.Begin.{beginning, begun}
 use Rattle.partial.specs.Addition.{Addition}
 use Rattle.partial.specs.Append.{appended, psegPlace, newSegment, result}
 use Rattle.partial.specs.Runs.{lent, fileIn, append}
-use Rattle.partial.specs.Again.{again, writeAgain}
+use Rattle.partial.specs.Again.{again, settled, writeAgain}
 use Rattle.partial.specs.Carried.{carried, orElse}
 use Rattle.partial.proofs.Computing.{computing}
 
@@ -93,14 +94,14 @@ listsOf f h m =
     let r = listed sourceLimit f ample ample h m in
     answered totalsOf r ++ (after hadRows r h ++ after missingRows r m)
 
-unfoldable pub begunOf : List ℕ → List ℕ → List ℕ → List ℕ
+unfoldable pub begunOf : List ℕ → Brand → List ℕ → List ℕ → List ℕ
 unfolding answered computing
-begunOf buffer u m = answered (λ n. n ∷ []) (begun buffer u m) ++ written (beginning u m) (begun buffer u m) buffer
+begunOf buffer brand u m = answered (λ n. n ∷ []) (begun buffer brand u m) ++ written (beginning brand u m) (begun buffer brand u m) buffer
 
-unfoldable pub appendedOf : List ℕ → ℕ → ℕ → ℕ → Bool → List ℕ → List ℕ → List ℕ
+unfoldable pub appendedOf : List ℕ → ℕ → ℕ → ℕ → Bool → Bool → List ℕ → List ℕ → List ℕ
 unfolding answered computing
-appendedOf buffer n offset repair last list bytes =
-    let a : Addition = record { sourceOffset = offset; repairTime = repair; last = last; list = list; bytes = bytes } in
+appendedOf buffer n offset repair last outside list bytes =
+    let a : Addition = record { sourceOffset = offset; repairTime = repair; last = last; outside = outside; list = list; bytes = bytes } in
     let r = appended sourceLimit buffer n a in
     answered (λ m. m ∷ []) r ++ written (result buffer n a) r buffer
 
@@ -122,17 +123,18 @@ sameByte (some a) (some b) = eqb a b
 
 sameAddition : Addition → Addition → Bool
 sameAddition a b =
-    eqb (a .sourceOffset) (b .sourceOffset) && eqb (a .repairTime) (b .repairTime) && eqb (flag (a .last)) (flag (b .last)) && same (a .list) (b .list) && same (a .bytes) (b .bytes)
+    eqb (a .sourceOffset) (b .sourceOffset) && eqb (a .repairTime) (b .repairTime) && eqb (flag (a .last)) (flag (b .last))
+    && eqb (flag (a .outside)) (flag (b .outside)) && same (a .list) (b .list) && same (a .bytes) (b .bytes)
 
 keptAt : List ℕ → List ℕ → List Segment → List Segment → Addition → List ℕ → List ℕ
 keptAt f g ss ts a [] = []
 keptAt f g ss ts a (p ∷ ps) = flag (sameByte (served g ts p) (orElse (served f ss p) (carried a p))) ∷ keptAt f g ss ts a ps
 
 -- demands 2 and 3 at an accepted addition, each 1 where it holds: read back, the same again, no shorter, and each position kept
-unfoldable pub demandsOf : List ℕ → ℕ → ℕ → ℕ → Bool → List ℕ → List ℕ → List ℕ → List ℕ
+unfoldable pub demandsOf : List ℕ → ℕ → ℕ → ℕ → Bool → Bool → List ℕ → List ℕ → List ℕ → List ℕ
 unfolding flag same sameSegments sameByte sameAddition keptAt computing
-demandsOf buffer n offset repair last list bytes ps =
-    let a : Addition = record { sourceOffset = offset; repairTime = repair; last = last; list = list; bytes = bytes } in
+demandsOf buffer n offset repair last outside list bytes ps =
+    let a : Addition = record { sourceOffset = offset; repairTime = repair; last = last; outside = outside; list = list; bytes = bytes } in
     let f = fileIn (lent buffer n) in
     let g = fileIn (append sourceLimit (lent buffer n) a) in
     elim (earlierSegments sourceLimit f)
@@ -142,7 +144,7 @@ demandsOf buffer n offset repair last list bytes ps =
         [ refused k ↦ 0 ∷ k ∷ []
         | given ts ↦
             flag (sameSegments ts (ss ++ (newSegment (psegPlace n a) a ∷ [])))
-            ∷ flag (sameAddition (again g (newSegment (psegPlace n a) a)) a)
+            ∷ flag (elim (heading g) [ refused k ↦ false | given h ↦ sameAddition (again g h (newSegment (psegPlace n a) a)) (settled a) ])
             ∷ flag (leb (describedLength ss) (describedLength ts))
             ∷ keptAt f g ss ts a ps
         ]
@@ -173,7 +175,11 @@ mappedOf f ps =
 -- demand 2: writing again what was read from our writer's file gives that file
 unfoldable pub againOf : List ℕ → List ℕ
 unfolding flag same computing
-againOf f = elim (reading sourceLimit f) [ refused k ↦ 0 ∷ k ∷ [] | given ss ↦ flag (same (fileIn (writeAgain sourceLimit f f ss)) f) ∷ [] ]
+againOf f =
+    elim (reading sourceLimit f)
+    [ refused k ↦ 0 ∷ k ∷ []
+    | given ss ↦ elim (heading f) [ refused k ↦ 0 ∷ k ∷ [] | given h ↦ flag (same (fileIn (writeAgain sourceLimit f f h ss)) f) ∷ [] ]
+    ]
 
 unfoldable pub mapOfInput : List ℕ → List ℕ
 unfolding computing
@@ -185,6 +191,7 @@ boxesOfInput input = boxesText programLimit input
 """
 
 BATCH_USES = """use Rattle.numerals.specs.Numbers.{bytesOf}
+use Rattle.partial.specs.declared.brand.Brand.the-variants.{Paff, Pmff}
 use Rattle.computed.specs.Computed.{readOf, tablesOf, listsOf, begunOf, appendedOf, demandsOf, mappedOf, againOf, mapOfInput, boxesOfInput}
 """
 

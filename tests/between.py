@@ -3,9 +3,12 @@
 usage: python3 tests/between.py [--cases N] [--seed S] [--request R] --old WORDS --new WORDS
 
 WORDS, in quotes, are how each driver is run; both are made of tests/scale/*.c, as tests/scale.py says. They are sent the cases that tests/scale.py makes with that
-seed, without the calls that only one of them has. Of each call its answer and a sum of each lent memory, with what lies around it, are compared. Differences are
-counted by old answer, new answer and call. With --request R one is expected where the model says of the call's file that this request changes its answer, and the
-new answer is the model's; without, none is. The status is 1 where one is not expected; `tests/scale.py --seed S --show CASE` shows a case.
+seed, without the calls that only one of them has, or cannot be asked. Of each call its answer and a sum of each lent memory, with what lies around it, are compared.
+Differences are counted by old answer, new answer and call. With --request R one is expected where the model says of the call's file that this request changes its
+answer, from the old one if the model can tell that, and the new answer is the model's; without, none is. The status is 1 where one is not expected;
+`tests/scale.py --seed S --show CASE` shows a case.
+
+A driver for an implementation from before request 2 is built with that one's header and -DBEFORE_MIXED.
 """
 
 import argparse
@@ -17,13 +20,16 @@ import sys
 import tempfile
 from collections import Counter, defaultdict, namedtuple
 
+import brands
 import remembering
 import vendors
 from scale import AT_ONCE, send
 from scale_stream import BEFORE, END, FILE, TOO_LARGE, Stream
 
-# Of each request that changes answers, whether it changes those about a file.
-CHANGES = {1: vendors.refused_for_its_size}
+# Of each request that changes answers, whether it changes that of a call on a file from the old one.
+CHANGES = {1: lambda file, name, old: vendors.refused_for_its_size(file), 2: brands.changes}
+# What begin and append were not asked before request 2.
+SINCE_MIXED = {"begin": "begin-mixed", "append": "append-outside"}
 SHOWN = 10
 
 # A call that both made: its number in the stream, the model's answer, and the file that it was about, None where that is too large to be kept.
@@ -65,11 +71,12 @@ class Both(Stream):
             driver.process.stdin.write(content)
 
     def send(self, name, refusal, numbers, record):
-        if name in self.shared:
+        asked = SINCE_MIXED[name] if name in SINCE_MIXED and numbers[-1] else name
+        if asked in self.shared:
             self.made.append(Made(self.cases, name, refusal, self.file_of(name, numbers)))
             self.write(record)
         else:
-            self.left_out[name] += 1
+            self.left_out[asked] += 1
 
     def file_of(self, name, numbers):
         content = {"begin": b"", "append": self.held.get(BEFORE)}.get(name, self.held.get(FILE))
@@ -88,7 +95,7 @@ def differences(made, old, new, changes):
         if before == after:
             continue
         old_answer, new_answer = [int(line.split()[0]) for line in (before, after)]
-        expected = new_answer == call.answer and call.file is not None and changes(call.file)
+        expected = new_answer == call.answer and call.file is not None and changes(call.file, call.name, old_answer)
         found[old_answer, new_answer, expected][call.name] += 1
         if not expected and len(shown) < SHOWN:
             shown.append(f"case {call.case}, {call.name}: {before}, then {after}")
@@ -127,7 +134,7 @@ def main():
     with contextlib.suppress(BrokenPipeError):
         send(stream, given.cases)
     old, new = [driver.lines(len(stream.made)) for driver in drivers]
-    return say(stream, *differences(stream.made, old, new, CHANGES.get(given.request, lambda file: False)))
+    return say(stream, *differences(stream.made, old, new, CHANGES.get(given.request, lambda *call: False)))
 
 
 if __name__ == "__main__":

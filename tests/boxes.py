@@ -36,9 +36,9 @@ def surl(url=b"u", mime=b"", large=False):
     return box(b"surl", full(), url, b"\0", mime, b"\0", large=large)
 
 
-def head(url=b"u", mime=b""):
+def head(url=b"u", mime=b"", brand=b"paff"):
     """The ftyp and pfil that every file begins with, in their plainest form."""
-    return ftyp() + box(b"pfil", pfhd(), surl(url, mime))
+    return ftyp([brand], brand) + box(b"pfil", pfhd(), surl(url, mime))
 
 
 def pshd(offset, flags=0, repair_time=0, version=0, large=False):

@@ -3,9 +3,11 @@
 import os
 import resource
 
+from boxes import box
 from command_run import claim, claim_held, ended, good, lost, told
 from command_wanted import appended, begun, film_of
 from expecting import expect
+from model import PMFF
 
 DATA = bytes(at % 251 for at in range(300_000))
 FILM = film_of((0, [good(DATA), lost(6)], True))
@@ -131,6 +133,11 @@ def full_append(command):
         claim_held(f"the film after room for {room}", command, "film", FILM)
     claim("append with room for all", command.append("film", 0, [good(data[:300_006])], preexec_fn=limited(len(wanted))), 0)
     claim_held("the film after room for all", command, "film", wanted)
+    boxes, mixed = box(b"moof", data[:100_000]) + box(b"mdat", data[:200_000]), film_of((0, [lost(1)]), brand=PMFF)
+    for room in (0, 1, 8, 9, 100_007, 100_008, 100_009, 100_016, 300_016, 300_017):
+        command.put("film", mixed)
+        claim(f"append outside with room for {room}", command.append("film", 0, [good(boxes)], outside=True, preexec_fn=limited(len(mixed) + room)), 2)
+        claim_held(f"the mixed film after room for {room}", command, "film", mixed)
     open_film = film_of((0, [lost(1)]))
     for room in (0, 1_048_576, 1_048_577, 2_200_000, 2_400_008):
         command.put("film", open_film)

@@ -5,48 +5,52 @@ import signal
 import time
 
 from command_run import SOON, claim, claim_held, difference, ended, good, told
-from command_traced import BOX, CHUNKS, FILM, HEADER, MOST_CALLS, NEW, SYNCING, traceable, traced
+from command_traced import HEADER, INSIDE, MOST_CALLS, OUTSIDE, SYNCING, traceable, traced, words_of
 from command_wanted import appended, claim_map, map_text
 from expecting import expect
 
 TIMED_KILLS = 12
 SIGNALS = ["SIGTERM", "SIGINT", "SIGHUP", "SIGQUIT", "SIGUSR1", "SIGALRM", "SIGXCPU"]
-WITHOUT_HEADER = NEW[:BOX] + bytes(HEADER) + NEW[BOX + HEADER:]
 
-# What may be read of a file after a kill: what was read before, or a refusal.
-UNREAD = [map_text(FILM), b"refused\t2\n", b"refused\t3\n", b"refused\t5\n"]
+# What may be read of a file after a kill beside what was read before: a refusal.
+UNREAD = [b"refused\t2\n", b"refused\t3\n", b"refused\t5\n"]
 
 
-def claim_whole(name, command):
+def without_header(case):
+    return case.new[:case.box] + bytes(HEADER) + case.new[case.box + HEADER:]
+
+
+def claim_whole(name, command, case):
     """The old bytes stand; what stands behind them is refused or changes nothing; cut, the file is the old one, and its lock is free."""
+    name = f"{case.name}, {name}"
     content = command.held("film")
-    expect(f"the old bytes after {name}", content.startswith(FILM))
-    expect(f"nothing new is read after {name}", content == NEW or map_text(content) in UNREAD or map_text(content))
-    expect(f"what was written after {name}", NEW.startswith(content) or WITHOUT_HEADER.startswith(content) or len(content))
+    expect(f"the old bytes after {name}", content.startswith(case.film))
+    expect(f"nothing new is read after {name}", content == case.new or map_text(content) in [map_text(case.film), *UNREAD] or map_text(content))
+    expect(f"what was written after {name}", case.new.startswith(content) or without_header(case).startswith(content) or len(content))
     claim_map(f"the film after {name}", command, "film", content)
-    os.truncate(command.path("film"), len(FILM))
-    claim_map(f"the film cut after {name}", command, "film", FILM)
+    os.truncate(command.path("film"), len(case.film))
+    claim_map(f"the film cut after {name}", command, "film", case.film)
     start = time.monotonic()
     claim(f"append after {name}", command.append("film", 4, [good(b"xyz")]), 0)
     expect(f"no waiting after {name}", time.monotonic() - start < SOON)
-    claim_held(f"the film appended to after {name}", command, "film", appended(FILM, 4, [good(b"xyz")])[1])
+    claim_held(f"the film appended to after {name}", command, "film", appended(case.film, 4, [good(b"xyz")])[1])
 
 
-def killed_at(command, call):
+def killed_at(command, case, call):
     """Killed at its first such call, its second, and so on until there is none; how many there were."""
     for count in range(1, MOST_CALLS):
-        command.put("film", FILM)
-        answer, calls = traced(command, f"{call}:signal=SIGKILL:when={count}")
+        command.put("film", case.film)
+        answer, calls = traced(command, case, f"{call}:signal=SIGKILL:when={count}")
         if answer.status != -signal.SIGKILL:
-            claim(f"append with fewer than {count} {call}", answer, 0)
-            claim_held(f"the film with fewer than {count} {call}", command, "film", NEW)
+            claim(f"{case.name} with fewer than {count} {call}", answer, 0)
+            claim_held(f"the film with fewer than {count} {call}", command, "film", case.new)
             return count - 1
-        claim_whole(f"a kill at {call} {count}", command)
+        claim_whole(f"a kill at {call} {count}", command, case)
     return MOST_CALLS
 
 
-def killed(command):
-    counts = [killed_at(command, call) for call in ["pwrite64", "flock", *SYNCING]]
+def killed(command, case):
+    counts = [killed_at(command, case, call) for call in ["pwrite64", "flock", *SYNCING]]
     expect("kills at five writes or more", counts[0] >= 5)
     expect("kills at two syncs or more", counts[2] + counts[3] >= 2)
 
@@ -55,38 +59,40 @@ def hang_up_ignored():
     signal.signal(signal.SIGHUP, signal.SIG_IGN)
 
 
-def ended_by_signals(command):
+def ended_by_signals(command, case):
     """A signal that can be caught, at any call: the file is cut to its old length, or it came too late and all is done."""
     for name in SIGNALS:
         for call, count in [("flock", 1), ("pwrite64", 1), ("pwrite64", 3), ("pwrite64", 5), ("fdatasync", 1), ("pwrite64", 6), ("fsync", 1)]:
-            command.put("film", FILM)
-            answer, calls = traced(command, f"{call}:signal={name}:when={count}")
+            command.put("film", case.film)
+            answer, calls = traced(command, case, f"{call}:signal={name}:when={count}")
             done = answer.status == 0
-            expect(f"{name} at {call} {count}", difference(command.held("film"), NEW if done else FILM), None)
+            expect(f"{name} at {call} {count}", difference(command.held("film"), case.new if done else case.film), None)
             expect(f"the answer to {name} at {call} {count}", done or answer.status < 0 or (answer.status == 2 and told(answer)) or answer)
-    command.put("film", FILM)
-    claim("append under nohup", traced(command, "pwrite64:signal=SIGHUP:when=3", preexec_fn=hang_up_ignored)[0], 0)
-    claim_held("the film after nohup", command, "film", NEW)
+    command.put("film", case.film)
+    claim("append under nohup", traced(command, case, "pwrite64:signal=SIGHUP:when=3", preexec_fn=hang_up_ignored)[0], 0)
+    claim_held("the film after nohup", command, "film", case.new)
 
 
-def killed_at_any_time(command):
+def killed_at_any_time(command, case):
     """The same where the kill may fall into the middle of a write: the times are spread over those that a whole append takes."""
-    command.put("film", FILM)
-    words = command.append_words("film", 4, CHUNKS, True, 9)
+    command.put("film", case.film)
+    words = words_of(command, case)
     start = time.monotonic()
-    claim("append that is not killed", command.run(*words), 0)
+    claim(f"{case.name} that is not killed", command.run(*words), 0)
     whole = time.monotonic() - start
     for turn in range(TIMED_KILLS):
-        command.put("film", FILM)
-        process = command.start(*command.append_words("film", 4, CHUNKS, True, 9))
+        command.put("film", case.film)
+        process = command.start(*words_of(command, case))
         time.sleep(whole * turn / TIMED_KILLS)
         process.kill()
         ended(process)
-        claim_whole(f"a timed kill, {turn}", command)
+        claim_whole(f"a timed kill, {turn}", command, case)
 
 
 def check(command):
+    for case in (INSIDE, OUTSIDE):
+        if traceable(command):
+            killed(command, case)
+        killed_at_any_time(command, case)
     if traceable(command):
-        killed(command)
-        ended_by_signals(command)
-    killed_at_any_time(command)
+        ended_by_signals(command, INSIDE)

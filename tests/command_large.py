@@ -8,6 +8,7 @@ from command_run import claim, claim_held, claim_missing, claim_refused, ended, 
 from command_wanted import begun, film_of
 from corpus import ROOT
 from expecting import expect
+from model import PMFF
 
 LIMIT = 1_073_741_824
 MOST_KIB = 64 * 1_024
@@ -145,7 +146,21 @@ def data_over_the_limit(command):
     claim_measure("append of 2 TiB", command)
 
 
+def boxes_over_the_limit(command):
+    """Boxes to go outside that no file has room for: 1 by their length, and 35 where a good chunk is not whole boxes or the film not mixed."""
+    file = film_of((0, [good(b"abcd")]), brand=PMFF)
+    for name, size, length in [("boxes", 600_000_000, 600_000_000), ("cut", 600_000_000, 599_999_999), ("damage", 0, 9)]:
+        command.put(name, size.to_bytes(4, "big") + b"mdat")
+        os.truncate(command.path(name), length)
+    for number, words in [(1, "--good boxes --good boxes"), (35, "--good boxes --good cut"), (35, "--good cut --lost 4 --good boxes"), (1, "--damaged cut --good boxes"),
+                          (35, "--good damage --damaged boxes --good boxes"), (1, "--damaged boxes --damaged boxes")]:
+        for film, answer in [(file, number), (film_of((0, [good(b"abcd")])), 35 if "--good" in words else 1)]:
+            command.put("film", film)
+            claim_refused(f"append outside {words}", command.run("append", "film", "--offset", "0", "--outside", *words.split()), answer)
+            claim_held(f"the film after {words}", command, "film", film)
+
+
 def check(command):
     make_film(command)
-    for part in (reading, get_whole, adding, over_the_limit, data_over_the_limit):
+    for part in (reading, get_whole, adding, over_the_limit, data_over_the_limit, boxes_over_the_limit):
         part(command)

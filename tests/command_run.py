@@ -51,17 +51,17 @@ class Command:
     def run(self, *arguments, before=(), **how):
         return ended(self.start(*arguments, before=before, **how))
 
-    def append_words(self, film, offset, chunks, last=False, time=None):
+    def append_words(self, film, offset, chunks, last=False, time=None, outside=False):
         """The words of an append, whose data is put into files first."""
-        words = ["append", film, "--offset", str(offset)] + ["--last"] * last
+        words = ["append", film, "--offset", str(offset)] + ["--last"] * last + ["--outside"] * outside
         words += [] if time is None else ["--time", str(time)]
         for number, chunk in enumerate(chunks):
             value = chunk.value
             words += ["--" + chunk.kind, str(value) if chunk.kind == "lost" else self.put(f"piece{number}", value)]
         return words
 
-    def append(self, film, offset, chunks, last=False, time=None, **how):
-        return self.run(*self.append_words(film, offset, chunks, last, time), **how)
+    def append(self, film, offset, chunks, last=False, time=None, outside=False, **how):
+        return self.run(*self.append_words(film, offset, chunks, last, time, outside), **how)
 
 
 def ended(process):

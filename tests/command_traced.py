@@ -6,6 +6,7 @@ import re
 from collections import namedtuple
 
 import model
+from boxes import box
 from command_run import claim, claim_held, damaged, good, lost
 from command_wanted import appended, begun, film_of
 from expecting import expect
@@ -18,13 +19,22 @@ MOST_CALLS = 40
 SEED = 23_001_142
 
 DATA = random.Random(SEED).randbytes(3_500_000)
-CHUNKS = [good(DATA[:2_500_000]), lost(77), damaged(DATA[2_500_000:])]
-FILM = film_of((0, [good(b"abcd"), lost(6)]))
-NEW = appended(FILM, 4, CHUNKS, True, 9)[1]
 
-# The header of the new segment's box is written last, so that the segment is read when all of it is there.
+# An append whose calls are traced: to which film, with which chunks, whether outside, what it leaves, and the place of the new segment's box there. The header of
+# that box is written last, so that the segment is read when all of it is there.
+Case = namedtuple("Case", "name film chunks outside new box")
 HEADER = 8
-BOX = model.read(NEW)[1][-1][0]
+
+
+def case_of(name, brand, first, outside):
+    film = film_of((0, [good(b"abcd"), lost(6)]), brand=brand)
+    chunks = [good(first), lost(77), damaged(DATA[2_500_000:])]
+    new = appended(film, 4, chunks, True, 9, outside)[1]
+    return Case(name, film, chunks, outside, new, model.read(new)[1][-1][0])
+
+
+INSIDE = case_of("append", model.PAFF, DATA[:2_500_000], False)
+OUTSIDE = case_of("append outside", model.PMFF, box(b"moof", DATA[:1_200_000]) + box(b"mdat", DATA[:1_300_000], large=True), True)
 
 # A call on a file: `file` is its path, and for a write, `first` and `end` bound the places that it changed.
 Call = namedtuple("Call", "name words file first end")
@@ -37,9 +47,13 @@ def traceable(command):
     return len(command.words) == 1
 
 
-def traced(command, *options, **how):
+def words_of(command, case):
+    return command.append_words("film", 4, case.chunks, True, 9, case.outside)
+
+
+def traced(command, case, *options, **how):
     """An append of some MiB under strace; its answer, and the calls that it made."""
-    words = command.append_words("film", 4, CHUNKS, True, 9)
+    words = words_of(command, case)
     before = ["strace", "-f", "-y", "-o", "log", "-e", "trace=" + TRACED]
     for option in options:
         before += ["-e", "inject=" + option]
@@ -107,56 +121,56 @@ def claim_order(name, calls, new):
     expect(f"the order of {name}", steps[:-1] if steps[-1:] == ["unlock"] else steps, ["lock", "body", "sync", "header", "sync"])
 
 
-def order(command):
-    command.put("film", FILM)
-    answer, calls = traced(command)
-    claim("append under strace", answer, 0)
-    claim_held("the film after it", command, "film", NEW)
+def order(command, case):
+    command.put("film", case.film)
+    answer, calls = traced(command, case)
+    claim(f"{case.name} under strace", answer, 0)
+    claim_held(f"the film after {case.name}", command, "film", case.new)
     expect("the film keeps its name", [call for call in calls if call.name in RENAMING], [])
     calls = on_film(command, calls)
-    claim_places(calls, FILM, NEW)
-    claim_order("an append of data", calls, NEW)
-    command.put("film", FILM)
+    claim_places(calls, case.film, case.new)
+    claim_order(f"an {case.name} of data", calls, case.new)
+    command.put("film", case.film)
     before = ["strace", "-f", "-y", "-o", "log", "-e", "trace=" + TRACED]
-    claim("append of what was lost", command.append("film", 4, [lost(3)], before=before), 0)
+    claim(f"{case.name} of what was lost", command.append("film", 4, [lost(3)], outside=case.outside, before=before), 0)
     calls = on_film(command, calls_in(command.held("log").decode("ascii", "replace")))
-    claim_places(calls, FILM, command.held("film"))
-    claim_order("an append of what was lost", calls, appended(FILM, 4, [lost(3)])[1])
+    claim_places(calls, case.film, command.held("film"))
+    claim_order(f"an {case.name} of what was lost", calls, appended(case.film, 4, [lost(3)])[1])
 
 
 # Failing.
 
-def claim_failed(name, command, *options):
+def claim_failed(name, command, case, *options):
     """Whether it failed, and then with status 2 and the film as it was."""
-    command.put("film", FILM)
-    answer, calls = traced(command, *options)
+    command.put("film", case.film)
+    answer, calls = traced(command, case, *options)
     if answer.status == 0:
-        claim_held(f"the film, {name} not met", command, "film", NEW)
+        claim_held(f"the film, {name} not met", command, "film", case.new)
         return False
-    claim(f"append, {name}", answer, 2)
-    claim_held(f"the film, {name}", command, "film", FILM)
+    claim(f"{case.name}, {name}", answer, 2)
+    claim_held(f"the film, {case.name}, {name}", command, "film", case.film)
     return True
 
 
-def failing(command):
+def failing(command, case):
     counts = []
     for call, error in [("pwrite64", "ENOSPC"), ("fdatasync", "EIO"), ("fsync", "EIO"), ("flock", "ENOLCK")]:
         count = 1
-        while count < MOST_CALLS and claim_failed(f"{error} of {call} {count}", command, f"{call}:error={error}:when={count}"):
+        while count < MOST_CALLS and claim_failed(f"{error} of {call} {count}", command, case, f"{call}:error={error}:when={count}"):
             count += 1
         counts.append(count - 1)
     expect("writes, syncs and a lock that fail", counts[0] >= 5 and counts[1] + counts[2] >= 2 and counts[3] >= 1 or counts)
-    claim_failed("a disk full from the third write on", command, "pwrite64:error=ENOSPC:when=3+")
+    claim_failed("a disk full from the third write on", command, case, "pwrite64:error=ENOSPC:when=3+")
     failing_syncs = ["fsync:error=EIO:when=1+", "fdatasync:error=EIO:when=1+"]
-    claim_failed("a disk that fails from the second write on", command, "pwrite64:error=EIO:when=2+", *failing_syncs)
+    claim_failed("a disk that fails from the second write on", command, case, "pwrite64:error=EIO:when=2+", *failing_syncs)
 
 
-def failing_to_cut(command):
+def failing_to_cut(command, case):
     """Where not even the cut is possible, the old bytes stand and the failure is told."""
-    command.put("film", FILM)
-    answer, calls = traced(command, "pwrite64:error=ENOSPC:when=3", "ftruncate:error=EIO:when=1+")
-    claim("append, neither written nor cut", answer, 2)
-    expect("the old bytes", command.held("film").startswith(FILM))
+    command.put("film", case.film)
+    answer, calls = traced(command, case, "pwrite64:error=ENOSPC:when=3", "ftruncate:error=EIO:when=1+")
+    claim(f"{case.name}, neither written nor cut", answer, 2)
+    expect("the old bytes", command.held("film").startswith(case.film))
 
 
 def failing_begin(command):
@@ -176,5 +190,7 @@ def failing_begin(command):
 
 def check(command):
     if traceable(command):
-        for part in (order, failing, failing_to_cut, failing_begin):
-            part(command)
+        for case in (INSIDE, OUTSIDE):
+            for part in (order, failing, failing_to_cut):
+                part(command, case)
+        failing_begin(command)

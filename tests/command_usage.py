@@ -10,13 +10,14 @@ FILM = film_of((0, [good(b"abcd"), lost(6)], True))
 NO_NUMBERS = ["", "-1", "+1", " 1", "1 ", "1\n", "0x1", "1e3", "1.0", "1,000", "one", "--last", "\u0661", "18446744073709551616",
               "18446744073709551617", "36893488147419103232", "99999999999999999999", "184467440737095516150", "1" + 60 * "0"]
 FEW_OR_MANY_WORDS = ["", "map", "map film other", "boxes", "boxes film other", "rows", "rows film other", "get", "get film", "get film 0", "get film 0 1 2", "begin",
-                     "begin new", "begin new u m x", "append", "append film"]
+                     "begin new", "begin new u m x", "begin --brand", "begin --brand pmff", "begin --brand pmff new", "begin --brand pmff new u m x", "append", "append film"]
 NO_COMMANDS = ["show film", "Map film", "maps film", "ma film", "box film", "boxlist film", "film", "film map", "-map film", "--map film", "append-film"]
 OPTIONS = [
     "--offset", "--offset 0", "--lost 1", "--good piece", "--last --lost 1", "--offset 0 --last", "--offset 0 --time 4", "--time 4 --lost 1",
     "--offset 0 --lost", "--offset 0 --good", "--offset 0 --damaged", "--offset 0 --lost 1 --time", "--offset 0 --lost 1 --offset",
     "--offset 0 --offset 0 --lost 1", "--offset 0 --lost 1 --offset 4", "--offset 0 --time 1 --time 1 --lost 1",
-    "--offset 0 --last --last --lost 1", "--offset 0 --last --lost 1 --last", "--offset 0 --first --lost 1", "--offset 0 --lost 1 --state 2",
+    "--offset 0 --last --last --lost 1", "--offset 0 --last --lost 1 --last", "--offset 0 --outside --outside --lost 1", "--offset 0 --outside", "--outside --lost 1",
+    "--offset 0 --lost 1 --outside 1", "--offset 0 --inside --lost 1", "--offset 0 --lost 1 --outsid", "--offset 0 --brand pmff --lost 1", "--offset 0 --first --lost 1", "--offset 0 --lost 1 --state 2",
     "--offset 0 -l --lost 1", "--off 0 --lost 1", "--offset=0 --lost 1", "--offset 0 --lost=1", "-offset 0 --lost 1", "--offset 0 lost 1",
     "--offset 0 --lost 1 2", "--offset 0 --good piece piece", "0 --lost 1", "other --offset 0 --lost 1", "--offset 0 - --lost 1",
     "--offset 0 -- --lost 1", "--offset 0 --lost 1 --", "--offset 0 --lost 1 -"]
@@ -38,9 +39,17 @@ def words(command):
     expect("usage names each subcommand", named and in_form(answer.err) or answer.err)
 
 
+BRANDS = ["isom new u", "Pmff new u", "paf new u", "pmfff new u", "pmff --brand paff new u", "pmff --brand pmff new u", "pmff --brand"]
+
+
 def options(command):
     for text in OPTIONS:
         claim_usage(command, "append", "film", *text.split())
+    for text in BRANDS:
+        claim_usage(command, "begin", "--brand", *text.split())
+    claim_usage(command, "begin", "--brand", "", "new", "u")
+    claim_usage(command, "begin", "--brand=pmff", "new", "u", "m")
+    claim_usage(command, "begin", "new", "--brand", "pmff", "u")
 
 
 def numbers(command):

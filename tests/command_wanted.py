@@ -56,7 +56,7 @@ def got(file, first, length):
     return bytes(content), None
 
 
-def appended(file, offset, chunks, last=False, time=None):
+def appended(file, offset, chunks, last=False, time=None, outside=False):
     """The number of the refusal, 0 where it is taken, and the file after an append."""
     chunk_list, data = [], b""
     for chunk in chunks:
@@ -64,19 +64,19 @@ def appended(file, offset, chunks, last=False, time=None):
         chunk_list += [size, STATES[chunk.kind]]
         data += b"" if chunk.kind == "lost" else chunk.value
     buffer = file + bytes(len(data) + 100 + 17 * len(chunks))
-    answer, buffer = model.append(buffer, len(file), offset, time or 0, last, chunk_list, data)
+    answer, buffer = model.append(buffer, len(file), offset, time or 0, last, outside, chunk_list, data)
     return (answer[1], file) if answer[0] == "refused" else (0, buffer[:answer[1]])
 
 
-def begun(url, mime=b""):
-    answer, file = model.begin(bytes(54 + len(url) + len(mime)), url, mime)
+def begun(url, mime=b"", brand=model.PAFF):
+    answer, file = model.begin(bytes(54 + len(url) + len(mime)), brand, url, mime)
     assert answer == ("length", len(file))
     return file
 
 
-def film_of(*additions, url=b"u", mime=b""):
-    """A file begun, and the taken additions, each an offset and its chunks and where it says so, last."""
-    file = begun(url, mime)
+def film_of(*additions, url=b"u", mime=b"", brand=model.PAFF):
+    """A file begun, and the taken additions, each an offset and its chunks and where it says so, last, its time and outside."""
+    file = begun(url, mime, brand)
     for addition in additions:
         number, file = appended(file, *addition)
         assert number == 0, addition

@@ -7,21 +7,23 @@ import additions
 import generate
 from boxes import box, head, lost_segment, open_segment
 from command_run import Chunk, claim, claim_held, claim_refused, damaged, good, lost
-from command_wanted import appended, begun, film_of
+from command_wanted import appended, begun, claim_boxes, claim_map, claim_rows, film_of
 from expecting import expect
+from model import PMFF
 
 SEED = 23_001_141
 RUNS = 40
 LIMIT = 4_294_967_295
 TOP = 2 ** 64 - 1
 KINDS = ["lost", "damaged", "good"]
+MOOF, MDAT = box(b"moof", b"0123456789"), box(b"mdat", b"abcd", large=True)
 
 
-def claim_append(name, command, file, offset, chunks, last=False, time=None):
+def claim_append(name, command, file, offset, chunks, last=False, time=None, outside=False):
     """The model's answer and the model's file; the file after it."""
     command.put("film", file)
-    number, wanted = appended(file, offset, chunks, last, time)
-    answer = command.append("film", offset, chunks, last, time)
+    number, wanted = appended(file, offset, chunks, last, time, outside)
+    answer = command.append("film", offset, chunks, last, time, outside)
     claim(name, answer, 1 if number else 0, b"refused\t%d\n" % number if number else b"")
     claim_held(f"the file after {name}", command, "film", wanted)
     return wanted
@@ -42,6 +44,19 @@ def beginnings(command):
             (b"u" * 100_000, b"m" * 100_000), (b" ", b"\t\n"), (b"--last", b"--offset"), (b"-", b"--")]):
         claim(f"begin {number}", command.run("begin", f"new{number}", *texts), 0)
         claim_held(f"the file begun, {number}", command, f"new{number}", begun(*texts))
+
+
+def brands(command):
+    """The brand by hand; none named is paff."""
+    for number, (brand, words) in enumerate([(b"paff", []), (b"paff", ["--brand", "paff"]), (b"pmff", ["--brand", "pmff"])]):
+        for texts in (["u"], ["u", "--brand"], ["--brand", "pmff"], ["", ""]):
+            name = f"branded{number}{len(texts)}{len(texts[0])}"
+            claim(f"begin {words} {texts}", command.run("begin", *words, name, *texts), 0)
+            wanted = bytes.fromhex("00000014") + b"ftyp" + brand + bytes(4) + brand + begun(*map(str.encode, texts))[20:]
+            claim_held(f"the file begun by {words} {texts}", command, name, wanted)
+            claim_refused("its map", command.run("map", name), 12)
+    claim("begin of a file named as an option", command.run("begin", "--brand", "pmff", "./--brand", "u"), 0)
+    claim_held("the file of that name", command, "--brand", begun(b"u", brand=PMFF))
 
 
 def beginnings_in_the_way(command):
@@ -81,19 +96,44 @@ def appends(command):
     claim("what was served first stays", command.run("get", "film", "0", "10"), 0, b"abcdz56789")
 
 
+def appends_outside(command):
+    """By hand: a mixed file whose good chunks are boxes of it; mapped, listed and served."""
+    mixed = begun(b"u", brand=PMFF)
+    by_hand = box(b"pdat", b"xyz") + MOOF + MDAT + bytes.fromhex(
+        "0000003c 70736567 00000018 70736864 00000001 00000002 0000000000000000 0000001c 706c6f63 00000000 11 0000 0004 4012da c003d7 8007 4014ec")
+    found = claim_append("boxes outside", command, mixed, 2, [good(MOOF), damaged(b"xyz"), lost(7), good(MDAT)], True, outside=True)
+    expect("boxes outside by hand", found, mixed + by_hand)
+    claim("the map of a mixed film", command.run("map", "film"), 0, b"source\t50\tclosed\nmiss\t0\t2\nhave\t2\t18\nmiss\t20\t10\nhave\t30\t20\ntotal\t38\t12\n")
+    claim("a box served", command.run("get", "film", "2", "18"), 0, MOOF)
+    claim("a part of a box served", command.run("get", "film", "34", "16"), 0, MDAT[4:])
+    boxes = b"0\t20\tftyp\n20\t35\tpfil\n55\t11\tpdat\n66\t18\tmoof\n84\t20\tmdat\n104\t60\tpseg\n"
+    claim("the boxes of a mixed film", command.run("boxes", "film"), 0, boxes)
+    claim_rows("a mixed film", command, "film", found)
+    found = claim_append("the rest inside", command, found, 20, [good(b"abc" + bytes(7))])
+    found = claim_append("the rest inside, and a box outside over it", command, found, 0, [lost(2), good(MOOF + MDAT)], outside=True)
+    claim_map("a mixed film, mended", command, "film", found)
+    claim_boxes("a mixed film, mended", command, "film", found)
+    claim("what a mixed film serves", command.run("get", "film", "2", "48"), 0, MOOF + b"abc" + bytes(7) + MDAT)
+    for name, chunks in [("nothing good", [damaged(b"abc"), lost(4)]), ("only lost", [lost(9)])]:
+        for brand in (b"paff", b"pmff"):
+            claim_append(f"{name} outside of {brand}", command, begun(b"u", brand=brand), 0, chunks, outside=True)
+
+
 def words_in_any_order(command):
     """The chunks count in the order of their words; the options between them do not."""
-    file = film_of((0, [lost(9)]))
+    file = film_of((0, [lost(9)]), brand=PMFF)
     command.put("a", b"aa")
     command.put("b", b"bbb")
-    for words in ["--good a --offset 0 --last --damaged b --time 4 --lost 4", "--last --time 4 --good a --damaged b --lost 4 --offset 0",
+    command.put("m", MOOF)
+    for words in ["--outside --good m --offset 0 --last --damaged b --time 4 --lost 4", "--lost 4 --good m --time 4 --damaged b --offset 0 --outside --last",
+                  "--good a --offset 0 --last --damaged b --time 4 --lost 4", "--last --time 4 --good a --damaged b --lost 4 --offset 0",
                   "--lost 4 --good a --time 4 --damaged b --offset 0 --last"]:
         command.put("film", file)
-        chunks = {"a": good(b"aa"), "b": damaged(b"bbb"), "4": lost(4)}
+        chunks = {"a": good(b"aa"), "b": damaged(b"bbb"), "m": good(MOOF), "4": lost(4)}
         pairs = zip(words.split(), words.split()[1:])
         order = [chunks[value] for option, value in pairs if option in ("--good", "--damaged", "--lost")]
         claim(f"append {words}", command.run("append", "film", *words.split()), 0)
-        claim_held(f"the file after {words}", command, "film", appended(file, 0, order, True, 4)[1])
+        claim_held(f"the file after {words}", command, "film", appended(file, 0, order, True, 4, "--outside" in words)[1])
 
 
 def data_anywhere(command):
@@ -122,9 +162,9 @@ def data_anywhere(command):
 
 # Refusals.
 
-def refused(name, number, command, file, offset, chunks, last=False):
-    assert appended(file, offset, chunks, last)[0] == number, name
-    claim_append(f"{number}: {name}", command, file, offset, chunks, last)
+def refused(name, number, command, file, offset, chunks, last=False, outside=False):
+    assert appended(file, offset, chunks, last, None, outside)[0] == number, name
+    claim_append(f"{number}: {name}", command, file, offset, chunks, last, None, outside)
 
 
 def files_refused(command):
@@ -142,6 +182,20 @@ def lists_refused(command):
         refused(name, 31, command, file, 4, chunks)
     refused("before 22", 31, command, file, 4, [lost(1)] * 1_025 + [lost(0)])
     refused("before 23", 31, command, file, TOP, [lost(0)])
+
+
+def outside_refused(command):
+    """35, printed and nothing written, and the boxes that 6 counts."""
+    plain, mixed = film_of((0, [good(b"abcd")])), film_of((0, [good(b"abcd")]), brand=PMFF)
+    refused("the film not mixed", 35, command, plain, 4, [good(MOOF)], outside=True)
+    for name, part in [("one byte", b"x"), ("a cut box", MOOF[:-1]), ("a byte left over", MOOF + b"\0"), ("size 0", bytes(4) + b"mdat" + bytes(9)), ("a pdat", box(b"pdat", b"ab")),
+                       ("an ftyp", MOOF + box(b"ftyp", bytes(12))), ("a pfil", box(b"pfil")), ("a pseg", box(b"pseg")), ("a cut uuid", box(b"uuid", bytes(15)))]:
+        refused(name, 35, command, mixed, 4, [good(part)], outside=True)
+        refused(f"{name} among others", 35, command, mixed, 4, [damaged(b"abc"), good(MOOF), lost(3), good(part)], True, outside=True)
+    refused("before 25 and 23", 35, command, film_of((0, [lost(4)], True), brand=PMFF), TOP, [good(b"x")], outside=True)
+    refused("510 boxes outside", 6, command, begun(b"u", brand=PMFF), 0, [good(510 * box(b"free"))], outside=True)
+    refused("600 boxes outside", 6, command, begun(b"u", brand=PMFF), 0, [good(600 * box(b"free"))], outside=True)
+    claim_append("509 boxes outside", command, begun(b"u", brand=PMFF), 0, [good(509 * box(b"free"))], outside=True)
 
 
 def counts_refused(command):
@@ -174,13 +228,13 @@ def some_addition(rng, file):
     """What append is asked; one in four with a fault, which may need another file."""
     given = additions.acceptable(rng, file)
     if rng.random() < 0.25:
-        rng.choice([additions.overstep_limit, additions.overstep_size])(rng, given)
+        rng.choice([additions.overstep_limit, additions.overstep_size, additions.spoil_outside])(rng, given)
     chunks, at = [], 0
     for size, state in zip(given["chunk_list"][0::2], given["chunk_list"][1::2]):
         chunks.append(Chunk(KINDS[state], size if state == 0 else given["data"][at:at + size]))
         at += size if state != 0 else 0
     time = given["repair_time"] if rng.random() < 0.8 else None
-    return given["buffer"], given["source_offset"], chunks or [lost(1)], given["last"], time
+    return given["buffer"], given["source_offset"], chunks or [lost(1)], given["last"], time, given["outside"]
 
 
 def random_runs(command):
@@ -188,15 +242,15 @@ def random_runs(command):
     for index in range(RUNS):
         file = generate.foreign_file(rng)
         if rng.random() < 0.7:
-            texts = additions.texts(rng)
-            claim(f"begin of run {index}", command.run("begin", f"run{index}", *texts), 0)
-            file = begun(*texts)
+            texts, brand = additions.texts(rng), rng.choice(additions.BRANDS)
+            claim(f"begin of run {index}", command.run("begin", "--brand", brand, f"run{index}", *texts), 0)
+            file = begun(*texts, brand)
             claim_held(f"the file of run {index}", command, f"run{index}", file)
         for turn in range(rng.randint(2, 6)):
             file = claim_append(f"append {turn} of run {index}", command, *some_addition(rng, file))
 
 
 def check(command):
-    for part in (beginnings, appends, words_in_any_order, data_anywhere, files_refused, lists_refused, counts_refused, sizes_refused, random_runs,
-                 beginnings_in_the_way):
+    for part in (beginnings, brands, appends, appends_outside, words_in_any_order, data_anywhere, files_refused, lists_refused, outside_refused, counts_refused,
+                 sizes_refused, random_runs, beginnings_in_the_way):
         part(command)

@@ -12,6 +12,7 @@ from collections import Counter
 
 import corpus_boxes
 import corpus_chunks
+import corpus_mixed
 import corpus_orders
 import corpus_random
 import corpus_segments
@@ -22,7 +23,7 @@ from record import taken
 ROOT = os.path.join(os.path.dirname(os.path.abspath(__file__)), "..")
 CRATE = os.path.join(ROOT, "crates", "reading_run")
 LARGEST_FILE = 65_535
-MOST_BYTES = 400_000
+MOST_BYTES = 450_000
 FULL_TABLES = (448, 6144)
 TO_SPARE = 3
 
@@ -36,7 +37,7 @@ def sample():
 
 def records():
     made = [sample()]
-    for part in (corpus_boxes, corpus_segments, corpus_chunks, corpus_orders, corpus_tables, corpus_random):
+    for part in (corpus_boxes, corpus_segments, corpus_chunks, corpus_mixed, corpus_orders, corpus_tables, corpus_random):
         made += part.records()
     return made
 

@@ -95,7 +95,7 @@ def files_of_ftyp():
     for length in (0, 4, 7, 9, 10, 11, 13):
         yield refused(7, f"ftyp body of {length} bytes", box(b"ftyp", b"paff\0\0\0\0paffp"[:length]) + rest)
     yield refused(8, "no compatible brand", ftyp([]) + rest)
-    yield refused(8, "brand pmff", ftyp([b"pmff"]) + rest)
+    yield taken("brand pmff", ftyp([b"pmff"]) + rest)
     yield refused(8, "brands isom and Paff", ftyp([b"isom", b"Paff"]) + rest)
     yield refused(8, "paff across two brands", ftyp([b"\0\0pa", b"ff\0\0"]) + rest)
     yield taken("paff the third brand", ftyp([b"isom", b"pmff", b"paff"]) + rest)

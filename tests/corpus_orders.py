@@ -8,7 +8,7 @@ from record import refused
 FAULTS = [
     (2, "a byte at the end of the file"),
     (7, "ftyp body of 13 bytes"),
-    (8, "no brand paff"),
+    (8, "neither brand"),
     (9, "a second pfil"),
     (3, "size 0 in pfil"),
     (10, "pfhd of version 1"),
@@ -44,7 +44,7 @@ def together(one, two):
 
 
 def ftyp_with(faults):
-    brand = b"isom" if "no brand paff" in faults else b"paff"
+    brand = b"isom" if "neither brand" in faults else b"paff"
     return box(b"ftyp", b"paff", bytes(4), brand, b"x" if "ftyp body of 13 bytes" in faults else b"")
 
 

@@ -2,7 +2,7 @@
 
 from boxes import box, full, lost_segment, open_segment, pfhd, sized, sized_large, surl
 from foreign import DAMAGED, GOOD, LIMIT, LOST, foreign_plan, skipped_box, text
-from plan import Entry, Other, Segment
+from plan import Entry, Other, Segment, Whole
 
 FREE = box(b"free")
 BOXES = 512
@@ -72,7 +72,7 @@ def too_many_boxes(rng, plan):
     last = rng.choice([FREE, FREE, b"\0", bytes(8), sized(20, b"uuid")])
     container = rng.choice(["file", "pfil", "pseg"])
     if container == "file":
-        plan.tail = (BOXES - 2 - len(plan.items)) * FREE + last
+        plan.tail = (BOXES - plan.box_count()) * FREE + last
     elif container == "pfil":
         plan.pfil_parts.append((BOXES - len(plan.pfil_parts)) * FREE + last)
     else:
@@ -98,9 +98,10 @@ def ftyp_fault(rng, plan):
         plan.items.insert(rng.randint(0, len(plan.items)), Other(plan.ftyp))
 
 
-def no_paff(rng, plan):
-    brands = rng.choice([[], [b"pmff"], [b"isom", b"Paff"], [b"\0paf", b"f\0\0\0"]])
-    plan.ftyp = box(b"ftyp", b"paff", bytes(4), *brands)
+def neither_brand(rng, plan):
+    """Our brands may stand as the major one, in other letters or across two."""
+    brands = rng.choice([[], [b"isom", b"iso6"], [b"isom", b"Paff"], [b"Pmff"], [b"\0paf", b"f\0\0\0"], [b"\0\0pm", b"ff\0\0"]])
+    plan.ftyp = box(b"ftyp", rng.choice([b"paff", b"pmff"]), bytes(4), *brands)
 
 
 def pfil_fault(rng, plan):
@@ -262,9 +263,29 @@ def source_over_limit(rng, plan):
         segment.entries.append(Entry(flag_byte, size, wild=rng.getrandbits(64)))
 
 
-def not_in_one_pdat(rng, plan):
-    """One more present chunk, just outside of a pdat or somewhere else."""
+def not_as_boxes(rng, plan):
+    """A chunk that is whole boxes but damaged or of a file that is not mixed, or nearly so, or has a box in it that no chunk may be made of, or is just one."""
+    if not plan.wholes():
+        plan.items.insert(rng.randint(0, len(plan.items)), Whole([skipped_box(rng, "file"), FREE]))
+    whole = rng.choice(plan.wholes())
+    first, end = sorted(rng.sample(whole.edges(), 2))
+    if plan.datas() and rng.random() < 0.3:
+        data = rng.choice(plan.datas())
+        plan.items.remove(whole)
+        plan.items.insert(plan.items.index(data) + 1, whole)
+        size = data.header + len(data.body)
+        return Entry(GOOD, rng.choice([size, size + whole.edges()[1]]), data, -data.header)
+    state = DAMAGED if plan.mixed else GOOD
+    return rng.choice([Entry(state, end - first, whole, first), Entry(GOOD, end - first - 1, whole, first), Entry(GOOD, end - first + 1, whole, first),
+                       Entry(GOOD, end - first, whole, first + 1), Entry(GOOD, 9, whole, first - 1), Entry(GOOD, len(plan.ftyp), place=0)])
+
+
+def may_not_lie_there(rng, plan):
+    """One more present chunk, just outside of a pdat, nearly as whole boxes, or somewhere else."""
     segment = rng.choice(plan.segments())
+    if rng.random() < 0.4:
+        segment.entries.append(not_as_boxes(rng, plan))
+        return
     size, flag_byte = rng.randint(1, 4), rng.choice([GOOD, DAMAGED])
     front = len(plan.ftyp) + len(plan.pfil())
     place = rng.choice([-1, 0, rng.randrange(front), 10 ** 6, -2 ** 62])
@@ -297,7 +318,7 @@ FAULTS = {
     5: box_ends_after_container,
     6: too_many_boxes,
     7: ftyp_fault,
-    8: no_paff,
+    8: neither_brand,
     9: pfil_fault,
     10: pfhd_fault,
     11: surl_fault,
@@ -313,7 +334,7 @@ FAULTS = {
     21: neither,
     22: too_many_chunks,
     23: source_over_limit,
-    24: not_in_one_pdat,
+    24: may_not_lie_there,
     25: sizes_disagree,
 }
 

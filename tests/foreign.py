@@ -1,7 +1,7 @@
 """Makes files as another writer would, with everything the paper allows."""
 
 from boxes import box, ftyp, pfhd, surl
-from plan import Data, Entry, Other, Plan, Segment
+from plan import Data, Entry, Other, Plan, Segment, Whole
 
 LIMIT = 4_294_967_295
 LOST, DAMAGED, GOOD = 0x80, 0xC0, 0x40
@@ -44,11 +44,13 @@ def skipped_box(rng, container):
     return box(kind, vendor, rng.randbytes(rng.choice([0, 4, rng.randint(0, 12)])), large=seldom(rng))
 
 
-def foreign_ftyp(rng):
-    brands = [rng.choice([b"isom", b"pmff", rng.randbytes(4)])
+def foreign_ftyp(rng, mixed):
+    """A mixed file may have both brands, in any order; a major brand says nothing."""
+    brands = [rng.choice([b"isom", b"Pmff", rng.randbytes(4)])
               for _ in range(rng.choice([0, 0, 1, 2]))]
-    brands.insert(rng.randint(0, len(brands)), b"paff")
-    major = rng.choice([b"paff", b"isom", rng.randbytes(4)])
+    for brand in rng.choice([[b"pmff"], [b"pmff"], [b"pmff", b"paff"]]) if mixed else [b"paff"]:
+        brands.insert(rng.randint(0, len(brands)), brand)
+    major = rng.choice([b"paff", b"pmff", b"isom", rng.randbytes(4)])
     return ftyp(brands, major, rng.choice([0, rng.getrandbits(32)]), large=seldom(rng))
 
 
@@ -69,8 +71,23 @@ def foreign_data(rng):
     return Data(rng.randbytes(length), large=seldom(rng))
 
 
-def foreign_entry(rng, datas, room):
+def foreign_whole(rng):
+    return Whole([skipped_box(rng, "file") for _ in range(rng.choice([1, 1, 2, 3]))])
+
+
+def entry_of_boxes(rng, wholes):
+    """A good chunk that is neighbouring boxes."""
+    whole = rng.choice(wholes)
+    first, end = sorted(rng.sample(whole.edges(), 2))
+    return Entry(GOOD, end - first, whole, first)
+
+
+def foreign_entry(rng, datas, room, wholes=()):
     """A chunk of at most `room` positions."""
+    if wholes and rng.random() < 0.4:
+        entry = entry_of_boxes(rng, wholes)
+        if entry.size <= room:
+            return entry
     few = rng.randint(1, 9)
     size = min(room, rng.choice([0, 1, 2, few, few, rng.randint(0, 15)]))
     flag_byte = rng.choice([GOOD, GOOD, GOOD, GOOD, DAMAGED, LOST])
@@ -83,7 +100,7 @@ def foreign_entry(rng, datas, room):
     return Entry(flag_byte, size, data, rng.randint(0, len(data.body) - size))
 
 
-def foreign_entries(rng, datas, span):
+def foreign_entries(rng, datas, span, wholes=()):
     """The chunks of one segment, at most `span` positions."""
     if rng.random() < 0.05:
         return [Entry(rng.choice([GOOD, DAMAGED, LOST]), 0, wild=rng.getrandbits(64))
@@ -91,7 +108,7 @@ def foreign_entries(rng, datas, span):
     entries = []
     for _ in range(rng.choice([0, 1, 1, 2, 3, 3, 4, 5])):
         room = span - sum(entry.size for entry in entries)
-        entries.append(foreign_entry(rng, datas, room))
+        entries.append(foreign_entry(rng, datas, room, wholes))
     return entries
 
 
@@ -100,8 +117,8 @@ def source_offset(rng, room):
     return rng.choice([0, rng.randint(0, min(room, 60)), max(0, room - rng.randint(0, 5)), room])
 
 
-def foreign_segment(rng, datas, span):
-    entries = foreign_entries(rng, datas, span)
+def foreign_segment(rng, datas, span, wholes=()):
+    entries = foreign_entries(rng, datas, span, wholes)
     length = sum(entry.size for entry in entries)
     segment = Segment(source_offset(rng, span - length), entries)
     dress(rng, segment)
@@ -139,20 +156,30 @@ def close(rng, segments, span):
             segment.flags |= 1
 
 
-def foreign_plan(rng, huge=False):
-    """The plan of an acceptable file."""
+def foreign_plan(rng, huge=False, mixed=None):
+    """The plan of an acceptable file; one in three is mixed where nothing is said."""
+    mixed = rng.random() < 0.33 if mixed is None else mixed
     span = rng.choice([LIMIT, LIMIT - 1, rng.randint(1000, LIMIT)]) if huge else rng.randint(0, 60)
     datas = [foreign_data(rng) for _ in range(rng.choice([0, 1, 1, 1, 2, 2, 3]))]
-    segments = [foreign_segment(rng, datas, span) for _ in range(rng.choice([1, 2, 2, 2, 3, 4]))]
+    wholes = [foreign_whole(rng) for _ in range(rng.choice([0, 1, 1, 2]))] if mixed else []
+    segments = [foreign_segment(rng, datas, span, wholes) for _ in range(rng.choice([1, 2, 2, 2, 3, 4]))]
     if huge and rng.random() < 0.5:
         stretch(rng, segments, span)
     if rng.random() < 0.5:
         close(rng, segments, span)
-    items = datas + segments
+    items = datas + wholes + segments
     while rng.random() < 0.2:
         items.append(Other(skipped_box(rng, "file")))
     rng.shuffle(items)
-    return Plan(foreign_ftyp(rng), foreign_pfil_parts(rng), items, seldom(rng))
+    return Plan(foreign_ftyp(rng, mixed), foreign_pfil_parts(rng), items, seldom(rng), mixed)
+
+
+def mixed_file(rng):
+    """The bytes of a mixed file, some good chunk of which is whole boxes."""
+    while True:
+        plan = foreign_plan(rng, mixed=True)
+        if any(isinstance(entry.data, Whole) for segment in plan.segments() for entry in segment.entries):
+            return plan.assemble()
 
 
 def overstep(rng, plan):

@@ -6,6 +6,7 @@ import sys
 
 import generate
 import model
+from additions import top_level_count
 from boxes import head
 from expecting import close, expect
 from spoiling import boxes_in
@@ -50,6 +51,7 @@ def check_foreign(files):
     check_size_forms(files)
     check_skipped(files)
     check_states(files)
+    check_mixed(files)
 
 
 def check_size_forms(files):
@@ -96,6 +98,37 @@ def check_states(files):
             len({chunk[0] for chunk in held if place < chunk[5] < end}) > 1 for place, end in pdats)
     for name, count in met.items():
         expect(f"{name} met", count > 0)
+
+
+def outside_runs(file):
+    """Of each good chunk of an accepted file that lies in no pdat, how many boxes it is, its place and its size."""
+    boxes = model.read_head(file).boxes
+    for segment, index, start, size, state, place in model.read(file)[2]:
+        run = [box for box in boxes if place <= box.place and box.end <= place + size]
+        if run and state == 2:
+            yield len(run), place, size
+
+
+def check_mixed(files):
+    """Mixed files with one brand or both, and in them chunks of one box and of several, before and behind their segment, whole and shared."""
+    heads = [(file, model.read_head(file)) for file in files]
+    mixed = [file for file, head in heads if head.mixed]
+    expect("a quarter of the files is mixed", 0.25 < len(mixed) / len(files) < 0.45)
+    brands = [file[16:model.frame(file, 0, len(file))[0].end] for file in mixed]
+    expect("with both brands and with one", {b"paff" in listed for listed in brands}, {True, False})
+    met = {"one box": 0, "several boxes": 0, "shared boxes": 0, "the same boxes": 0, "behind its segment": 0, "beside a pdat": 0, "a vendor's box": 0}
+    for file in mixed:
+        runs = list(outside_runs(file))
+        met["one box"] += any(count == 1 for count, place, size in runs)
+        met["several boxes"] += any(count > 1 for count, place, size in runs)
+        met["the same boxes"] += len(runs) > len(set(runs))
+        met["shared boxes"] += any(one != two and one[1] < two[1] + two[2] and two[1] < one[1] + one[2] for one in runs for two in runs)
+        met["behind its segment"] += any(place > max(row[0] for row in model.read(file)[1]) for count, place, size in runs)
+        met["beside a pdat"] += any(file[place + size + 4:place + size + 8] == b"pdat" for count, place, size in runs)
+        met["a vendor's box"] += any(file[place + 4:place + 8] == b"uuid" for count, place, size in runs)
+    for name, count in met.items():
+        expect(f"a chunk outside, {name}", count > 0)
+    expect("no chunk outside in the others", not any(list(outside_runs(file)) for file, head in heads if not head.mixed))
 
 
 # The meaning, position by position.
@@ -207,20 +240,33 @@ def check_additions(rng, files):
                 expect(f"append refuses with {number}", answer, ("refused", number))
             elif own[0] == "read" or own == ("refused", 12):
                 expect("append takes a file that the spoiling left acceptable",
-                       answer[0] == "length" or answer[1] in (6, 13, 22, 23, 25))
+                       answer[0] == "length" or answer[1] in (35, 6, 13, 22, 23, 25))
             else:
                 expect("append refuses the file", answer, own)
             if answer[0] == "refused":
                 expect("buffer kept", buffer, given["buffer"])
 
 
-def check_mixed_additions(rng, files):
+def check_all_additions(rng, files):
     answers = [model.append(**generate.addition(rng, file))[0] for file in files]
     taken = sum(answer[0] == "length" for answer in answers) / len(answers)
     expect("more than half of the additions taken", 0.5 < taken < 0.9)
-    for number in [30, 31, 32, 6, 13, 22, 23, 25, 33]:
+    for number in [30, 31, 32, 35, 6, 13, 22, 23, 25, 33]:
         expect(f"append meets {number}", ("refused", number) in answers)
     print(f"additions taken: {100 * taken:.1f} %")
+
+
+def check_additions_outside(rng, files):
+    """Additions with the argument are taken with good chunks, of one box and of several, beside damaged ones and without, and with no good one in any file."""
+    met = set()
+    for file in files:
+        given = generate.addition(rng, file)
+        if given["outside"] and model.append(**given)[0][0] == "length":
+            parts = model.data_of(model.pairs_of(given["chunk_list"]), given["data"], True, model.goes_outside)
+            met |= {("boxes", min(2, top_level_count(part))) for part in parts}
+            met.add((model.read_head(file).mixed, len(parts) > 0, 1 in given["chunk_list"][1::2]))
+    wanted = {("boxes", 1), ("boxes", 2)} | {(True, good, damaged) for good in (False, True) for damaged in (False, True)}
+    expect("additions outside", met, wanted | {(False, False, False), (False, False, True)})
 
 
 def check_beginnings(rng, runs):
@@ -232,7 +278,7 @@ def check_beginnings(rng, runs):
     for _ in range(runs):
         given = generate.faulty_beginning(rng, None)
         answer, buffer = model.begin(**given)
-        file = head(given["url"], given["mime"])
+        file = head(given["url"], given["mime"], given["brand"])
         expect("begun", (answer, buffer),
                (("length", len(file)), file + given["buffer"][len(file):]))
 
@@ -250,8 +296,9 @@ def main(seed):
     check_faulty(rng, 30)
     check_faulty_vendors(rng, 1500)
     check_spoiled(rng, files)
-    check_additions(rng, good[:40] + 10 * [head()])
-    check_mixed_additions(rng, good[:1200])
+    check_additions(rng, good[:40] + 10 * [head()] + 10 * [head(brand=b"pmff")])
+    check_all_additions(rng, good[:1200])
+    check_additions_outside(rng, good[:1200])
     check_beginnings(rng, 100)
     return close()
 

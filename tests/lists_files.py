@@ -2,8 +2,8 @@
 
 from boxes import box, entry, head, lost_segment, open_segment, ploc, pshd
 from foreign import DAMAGED, GOOD, LIMIT, LOST
-from lists_record import assembled, file_of, listed
-from plan import Data, Entry, Other, Segment
+from lists_record import assembled, file_of, listed, refused
+from plan import Data, Entry, Other, Segment, Whole
 
 LAST = 1
 
@@ -44,6 +44,19 @@ def of_size_0():
     yield listed("size 0", "only, at 5", file_of((5, "good 0, damaged 0")), [], [(0, 5)])
     nowhere = box(b"pseg", pshd(3), ploc(1, 1, [entry(GOOD, 1, 0, 1, 127), entry(DAMAGED, 1, 0, 1, -128), entry(LOST, 1, 4)]))
     yield listed("size 0", "at no place", head() + nowhere, [], [(0, 7)])
+
+
+def of_boxes():
+    """Mixed files: boxes as chunks, which serve headers and all, overlapping, shared, and beside a pdat."""
+    moof, data = Whole([box(b"moof", b"0123456789"), box(b"mdat", b"abcd", large=True)]), Data(b"abcdefgh")
+    whole = Segment(0, [Entry(GOOD, 38, moof, 0), Entry(LOST, 4), Entry(DAMAGED, 8, data, 0)], LAST)
+    yield listed("mixed", "two boxes", assembled([moof, data, whole], b"pmff"), [(0, 38)], [(38, 12)])
+    late = Segment(20, [Entry(GOOD, 20, moof, 18), Entry(GOOD, 8, data, 0)])
+    yield listed("mixed", "a box over boxes that came before", assembled([whole, late, data, moof], b"pmff"), [(0, 48)], [(48, 2)])
+    yield listed("mixed", "the same, turned", assembled([late, moof, whole, data], b"pmff"), [(0, 48)], [(48, 2)])
+    twice = Segment(0, [Entry(GOOD, 18, moof, 0), Entry(LOST, 1), Entry(GOOD, 18, moof, 0), Entry(GOOD, 20, moof, 18)])
+    yield listed("mixed", "one box twice", assembled([moof, twice], b"pmff"), [(0, 18), (19, 38)], [(18, 1)])
+    yield refused("mixed", 24, "the same, not mixed", assembled([moof, twice]))
 
 
 def alternating(pairs, front, back):
@@ -108,5 +121,5 @@ def limits():
 
 
 def records():
-    for made in (of_the_paper, open_and_closed, of_size_0, many_pairs, many_segments, long_parts, places, limits):
+    for made in (of_the_paper, open_and_closed, of_size_0, many_pairs, many_segments, long_parts, places, of_boxes, limits):
         yield from made()

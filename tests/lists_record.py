@@ -39,8 +39,8 @@ def segment(number, offset, words, flags):
     return [data, made] if any(state != "lost" for state, size in given) else [made]
 
 
-def assembled(items):
-    return Plan(ftyp(), [pfhd(), surl()], items).assemble()
+def assembled(items, brand=b"paff"):
+    return Plan(ftyp([brand]), [pfhd(), surl()], items).assemble()
 
 
 def file_of(*segments):

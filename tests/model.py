@@ -54,6 +54,23 @@ Of request 1, vendor boxes:
 23. What is the user type of any other box?  Empty.
 24. Is a `uuid` whose user type stands for `pseg` a `pseg`?  No: the table knows
     types of four bytes.
+
+Of request 2, mixed files:
+
+25. Which brands does begin write for a mixed file?  `pmff` as major and as the
+    only compatible one, as the paper says of `paff`: "Begin takes the brand".
+26. A damaged chunk that is just whole boxes: 24, as only "a good chunk may then
+    also lie in the file outside `pdat`".
+27. Do two chunks that share boxes spoil each other?  No, each is judged alone.
+28. Its good chunks are to go outside, and there is none, in a file that is not
+    mixed: taken, since 35 is "for a good chunk to go outside".
+29. A chunk to go outside of 600 boxes: 6 and not 35, as it is whole boxes, and
+    the result has too many.  Every box outside counts.
+30. Which box is whole?  One that our own framing takes: not one of size 0, nor a
+    `uuid` that is cut in its user type.
+31. In which order is the data of chunks that go outside given?  In chunk order
+    among the others, as before; "in chunk order, after the `pdat`" is said of
+    how append stores it.
 """
 
 from collections import namedtuple
@@ -91,7 +108,7 @@ SIZE_BELOW_HEADER = 4
 BOX_ENDS_AFTER_CONTAINER = 5
 TOO_MANY_BOXES = 6
 FTYP_FAULT = 7
-NO_PAFF = 8
+NEITHER_BRAND = 8
 PFIL_FAULT = 9
 PFHD_FAULT = 10
 SURL_FAULT = 11
@@ -107,7 +124,7 @@ RESERVED_BIT = 20
 NEITHER_CORRUPTED_NOR_PRESENT = 21
 TOO_MANY_CHUNKS = 22
 SOURCE_OVER_LIMIT = 23
-NOT_IN_ONE_PDAT = 24
+MAY_NOT_LIE_THERE = 24
 SIZES_DISAGREE = 25
 LENT_TABLE_TOO_SHORT = 26
 INPUT_OVER_LIMIT = 27
@@ -116,6 +133,7 @@ CHUNK_LIST_FAULT = 31
 DATA_NOT_EQUAL_TO_SIZES = 32
 BUFFER_TOO_SHORT = 33
 ZERO_BYTE_IN_TEXT = 34
+NOT_TO_GO_OUTSIDE = 35
 
 # Field layout.
 
@@ -128,12 +146,15 @@ SEGMENT_ROW_LENGTH = 7
 CHUNK_ROW_LENGTH = 6
 RANGE_LENGTH = 2
 USER_TYPE_LENGTH = 16
+PAFF, PMFF = b"paff", b"pmff"
+NEVER_A_CHUNK = (b"ftyp", b"pfil", b"pseg", b"pdat")
 
 Box = namedtuple("Box", "kind place user_type body end")
 Segment = namedtuple(
     "Segment", "place offset flags repair_time chunk_count pshd_body pshd_length end")
 Chunk = namedtuple("Chunk", "segment index start size state place")
 Text = namedtuple("Text", "place length")
+Head = namedtuple("Head", "boxes mixed url mime")
 Reading = namedtuple("Reading", "segments chunks described closed url mime")
 
 
@@ -212,6 +233,20 @@ def frame(file, place, end):
     return list(framed(file, place, end))
 
 
+def tiled(data):
+    """The boxes that bytes are from the first to the last, however many."""
+    boxes, place = [], 0
+    while place < len(data):
+        boxes.append(frame_box(data, place, len(data)))
+        place = boxes[-1].end
+    return boxes
+
+
+def allowed_outside(boxes):
+    """Whether boxes are of types that a chunk may be made of."""
+    return not any(box.kind in NEVER_A_CHUNK for box in boxes)
+
+
 def of_kind(boxes, kind):
     return [box for box in boxes if box.kind == kind]
 
@@ -233,13 +268,15 @@ def body_of(file, box):
 
 # The boxes of the file and of pfil.
 
-def check_ftyp(file, boxes):
+def brands_of(file, boxes):
+    """The compatible brands of a file whose ftyp is right, one of ours among them."""
     refuse_if(not boxes or boxes[0].kind != b"ftyp", FTYP_FAULT)
     body = body_of(file, boxes[0])
     refuse_if(len(body) < 8 or len(body) % 4 != 0, FTYP_FAULT)
     refuse_if(not count_kept(boxes, b"ftyp"), FTYP_FAULT)
     brands = [body[at:at + 4] for at in range(8, len(body), 4)]
-    refuse_if(b"paff" not in brands, NO_PAFF)
+    refuse_if(PAFF not in brands and PMFF not in brands, NEITHER_BRAND)
+    return brands
 
 
 def check_pfil(boxes):
@@ -271,15 +308,15 @@ def read_surls(file, parts):
 
 
 def read_head(file):
-    """Stages 1 to 11: the boxes of the file, the URL and the MIME text."""
+    """Stages 1 to 11: the boxes of the file, whether it is mixed, the URL and the MIME text."""
     refuse_if(len(file) > LIMITS["file"], FILE_OVER_LIMIT)
     boxes = frame(file, 0, len(file))
-    check_ftyp(file, boxes)
+    brands = brands_of(file, boxes)
     check_pfil(boxes)
     parts = frame(file, boxes[1].body, boxes[1].end)
     check_pfhd(file, parts)
     url, mime = read_surls(file, parts)
-    return boxes, url, mime
+    return Head(boxes, PMFF in brands, url, mime)
 
 
 # Segments and their chunks.
@@ -315,8 +352,21 @@ def state_of(flag_byte):
     return {CORRUPTED: LOST, CORRUPTED | PRESENT: DAMAGED, PRESENT: GOOD}[flag_byte]
 
 
-def in_one_pdat(pdats, place, size):
-    return any(pdat.body <= place and place + size <= pdat.end for pdat in pdats)
+def in_one_pdat(boxes, place, size):
+    return any(box.kind == b"pdat" and box.body <= place and place + size <= box.end for box in boxes)
+
+
+def as_whole_boxes(boxes, place, size):
+    """Whether neighbouring boxes of the file fill these bytes, all of them allowed."""
+    run = [box for box in boxes if place <= box.place and box.end <= place + size]
+    return bool(run) and run[0].place == place and run[-1].end == place + size and allowed_outside(run)
+
+
+def may_lie(head, state, place, size):
+    """Whether a present chunk of size above 0 may have its bytes there."""
+    if in_one_pdat(head.boxes, place, size):
+        return True
+    return head.mixed and state == GOOD and as_whole_boxes(head.boxes, place, size)
 
 
 def read_entry(file, cursor, end, widths):
@@ -333,7 +383,7 @@ def read_entry(file, cursor, end, widths):
     return state, size, offset, cursor + length_size + offset_size
 
 
-def read_segment(file, pseg, segment_number, chunks_so_far, pdats):
+def read_segment(file, head, pseg, segment_number, chunks_so_far):
     """One segment and its chunks."""
     parts = frame(file, pseg.body, pseg.end)
     pshd, source_offset, flags, repair_time = read_pshd(file, parts)
@@ -351,7 +401,7 @@ def read_segment(file, pseg, segment_number, chunks_so_far, pdats):
         place = 0
         if state != LOST and size > 0:
             place = pseg.place + offset
-            refuse_if(not in_one_pdat(pdats, place, size), NOT_IN_ONE_PDAT)
+            refuse_if(not may_lie(head, state, place, size), MAY_NOT_LIE_THERE)
         chunks.append(Chunk(segment_number, index, start, size, state, place))
         start += size
     refuse_if(cursor != ploc.end, PLOC_FAULT)
@@ -360,14 +410,14 @@ def read_segment(file, pseg, segment_number, chunks_so_far, pdats):
     return segment, chunks
 
 
-def read_segments(file, boxes):
+def read_segments(file, head):
     """Stages 12 to 24: all segments and all chunks, in file order."""
-    psegs, pdats = of_kind(boxes, b"pseg"), of_kind(boxes, b"pdat")
-    refuse_if(not count_kept(boxes, b"pseg"), NO_PSEG)
+    psegs = of_kind(head.boxes, b"pseg")
+    refuse_if(not count_kept(head.boxes, b"pseg"), NO_PSEG)
     refuse_if(len(psegs) > LIMITS["segments"], TOO_MANY_SEGMENTS)
     segments, chunks = [], []
     for pseg in psegs:
-        segment, added = read_segment(file, pseg, len(segments), len(chunks), pdats)
+        segment, added = read_segment(file, head, pseg, len(segments), len(chunks))
         segments.append(segment)
         chunks.extend(added)
     return segments, chunks
@@ -390,12 +440,12 @@ def known_size(segments):
 
 def accept(file):
     """Stages 1 to 25: what an acceptable file says."""
-    boxes, url, mime = read_head(file)
-    segments, chunks = read_segments(file, boxes)
+    head = read_head(file)
+    segments, chunks = read_segments(file, head)
     size = known_size(segments)
     closed = size is not None
     described = size if closed else max(segment.end for segment in segments)
-    return Reading(segments, chunks, described, closed, url, mime)
+    return Reading(segments, chunks, described, closed, head.url, head.mime)
 
 
 def accept_into(file, segment_room, chunk_room):
@@ -539,12 +589,12 @@ def write_box(kind, *parts):
     return (8 + len(body)).to_bytes(4, "big") + kind + body
 
 
-def begin(buffer, url, mime):
-    """Writes ftyp, then pfil holding pfhd and one surl."""
+def begin(buffer, brand, url, mime):
+    """Writes ftyp with one of the two brands, then pfil holding pfhd and one surl."""
     number, end = attempt(check_begin, buffer, url, mime)
     if number:
         return ("refused", number), buffer
-    ftyp = write_box(b"ftyp", b"paff", bytes(4), b"paff")
+    ftyp = write_box(b"ftyp", brand, bytes(4), brand)
     pfhd = write_box(b"pfhd", bytes(4))
     surl = write_box(b"surl", bytes(4), url, b"\0", mime, b"\0")
     file = ftyp + write_box(b"pfil", pfhd, surl)
@@ -587,15 +637,52 @@ def pairs_of(chunk_list):
     return pairs
 
 
-def offsets_of(pairs, data_length):
-    """For each chunk its offset from the pseg after the data, None if lost."""
-    offsets, offset = [], -data_length
+def goes_outside(state, outside):
+    """Whether a chunk of this state is stored as boxes of the file."""
+    return outside and state == GOOD
+
+
+def goes_inside(state, outside):
+    """Whether it is stored in the pdat."""
+    return state != LOST and not goes_outside(state, outside)
+
+
+def data_of(pairs, data, outside, goes):
+    """The data of the chunks that go there, one by one in chunk order; `data` has that of all."""
+    found, at = [], 0
     for size, state in pairs:
-        if state == LOST:
-            offsets.append(None)
+        if goes(state, outside):
+            found.append(data[at:at + size])
+        at += size if state != LOST else 0
+    return found
+
+
+def check_outside(head, pairs, data, outside):
+    """How many boxes go outside; 35 where a good chunk is to and may not."""
+    parts = data_of(pairs, data, outside, goes_outside)
+    refuse_if(parts and not head.mixed, NOT_TO_GO_OUTSIDE)
+    count = 0
+    for part in parts:
+        number, boxes = attempt(tiled, part)
+        refuse_if(number or not allowed_outside(boxes), NOT_TO_GO_OUTSIDE)
+        count += len(boxes)
+    return count
+
+
+def offsets_of(pairs, outside):
+    """For each chunk its offset from the pseg, None if lost; the pdat and then the chunks outside stand before it."""
+    outside_at = -sum(size for size, state in pairs if goes_outside(state, outside))
+    inside_at = outside_at - sum(size for size, state in pairs if goes_inside(state, outside))
+    offsets = []
+    for size, state in pairs:
+        if goes_outside(state, outside):
+            offsets.append(outside_at)
+            outside_at += size
+        elif goes_inside(state, outside):
+            offsets.append(inside_at)
+            inside_at += size
         else:
-            offsets.append(offset)
-            offset += size
+            offsets.append(None)
     return offsets
 
 
@@ -607,8 +694,8 @@ def widths_of(pairs, offsets):
     return length_size, offset_size
 
 
-def any_present(pairs):
-    return any(state != LOST for size, state in pairs)
+def any_inside(pairs, outside):
+    return any(goes_inside(state, outside) for size, state in pairs)
 
 
 def form_of(source_offset):
@@ -616,38 +703,39 @@ def form_of(source_offset):
     return (0, 4) if source_offset < 2 ** 32 else (1, 8)
 
 
-def added_length(source_offset, pairs, data_length):
+def added_length(source_offset, pairs, data_length, outside):
     """How many bytes an addition writes."""
-    offsets = offsets_of(pairs, data_length)
+    offsets = offsets_of(pairs, outside)
     length_size, offset_size = widths_of(pairs, offsets)
-    pdat = 8 + data_length if any_present(pairs) else 0
+    stored = data_length + (8 if any_inside(pairs, outside) else 0)
     pshd = 8 + 4 + form_of(source_offset)[1] + 8
     ploc = 8 + 9
     for offset in offsets:
         ploc += 1 + length_size + (0 if offset is None else offset_size)
-    return pdat + 8 + pshd + ploc
+    return stored + 8 + pshd + ploc
 
 
 def read_earlier(file):
-    """Boxes, segments and chunks of the file; 12 counts as serving nothing."""
-    boxes = read_head(file)[0]
-    if not of_kind(boxes, b"pseg"):
-        return boxes, [], []
-    segments, chunks = read_segments(file, boxes)
+    """The head, segments and chunks of the file; 12 counts as serving nothing."""
+    head = read_head(file)
+    if not of_kind(head.boxes, b"pseg"):
+        return head, [], []
+    segments, chunks = read_segments(file, head)
     known_size(segments)
-    return boxes, segments, chunks
+    return head, segments, chunks
 
 
-def check_append(buffer, stated_length, source_offset, last, chunk_list, data):
+def check_append(buffer, stated_length, source_offset, last, outside, chunk_list, data):
     """The pairs of the new segment and the new length of the file."""
     refuse_if(stated_length > len(buffer), STATED_LENGTH_OVER_BUFFER)
-    boxes, segments, chunks = read_earlier(buffer[:stated_length])
+    head, segments, chunks = read_earlier(buffer[:stated_length])
     pairs = pairs_of(chunk_list)
     kept = sum(size for size, state in pairs if state != LOST)
     refuse_if(len(data) != kept, DATA_NOT_EQUAL_TO_SIZES)
-    end = stated_length + added_length(source_offset, pairs, len(data))
+    outside_count = check_outside(head, pairs, data, outside)
+    end = stated_length + added_length(source_offset, pairs, len(data), outside)
     refuse_if(end > LIMITS["file"], FILE_OVER_LIMIT)
-    box_count = len(boxes) + (2 if any_present(pairs) else 1)
+    box_count = len(head.boxes) + any_inside(pairs, outside) + outside_count + 1
     refuse_if(box_count > LIMITS["boxes in one container"], TOO_MANY_BOXES)
     refuse_if(len(segments) + 1 > LIMITS["segments"], TOO_MANY_SEGMENTS)
     refuse_if(len(chunks) + len(pairs) > LIMITS["chunks"], TOO_MANY_CHUNKS)
@@ -683,17 +771,20 @@ def write_ploc(pairs, offsets):
     return write_box(b"ploc", head, entries)
 
 
-def append(buffer, stated_length, source_offset, repair_time, last, chunk_list, data):
-    """Writes one pdat with the data, if any chunk is present, then the pseg."""
+def append(buffer, stated_length, source_offset, repair_time, last, outside, chunk_list, data):
+    """Writes one pdat, if any chunk's data goes there, then that of the chunks outside, then the pseg."""
     number, checked = attempt(
-        check_append, buffer, stated_length, source_offset, last, chunk_list, data)
+        check_append, buffer, stated_length, source_offset, last, outside, chunk_list, data)
     if number:
         return ("refused", number), buffer
     pairs, end = checked
-    pdat = write_box(b"pdat", data) if any_present(pairs) else b""
+    pdat = b""
+    if any_inside(pairs, outside):
+        pdat = write_box(b"pdat", *data_of(pairs, data, outside, goes_inside))
+    boxes = b"".join(data_of(pairs, data, outside, goes_outside))
     pshd = write_pshd(source_offset, repair_time, last)
-    ploc = write_ploc(pairs, offsets_of(pairs, len(data)))
-    file = buffer[:stated_length] + pdat + write_box(b"pseg", pshd, ploc)
+    ploc = write_ploc(pairs, offsets_of(pairs, outside))
+    file = buffer[:stated_length] + pdat + boxes + write_box(b"pseg", pshd, ploc)
     assert len(file) == end
     return ("length", end), file + buffer[end:]
 

@@ -6,6 +6,7 @@ import random
 import model
 from boxes import box, entry, ftyp, full, head, lost_segment, open_segment, pfhd, ploc, pshd, surl
 from expecting import close, expect
+from model import PAFF, PMFF
 
 LIMIT = 4_294_967_295
 P1 = bytes.fromhex("00 00 00 14 70 6c 6f 63 00 00 00 00 11 00 00 00 01 40 05 fb")
@@ -16,16 +17,16 @@ def refused(number):
     return ("refused", number)
 
 
-def begun(url=b"a", mime=b""):
-    answer, file = model.begin(bytes(54 + len(url) + len(mime)), url, mime)
+def begun(url=b"a", mime=b"", brand=PAFF):
+    answer, file = model.begin(bytes(54 + len(url) + len(mime)), brand, url, mime)
     return file
 
 
-def appended(file, source_offset, chunk_list, data, last=False, repair_time=0):
+def appended(file, source_offset, chunk_list, data, last=False, repair_time=0, outside=False):
     """The file after an append with room to spare, cut to its new length."""
     buffer = file + bytes(200 + 20 * len(chunk_list) + len(data))
     answer, buffer = model.append(
-        buffer, len(file), source_offset, repair_time, last, chunk_list, data)
+        buffer, len(file), source_offset, repair_time, last, outside, chunk_list, data)
     assert answer[0] == "length", answer
     return buffer[:answer[1]]
 
@@ -58,7 +59,7 @@ def check_p1_to_p7():
 
 
 def check_p8():
-    answer, file = model.begin(bytes(60), b"a", b"")
+    answer, file = model.begin(bytes(60), PAFF, b"a", b"")
     expect("P8 length", answer, ("length", 55))
     expect("P8 end", file[40:55].hex(" "), "00 00 00 0f 73 75 72 6c 00 00 00 00 61 00 00")
     expect("P8 past the end", file[55:], bytes(5))
@@ -204,50 +205,50 @@ def check_append_order():
     file = begun()
     closed = appended(file, 0, [4, 2], b"abcd", last=True)
     for name, given, number in [
-            ("30", (file, 56, 0, 0, False, [1], b""), 30),
-            ("own refusal", (file, 54, 0, 0, False, [1], b""), 5),
-            ("31 odd", (file, 55, 0, 0, False, [1], b"x"), 31),
-            ("31 size 0", (file, 55, 0, 0, False, [0, 0], b"x"), 31),
-            ("31 state 3", (file, 55, 0, 0, False, [1, 3], b"x"), 31),
-            ("32", (file, 55, LIMIT + 1, 0, False, [1, 0], b"x"), 32),
-            ("32, open", (file, 55, 0, 0, False, [], b"x"), 32),
-            ("22 before 23", (file, 55, LIMIT + 1, 0, False, 1025 * [1, 0], b""), 22),
-            ("22 past 16 bits", (file, 55, 0, 0, False, 65_536 * [1, 0], b""), 22),
-            ("23 offset", (file, 55, 2 ** 64 - 1, 0, False, [], b""), 23),
-            ("23 size", (file, 55, 0, 0, False, [2 ** 64 - 1, 0], b""), 23),
-            ("25 end", (closed, len(closed), 1, 0, False, [4, 0], b""), 25),
-            ("25 open", (closed, len(closed), 5, 0, True, [], b""), 25),
-            ("25 differ", (closed, len(closed), 1, 0, True, [2, 0], b""), 25),
-            ("33", (file, 55, 0, 0, False, [], b""), 33)]:
+            ("30", (file, 56, 0, 0, False, False, [1], b""), 30),
+            ("own refusal", (file, 54, 0, 0, False, False, [1], b""), 5),
+            ("31 odd", (file, 55, 0, 0, False, False, [1], b"x"), 31),
+            ("31 size 0", (file, 55, 0, 0, False, False, [0, 0], b"x"), 31),
+            ("31 state 3", (file, 55, 0, 0, False, False, [1, 3], b"x"), 31),
+            ("32", (file, 55, LIMIT + 1, 0, False, False, [1, 0], b"x"), 32),
+            ("32, open", (file, 55, 0, 0, False, False, [], b"x"), 32),
+            ("22 before 23", (file, 55, LIMIT + 1, 0, False, False, 1025 * [1, 0], b""), 22),
+            ("22 past 16 bits", (file, 55, 0, 0, False, False, 65_536 * [1, 0], b""), 22),
+            ("23 offset", (file, 55, 2 ** 64 - 1, 0, False, False, [], b""), 23),
+            ("23 size", (file, 55, 0, 0, False, False, [2 ** 64 - 1, 0], b""), 23),
+            ("25 end", (closed, len(closed), 1, 0, False, False, [4, 0], b""), 25),
+            ("25 open", (closed, len(closed), 5, 0, True, False, [], b""), 25),
+            ("25 differ", (closed, len(closed), 1, 0, True, False, [2, 0], b""), 25),
+            ("33", (file, 55, 0, 0, False, False, [], b""), 33)]:
         expect(name, model.append(*given), (refused(number), given[0]))
     full_of_boxes = file + 456 * box(b"free") + 52 * box(b"pdat")
     expect("511 boxes and two more", model.append(
-        full_of_boxes + box(b"free"), len(full_of_boxes) + 8, 0, 0, False, [1, 2], b"x")[0],
+        full_of_boxes + box(b"free"), len(full_of_boxes) + 8, 0, 0, False, False, [1, 2], b"x")[0],
         refused(6))
     expect("511 boxes and one more", model.append(
-        full_of_boxes + box(b"free") + bytes(49), len(full_of_boxes) + 8, 0, 0, False, [], b"")[0],
+        full_of_boxes + box(b"free") + bytes(49), len(full_of_boxes) + 8, 0, 0, False, False, [], b"")[0],
         ("length", len(full_of_boxes) + 8 + 49))
     many = file + 64 * open_segment(0)
-    expect("a 65th segment", model.append(many, len(many), 0, 0, False, [], b"")[0], refused(13))
-    expect("34 before 33", model.begin(b"", b"a\0", b""), (refused(34), b""))
-    expect("begin 33", model.begin(bytes(54), b"a", b""), (refused(33), bytes(54)))
+    expect("a 65th segment", model.append(many, len(many), 0, 0, False, False, [], b"")[0], refused(13))
+    expect("34 before 33", model.begin(b"", PAFF, b"a\0", b""), (refused(34), b""))
+    expect("begin 33", model.begin(bytes(54), PAFF, b"a", b""), (refused(33), bytes(54)))
 
 
 def check_lowered_file_limit():
     """The order of 1 in begin and append, with a limit that a short file passes."""
     held = model.LIMITS["file"]
     model.LIMITS["file"] = 104
-    expect("begin 34 before 1", model.begin(b"", 99 * b"\0", b"")[0], refused(34))
-    expect("begin 1 before 33", model.begin(b"", 51 * b"a", b"")[0], refused(1))
-    expect("begin at the limit", model.begin(bytes(104), 50 * b"a", b"")[0], ("length", 104))
+    expect("begin 34 before 1", model.begin(b"", PAFF, 99 * b"\0", b"")[0], refused(34))
+    expect("begin 1 before 33", model.begin(b"", PAFF, 51 * b"a", b"")[0], refused(1))
+    expect("begin at the limit", model.begin(bytes(104), PAFF, 50 * b"a", b"")[0], ("length", 104))
     file = begun()
     expect("append at the limit", model.append(
-        file + bytes(49), 55, 0, 0, False, [], b"")[0], ("length", 104))
-    expect("32 before 1", model.append(file, 55, 0, 0, False, [9, 0], b"x")[0], refused(32))
+        file + bytes(49), 55, 0, 0, False, False, [], b"")[0], ("length", 104))
+    expect("32 before 1", model.append(file, 55, 0, 0, False, False, [9, 0], b"x")[0], refused(32))
     expect("1 before 22, 23 and 33", model.append(
-        file, 55, LIMIT + 1, 0, False, 1025 * [1, 0], b"")[0], refused(1))
+        file, 55, LIMIT + 1, 0, False, False, 1025 * [1, 0], b"")[0], refused(1))
     expect("the file's own 1", model.append(
-        bytes(105), 105, 0, 0, False, [1], b"")[0], refused(1))
+        bytes(105), 105, 0, 0, False, False, [1], b"")[0], refused(1))
     model.LIMITS["file"] = held
 
 
@@ -318,18 +319,149 @@ def check_boxes_limits():
     expect("27 before 1", model.boxes_text(over, 1_073_741_824), b"refused\t27\n")
 
 
+# Mixed files.
+
+MIXED_FTYP = ftyp([PMFF], PMFF)
+MOOF, MDAT = box(b"moof", b"0123456789"), box(b"mdat", b"abcd", large=True)
+
+
+def behind_boxes(boxes, size, offset, flag_byte=0x40, brands=(PMFF,)):
+    """A file of one chunk, with these boxes in front of its segment."""
+    segment = box(b"pseg", pshd(0), ploc(2, 2, [entry(flag_byte, 2, size, 2, offset)]))
+    return ftyp(brands) + box(b"pfil", pfhd(), surl()) + boxes + segment
+
+
+def check_brands():
+    """8 only if neither brand is there, and the major brand is none of them; with both the mixed rules hold."""
+    outside = (MOOF, 18, -18)
+    for name, brands, number in [("pmff", [PMFF], 0), ("paff", [PAFF], 24), ("none", [], 8), ("isom", [b"isom"], 8), ("pmff across two", [b"\0\0pm", b"ff\0\0"], 8),
+                                 ("Pmff", [b"Pmff"], 8), ("both", [PAFF, PMFF], 0), ("both, turned", [PMFF, b"isom", PAFF], 0), ("third", [b"isom", b"iso6", PMFF], 0)]:
+        answer = model.read(behind_boxes(*outside, brands=brands))
+        expect(f"brands {name}", answer[1] if answer[0] == "refused" else 0, number)
+    major = ftyp([PAFF], major=PMFF) + behind_boxes(*outside)[20:]
+    expect("pmff the major brand alone", model.read(major), refused(24))
+
+
+def check_outside_places():
+    """By hand: which stretches of MOOF (18 bytes), MDAT (20 bytes, large) and the boxes beside them a good chunk may be."""
+    pdat = box(b"pdat", MOOF)
+    four = MOOF + pdat + MDAT + MOOF
+    for name, boxes, size, offset, wanted in [
+            ("one box", MOOF, 18, -18, True), ("the first of two", MOOF + MDAT, 18, -38, True), ("the second of two", MOOF + MDAT, 20, -20, True),
+            ("two boxes", MOOF + MDAT, 38, -38, True), ("one and a half", MOOF + MDAT, 28, -38, False), ("a half and one", MOOF + MDAT, 30, -30, False),
+            ("one byte more", MOOF + MDAT, 19, -38, False), ("one byte less", MOOF, 17, -18, False), ("without its first byte", MOOF, 17, -17, False),
+            ("its header", MOOF, 8, -18, False), ("its body", MOOF, 10, -10, False), ("to the pseg and over its header", MOOF, 26, -18, False),
+            ("nothing of a box", MOOF, 1, -19, False), ("a pdat in the run", four, 82, -82, False), ("a pdat at the front of the run", four, 64, -64, False),
+            ("a pdat at the end of the run", four, 44, -82, False), ("beside a pdat", four, 38, -38, True), ("before a pdat", four, 18, -82, True),
+            ("a whole pdat", pdat, 26, -26, False), ("a box in a pdat", pdat, 18, -18, True), ("a part of a box in a pdat", pdat, 9, -12, True),
+            ("a box in a box", box(b"free", MOOF), 18, -18, False), ("a box of 8 bytes", box(b"free"), 8, -8, True),
+            ("a box of 16 bytes, large", box(b"free", large=True), 16, -16, True)]:
+        expect(f"a good chunk as {name}", model.read(behind_boxes(boxes, size, offset))[0], "read" if wanted else "refused")
+        damaged = model.read(behind_boxes(boxes, size, offset, 0xC0))
+        inside = "in a pdat" in name
+        expect(f"a damaged chunk as {name}", damaged[0] if inside else damaged, "read" if inside else refused(24))
+        expect(f"without the brand, {name}", model.read(behind_boxes(boxes, size, offset, brands=[PAFF]))[0], "read" if inside else "refused")
+
+
+def check_outside_kinds():
+    """Every type but four, boxes behind the segment, and chunks that share boxes."""
+    for kind in (b"free", b"uuid", b"surl", b"ploc", b"pshd", b"pfhd", b"fidx", b"dref", b"FTYP", bytes(4)):
+        content = box(kind, bytes(16))
+        expect(f"a good chunk of type {kind}", model.read(behind_boxes(content, 24, -24))[0], "read")
+    for place, size, kind in [(0, 20, "ftyp"), (20, 35, "pfil"), (0, 55, "ftyp and pfil"), (20, 53, "pfil and a box"), (73, 54, "its own pseg")]:
+        found = model.read(behind_boxes(MOOF, size, place - 73))
+        expect(f"a good chunk that is {kind}", found, refused(24))
+    entries = [entry(0x40, 1, 18, 1, -38), entry(0x40, 1, 38, 1, -38), entry(0xC0, 1, 0, 1, 0), entry(0x40, 1, 20, 1, 61)]
+    segment = box(b"pseg", pshd(0), ploc(1, 1, entries))
+    expect("the segment's length", len(segment), 61)
+    file = MIXED_FTYP + box(b"pfil", pfhd(), surl()) + MOOF + MDAT + segment + MDAT
+    expect("shared boxes, and one behind", model.read(file)[2],
+           [(0, 0, 0, 18, 2, 55), (0, 1, 18, 38, 2, 55), (0, 2, 56, 0, 1, 0), (0, 3, 56, 20, 2, 154)])
+    expect("served from a box", model.serve(file, 20), (57, 36))
+    expect("1 byte served at its end", model.serve(file, 75), (173, 1))
+
+
+def check_mixed_writer():
+    """By hand: what begin and append write of a mixed file, and that nothing changes without the argument."""
+    expect("begun mixed", begun(brand=PMFF), MIXED_FTYP + begun()[20:])
+    expect("begun mixed, refused", [model.begin(bytes(room), PMFF, url, b"")[0] for room, url in [(54, b"a"), (54, b"a\0"), (55, b"a")]],
+           [refused(33), refused(34), ("length", 55)])
+    chunk_list, data = [20, 2, 3, 1, 7, 0, 18, 2, 2, 1], MDAT + b"xyz" + MOOF + b"pq"
+    entries = [entry(0x40, 1, 20, 1, -38), entry(0xC0, 1, 3, 1, -43), entry(0x80, 1, 7), entry(0x40, 1, 18, 1, -18), entry(0xC0, 1, 2, 1, -40)]
+    wanted = begun(brand=PMFF) + box(b"pdat", b"xyzpq") + MDAT + MOOF + box(b"pseg", pshd(4, 1, 9), ploc(1, 1, entries))
+    expect("all states outside", appended(begun(brand=PMFF), 4, chunk_list, data, True, 9, outside=True), wanted)
+    expect("none damaged", appended(begun(brand=PMFF), 0, [18, 2, 20, 2], MOOF + MDAT, outside=True),
+           begun(brand=PMFF) + MOOF + MDAT + box(b"pseg", pshd(0), ploc(1, 1, [entry(0x40, 1, 18, 1, -38), entry(0x40, 1, 20, 1, -20)])))
+    for size, width in [(128, 1), (129, 2)]:
+        file = appended(begun(brand=PMFF), 0, [size, 2], box(b"free", bytes(size - 8)), outside=True)
+        expect(f"widths for {size} bytes outside", file[-7 - width], 0x10 + width)
+    for outside in (False, True):
+        for chunk_list, data in [([], b""), ([5, 0], b""), ([3, 1, 4, 0], b"abc")]:
+            expect(f"no good chunk, {chunk_list} {outside}", appended(begun(), 1, chunk_list, data, outside=outside), appended(begun(), 1, chunk_list, data))
+    for brand in (PAFF, PMFF):
+        inside = appended(begun(), 0, [18, 2, 1, 1], MOOF + b"x")[55:]
+        expect(f"inside, begun with {brand}", appended(begun(brand=brand), 0, [18, 2, 1, 1], MOOF + b"x"), begun(brand=brand) + inside)
+
+
+def check_35():
+    """What may not go outside, and the order of 35."""
+    mixed, plain = begun(brand=PMFF), begun()
+    closed = appended(mixed, 0, [4, 0], b"", last=True)
+    for name, part in [
+            ("size 0", bytes(4) + b"mdat" + bytes(8)), ("size 0 at last", MOOF + bytes(4) + b"mdat"), ("one byte", b"x"), ("a cut header", MOOF + MOOF[:7]), ("a cut box", MOOF[:-1]),
+            ("a byte left over", MOOF + b"\0"), ("size 7", bytes([0, 0, 0, 7]) + b"free"), ("a cut large size", bytes([0, 0, 0, 1]) + b"free" + bytes(7)),
+            ("a uuid without its user type", box(b"uuid")), ("a uuid cut in its user type", box(b"uuid", bytes(15))), ("a large uuid cut in it", box(b"uuid", bytes(15), large=True)),
+            ("a uuid cut by the chunk", bytes([0, 0, 0, 24]) + b"uuid" + bytes(15)),
+            *[(f"a {kind.decode()}", MOOF + box(kind)) for kind in (b"ftyp", b"pfil", b"pseg", b"pdat")], ("a pdat first", box(b"pdat", b"abc") + MOOF)]:
+        room = bytes(500)
+        for where, chunk_list, data in [("alone", [len(part), 2], part), ("behind a good one", [18, 2, 4, 0, len(part), 2], MOOF + part),
+                                        ("before one, behind damaged", [3, 1, len(part), 2, 18, 2], b"abc" + part + MOOF)]:
+            given = (mixed + room, 55, 0, 0, False, True, chunk_list, data)
+            expect(f"35 for {name}, {where}", model.append(*given), (refused(35), given[0]))
+            expect(f"{name}, {where}, inside", model.append(mixed + room, 55, 0, 0, False, False, chunk_list, data)[0][0], "length")
+        expect(f"{name}, damaged", model.append(mixed + room, 55, 0, 0, False, True, [len(part), 1, 18, 2], part + MOOF)[0][0], "length")
+    for name, part in [("a uuid", box(b"uuid", bytes(16))), ("a large uuid", box(b"uuid", bytes(16), large=True)), ("a ploc", box(b"ploc")), ("two boxes", MOOF + MDAT)]:
+        expect(f"{name} goes outside", model.append(mixed + bytes(200), 55, 0, 0, False, True, [len(part), 2], part)[0][0], "length")
+        expect(f"{name} of a file that is not mixed", model.append(plain + bytes(200), 55, 0, 0, False, True, [len(part), 2], part)[0], refused(35))
+    expect("a chunk cut across two boxes", model.append(mixed + bytes(200), 55, 0, 0, False, True, [17, 2, 1, 2], MOOF)[0], refused(35))
+    for name, given, number in [
+            ("31 before 35", (plain, 55, 0, 0, False, True, [18, 2, 0, 0], MOOF), 31), ("32 before 35", (plain, 55, 0, 0, False, True, [18, 2], MOOF + b"x"), 32),
+            ("35 before 22, 23 and 33", (plain, 55, LIMIT + 1, 0, False, True, [1, 2] + 1024 * [1, 0], b"x"), 35),
+            ("35 before 25 and 33", (closed, len(closed), 4, 0, False, True, [18, 2], MOOF[1:] + b"x"), 35),
+            ("25 before 33", (closed, len(closed), 4, 0, False, True, [18, 2], MOOF), 25),
+            ("33", (mixed, 55, 4, 0, False, True, [18, 2], MOOF), 33)]:
+        expect(name, model.append(*given)[0], refused(number))
+
+
+def check_6_outside():
+    """Each box outside counts: 2 boxes of the file begun, the pdat where there is one, and the pseg."""
+    mixed, free = begun(brand=PMFF), box(b"free")
+    for name, chunk_list, data, taken in [
+            ("509 boxes", [8 * 509, 2], 509 * free, True), ("510 boxes", [8 * 510, 2], 510 * free, False), ("600 boxes", [8 * 600, 2], 600 * free, False),
+            ("508 boxes and a pdat", [8 * 508, 2, 1, 1], 508 * free + b"x", True), ("509 boxes and a pdat", [1, 1, 8 * 509, 2], b"x" + 509 * free, False),
+            ("509 boxes in two chunks", [8 * 500, 2, 72, 2], 509 * free, True), ("510 boxes in two chunks", [8 * 500, 2, 80, 2], 510 * free, False)]:
+        answer = model.append(mixed + bytes(6_000), 55, 0, 0, False, True, chunk_list, data)[0]
+        expect(f"{name} outside", answer[0] if taken else answer, "length" if taken else refused(6))
+    expect("600 boxes inside", model.append(mixed + bytes(6_000), 55, 0, 0, False, False, [4800, 2], 600 * free)[0][0], "length")
+    expect("6 before 13", model.append(mixed + 64 * open_segment(0) + bytes(6_000), 55 + 64 * 49, 0, 0, False, True, [4800, 2], 600 * free)[0], refused(6))
+
+
 # The writer against the reader, over random runs.
 
-def random_chunks(rng, room):
-    """A chunk list of at most `room` positions, and its data."""
+def random_chunks(rng, room, outside):
+    """A chunk list of at most `room` positions, and its data; good ones that go outside are whole boxes."""
     chunk_list, data = [], b""
     for _ in range(rng.choice([0, 1, 1, 2, 3, 5])):
         size = rng.choice([1, 2, 7, rng.randint(1, 40), rng.randint(1, 400)])
+        state = rng.randint(0, 2)
+        content = rng.randbytes(size if state else 0)
+        if outside and state == 2:
+            content = b"".join(box(rng.choice([b"moof", b"mdat"]), rng.randbytes(rng.randint(0, 99))) for _ in range(rng.randint(1, 3)))
+            size = len(content)
         if size <= room:
             room -= size
-            state = rng.randint(0, 2)
             chunk_list += [size, state]
-            data += rng.randbytes(size if state else 0)
+            data += content
     return chunk_list, data
 
 
@@ -338,17 +470,18 @@ def chunk_bytes(file, rows):
     return b"".join(file[row[5]:row[5] + row[3]] for row in rows if row[4] != 0)
 
 
-def check_one_append(rng, file):
+def check_one_append(rng, file, mixed):
     """Appends a random segment; gives the file after it."""
     described, closed = model.length(file)[1:] if model.read(file)[0] == "read" else (0, False)
     limit = described if closed else rng.choice([500, LIMIT])
     offset = rng.choice([0, rng.randint(0, min(limit, 99)), rng.randint(0, limit)])
-    chunk_list, data = random_chunks(rng, limit - offset)
+    outside = mixed and rng.random() < 0.6
+    chunk_list, data = random_chunks(rng, limit - offset, outside)
     last = not closed and offset + sum(chunk_list[0::2]) >= described and rng.random() < 0.3
     repair_time = rng.getrandbits(64)
+    given = (len(file), offset, repair_time, last, outside, chunk_list, data)
     spare = rng.randbytes(rng.choice([0, 1, 30]) + 2000 + len(data))
-    answer, buffer = model.append(
-        file + spare, len(file), offset, repair_time, last, chunk_list, data)
+    answer, buffer = model.append(file + spare, *given)
     expect("appended", answer[0], "length")
     new = buffer[:answer[1]]
     expect("earlier bytes", new[:len(file)], file)
@@ -359,12 +492,12 @@ def check_one_append(rng, file):
            (offset, int(last), repair_time, len(chunk_list) // 2))
     expect("sizes and states", [number for row in added for number in row[3:5]], chunk_list)
     expect("bytes", chunk_bytes(new, added), data)
-    exact = model.append(new[:len(file)] + bytes(len(new) - len(file)), len(file), offset,
-                         repair_time, last, chunk_list, data)
+    expect("no byte but the data's and two headers'", answer[1] - len(file) - len(data) - len(new[segment_rows[-1][0]:]),
+           8 if any(state and not (outside and state == 2) for state in chunk_list[1::2]) else 0)
+    exact = model.append(new[:len(file)] + bytes(len(new) - len(file)), *given)
     expect("exact room", exact, (answer, new))
     short = file + bytes(len(new) - len(file) - 1)
-    expect("one byte too few", model.append(short, len(file), offset, repair_time, last,
-                                            chunk_list, data), (refused(33), short))
+    expect("one byte too few", model.append(short, *given), (refused(33), short))
     return new
 
 
@@ -373,23 +506,30 @@ def part(file, place_and_length):
     return file[place:place + length]
 
 
+def some_good_outside(file, rows):
+    """Whether a good chunk lies in no pdat, as its bytes would in a file by append."""
+    pdats = [found for found in model.frame(file, 0, len(file)) if found.kind == b"pdat"]
+    return any(row[4] == 2 and not any(pdat.body <= row[5] < pdat.end for pdat in pdats) for row in rows)
+
+
 def written_again(file):
     """Begin and append with what was read from a file."""
-    again = begun(part(file, model.url(file)), part(file, model.mime(file)))
+    again = begun(part(file, model.url(file)), part(file, model.mime(file)), file[16:20])
     segment_rows, chunk_rows = model.read(file)[1:]
     for number, row in enumerate(segment_rows):
         rows = [chunk for chunk in chunk_rows if chunk[0] == number]
         chunk_list = [field for chunk in rows for field in chunk[3:5]]
-        again = appended(again, row[1], chunk_list, chunk_bytes(file, rows), bool(row[2]), row[3])
+        again = appended(again, row[1], chunk_list, chunk_bytes(file, rows), bool(row[2]), row[3], some_good_outside(file, rows))
     return again
 
 
 def check_random_runs(rng, runs):
     for _ in range(runs):
         texts = [bytes(rng.randint(1, 255) for _ in range(rng.randint(0, 9))) for _ in range(2)]
-        file = begun(*texts)
+        brand = rng.choice([PAFF, PMFF])
+        file = begun(*texts, brand)
         for _ in range(rng.randint(1, 6)):
-            file = check_one_append(rng, file)
+            file = check_one_append(rng, file, brand == PMFF)
         expect("url and mime", [part(file, model.url(file)), part(file, model.mime(file))], texts)
         expect("written again", written_again(file), file)
 
@@ -412,5 +552,11 @@ if __name__ == "__main__":
     check_rooms()
     check_append_order()
     check_lowered_file_limit()
+    check_brands()
+    check_outside_places()
+    check_outside_kinds()
+    check_mixed_writer()
+    check_35()
+    check_6_outside()
     check_random_runs(random.Random(1), 300)
     raise SystemExit(close())

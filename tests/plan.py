@@ -6,6 +6,8 @@ from boxes import box, full
 class Data:
     """A pdat of the file."""
 
+    count = 1
+
     def __init__(self, body, large=False):
         self.body = body
         self.large = large
@@ -18,6 +20,8 @@ class Data:
 class Other:
     """Any other bytes at the level of the file."""
 
+    count = 1
+
     def __init__(self, content):
         self.content = content
 
@@ -25,8 +29,25 @@ class Other:
         return self.content
 
 
+class Whole:
+    """Neighbouring boxes of the file, one or several of which a good chunk of a mixed file may be."""
+
+    header = 0
+
+    def __init__(self, boxes):
+        self.boxes = boxes
+        self.count = len(boxes)
+
+    def edges(self):
+        """Where the boxes begin and end, from the first byte on."""
+        return [len(b"".join(self.boxes[:number])) for number in range(self.count + 1)]
+
+    def bytes_at(self, place, places):
+        return b"".join(self.boxes)
+
+
 class Entry:
-    """A chunk: present ones lie `at` a byte of a Data, at a place, or anywhere."""
+    """A chunk: present ones lie `at` a byte of a Data or a Whole, at a place, or anywhere."""
 
     def __init__(self, flag_byte, size, data=None, at=0, place=None, wild=0):
         self.flag_byte = flag_byte
@@ -56,6 +77,8 @@ class Entry:
 
 class Segment:
     """A pseg, with every field and every place where a fault can be put."""
+
+    count = 1
 
     def __init__(self, offset, entries, flags=0, version=0):
         self.offset = offset
@@ -129,10 +152,11 @@ def in_reach(offset, width):
 class Plan:
     """A file: ftyp, pfil and its parts, then the items in their order."""
 
-    def __init__(self, ftyp, pfil_parts, items, pfil_large=False):
+    def __init__(self, ftyp, pfil_parts, items, pfil_large=False, mixed=False):
         self.ftyp = ftyp
         self.pfil_parts = pfil_parts
         self.pfil_large = pfil_large
+        self.mixed = mixed
         self.items = items
         self.tail = b""
 
@@ -141,6 +165,13 @@ class Plan:
 
     def datas(self):
         return [item for item in self.items if isinstance(item, Data)]
+
+    def wholes(self):
+        return [item for item in self.items if isinstance(item, Whole)]
+
+    def box_count(self):
+        """How many boxes the file has, ftyp and pfil among them."""
+        return 2 + sum(item.count for item in self.items)
 
     def pfil(self):
         return box(b"pfil", *self.pfil_parts, large=self.pfil_large)

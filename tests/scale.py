@@ -27,7 +27,7 @@ from scale_stream import Shown, Stream
 
 # So many cases have to meet each of these.
 LONG_ENOUGH = 10_000
-REFUSALS = set(range(1, 27)) | {30, 31, 32, 33, 34}
+REFUSALS = set(range(1, 27)) | set(range(30, 36))
 IN_TEXTS = {"map": set(range(1, 26)) | {27}, "boxes": set(range(1, 7)) | {27}}
 AT_ONCE = 1 << 20
 

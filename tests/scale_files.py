@@ -6,8 +6,8 @@ import lists
 import maps
 from boxes import box, ftyp, pfhd, surl
 from faults import BOXES, CHUNKS, FAULTS, SEGMENTS, too_many_boxes
-from foreign import close, foreign_entry, foreign_plan, foreign_segment
-from plan import Data, Plan, Segment
+from foreign import GOOD, close, foreign_entry, foreign_plan, foreign_segment
+from plan import Data, Entry, Plan, Segment, Whole
 from spoiling import boxes_in, cut
 
 # What a container is filled with.
@@ -34,8 +34,8 @@ def near(rng, most):
     return rng.choice([most - 1, most, most, most, most + 1])
 
 
-def plain(items):
-    return Plan(ftyp(), [pfhd(), surl()], items)
+def plain(items, brand=b"paff"):
+    return Plan(ftyp([brand]), [pfhd(), surl()], items)
 
 
 def many_chunks(rng):
@@ -63,10 +63,25 @@ def many_boxes(rng):
     if rng.random() < 0.4:
         too_many_boxes(rng, plan)
     elif rng.random() < 0.5:
-        plan.tail = (BOXES - 2 - len(plan.items)) * filling
+        plan.tail = (BOXES - plan.box_count()) * filling
     else:
         plan.pfil_parts += (BOXES - len(plan.pfil_parts)) * [filling]
     return plan.assemble()
+
+
+def many_outside(rng):
+    """A mixed file full of boxes, a pdat among them, and chunks that are one of them or many, now and then over the pdat or a byte off."""
+    wholes = [Whole([rng.choice(FILLINGS) for _ in range(count)]) for count in (near(rng, 250), 251)]
+    edges = [whole.edges() for whole in wholes]
+    entries = []
+    for _ in range(rng.choice([3, 60, 300])):
+        number = rng.randrange(2)
+        first, end = sorted(rng.sample(edges[number], 2))
+        entries.append(Entry(GOOD, end - first, wholes[number], first))
+    if rng.random() < 0.3:
+        entries[-1].size += rng.choice([-1, 1, 50, edges[0][-1]])
+    segments = [Segment(0, entries[at::4]) for at in range(4)]
+    return plain([wholes[0], Data(rng.randbytes(9)), wholes[1], *segments], b"pmff").assemble()
 
 
 def long_data(rng):
@@ -86,7 +101,7 @@ def near_what_the_program_takes(rng):
     return maps.of_size(rng.choice([65_535, 65_536, 65_537, 131_072]))
 
 
-LARGE = [many_chunks, many_segments, many_boxes, many_boxes, long_data, near_what_the_program_takes]
+LARGE = [many_chunks, many_segments, many_boxes, many_boxes, many_outside, many_outside, long_data, near_what_the_program_takes]
 
 
 def large_file(rng):

@@ -20,7 +20,7 @@ def largest_cases(stream, rng):
     for length in (MOST, MOST + 1):
         zeros = bytes(length)
         file_cases(stream, rng, zeros)
-        append_case(stream, zeros, Append(length, 0, 0, 0, (), 0, b""), length)
-        begin_case(stream, Begin(b"u", zeros), 99)
+        append_case(stream, zeros, Append(length, 0, 0, 0, False, (), 0, b""), length)
+        begin_case(stream, Begin(model.PMFF, b"u", zeros), 99)
         data = data_to_end_at(length)
-        append_case(stream, head(), Append(len(head()), 0, 0, 1, (len(data), 2), 2, data), 4_000)
+        append_case(stream, head(), Append(len(head()), 0, 0, 1, False, (len(data), 2), 2, data), 4_000)

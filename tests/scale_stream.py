@@ -13,7 +13,7 @@ from collections import Counter, namedtuple
 # How many numbers and memories a call takes.
 Form = namedtuple("Form", "kind numbers memories")
 FORMS = {"read": Form(1, 0, 3), "url": Form(2, 0, 1), "mime": Form(3, 0, 1), "serve": Form(4, 1, 3), "ask": Form(5, 1, 3), "list": Form(6, 0, 5),
-         "map": Form(7, 1, 2), "begin": Form(8, 0, 3), "append": Form(9, 4, 3), "boxes": Form(10, 1, 2)}
+         "map": Form(7, 1, 2), "begin": Form(8, 1, 3), "append": Form(9, 5, 3), "boxes": Form(10, 1, 2)}
 BLOCK, ZEROS, END = 0, 254, 255
 # A block from this length on is all zeros, and is not sent.
 TOO_LARGE = 1 << 29

@@ -4,11 +4,12 @@ import additions
 import generate
 import model
 import writes_limits
+import writes_mixed
 import writes_random
 import writes_refusals
 from scale_reading import awkward, file_cases, number_of
 from scale_stream import AFTER, BEFORE, DATA, LIST, MIME, NONE, URL, Memory, packed
-from writes_run import Append, Begin, chunk_list, lent_buffer, made, performed
+from writes_run import Append, Begin, chunk_list, lent_buffer, made, of_arguments, performed
 
 # The longest buffer that is lent for a stated length which no buffer holds.
 LONGEST = 400_000
@@ -18,7 +19,7 @@ LARGE = (127, 128, 129, 255, 256, 257, 32_767, 32_768, 32_769, 65_535, 65_536, 1
 
 # Faults of an append in an order in which each can be put beside the earlier ones. Those that fill the file up come seldom, as it is large then.
 FILLINGS = [additions.fill_with_chunks, additions.fill_with_segments, additions.fill_with_boxes]
-FAULTS = [additions.overstep_limit, additions.overstep_size, additions.spoil_data, additions.spoil_chunk_list]
+FAULTS = [additions.overstep_limit, additions.overstep_size, additions.spoil_outside, additions.spoil_data, additions.spoil_chunk_list]
 
 
 # One case each. `known` is the front of the buffer; what lies behind it is marks, which the model need not know, since it is not read.
@@ -31,7 +32,7 @@ def begin_case(stream, call, room):
     if not refusal:
         stream.hold(AFTER, buffer[:answer[1]])
     memories = [Memory(room, NONE, NONE if refusal else AFTER), stream.whole(URL), stream.whole(MIME)]
-    stream.call("begin", refusal, (), memories, answer[1:])
+    stream.call("begin", refusal, (additions.BRANDS.index(call.brand),), memories, answer[1:])
 
 
 def append_case(stream, known, call, room):
@@ -44,14 +45,12 @@ def append_case(stream, known, call, room):
     stream.hold(LIST, packed(chunk_list(call)))
     stream.hold(DATA, call.data)
     memories = [Memory(room, BEFORE, AFTER), stream.whole(LIST, 8), stream.whole(DATA)]
-    stream.call("append", refusal, (call.stated, call.offset, call.repair, call.flags % 2), memories, answer[1:])
+    stream.call("append", refusal, (call.stated, call.offset, call.repair, call.flags % 2, call.outside), memories, answer[1:])
 
 
 def addition_case(stream, given):
     """A case of arguments as tests/additions.py makes them."""
-    numbers = tuple(given["chunk_list"])
-    call = Append(given["stated_length"], given["source_offset"], given["repair_time"], int(given["last"]), numbers, len(numbers), given["data"])
-    append_case(stream, given["buffer"], call, len(given["buffer"]))
+    append_case(stream, given["buffer"], of_arguments(given), len(given["buffer"]))
 
 
 def addition_with_faults(rng, file):
@@ -77,7 +76,7 @@ def begin_cases(stream, rng, call):
     for room in awkward(end):
         begin_case(stream, call, room)
     for given in (generate.beginning(rng), generate.faulty_beginning(rng, 34)):
-        begin_case(stream, Begin(given["url"], given["mime"]), len(given["buffer"]))
+        begin_case(stream, Begin(given["brand"], given["url"], given["mime"]), len(given["buffer"]))
     return made(bytes(end), call)[1]
 
 
@@ -87,7 +86,7 @@ def append_cases(stream, rng, known, call):
         for room in (len(known), min(call.stated - 1, LONGEST)):
             append_case(stream, known, call, room)
         return None
-    end = call.stated + additions.added_length(call.offset, chunk_list(call), call.data)
+    end = call.stated + additions.added_length(call.offset, chunk_list(call), call.data, call.outside)
     others = (0, max(0, call.stated - 1), call.stated, end - 1, end + 1, end + rng.randint(0, 99))
     for room in [end, *rng.sample(others, 2)]:
         append_case(stream, known, call, room)
@@ -106,14 +105,15 @@ def large_append(rng, file):
     numbers = []
     for _ in range(rng.randint(1, 3)):
         numbers += [rng.choice(LARGE), rng.choice([0, 1, 2, 2])]
-    data = rng.randbytes(additions.kept(numbers))
-    return Append(len(file), rng.choice([0, 7, 2 ** 31]), rng.getrandbits(64), rng.getrandbits(1), tuple(numbers), len(numbers), data)
+    outside = additions.is_mixed(file) and rng.random() < 0.5
+    data = additions.data_for(rng, numbers, outside)
+    return Append(len(file), rng.choice([0, 7, 2 ** 31]), rng.getrandbits(64), rng.getrandbits(1), outside, tuple(numbers), len(numbers), data)
 
 
 def first_file(stream, rng):
     """What a run appends to: a file that is begun, or any other."""
     if rng.random() < 0.65:
-        return begin_cases(stream, rng, Begin(*additions.texts(rng)))
+        return begin_cases(stream, rng, Begin(rng.choice(additions.BRANDS), *additions.texts(rng)))
     file = generate.foreign_file(rng)
     return generate.spoil(rng, file) if rng.random() < 0.3 else file
 
@@ -144,7 +144,7 @@ def run_of_corpus(stream, run):
 
 
 def corpus_runs(stream):
-    for run in [*writes_limits.runs(), *writes_refusals.runs()]:
+    for run in [*writes_limits.runs(), *writes_refusals.runs(), *writes_mixed.runs()]:
         run_of_corpus(stream, run)
 
 

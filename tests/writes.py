@@ -3,10 +3,11 @@
 usage: python3 tests/writes.py [--check]
 
 A record of `stdin` is a run. Four numbers of two bytes, most significant first: the length of its name, the bytes lent as the buffer, the length
-of the file that stands in it at first, and how many calls are made; then the name, the file and the calls. A begin is three numbers of two bytes,
-0 and the lengths of the URL and of the MIME text, and the two texts. An append is 1, how many numbers of its chunk list are given, and the length of
-its data; then five numbers of eight bytes, the stated length, source offset, repair time, flags, and the length of the list, which goes on with the
-same numbers again; then those numbers and the data. `stdout` is made of the model's answers alone.
+of the file that stands in it at first, and how many calls are made; then the name, the file and the calls. A begin is four numbers of two bytes,
+0, the brand (0 is `paff`, 1 `pmff`) and the lengths of the URL and of the MIME text, and the two texts. An append is 1, whether its good chunks go
+outside (1 where they do), how many numbers of its chunk list are given, and the length of its data; then five numbers of eight bytes, the stated length,
+source offset, repair time, flags, and the length of the list, which goes on with the same numbers again; then those numbers and the data. `stdout` is made
+of the model's answers alone.
 
 Refusal 1 is not met: it takes a file of over 1,073,741,824 bytes.
 """
@@ -16,9 +17,11 @@ from collections import Counter
 
 import model
 import writes_limits
+import writes_mixed
 import writes_random
 import writes_refusals
 from corpus import ROOT, command, line
+from additions import BRANDS
 from sums import sum_of
 from writes_run import Append, Begin, length_after, performed
 
@@ -26,11 +29,11 @@ CRATE = os.path.join(ROOT, "crates", "writing_run")
 MOST_BYTES = 500_000
 SHORT = 96
 OF_BEGIN = {33, 34}
-OF_APPEND = set(range(2, 26)) - {12} | {30, 31, 32, 33}
+OF_APPEND = set(range(2, 26)) - {12} | {30, 31, 32, 33, 35}
 
 
 def runs():
-    return [run for part in (writes_refusals, writes_limits, writes_random) for run in part.runs()]
+    return [run for part in (writes_refusals, writes_limits, writes_mixed, writes_random) for run in part.runs()]
 
 
 # Their bytes.
@@ -41,8 +44,8 @@ def numbers(width, *given):
 
 def encoded_call(call):
     if isinstance(call, Begin):
-        return numbers(2, 0, len(call.url), len(call.mime)) + call.url + call.mime
-    front = numbers(2, 1, len(call.given), len(call.data))
+        return numbers(2, 0, BRANDS.index(call.brand), len(call.url), len(call.mime)) + call.url + call.mime
+    front = numbers(2, 1, int(call.outside), len(call.given), len(call.data))
     return front + numbers(8, call.stated, call.offset, call.repair, call.flags, call.count, *call.given) + call.data
 
 

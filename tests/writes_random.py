@@ -4,12 +4,12 @@ import random
 
 import additions
 import generate
-from writes_run import LARGEST, Append, Begin, length_after, lent_buffer, longest, made, run
+from writes_run import LARGEST, Begin, length_after, lent_buffer, longest, made, of_arguments, run
 
 SEED = 2_300_114
 RUNS = 150
 LONGEST_FILE = 1_200
-FAULTS = {31: additions.spoil_chunk_list, 32: additions.spoil_data, 23: additions.overstep_limit, 25: additions.overstep_size}
+FAULTS = {31: additions.spoil_chunk_list, 32: additions.spoil_data, 35: additions.spoil_outside, 23: additions.overstep_limit, 25: additions.overstep_size}
 
 
 def other_length(rng, length, earlier):
@@ -30,8 +30,7 @@ def some_append(rng, file, earlier):
     given = asked(rng, file)
     stated = other_length(rng, len(file), earlier) if rng.random() < 0.12 else len(file)
     others = rng.getrandbits(31) * 2 if rng.random() < 0.2 else 0
-    numbers = tuple(given["chunk_list"])
-    return Append(stated, given["source_offset"], given["repair_time"], others + given["last"], numbers, len(numbers), given["data"])
+    return of_arguments(given, stated, others + given["last"])
 
 
 def some_calls(rng, file, calls):
@@ -54,7 +53,7 @@ def foreign(rng):
 
 def some_run(rng, index):
     """In a buffer that just holds what is written, with bytes to spare, or too short for the last of it."""
-    file, calls = (b"", [Begin(*additions.texts(rng))]) if rng.random() < 0.65 else (foreign(rng), [])
+    file, calls = (b"", [Begin(rng.choice(additions.BRANDS), *additions.texts(rng))]) if rng.random() < 0.65 else (foreign(rng), [])
     calls = some_calls(rng, file, calls)
     spare = rng.choice([0, 0, 1, 7, rng.randint(0, 60), -1, -rng.randint(1, 80)])
     lent = max(len(file), longest(file, calls) + spare)

@@ -7,8 +7,8 @@ from lists_record import chunks
 
 # Of an append, `stated` is the length of the file that it states, `given` the front of its chunk list, which goes on with the same numbers again
 # up to `count`, and `flags` all 32 bits of the flags.
-Begin = namedtuple("Begin", "url mime")
-Append = namedtuple("Append", "stated offset repair flags given count data")
+Begin = namedtuple("Begin", "brand url mime")
+Append = namedtuple("Append", "stated offset repair flags outside given count data")
 
 # `wanted` has for each call the number of its refusal, 0 where it is to be taken; it is None where only the model says.
 Run = namedtuple("Run", "kind name wanted lent file calls")
@@ -21,13 +21,30 @@ STATES = {"lost": 0, "damaged": 1, "good": 2}
 
 # The calls.
 
-def begin(url=b"u", mime=b""):
-    return Begin(url, mime)
+def begin(url=b"u", mime=b"", brand=model.PAFF):
+    return Begin(brand, url, mime)
 
 
-def given_list(offset, numbers, data=b"", flags=0, repair=0, stated=None, count=None):
+def given_list(offset, numbers, data=b"", flags=0, repair=0, stated=None, count=None, outside=False):
     """An append of a chunk list in numbers; a stated length of None is that of the file so far."""
-    return Append(stated, offset, repair, flags, tuple(numbers), len(numbers) if count is None else count, data)
+    return Append(stated, offset, repair, flags, outside, tuple(numbers), len(numbers) if count is None else count, data)
+
+
+def outside(offset, *chunks, flags=0, repair=0):
+    """An append whose good chunks go outside: bytes are good, a pair is damaged bytes or a lost size."""
+    numbers, data = [], b""
+    for chunk in chunks:
+        state, content = (STATES["good"], chunk) if isinstance(chunk, bytes) else (STATES[chunk[0]], chunk[1])
+        numbers += [content if state == 0 else len(content), state]
+        data += b"" if state == 0 else content
+    return given_list(offset, numbers, data, flags, repair, outside=True)
+
+
+def of_arguments(given, stated=None, flags=None):
+    """The append of arguments as tests/additions.py makes them, with another stated length or other flags where they are given."""
+    numbers = tuple(given["chunk_list"])
+    return Append(given["stated_length"] if stated is None else stated, given["source_offset"], given["repair_time"],
+                  int(given["last"]) if flags is None else flags, given["outside"], numbers, len(numbers), given["data"])
 
 
 def data_of(size):
@@ -59,9 +76,9 @@ def lent_buffer(file, lent):
 def made(buffer, call):
     """The answer of a call, and the buffer after it."""
     if isinstance(call, Begin):
-        return model.begin(buffer, call.url, call.mime)
+        return model.begin(buffer, call.brand, call.url, call.mime)
     last = call.flags % 2 == 1
-    return model.append(buffer, call.stated, call.offset, call.repair, last, chunk_list(call), call.data)
+    return model.append(buffer, call.stated, call.offset, call.repair, last, call.outside, chunk_list(call), call.data)
 
 
 def length_after(answer, length):

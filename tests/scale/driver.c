@@ -1,5 +1,6 @@
 /* Makes the calls of a stream on whatever implements include/vrazhupa.h, compares all that comes of each, and counts. It knows nothing of partial files.
-   With the word `report` it compares nothing, and prints of each call the answer and a sum of each memory afterwards; with `calls`, the calls that are there. */
+   With the word `report` it compares nothing, and prints of each call the answer and a sum of each memory afterwards; with `calls`, the calls that are there.
+   For an implementation from before request 2 it is built with that one's header and -DBEFORE_MIXED, and leaves out what begin and append are asked since. */
 #include "lent.h"
 #include "stream.h"
 
@@ -15,6 +16,13 @@
 
 /* An implementation from before request 1 lacks this call. */
 #pragma weak vrazhupa_boxes
+
+/* An argument that came with request 2. */
+#ifdef BEFORE_MIXED
+#define SINCE_MIXED(number)
+#else
+#define SINCE_MIXED(number) (number) != 0,
+#endif
 
 enum { BLOCK, READ, URL, MIME, SERVE, ASK, LIST, MAP, BEGIN, APPEND, BOXES, KINDS, ZEROS = 254, END = 255 };
 enum { ANSWERS = 64 };
@@ -40,8 +48,8 @@ static const struct shape shapes[KINDS] = {
     [ASK] = {"ask", {1, 3}, 2, {{"file", 1}, TABLES}},
     [LIST] = {"list", {0, 5}, 4, {{"file", 1}, TABLES, {"had", 8}, {"missing", 8}}},
     [MAP] = {"map", {1, 2}, 1, {{"file", 1}, {"buffer", 1}}},
-    [BEGIN] = {"begin", {0, 3}, 1, {{"buffer", 1}, {"url", 1}, {"mime", 1}}},
-    [APPEND] = {"append", {4, 3}, 1, {{"buffer", 1}, {"list", 8}, {"data", 1}}},
+    [BEGIN] = {"begin", {1, 3}, 1, {{"buffer", 1}, {"url", 1}, {"mime", 1}}},
+    [APPEND] = {"append", {5, 3}, 1, {{"buffer", 1}, {"list", 8}, {"data", 1}}},
     [BOXES] = {"boxes", {1, 2}, 1, {{"file", 1}, {"buffer", 1}}},
 };
 
@@ -83,10 +91,10 @@ static uint64_t make(const uint64_t *numbers)
     case MAP:
         return vrazhupa_map(lent[0].at, lent[0].length, numbers[0], lent[1].at, lent[1].length, numbers_of(&told));
     case BEGIN:
-        return vrazhupa_begin(lent[0].at, lent[0].length, lent[1].at, lent[1].length, lent[2].at, lent[2].length, numbers_of(&told));
+        return vrazhupa_begin(lent[0].at, lent[0].length, SINCE_MIXED(numbers[0]) lent[1].at, lent[1].length, lent[2].at, lent[2].length, numbers_of(&told));
     case APPEND:
-        return vrazhupa_append(lent[0].at, lent[0].length, numbers[0], numbers[1], numbers[2], numbers[3] != 0, numbers_of(&lent[1]), lent[1].length,
-                               lent[2].at, lent[2].length, numbers_of(&told));
+        return vrazhupa_append(lent[0].at, lent[0].length, numbers[0], numbers[1], numbers[2], numbers[3] != 0, SINCE_MIXED(numbers[4]) numbers_of(&lent[1]),
+                               lent[1].length, lent[2].at, lent[2].length, numbers_of(&told));
     case BOXES:
         return vrazhupa_boxes(lent[0].at, lent[0].length, numbers[0], lent[1].at, lent[1].length, numbers_of(&told));
     default:
@@ -159,6 +167,9 @@ static int say_calls(void)
             printf("%s\n", shapes[at].name);
         }
     }
+#ifndef BEFORE_MIXED
+    printf("begin-mixed\nappend-outside\n");
+#endif
     return EXIT_SUCCESS;
 }
 

@@ -11,7 +11,7 @@ use lib.Dec.{leb, lit<}
 use lib.ListN.{length}
 use Rattle.boxes.specs.Answer.{refused, given}
 use Rattle.boxes.specs.Framing.{boxLimit}
-use Rattle.partial.specs.Addition.{Addition, items, flagsFor, anyPresent}
+use Rattle.partial.specs.Addition.{Addition, items, flagsFor}
 use Rattle.partial.specs.Append.{added, addedBoxes, newSegment, psegPlace, admission}
 use Rattle.partial.specs.Heading.{Heading}
 use Rattle.partial.specs.Limits.{fileLimit, segmentLimit, chunkLimit, sourceLimit}
@@ -22,12 +22,13 @@ use Rattle.partial.specs.Sequences.{sum}
 use Rattle.partial.specs.declared.header.SegmentHeader.{SegmentHeader}
 use Rattle.partial.proofs.Writing.NewSegmentLaws.{length-new, end-new}
 use Rattle.gathering.proofs.GatheredLaws.{gathered-segments, gathered-chunks}
+use Rattle.outside.specs.declared.chunks.Outside.{Outside}
 use Rattle.reading.specs.declared.judging.Judged.{Judged}
 use Rattle.adding.specs.Admission.{Beside, Asked, admittedLength}
-use Rattle.adding.specs.Counts.{Counted}
+use Rattle.adding.specs.Counts.{capped}
 use Rattle.adding.specs.declared.counts.Counts.{Counts}
 use Rattle.adding.specs.declared.layout.Layout.{Layout}
-use Rattle.adding.proofs.CountLaws.{counted-items, counted-present, counted-sum, none-present, some-present}
+use Rattle.adding.proofs.CountLaws.{counted-items, counted-sum}
 
 -- a sum ends by a limit or not, also where a part of it is cut above the limit
 pub capped-ends : (n m limit top : ℕ) → limit < top → leb (n + min m top) limit ≡ leb (n + m) limit
@@ -36,15 +37,6 @@ capped-ends n m limit top above =
       | yes low ↦ le-leb (n + min m top) limit (omega arith) ∙ sym (le-leb (n + m) limit low)
       | no over ↦ lt-leb (n + min m top) limit (omega arith) ∙ sym (lt-leb (n + m) limit (omega arith))
     ]
-
-module _ {a : Addition} {c : Counts} (counted : Counted a c) where
-  pub boxes-none : c .present ≡ 0 → 1 ≡ addedBoxes a
-  unfolding addedBoxes anyPresent
-  boxes-none none = sym (rw (addedBoxes, anyPresent, none-present (items (a .list)) (sym (counted-present (items (a .list)) (counted .items .counts)) ∙ none)))
-
-  pub boxes-some : (c .present ≡ 0 → ⊥) → 2 ≡ addedBoxes a
-  unfolding addedBoxes anyPresent
-  boxes-some some = sym (rw (addedBoxes, anyPresent, some-present (items (a .list)) (λ h. some (counted-present (items (a .list)) (counted .items .counts) ∙ h))))
 
 -- the flags of a header that asks for last_segment or not, but for its other flags
 flags-last : (flags : ℕ) (last : Bool) → isLast flags ≡ last → flags % 2 ≡ flagsFor last
@@ -60,7 +52,7 @@ abbrev pub new : ℕ → Addition → Segment
 new n a = newSegment (psegPlace n a) a
 
 -- the tests, by what the code has at hand
-module _ {h : Heading} {ss : List Segment} {j : Judged} {a : Addition} {header : SegmentHeader} {c : Counts} {l : Layout} (n : ℕ) (beside : Beside h ss j) (asked : Asked a header c l) where
+module _ {h : Heading} {ss : List Segment} {j : Judged} {a : Addition} {header : SegmentHeader} {c : Counts} {o : Outside} {l : Layout} (n : ℕ) (beside : Beside h ss j) (asked : Asked a header c o l) where
   pub file-test : {b : Bool} → b ≡ leb (n + l .added) fileLimit → b ≡ leb (n + length (added a)) fileLimit
   file-test test =
       test
@@ -70,9 +62,9 @@ module _ {h : Heading} {ss : List Segment} {j : Judged} {a : Addition} {header :
   pub size-whole : true ≡ leb (n + length (added a)) fileLimit → l .added ≡ length (added a)
   size-whole test = omega (arith, asked .laid .all, leb-true (n + length (added a)) fileLimit (sym test))
 
-  pub box-test : {more : ℕ} {b : Bool} → more ≡ addedBoxes a → b ≡ leb (j .head .boxes + more) 512 → b ≡ leb (length (h .boxes) + addedBoxes a) boxLimit
+  pub box-test : {more : ℕ} {b : Bool} → more ≡ capped (addedBoxes a) → b ≡ leb (j .head .boxes + more) 512 → b ≡ leb (length (h .boxes) + addedBoxes a) boxLimit
   unfolding boxLimit
-  box-test more test = test ∙ ap₂ (λ (n m : ℕ). leb (n + m) 512) (beside .boxes) more
+  box-test more test = test ∙ ap₂ (λ (n m : ℕ). leb (n + m) 512) (beside .boxes) more ∙ capped-ends (length (h .boxes)) (addedBoxes a) 512 (2 ^ 64 - 1) (omega arith)
 
   pub segments-full : segmentLimit ≤ j .gathered .segments → leb (length ss + 1) segmentLimit ≡ false
   segments-full full = lt-leb (length ss + 1) segmentLimit (omega (arith, gathered-segments ss (beside .segments)))
@@ -81,13 +73,13 @@ module _ {h : Heading} {ss : List Segment} {j : Judged} {a : Addition} {header :
   segments-few few = le-leb (length ss + 1) segmentLimit (omega (arith, gathered-segments ss (beside .segments)))
 
   pub items-new : c .items ≡ length (new n a .chunks)
-  items-new = counted-items (items (a .list)) (asked .counted .items .counts) ∙ sym (length-new (psegPlace n a) a)
+  items-new = counted-items (items (a .list)) (asked .sorted .counted .items .counts) ∙ sym (length-new (psegPlace n a) a)
 
   pub chunk-test : {b : Bool} → b ≡ leb (j .gathered .chunks + c .items) chunkLimit → b ≡ leb (length (chunksOf ss) + length (new n a .chunks)) chunkLimit
   chunk-test test = test ∙ ap₂ (λ (n m : ℕ). leb (n + m) chunkLimit) (gathered-chunks ss (beside .segments)) items-new
 
   sum-of : c .sum ≡ min (sum (map (λ i. i .size) (items (a .list)))) (2 ^ 64 - 1)
-  sum-of = counted-sum (items (a .list)) (asked .counted .items .counts)
+  sum-of = counted-sum (items (a .list)) (asked .sorted .counted .items .counts)
 
   pub source-test : {b : Bool} → b ≡ leb (header .offset .0 + c .sum) sourceLimit → b ≡ leb (endOf (new n a)) sourceLimit
   source-test test =

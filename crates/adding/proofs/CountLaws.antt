@@ -1,8 +1,7 @@
--- Laws of what is counted of a chunk list: the items of its front, whether any is present, and the counts of none and with one more.
+-- Laws of what is counted of a chunk list: the items of its front, and the counts of none and with one more.
 use Prim.Native.Nat.{ℕ, suc, _+_, _-_, _*_, _%_, _^_, _≤_, _<_, min, max}
 use mathlib.Core.Bool.{Bool, true, false, not, _&&_, and-true, and-false}
 use mathlib.Core.List.{List, [], _∷_, _++_, map, append-assoc, append-nil}
-use mathlib.Core.Logic.{inl, inr}
 use mathlib.Core.Path.{_≡_, refl, sym, ap, _∙_}
 use native.Mathlib.Omega.{arith}
 use borrow.Author.Tests.{eq-eqb, ne-eqb}
@@ -11,9 +10,10 @@ use lib.ListN.{length, take, drop, getD, length-append, length-take, length-drop
 use lib.Seq.{take-suc}
 use Rattle.partial.specs.Addition.{Item, items, dataSize}
 use Rattle.partial.specs.Segments.{isState, present}
-use Rattle.partial.specs.Sequences.{allOf, someOf, largest, sum}
-use Rattle.partial.proofs.Meaning.SequenceLaws.{which, all-append}
+use Rattle.partial.specs.Sequences.{allOf, largest, sum}
+use Rattle.partial.proofs.Meaning.SequenceLaws.{all-append}
 use Rattle.partial.proofs.Meaning.KnownLaws.{largest-both}
+use Rattle.outside.specs.Chunks.{many}
 use Rattle.adding.specs.Counts.{presentOf, countsOf}
 use Rattle.adding.specs.declared.counts.Counts.{Counts}
 
@@ -84,24 +84,10 @@ present-most (i ∷ is) = omega (arith, present-most is, one (present (i .state)
     one true = omega arith
     one false = omega arith
 
--- whether any is present, by how many are
-pub none-present : (is : List Item) → presentOf is ≡ 0 → someOf (λ i. present (i .state)) is ≡ false
-unfolding presentOf someOf sum
-none-present [] none = refl
-none-present (i ∷ is) none =
-    elim (which (present (i .state))) [
-      | inl e ↦ absurd (omega (arith, rw e at none))
-      | inr e ↦ rw e (none-present is (omega (arith, rw e at none)))
-    ]
-
-pub some-present : (is : List Item) → (presentOf is ≡ 0 → ⊥) → someOf (λ i. present (i .state)) is ≡ true
-unfolding presentOf someOf sum
-some-present [] some = absurd (some refl)
-some-present (i ∷ is) some =
-    elim (which (present (i .state))) [
-      | inl e ↦ rw e
-      | inr e ↦ rw e (some-present is (λ h. (rw e at some) (omega arith)))
-    ]
+-- they are counted as items that pass a test are
+pub present-many : (is : List Item) → presentOf is ≡ many (λ i. present (i .state)) is
+unfolding presentOf many
+present-many is = refl
 
 pub counts-none : record { right = true; items = 0; present = 0; largest = 0; bytes = 0; sum = 0 } ≡ countsOf []
 unfolding countsOf presentOf dataSize allOf largest sum

@@ -1,17 +1,19 @@
 -- Each public call's contract determines its answer: two that it allows of the same arguments are equal. The layout is determined where it is known what was
--- counted, and admission where it is known what was read of the file and what is asked.
+-- counted, and 35 and admission where it is known what was read of the file and what is asked.
 use mathlib.Core.List.{List}
 use mathlib.Core.Path.{_≡_, sym, _∙_}
 use Rattle.partial.proofs.Determined.{written-told}
 use Rattle.numerals.proofs.Determined.{OneResult, OneKnown}
-use Rattle.partial.specs.Addition.{Addition}
+use Rattle.partial.specs.Addition.{Addition, items}
 use Rattle.partial.specs.Heading.{Heading}
 use Rattle.partial.specs.Segments.{Segment}
+use Rattle.outside.specs.Chunks.{outsideOf}
 use Rattle.adding.specs.Admission.{Beside, Asked}
-use Rattle.adding.specs.Counts.{Counted}
+use Rattle.adding.specs.Counts.{Sorted}
 use Rattle.adding.specs.Layout.{Laid}
 use Rattle.adding.specs.declared.layout.Layout.{Layout}
 use Rattle.adding.proofs.admission.admission.Reads as admission
+use Rattle.adding.proofs.admission.outside_right.Reads as outside-right
 use Rattle.adding.proofs.counts.counts_of.Reads as counts-of
 use Rattle.adding.proofs.layout.layout_of.Reads as layout-of
 
@@ -30,8 +32,11 @@ one-layout a x y p q =
     let all = p .all ∙ sym (q .all) in
     λ k. record { «length_size» = sizes k; «offset_size» = offsets k; «offset_width» = width k; pshd = pshd k; ploc = ploc k; pseg = pseg k; added = all k }
 
-layout-of-result : OneKnown layout-of.Post (λ κs args (a : Addition). Counted a (args .0) × (args .1 .0 .0 ≡ a .sourceOffset))
-layout-of-result κs args a (counted, at) x y after after′ p q = one-layout a x y (p a counted at) (q a counted at)
+layout-of-result : OneKnown layout-of.Post (λ κs args (a : Addition). Sorted a (args .0) (args .1 .0) × (args .1 .1 .0 .0 ≡ a .sourceOffset))
+layout-of-result κs args a (sorted, at) x y after after′ p q = one-layout a x y (p a sorted at) (q a sorted at)
 
-admission-result : OneKnown admission.Post (λ κs args ((h, ss, a) : Heading × List Segment × Addition). Beside h ss (args .0) × Asked a (args .1 .1 .0) (args .1 .1 .1 .0) (args .1 .1 .1 .1 .0))
+outside-right-result : OneKnown outside-right.Post (λ κs args ((h, a) : Heading × Addition). (args .0 ≡ h .mixed) × (args .1 .0 ≡ outsideOf (a .outside) (items (a .list)) (a .bytes)))
+outside-right-result κs args (h, a) (mixed, sorted) x y after after′ p q = p h a mixed sorted ∙ sym (q h a mixed sorted)
+
+admission-result : OneKnown admission.Post (λ κs args ((h, ss, a) : Heading × List Segment × Addition). Beside h ss (args .0) × Asked a (args .1 .1 .0) (args .1 .1 .1 .0) (args .1 .1 .1 .1 .0) (args .1 .1 .1 .1 .1 .0))
 admission-result κs args (h, ss, a) (beside, asked) x y after after′ p q = written-told x y (p h ss a beside asked ∙ sym (q h ss a beside asked))

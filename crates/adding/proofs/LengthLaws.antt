@@ -1,4 +1,4 @@
--- Laws of the lengths of what append adds: the entries and the body of a `ploc`, the body of a `pseg`, the data; and where they are cut.
+-- Laws of the lengths of what append adds: the entries and the body of a `ploc`, the body of a `pseg`; and where they are cut.
 use Prim.Native.Nat.{ℕ, _+_, _*_, _≤_, min}
 use mathlib.Core.Bool.{Bool, true, false}
 use mathlib.Core.List.{List, [], _∷_, _++_}
@@ -11,20 +11,19 @@ use lib.Dec.{leb}
 use lib.ListN.{length, length-append}
 use Rattle.numerals.proofs.NumberLaws.{length-bytesOf}
 use Rattle.numerals.specs.Numbers.{bytesOf, twosComplement}
-use Rattle.boxes.specs.Framing.{boxed}
-use Rattle.boxes.specs.Kinds.{pdat}
 use Rattle.boxes.proofs.BoxedLaws.{front-size, length-boxed}
 use Rattle.partial.specs.Sequences.{sum}
 use Rattle.partial.specs.Segments.{present}
 use Rattle.partial.specs.Limits.{fileLimit}
 use Rattle.partial.specs.Reading.{offsetWidth}
-use Rattle.partial.specs.Addition.{Addition, Item, items, anyPresent}
-use Rattle.partial.specs.Append.{Placed, placed, flagByte, entryBytes, lengthSize, offsetSize, plocBody, versionFor, psegBody, dataBox}
+use Rattle.partial.specs.Addition.{Addition, Item, items, sizeOf, goesOut}
+use Rattle.partial.specs.Append.{Placed, placedWith, placed, flagByte, entryBytes, lengthSize, offsetSize, plocBody, versionFor, psegBody}
 use Rattle.partial.proofs.Meaning.SequenceLaws.{which}
 use Rattle.partial.proofs.Writing.FieldsBackLaws.{length-pshd}
+use Rattle.partial.proofs.Writing.PlacedLaws.{length-placed}
 use Rattle.adding.specs.Counts.{presentOf, Whole}
 use Rattle.adding.specs.declared.counts.Counts.{Counts}
-use Rattle.adding.proofs.CountLaws.{present-most, none-present, some-present, counted-items, counted-present}
+use Rattle.adding.proofs.CountLaws.{present-most, counted-items, counted-present}
 
 -- of no item, and with one more
 present-none : presentOf [] ≡ 0
@@ -65,20 +64,25 @@ module _ (l o : ℕ) (p : Placed) (ps : List Placed) where
       ∙ omega (arith, length-bytesOf l (p .size))
 
 -- the entries: a flag byte and a size for each item, an offset for each that is present
-pub entries-long : (l o : ℕ) (is : List Item) → length (entryBytes l o (placed is)) ≡ length is * (1 + l) + presentOf is * o
-unfolding entryBytes placed
-entries-long l o [] = rw present-none (omega arith)
-entries-long l o (i ∷ is) =
-    let rest = entries-long l o is in
+entries-with : (l o : ℕ) (outside : Bool) (out : ℕ) (is : List Item) → length (entryBytes l o (placedWith outside out is)) ≡ length is * (1 + l) + presentOf is * o
+unfolding entryBytes placedWith
+entries-with l o outside out [] = rw present-none (omega arith)
+entries-with l o outside out (i ∷ is) =
+    let rest = entries-with l o outside out is in
     elim (which (present (i .state))) [
-      | inl e ↦ rw (present-there i is e) (entry-there l o _ (placed is) e ∙ omega (arith, rest))
-      | inr e ↦ rw (present-lost i is e) (entry-lost l o _ (placed is) e ∙ omega (arith, rest))
+      | inl e ↦ rw (present-there i is e) (entry-there l o _ (placedWith outside out is) e ∙ omega (arith, rest))
+      | inr e ↦ rw (present-lost i is e) (entry-lost l o _ (placedWith outside out is) e ∙ omega (arith, rest))
     ]
 
+pub entries-long : (l o : ℕ) (outside : Bool) (is : List Item) → length (entryBytes l o (placed outside is)) ≡ length is * (1 + l) + presentOf is * o
+unfolding placed
+entries-long l o outside is = entries-with l o outside (sizeOf (goesOut outside) is) is
+
 -- the body of a `ploc`
-pub ploc-long : (is : List Item) → length (plocBody (placed is)) ≡ 9 + (length is * (1 + lengthSize (placed is)) + presentOf is * offsetSize (placed is))
+pub ploc-long : (outside : Bool) (is : List Item)
+    → length (plocBody (placed outside is)) ≡ 9 + (length is * (1 + lengthSize (placed outside is)) + presentOf is * offsetSize (placed outside is))
 unfolding plocBody
-ploc-long is = simp (length-append, length-bytesOf, entries-long) (omega arith)
+ploc-long outside is = simp (length-append, length-bytesOf, entries-long, length-placed) (omega arith)
 
 -- where the items are cut, so is the whole: each has a byte
 pub ploc-cut : (n p l o : ℕ) → p ≤ n
@@ -97,32 +101,16 @@ ploc-cut n p l o few =
     ]
 
 -- the body of a `pseg`
-pub pseg-long : (a : Addition) → length (psegBody a) ≡ 28 + offsetWidth (versionFor (a .sourceOffset)) + length (plocBody (placed (items (a .list))))
+pub pseg-long : (a : Addition) → length (psegBody a) ≡ 28 + offsetWidth (versionFor (a .sourceOffset)) + length (plocBody (placed (a .outside) (items (a .list))))
 unfolding psegBody
 pseg-long a = simp (length-append, length-boxed, front-size, length-pshd) (omega arith)
 
--- the box with the data
-module _ (a : Addition) where
-  abbrev dataWith : Bool → List ℕ
-  dataWith there = elim there [ true ↦ boxed (pdat .code) (a .bytes) | false ↦ [] ]
-
-  pub data-none : presentOf (items (a .list)) ≡ 0 → length (dataBox a) ≡ 0
-  unfolding dataBox anyPresent
-  data-none none = ap (λ (there : Bool). length (dataWith there)) (none-present (items (a .list)) none)
-
-  pub data-some : (presentOf (items (a .list)) ≡ 0 → ⊥) → length (dataBox a) ≡ 8 + length (a .bytes)
-  unfolding dataBox anyPresent
-  data-some some =
-      ap (λ (there : Bool). length (dataWith there)) (some-present (items (a .list)) some)
-      ∙ length-boxed (pdat .code) (a .bytes)
-      ∙ omega (arith, front-size)
-
 -- the body of a `ploc`, by the counts cut and the widths
-pub ploc-counted : (is : List Item) (c : Counts) → Whole is c → (n p l o : ℕ) → n ≡ min (c .items) (fileLimit + 1)
+pub ploc-counted : (outside : Bool) (is : List Item) (c : Counts) → Whole is c → (n p l o : ℕ) → n ≡ min (c .items) (fileLimit + 1)
     → p ≡ min (c .present) (fileLimit + 1)
-    → l ≡ lengthSize (placed is)
-    → o ≡ offsetSize (placed is)
-    → min (9 + n * (1 + l) + p * o) (fileLimit + 1) ≡ min (length (plocBody (placed is))) (fileLimit + 1)
-ploc-counted is c whole n p l o n-is p-is l-is o-is =
-    rw (n-is, p-is, l-is, o-is, counted-items is (whole .counts), counted-present is (whole .counts), ploc-long is)
-    (ploc-cut (length is) (presentOf is) (lengthSize (placed is)) (offsetSize (placed is)) (present-most is))
+    → l ≡ lengthSize (placed outside is)
+    → o ≡ offsetSize (placed outside is)
+    → min (9 + n * (1 + l) + p * o) (fileLimit + 1) ≡ min (length (plocBody (placed outside is))) (fileLimit + 1)
+ploc-counted outside is c whole n p l o n-is p-is l-is o-is =
+    rw (n-is, p-is, l-is, o-is, counted-items is (whole .counts), counted-present is (whole .counts), ploc-long outside is)
+    (ploc-cut (length is) (presentOf is) (lengthSize (placed outside is)) (offsetSize (placed outside is)) (present-most is))

@@ -2,4 +2,5 @@ pub mod AdmissionLaws
 pub mod CountLaws
 pub mod Determined
 pub mod LengthLaws
+pub mod OutsideLaws
 pub mod WidthLaws

@@ -1,24 +1,22 @@
 -- Laws of the widths that append writes: the least that holds the largest size, and the least that holds all data.
 use Prim.Native.Nat.{ℕ, _≤_, _<_, _^_, max}
-use mathlib.Core.Bool.{false, _&&_}
+use mathlib.Core.Bool.{Bool, false, _&&_}
 use mathlib.Core.List.{List, [], _∷_, map}
 use mathlib.Core.Logic.{inl, inr}
-use mathlib.Core.Path.{_≡_, refl, sym, ap, _∙_}
-use native.Mathlib.Nat.{zero-add}
+use mathlib.Core.Path.{_≡_, sym, ap, _∙_}
 use native.Mathlib.Omega.{arith}
 use borrow.Author.Tests.{ltb-false}
 use lib.Dec.{eqb}
 use Rattle.numerals.specs.Numbers.{holds, holdsOffset, leastWidth}
 use Rattle.numerals.specs.declared.numbers.Offset.the-variants.{Back}
 use Rattle.numerals.proofs.NumberLaws.{power-pos}
-use Rattle.numerals.proofs.WidthLaws.{leastWidth-same, below-holds, over-holds, holds-below, below-ahead, within-back, back-within}
-use Rattle.partial.specs.Sequences.{allOf, largest, sum}
-use Rattle.partial.specs.Segments.{present}
+use Rattle.numerals.proofs.WidthLaws.{leastWidth-same, below-holds, over-holds, holds-below}
+use Rattle.partial.specs.Sequences.{allOf, largest}
 use Rattle.partial.specs.Reading.{offsetWidth}
-use Rattle.partial.specs.Addition.{Item, dataSize}
-use Rattle.partial.specs.Append.{placed, lengthSize, offsetSize, versionFor}
+use Rattle.partial.specs.Addition.{Item, sizeOf, goesOut}
+use Rattle.partial.specs.Append.{placedWith, placed, lengthSize, offsetSize, versionFor}
 use Rattle.partial.proofs.Meaning.SequenceLaws.{which}
-use Rattle.partial.proofs.Writing.PlacedLaws.{data-on}
+use Rattle.partial.proofs.Writing.PlacedLaws.{offsets-hold}
 use Rattle.adding.specs.Counts.{Whole, countsOf}
 use Rattle.adding.specs.declared.counts.Counts.{Counts}
 
@@ -39,48 +37,25 @@ holds-max w a b =
     ]
 
 -- w bytes hold every size where they hold the largest
-pub sizes-hold : (w : ℕ) (is : List Item) → allOf (λ p. holds w (p .size)) (placed is) ≡ holds w (largest (map (λ i. i .size) is))
-unfolding allOf placed largest
-sizes-hold w [] = sym (below-holds w 0 (power-pos w))
-sizes-hold w (i ∷ is) = rw (sizes-hold w is) (holds-max w (i .size) (largest (map (λ i. i .size) is)))
+sizes-with : (w : ℕ) (outside : Bool) (out : ℕ) (is : List Item)
+    → allOf (λ p. holds w (p .size)) (placedWith outside out is) ≡ holds w (largest (map (λ i. i .size) is))
+unfolding allOf placedWith largest
+sizes-with w outside out [] = sym (below-holds w 0 (power-pos w))
+sizes-with w outside out (i ∷ is) = rw (sizes-with w outside out is) (holds-max w (i .size) (largest (map (λ i. i .size) is)))
 
--- what holds data holds less
-back-less : (w n m : ℕ) → m ≤ n → (holdsOffset w (Back n) && holdsOffset w (Back m)) ≡ holdsOffset w (Back n)
-back-less w n m less =
-    elim (which (holdsOffset w (Back n))) [
-      | inl e ↦ rw (e, within-back w m (omega (arith, back-within w n e)))
-      | inr e ↦ rw e
-    ]
-
--- no item has no data, and one without data adds none
-data-nothing : dataSize [] ≡ 0
-unfolding dataSize sum
-data-nothing = refl
-
-pub data-lost : (i : Item) (is : List Item) → present (i .state) ≡ false → dataSize (i ∷ is) ≡ dataSize is
-unfolding dataSize sum
-data-lost i is e = rw e (zero-add _)
-
--- w bytes hold every offset where they hold that of all data
-pub offsets-hold : (w : ℕ) (is : List Item) → allOf (λ p. holdsOffset w (p .offset)) (placed is) ≡ holdsOffset w (Back (dataSize is))
-unfolding allOf placed
-offsets-hold w [] = sym (within-back w (dataSize []) (omega (arith, data-nothing)))
-offsets-hold w (i ∷ is) =
-    let rest = offsets-hold w is in
-    elim (which (present (i .state))) [
-      | inl e ↦ rw (placed, e, allOf, rest) (back-less w (dataSize (i ∷ is)) (dataSize is) (data-on i is .0))
-      | inr e ↦ rw (placed, e, allOf, below-ahead w 0 (power-pos w), rest) (ap (λ (n : ℕ). holdsOffset w (Back n)) (sym (data-lost i is e)))
-    ]
+pub sizes-hold : (w : ℕ) (outside : Bool) (is : List Item) → allOf (λ p. holds w (p .size)) (placed outside is) ≡ holds w (largest (map (λ i. i .size) is))
+unfolding placed
+sizes-hold w outside is = sizes-with w outside (sizeOf (goesOut outside) is) is
 
 -- the widths, by what was counted
-module _ (is : List Item) (c : Counts) (whole : Whole is c) where
-  pub length-wide : leastWidth (λ w. holds w (c .largest)) ≡ lengthSize (placed is)
+module _ (outside : Bool) (is : List Item) (c : Counts) (whole : Whole is c) where
+  pub length-wide : leastWidth (λ w. holds w (c .largest)) ≡ lengthSize (placed outside is)
   unfolding lengthSize countsOf
-  length-wide = leastWidth-same _ _ (λ k _. ap (λ (x : Counts). holds k (x .largest)) (whole .counts) ∙ sym (sizes-hold k is))
+  length-wide = leastWidth-same _ _ (λ k _. ap (λ (x : Counts). holds k (x .largest)) (whole .counts) ∙ sym (sizes-hold k outside is))
 
-  pub offset-wide : leastWidth (λ w. holdsOffset w (Back (c .bytes))) ≡ offsetSize (placed is)
+  pub offset-wide : leastWidth (λ w. holdsOffset w (Back (c .bytes))) ≡ offsetSize (placed outside is)
   unfolding offsetSize
-  offset-wide = leastWidth-same _ _ (λ k _. ap (λ (n : ℕ). holdsOffset k (Back n)) (whole .bytes) ∙ sym (offsets-hold k is))
+  offset-wide = leastWidth-same _ _ (λ k _. ap (λ (n : ℕ). holdsOffset k (Back n)) (whole .bytes) ∙ sym (offsets-hold k outside is))
 
 -- the bytes of a source offset, by the version that it needs
 module _ (n : ℕ) where

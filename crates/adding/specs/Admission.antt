@@ -1,5 +1,6 @@
 -- Document 01, "Append": "1, 6, 13, 22, 23 or 25 if the result would have it", by what was read of the file and counted of the addition.
 use Prim.Native.Nat.{ℕ, _+_}
+use mathlib.Core.Bool.{true}
 use mathlib.Core.List.{List}
 use mathlib.Core.Path.{_≡_}
 use lib.ListN.{length}
@@ -11,8 +12,9 @@ use Rattle.partial.specs.Limits.{sourceLimit}
 use Rattle.partial.specs.Segments.{Segment, isLast}
 use Rattle.partial.specs.declared.header.SegmentHeader.{SegmentHeader}
 use Rattle.gathering.specs.Gathered.{gatheredOf}
+use Rattle.outside.specs.declared.chunks.Outside.{Outside}
 use Rattle.reading.specs.declared.judging.Judged.{Judged}
-use Rattle.adding.specs.Counts.{Counted}
+use Rattle.adding.specs.Counts.{Sorted}
 use Rattle.adding.specs.Layout.{Laid}
 use Rattle.adding.specs.declared.counts.Counts.{Counts}
 use Rattle.adding.specs.declared.layout.Layout.{Layout}
@@ -22,11 +24,12 @@ pub record Beside (h : Heading) (ss : List Segment) (j : Judged) : Type 0 where
   pub boxes : j .head .boxes ≡ length (h .boxes)
   pub segments : j .gathered ≡ gatheredOf ss
 
--- what is asked of append, by the header, the counts of the chunk list and the layout
-pub record Asked (a : Addition) (header : SegmentHeader) (c : Counts) (l : Layout) : Type 0 where
+-- what is asked of append, by the header, the counts of the chunk list, what goes outside, each chunk whole boxes, and the layout
+pub record Asked (a : Addition) (header : SegmentHeader) (c : Counts) (o : Outside) (l : Layout) : Type 0 where
   pub offset : header .offset .0 ≡ a .sourceOffset
   pub last : isLast (header .flags) ≡ a .last
-  pub counted : Counted a c
+  pub sorted : Sorted a c o
+  pub whole : o .right ≡ true
   pub laid : Laid a l
 
 -- the length of a file of n bytes with the addition, or its refusal

@@ -8,6 +8,8 @@ use lib.ListN.{length}
 use Rattle.partial.specs.Addition.{Addition, Item, items, dataSize}
 use Rattle.partial.specs.Segments.{isState, present}
 use Rattle.partial.specs.Sequences.{allOf, largest, sum}
+use Rattle.outside.specs.Chunks.{outsideOf}
+use Rattle.outside.specs.declared.chunks.Outside.{Outside}
 use Rattle.adding.specs.declared.counts.Counts.{Counts}
 
 -- a sum, or the largest number of 64 bits where it is larger
@@ -40,3 +42,8 @@ pub record Whole (is : List Item) (c : Counts) : Type 0 where
 pub record Counted (a : Addition) (c : Counts) : Type 0 where
   pub items : Whole (items (a .list)) c
   pub bytes : c .bytes ≡ length (a .bytes)
+
+-- and what goes outside of it
+pub record Sorted (a : Addition) (c : Counts) (o : Outside) : Type 0 where
+  pub counted : Counted a c
+  pub outside : o ≡ outsideOf (a .outside) (items (a .list)) (a .bytes)

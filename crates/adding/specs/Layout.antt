@@ -1,5 +1,6 @@
 -- Document 01, "Append": how the boxes are laid out that it adds. A size past the file limit counts as one more than that.
 use Prim.Native.Nat.{ℕ, _+_, min}
+use mathlib.Core.Bool.{Bool}
 use mathlib.Core.List.{List}
 use mathlib.Core.Path.{_≡_}
 use lib.ListN.{length}
@@ -14,16 +15,16 @@ pub record PshdLaid (offset : ℕ) (l : Layout) : Type 0 where
   pub width : l .«offset_width» ≡ offsetWidth (versionFor offset)
   pub body : l .pshd ≡ 12 + offsetWidth (versionFor offset)
 
--- of a `ploc`, by the items
-pub record PlocLaid (is : List Item) (l : Layout) : Type 0 where
-  pub sizes : l .«length_size» ≡ lengthSize (placed is)
-  pub offsets : l .«offset_size» ≡ offsetSize (placed is)
-  pub body : l .ploc ≡ min (length (plocBody (placed is))) (fileLimit + 1)
+-- of a `ploc`, by the items and whether the good ones go outside
+pub record PlocLaid (outside : Bool) (is : List Item) (l : Layout) : Type 0 where
+  pub sizes : l .«length_size» ≡ lengthSize (placed outside is)
+  pub offsets : l .«offset_size» ≡ offsetSize (placed outside is)
+  pub body : l .ploc ≡ min (length (plocBody (placed outside is))) (fileLimit + 1)
 
 -- of a `pseg`, which holds both
 pub record PsegLaid (a : Addition) (l : Layout) : Type 0 where
   pub pshd : PshdLaid (a .sourceOffset) l
-  pub ploc : PlocLaid (items (a .list)) l
+  pub ploc : PlocLaid (a .outside) (items (a .list)) l
   pub body : l .pseg ≡ min (length (psegBody a)) (fileLimit + 1)
 
 -- of all that is added

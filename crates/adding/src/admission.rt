@@ -1,10 +1,12 @@
-// Whether a file takes an addition: 1, 6, 13, 22, 23 or 25 if the result would have it.
+// Whether a file takes an addition: 35, and then 1, 6, 13, 22, 23 or 25 if the result would have it.
 use crate::counts::Counts;
+use crate::counts::sum_of;
 use crate::layout::Layout;
 use boxes::limits::BOX_LIMIT;
 use boxes::refusals::TOO_MANY_BOXES;
 use ends::sizes::gives_size;
 use fields::sums::ends_by;
+use outside::chunks::Outside;
 use partial::answers::Written;
 use partial::header::SegmentHeader;
 use partial::limits::CHUNK_LIMIT;
@@ -17,21 +19,36 @@ use partial::refusals::SOURCE_TOO_LONG;
 use partial::refusals::TOO_MANY_CHUNKS;
 use partial::refusals::TOO_MANY_SEGMENTS;
 use reading::judging::Judged;
+ghost use mathlib.Core.Bool.{true};
 ghost use mathlib.Core.List.{List};
 ghost use mathlib.Core.Path.{_≡_};
-ghost use Rattle.partial.specs.Addition.{Addition};
+ghost use Rattle.partial.specs.Addition.{Addition, items, outsideRight};
 ghost use Rattle.partial.specs.Append.{addedBoxes};
 ghost use Rattle.partial.specs.Answers.{writtenAnswer};
 ghost use Rattle.partial.specs.Heading.{Heading};
 ghost use Rattle.partial.specs.Segments.{Segment};
 ghost use Rattle.adding.specs.Admission.{Beside, Asked, admittedLength};
-ghost use Rattle.adding.specs.Counts.{Counted};
+ghost use Rattle.outside.specs.Chunks.{outsideOf};
+ghost use Rattle.adding.specs.Counts.{capped, Sorted};
 
-// How many boxes append adds to the file: the `pseg`, and the `pdat` if any chunk is present.
-fn added_boxes(counts: Counts) -> u64
-    ensures { λ r. ⌜ ((a : Addition) → Counted a counts → r ≡ addedBoxes a) ⌝ }
+// Whether the chunks may go outside: there is none, or the file is mixed and each is whole allowed boxes.
+pub fn outside_right(mixed: bool, outside: Outside) -> bool
+    ensures { λ r. ⌜ ((h : Heading) (a : Addition) → mixed ≡ h .mixed → outside ≡ outsideOf (a .outside) (items (a .list)) (a .bytes) → r ≡ outsideRight h a) ⌝ }
 {
-    if counts.present == 0 { 1 } else { 2 }
+    if outside.chunks == 0 {
+        return true;
+    }
+    if mixed { outside.right } else { false }
+}
+
+// How many boxes append adds to the file: the `pseg`, those outside, and the `pdat` if any chunk goes there.
+fn added_boxes(counts: Counts, outside: Outside) -> u64
+    ensures { λ r. ⌜ ((a : Addition) → Sorted a counts outside → outside .right ≡ true → r ≡ capped (addedBoxes a)) ⌝ }
+{
+    if counts.present == outside.chunks {
+        return sum_of(outside.boxes, 1);
+    }
+    sum_of(outside.boxes, 2)
 }
 
 // The length of a file of n bytes with the addition, or the number of the first refusal that the result would have.
@@ -40,9 +57,10 @@ pub fn admission(
     n: u64,
     header: SegmentHeader,
     counts: Counts,
+    outside: Outside,
     layout: Layout,
 ) -> Written
-    ensures { λ r. ⌜ ((h : Heading) (ss : List Segment) (a : Addition) → Beside h ss judged → Asked a header counts layout → writtenAnswer r ≡ admittedLength h ss n a) ⌝ }
+    ensures { λ r. ⌜ ((h : Heading) (ss : List Segment) (a : Addition) → Beside h ss judged → Asked a header counts outside layout → writtenAnswer r ≡ admittedLength h ss n a) ⌝ }
 {
     let head = judged.head;
     let gathered = judged.gathered;
@@ -50,7 +68,7 @@ pub fn admission(
     if !ends_by(n, layout.added, FILE_LIMIT) {
         return Written::Refused(FILE_TOO_LONG);
     }
-    if !ends_by(head.boxes, added_boxes(counts), BOX_LIMIT) {
+    if !ends_by(head.boxes, added_boxes(counts, outside), BOX_LIMIT) {
         return Written::Refused(TOO_MANY_BOXES);
     }
     if SEGMENT_LIMIT <= gathered.segments {

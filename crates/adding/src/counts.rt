@@ -22,7 +22,7 @@ pub struct Counts {
 }
 
 // The sum of two numbers, or the largest of 64 bits where it is larger.
-fn sum_of(a: u64, b: u64) -> u64
+pub(crate) fn sum_of(a: u64, b: u64) -> u64
     ensures { λ r. ⌜ r ≡ min (a + b) (2 ^ 64 - 1) ⌝ }
 {
     if u64::MAX - a < b { u64::MAX } else { a + b }

@@ -4,17 +4,19 @@ use boxes::framing::FRONT_SIZE;
 use numerals::numbers::Offset;
 use numerals::numbers::width_of;
 use numerals::numbers::width_of_offset;
+use outside::chunks::Outside;
 use partial::limits::FILE_LIMIT;
 use partial::position::Position;
 ghost use Prim.Native.Nat.{_+_, _≤_, min};
+ghost use mathlib.Core.Bool.{Bool};
 ghost use mathlib.Core.List.{List};
 ghost use mathlib.Core.Path.{_≡_};
 ghost use lib.ListN.{length};
 ghost use Rattle.partial.specs.Addition.{Addition, Item};
-ghost use Rattle.partial.specs.Append.{placed, lengthSize, offsetSize, plocBody, versionFor, dataBox};
+ghost use Rattle.partial.specs.Append.{placed, lengthSize, offsetSize, plocBody, versionFor, stored};
 ghost use Rattle.partial.specs.Limits.{fileLimit};
 ghost use Rattle.partial.specs.Reading.{offsetWidth};
-ghost use Rattle.adding.specs.Counts.{Whole, Counted};
+ghost use Rattle.adding.specs.Counts.{Whole, Sorted};
 ghost use Rattle.adding.specs.Layout.{Laid};
 
 // The widest source offset of a `pshd` of version 0.
@@ -50,14 +52,14 @@ fn within(size: u64) -> u64
 
 // The least width that holds every size.
 fn length_size(counts: Counts) -> usize
-    ensures { λ r. ⌜ (r ≤ 8) × ((is : List Item) → Whole is counts → r ≡ lengthSize (placed is)) ⌝ }
+    ensures { λ r. ⌜ (r ≤ 8) × ((outside : Bool) (is : List Item) → Whole is counts → r ≡ lengthSize (placed outside is)) ⌝ }
 {
     width_of(counts.largest)
 }
 
-// The least width that holds every offset: none lies farther back than the first, with all data behind it.
+// The least width that holds every offset: none lies farther back than the first that goes into `pdat`, or else the first outside, with all data behind it.
 fn offset_size(counts: Counts) -> usize
-    ensures { λ r. ⌜ (r ≤ 8) × ((is : List Item) → Whole is counts → r ≡ offsetSize (placed is)) ⌝ }
+    ensures { λ r. ⌜ (r ≤ 8) × ((outside : Bool) (is : List Item) → Whole is counts → r ≡ offsetSize (placed outside is)) ⌝ }
 {
     width_of_offset(Offset::Back(counts.bytes))
 }
@@ -72,7 +74,7 @@ fn offset_width(offset: Position) -> u64
 // The body of `ploc`, by its two widths.
 fn ploc_size(counts: Counts, size: usize, offset: usize) -> u64
     requires { ⌜ (size ≤ 8) × (offset ≤ 8) ⌝ }
-    ensures { λ r. ⌜ (r ≤ fileLimit + 1) × ((is : List Item) → Whole is counts → size ≡ lengthSize (placed is) → offset ≡ offsetSize (placed is) → r ≡ min (length (plocBody (placed is))) (fileLimit + 1)) ⌝ }
+    ensures { λ r. ⌜ (r ≤ fileLimit + 1) × ((outside : Bool) (is : List Item) → Whole is counts → size ≡ lengthSize (placed outside is) → offset ≡ offsetSize (placed outside is) → r ≡ min (length (plocBody (placed outside is))) (fileLimit + 1)) ⌝ }
 {
     // Each item has a byte at least.
     let items = within(counts.items);
@@ -80,19 +82,20 @@ fn ploc_size(counts: Counts, size: usize, offset: usize) -> u64
     within(PLOC_REST + items * (1 + size as u64) + present * offset as u64)
 }
 
-// The `pdat`, if any chunk is present.
-fn data_size(counts: Counts) -> u64
-    ensures { λ r. ⌜ (r ≤ fileLimit + 1) × ((a : Addition) → Counted a counts → r ≡ min (length (dataBox a)) (fileLimit + 1)) ⌝ }
+// The data: that in a `pdat` with its header, if any goes there, and that outside.
+fn data_size(counts: Counts, outside: Outside) -> u64
+    ensures { λ r. ⌜ (r ≤ fileLimit + 1) × ((a : Addition) → Sorted a counts outside → r ≡ min (length (stored a)) (fileLimit + 1)) ⌝ }
 {
-    if counts.present == 0 {
-        return 0;
+    let bytes = within(counts.bytes);
+    if counts.present == outside.chunks {
+        return bytes;
     }
-    within(FRONT_SIZE + within(counts.bytes))
+    within(FRONT_SIZE + bytes)
 }
 
-// The layout of what append adds: the `pdat` and the `pseg`, which holds `pshd` and `ploc`.
-pub fn layout_of(counts: Counts, offset: Position) -> Layout
-    ensures { λ r. ⌜ ((a : Addition) → Counted a counts → offset .0 ≡ a .sourceOffset → Laid a r) ⌝ }
+// The layout of what append adds: the data and the `pseg`, which holds `pshd` and `ploc`.
+pub fn layout_of(counts: Counts, outside: Outside, offset: Position) -> Layout
+    ensures { λ r. ⌜ ((a : Addition) → Sorted a counts outside → offset .0 ≡ a .sourceOffset → Laid a r) ⌝ }
 {
     let sizes = length_size(counts);
     let offsets = offset_size(counts);
@@ -100,7 +103,7 @@ pub fn layout_of(counts: Counts, offset: Position) -> Layout
     let pshd = PSHD_REST + width;
     let ploc = ploc_size(counts, sizes, offsets);
     let pseg = within(FRONT_SIZE + pshd + FRONT_SIZE + ploc);
-    let added = within(data_size(counts) + FRONT_SIZE + pseg);
+    let added = within(data_size(counts, outside) + FRONT_SIZE + pseg);
     Layout {
         length_size: sizes,
         offset_size: offsets,

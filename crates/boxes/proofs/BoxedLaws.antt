@@ -3,16 +3,16 @@ use Prim.Native.Nat.{ℕ, _+_, _-_, _*_, _^_, _≤_, _<_}
 use mathlib.Core.Bool.{true, false}
 use mathlib.Core.List.{List, [], _∷_, _++_, append-assoc, append-nil}
 use mathlib.Core.Path.{_≡_, refl, sym, _∙_}
-use native.Mathlib.Nat.{add-zero, add-assoc}
+use native.Mathlib.Nat.{zero-add, add-zero, add-assoc}
 use native.Mathlib.Omega.{arith}
 use borrow.Author.Tests.{eqb-false}
 use lib.Dec.{eqb}
 use lib.ListN.{length, getD, length-append}
 use Rattle.boxes.specs.Answer.{given}
 use Rattle.numerals.specs.Numbers.{number, bytesOf, holds}
-use Rattle.boxes.specs.Framing.{Box, uuid, header, frontSize, front, boxed, boxesIn, boxLimit}
+use Rattle.boxes.specs.Framing.{Box, uuid, header, frontSize, front, boxed, boxesIn}
 use Rattle.boxes.specs.declared.kinds.Container.{Container}
-use Rattle.boxes.proofs.ContainerLaws.{box-limit, boxes-end, boxes-next, boxes-stand, boxes-appended}
+use Rattle.boxes.proofs.ContainerLaws.{Filled, full, next, box-limit, filled-boxes, filled-moved, filled-appended}
 use Rattle.boxes.proofs.HeaderLaws.{user-none, sized-fits, header-short, moved}
 use Rattle.numerals.proofs.NumberLaws.{length-bytesOf, number-bytesOf, bytesOf-joined}
 use Rattle.numerals.proofs.WidthLaws.{below-holds, over-holds}
@@ -82,27 +82,21 @@ pub moved-boxedAt : (m at kind n : ℕ) → moved m (boxedAt at kind n) ≡ boxe
 moved-boxedAt m at kind n = simp add-assoc
 
 -- a box that was written is the one box of its own bytes
-module _ (c : Container) (kind : ℕ) (body : List ℕ) (code : kind < 2 ^ 32) (known : eqb kind uuid ≡ false) (fits : frontSize + length body < 2 ^ 32) where
-  pub boxed-alone : boxesIn c (boxed kind body) 0 (length (boxed kind body)) ≡ given (boxedAt 0 kind (length body) ∷ [])
-  unfolding boxesIn boxLimit frontSize
-  boxed-alone =
-      let end : ℕ = frontSize + length body in
-      let read = simp append-nil at (header-boxed [] [] kind body end code known fits (omega arith)) in
-      rw length-boxed (boxes-next c (boxed kind body) end 0 (omega arith) 511 ∙ rw (read, boxes-end c (boxed kind body) end (0 + end) 511 (omega arith)))
+pub boxed-alone : (kind : ℕ) (body : List ℕ) → kind < 2 ^ 32 → eqb kind uuid ≡ false → frontSize + length body < 2 ^ 32
+    → Filled (boxed kind body) (length (boxed kind body)) 0 (boxedAt 0 kind (length body) ∷ [])
+unfolding frontSize
+boxed-alone kind body code known fits =
+    let end : ℕ = frontSize + length body in
+    rw length-boxed (next {at = 0} (omega arith) (simp append-nil at (header-boxed [] [] kind body end code known fits (omega arith))) (full {at = 0 + end} (omega arith)))
 
--- two boxes, one after the other
+-- two boxes, one after the other, where they stand in a list, at a place
 module _ (c : Container) (first second : ℕ) (one two : List ℕ) (code : first < 2 ^ 32) (code′ : second < 2 ^ 32) (known : eqb first uuid ≡ false) (known′ : eqb second uuid ≡ false) (fits : length (boxed first one ++ boxed second two) < 2 ^ 32) where
-  pub boxed-then : boxesIn c (boxed first one ++ boxed second two) 0 (length (boxed first one ++ boxed second two))
-      ≡ given (boxedAt 0 first (length one) ∷ boxedAt (frontSize + length one) second (length two) ∷ [])
-  boxed-then =
-      let size = simp (length-append, length-boxed) at fits in
-      boxes-appended c (boxed first one) (boxed second two) (boxed-alone c first one code known (omega arith)) (boxed-alone c second two code′ known′ (omega arith)) (rw box-limit (omega arith))
-      ∙ rw (moved-boxedAt (length (boxed first one)) 0 second (length two), add-zero, length-boxed)
-
-  -- and where they stand in a list, at a place
   pub boxed-stand : (g : List ℕ) (at : ℕ) → ((i : ℕ) → i < length (boxed first one ++ boxed second two) → getD g (at + i) 0 ≡ getD (boxed first one ++ boxed second two) i 0)
       → boxesIn c g at (at + length (boxed first one ++ boxed second two))
       ≡ given (boxedAt at first (length one) ∷ boxedAt (at + (frontSize + length one)) second (length two) ∷ [])
   boxed-stand g at stands =
-      boxes-stand c g at (boxed first one ++ boxed second two) stands
-      ∙ rw boxed-then (rw (moved-boxedAt at 0 first (length one), moved-boxedAt at (frontSize + length one) second (length two), add-zero))
+      let size = simp (length-append, length-boxed) at fits in
+      let two-filled = filled-appended (boxed-alone first one code known (omega arith)) (boxed-alone second two code′ known′ (omega arith)) in
+      let there = simp add-zero at (filled-moved (boxed first one ++ boxed second two) g at _ stands two-filled) in
+      filled-boxes c there (rw box-limit (omega arith))
+      ∙ simp (length-boxed, zero-add, add-assoc)

@@ -1,19 +1,19 @@
 -- Laws of the boxes of a container: which they are and where they lie, what does not change them, and how two runs of boxes join.
-use Prim.Native.Nat.{ℕ, zero, suc, _+_, _-_, _≤_, _<_}
+use Prim.Native.Nat.{ℕ, zero, suc, _+_, _*_, _≤_, _<_}
 use mathlib.Core.List.{List, [], _∷_, _++_, map}
-use mathlib.Core.Path.{_≡_, refl, sym, ap₂, subst, _∙_}
+use mathlib.Core.Path.{_≡_, refl, sym, subst, _∙_}
 use native.Mathlib.Decide.{decLe}
-use native.Mathlib.Nat.{zero-add, add-zero, suc-add, le-refl}
+use native.Mathlib.Nat.{zero-add, add-zero, le-refl}
 use native.Mathlib.Omega.{arith}
 use borrow.Author.Tests.{le-leb, lt-leb}
 use lib.Dec.{leb}
-use lib.ListN.{length, getD, length-append, List·getD-append}
+use lib.ListN.{length, getD, length-append, length-map, List·getD-append}
 use lib.Seq.{getD-append-add}
-use Rattle.boxes.specs.Answer.{Answer, refused, given, _>>=_}
+use Rattle.boxes.specs.Answer.{refused, given, _>>=_}
 use Rattle.boxes.specs.Framing.{Box, header, boxesFrom, boxesIn, boxLimit}
 use Rattle.boxes.specs.Kinds.{boxAt}
 use Rattle.boxes.specs.declared.kinds.Container.{Container}
-use Rattle.boxes.proofs.AnswerLaws.{not-both, given-same, both-given, then-given, then-then, Only, only-given, only-refused}
+use Rattle.boxes.proofs.AnswerLaws.{not-both, given-same, both-given, then-given, Only, only-given, only-refused}
 use Rattle.boxes.proofs.AnswerLaws.{only-then, only-either}
 use Rattle.boxes.proofs.HeaderLaws.{Inside, header-inside, header-further, header-numbers, header-moved, moved}
 
@@ -104,6 +104,19 @@ filled-apart (next short read rest) j zero h l = absurd (omega arith)
 filled-apart (next short read rest) zero (suc k) h l = filled-standing rest k (omega arith) .low
 filled-apart (next short read rest) (suc j) (suc k) h l = filled-apart rest j k (omega arith) (omega arith)
 
+-- each has a header of eight bytes at least, so there are no more boxes than bytes
+pub filled-few : {s : List ℕ} {end at : ℕ} {bs : List Box} → Filled s end at bs → at ≤ end → at + 8 * length bs ≤ end
+filled-few (full e) h = omega arith
+filled-few (next short read rest) h =
+    let inside = header-inside _ _ _ read in
+    omega (arith, filled-few rest (inside .ends))
+
+-- boxes that fill a container up to a place, and those that fill it from there
+filled-on : {s : List ℕ} {mid end at : ℕ} {bs cs : List Box} → at ≤ mid → mid ≤ end → Filled s mid at bs → Filled s end mid cs → Filled s end at (bs ++ cs)
+filled-on {s} {end = end} {cs = cs} h on (full e) then = subst (λ (at : ℕ). Filled s end at cs) (omega arith) then
+filled-on {s} {mid} {end} h on (next {at = at} short read rest) then =
+    next {at = at} (omega arith) (header-further s at mid end on read) (filled-on (header-inside s at mid read .ends) on rest then)
+
 module _ (c : Container) where
   -- where as many boxes are allowed as fill the container, they are given; where fewer are, it is 6
   pub within : {s : List ℕ} {end at : ℕ} {bs : List Box} → Filled s end at bs → (more : ℕ) → length bs ≤ more → boxesFrom c s end more at ≡ given bs
@@ -115,17 +128,6 @@ module _ (c : Container) where
   over (full e) more h = absurd (omega arith)
   over (next short read rest) zero h = boxes-over c _ _ _ short
   over (next short read rest) (suc more) h = boxes-next c _ _ _ short more ∙ rw (read, over rest more (omega arith))
-
-  -- boxes that fill a container up to a place, and what the walk finds from there in a container that ends further on
-  joined : {s : List ℕ} {mid at : ℕ} {bs : List Box} → Filled s mid at bs → (end more : ℕ) → at ≤ mid → mid ≤ end
-      → boxesFrom c s end (length bs + more) at ≡ (boxesFrom c s end more mid >>= λ rest. given (bs ++ rest))
-  joined {s} {mid} (full {at = at} e) end more h on =
-      let here : at ≡ mid = omega arith in
-      rw (zero-add, here) (sym (then-given (boxesFrom c s end more mid)))
-  joined {s} {mid} (next {at = at} {b = b} {bs = bs} short read rest) end more h on =
-      rw suc-add (boxes-next c s end at (omega arith) (length bs + more)
-      ∙ rw (header-further s at mid end on read, joined rest end more (header-inside s at mid read .ends) on)
-      (then-then (boxesFrom c s end more mid) (λ rest. given (bs ++ rest)) (λ bs. given (b ∷ bs))))
 
   -- a container is refused with 2 to 6
   abbrev Faults : ℕ → Type 0
@@ -146,6 +148,11 @@ pub box-limit : boxLimit ≡ 512
 unfolding boxLimit
 box-limit = refl
 
+-- boxes that fill it are given where they are not too many
+pub filled-boxes : (c : Container) {s : List ℕ} {start end : ℕ} {bs : List Box} → Filled s end start bs → length bs ≤ boxLimit → boxesIn c s start end ≡ given bs
+unfolding boxesIn
+filled-boxes c all few = within c all boxLimit few
+
 module _ (c : Container) (s : List ℕ) (start end : ℕ) where
   -- there are none where it ends before it starts
   pub boxes-none : end ≤ start → boxesIn c s start end ≡ given []
@@ -158,6 +165,11 @@ module _ (c : Container) (s : List ℕ) (start end : ℕ) where
   boxes-numbers = numbers-from c s end boxLimit start
 
   module _ {bs : List Box} (known : boxesIn c s start end ≡ given bs) where
+    -- they fill it
+    pub boxes-filled : Filled s end start bs
+    unfolding boxesIn
+    boxes-filled = fills c s end boxLimit start known .boxes
+
     -- there are at most as many as are allowed
     pub boxes-few : length bs ≤ boxLimit
     unfolding boxesIn
@@ -165,8 +177,8 @@ module _ (c : Container) (s : List ℕ) (start end : ℕ) where
 
     -- the first is read where it starts
     pub boxes-first : 0 < length bs → header s start end ≡ given (boxAt 0 bs)
-    unfolding boxesIn boxAt
-    boxes-first some = go (fills c s end boxLimit start known .boxes) some
+    unfolding boxAt
+    boxes-first some = go boxes-filled some
       where
         go : {at : ℕ} {cs : List Box} → Filled s end at cs → 0 < length cs → header s at end ≡ given (boxAt 0 cs)
         go (full e) some = absurd (omega arith)
@@ -174,56 +186,26 @@ module _ (c : Container) (s : List ℕ) (start end : ℕ) where
 
     -- each stands in it
     pub boxes-standing : (k : ℕ) → k < length bs → Standing s start end (boxAt k bs)
-    unfolding boxesIn
-    boxes-standing = filled-standing (fills c s end boxLimit start known .boxes)
+    boxes-standing = filled-standing boxes-filled
 
     -- and one that comes later starts where an earlier one ends, or further on
     pub boxes-apart : (j k : ℕ) → j < k → k < length bs → boxAt j bs .end ≤ boxAt k bs .at
-    unfolding boxesIn
-    boxes-apart = filled-apart (fills c s end boxLimit start known .boxes)
+    boxes-apart = filled-apart boxes-filled
 
--- the boxes are the same where the same bytes stand so many bytes further on
-module _ (c : Container) (s t : List ℕ) (n end : ℕ) (same : (i : ℕ) → i < end → getD t (n + i) 0 ≡ getD s i 0) where
-  moved-from : (more at : ℕ) → boxesFrom c t (n + end) more (n + at) ≡ (boxesFrom c s end more at >>= λ bs. given (map (moved n) bs))
-  moved-from zero at =
-      elim (decLe end at) [
-        | yes e ↦ boxes-end c t (n + end) (n + at) zero (omega arith) ∙ rw (boxes-end c s end at zero e)
-        | no short ↦ boxes-over c t (n + end) (n + at) (omega arith) ∙ rw (boxes-over c s end at (omega arith))
-      ]
-  moved-from (suc more) at =
-      elim (decLe end at) [
-        | yes e ↦ boxes-end c t (n + end) (n + at) (suc more) (omega arith) ∙ rw (boxes-end c s end at (suc more) e)
-        | no short ↦
-            boxes-next c t (n + end) (n + at) (omega arith) more
-            ∙ rw (boxes-next c s end at (omega arith) more, header-moved s t n at end same) (box (moved-from more) (header s at end))
-      ]
-    where
-      box : ((at : ℕ) → boxesFrom c t (n + end) more (n + at) ≡ (boxesFrom c s end more at >>= λ bs. given (map (moved n) bs)))
-          → (x : Answer Box)
-          → (x >>= (λ b. given (moved n b)) >>= λ b. boxesFrom c t (n + end) more (b .end) >>= λ bs. given (b ∷ bs))
-          ≡ (x >>= (λ b. boxesFrom c s end more (b .end) >>= λ bs. given (b ∷ bs)) >>= λ bs. given (map (moved n) bs))
-      box rest (refused k) = refl
-      box rest (given b) = rw (rest (b .end)) (list (boxesFrom c s end more (b .end)))
-        where
-          list : (y : Answer (List Box)) → (y >>= (λ bs. given (map (moved n) bs)) >>= λ bs. given (moved n b ∷ bs)) ≡ (y >>= (λ bs. given (b ∷ bs)) >>= λ bs. given (map (moved n) bs))
-          list (refused k) = refl
-          list (given bs) = refl
-
-  pub boxes-moved : (start : ℕ) → boxesIn c t (n + start) (n + end) ≡ (boxesIn c s start end >>= λ bs. given (map (moved n) bs))
-  unfolding boxesIn
-  boxes-moved = moved-from boxLimit
-
-unmoved : (bs : List Box) → map (moved 0) bs ≡ bs
-unmoved [] = refl
-unmoved (b ∷ bs) = ap₂ _∷_ (simp zero-add) (unmoved bs)
-
--- and where the same bytes stand at the same places
+-- the boxes are the same where the same bytes stand at the same places
 module _ (s t : List ℕ) (end : ℕ) (same : (i : ℕ) → i < end → getD t i 0 ≡ getD s i 0) where
   pub header-same : (at : ℕ) → header t at end ≡ header s at end
   header-same at = simp (zero-add, then-given) at (header-moved s t 0 at end (λ i h. simp zero-add (same i h)))
 
   same-from : (c : Container) (more at : ℕ) → boxesFrom c t end more at ≡ boxesFrom c s end more at
-  same-from c more at = simp (zero-add, unmoved, then-given) at (moved-from c s t 0 end (λ i h. simp zero-add (same i h)) more at)
+  unfolding boxesFrom
+  same-from c zero at = refl
+  same-from c (suc more) at =
+      elim (decLe end at) [
+        | yes e ↦ boxes-end c t end at (suc more) e ∙ sym (boxes-end c s end at (suc more) e)
+        | no short ↦
+            boxes-next c t end at (omega arith) more ∙ simp (header-same, same-from c more) (sym (boxes-next c s end at (omega arith) more))
+      ]
 
   pub boxes-same : (c : Container) (start : ℕ) → boxesIn c t start end ≡ boxesIn c s start end
   unfolding boxesIn
@@ -240,33 +222,36 @@ module _ (f g : List ℕ) (end : ℕ) (inside : end ≤ length f) where
   pub boxes-kept : (c : Container) (start : ℕ) → boxesIn c (f ++ g) start end ≡ boxesIn c f start end
   boxes-kept = boxes-same f (f ++ g) end kept
 
--- the boxes of a list that stands whole in another, at a place
-pub boxes-stand : (c : Container) (g : List ℕ) (at : ℕ) (s : List ℕ) → ((i : ℕ) → i < length s → getD g (at + i) 0 ≡ getD s i 0)
-    → boxesIn c g at (at + length s) ≡ (boxesIn c s 0 (length s) >>= λ bs. given (map (moved at) bs))
-boxes-stand c g at s same = simp add-zero at (boxes-moved c s g at (length s) same 0)
+-- boxes fill a container where the same bytes stand so many bytes further on
+module _ (s t : List ℕ) (n end : ℕ) (same : (i : ℕ) → i < end → getD t (n + i) 0 ≡ getD s i 0) where
+  pub filled-moved : {at : ℕ} {bs : List Box} → Filled s end at bs → Filled t (n + end) (n + at) (map (moved n) bs)
+  filled-moved (full {at = at} e) = full {at = n + at} (omega arith)
+  filled-moved (next {at = at} {b = b} short read rest) =
+      next {at = n + at} {b = moved n b} (omega arith) (header-moved s t n at end same ∙ rw read) (filled-moved rest)
+
+filled-kept : {f : List ℕ} (g : List ℕ) {at : ℕ} {bs : List Box} → Filled f (length f) at bs → Filled (f ++ g) (length f) at bs
+filled-kept g (full e) = full e
+filled-kept {f} g (next {at = at} short read rest) = next short (header-kept f g (length f) (le-refl (length f)) at ∙ read) (filled-kept g rest)
 
 -- the boxes of f ++ g are those of f and then those of g
-module _ (c : Container) (f g : List ℕ) {bs cs : List Box} (first : boxesIn c f 0 (length f) ≡ given bs) (second : boxesIn c g 0 (length g) ≡ given cs) where
-  -- as many of g are allowed as f leaves
-  joined-from : boxesIn c (f ++ g) 0 (length (f ++ g))
-      ≡ (boxesFrom c g (length g) (boxLimit - length bs) 0 >>= λ cs. given (bs ++ map (moved (length f)) cs))
-  unfolding boxesIn
-  joined-from =
-      let left : ℕ = boxLimit - length bs in
-      let all : length bs + left ≡ boxLimit = omega (arith, boxes-few c f 0 (length f) first) in
-      let filled = fills c (f ++ g) (length f) boxLimit 0 (same-from f (f ++ g) (length f) (kept f g (length f) (le-refl (length f))) c boxLimit 0 ∙ first) in
-      let behind = simp add-zero at (moved-from c g (f ++ g) (length f) (length g) (λ i h. getD-append-add f g i 0) left 0) in
-      rw length-append
-      (rw all at (joined c (filled .boxes) (length f + length g) left (omega arith) (omega arith))
-      ∙ rw behind (then-then (boxesFrom c g (length g) left 0) (λ cs. given (map (moved (length f)) cs)) (λ rest. given (bs ++ rest))))
+pub filled-appended : {f g : List ℕ} {bs cs : List Box} → Filled f (length f) 0 bs → Filled g (length g) 0 cs
+    → Filled (f ++ g) (length (f ++ g)) 0 (bs ++ map (moved (length f)) cs)
+filled-appended {f} {g} first second =
+    rw length-append
+    (filled-on {mid = length f} (omega arith) (omega arith) (filled-kept g first)
+    (simp add-zero at (filled-moved g (f ++ g) (length f) (length g) (λ i h. getD-append-add f g i 0) second)))
+
+module _ (c : Container) (f g : List ℕ) {bs cs : List Box} (first : boxesIn c f 0 (length f) ≡ given bs) (second : Filled g (length g) 0 cs) where
+  all-filled : Filled (f ++ g) (length (f ++ g)) 0 (bs ++ map (moved (length f)) cs)
+  all-filled = filled-appended (boxes-filled c f 0 (length f) first) second
+
+  all-many : length (bs ++ map (moved (length f)) cs) ≡ length bs + length cs
+  all-many = rw (length-append, length-map)
 
   pub boxes-appended : length bs + length cs ≤ boxLimit → boxesIn c (f ++ g) 0 (length (f ++ g)) ≡ given (bs ++ map (moved (length f)) cs)
-  unfolding boxesIn
-  boxes-appended h = joined-from ∙ rw (within c (fills c g (length g) boxLimit 0 second .boxes) (boxLimit - length bs) (omega arith))
+  boxes-appended few = filled-boxes c all-filled (rw all-many few)
 
   -- where they are too many it is 6
   pub boxes-crowded : boxLimit < length bs + length cs → boxesIn c (f ++ g) 0 (length (f ++ g)) ≡ refused 6
   unfolding boxesIn
-  boxes-crowded h =
-      joined-from
-      ∙ rw (over c (fills c g (length g) boxLimit 0 second .boxes) (boxLimit - length bs) (omega (arith, boxes-few c f 0 (length f) first)))
+  boxes-crowded many = over c all-filled boxLimit (rw all-many many)

@@ -2,6 +2,7 @@
 use mathlib.Core.Path.{sym, _∙_}
 use Rattle.numerals.proofs.Determined.{OneResult}
 use Rattle.fields.proofs.ToldLaws.{fields-told, location-told, state-told, entry-told}
+use Rattle.fields.proofs.allowed.may_stand.Reads as may-stand
 use Rattle.fields.proofs.entry.entry_at.Reads as entry-at
 use Rattle.fields.proofs.fields.fields_of.Reads as fields-of
 use Rattle.fields.proofs.location.location_of.Reads as location-of
@@ -26,3 +27,6 @@ ends-by-result κs args x y after after′ p q = p ∙ sym q
 
 entry-at-result : OneResult entry-at.Post
 entry-at-result κs args x y after after′ p q = entry-told x y (p ∙ sym q)
+
+may-stand-result : OneResult may-stand.Post
+may-stand-result κs args x y after after′ p q = p ∙ sym q

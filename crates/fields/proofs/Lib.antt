@@ -1,3 +1,4 @@
+pub mod AllowedLaws
 pub mod Determined
 pub mod EntryLaws
 pub mod FieldsLaws

@@ -1,6 +1,7 @@
 -- Each public call's contract determines its answer: two that it allows of the same arguments are equal. The pass over a file is determined where
--- the file's boxes are known, and what it leaves in a table where all rows fit.
+-- the file's boxes are known and whether it is mixed, and what it leaves in a table where all rows fit.
 use Prim.Native.Nat.{ℕ, _≤_}
+use mathlib.Core.Bool.{Bool}
 use mathlib.Core.List.{List}
 use mathlib.Core.Path.{_≡_, sym, ap, _∙_}
 use native.Mathlib.Omega.{arith}
@@ -31,13 +32,13 @@ module _ {L : Type 0} {A R E : L → Type 0} (post : (κs : L) → A κs → R �
       → post κs args y after′
       → of κs after ≡ of κs after′
 
--- the boxes of a file are those of a heading
-abbrev Boxed : List ℕ → Heading → Type 0
-Boxed f h = boxesIn File f 0 (length f) ≡ given (h .boxes)
+-- the boxes of a file are those of a heading, and whether it is mixed is as the heading says
+abbrev Boxed : List ℕ → Bool → Heading → Type 0
+Boxed f mixed h = (boxesIn File f 0 (length f) ≡ given (h .boxes)) × (mixed ≡ h .mixed)
 
 -- and of its segments these are the rows, for which a table has room
-abbrev Fits : (List Segment → List ℕ) → List ℕ → List ℕ → Heading × List Segment → Type 0
-Fits rows f table (h, ss) = Boxed f h × (segmentsBy f h ≡ given ss) × (length (rows ss) ≤ length table)
+abbrev Fits : (List Segment → List ℕ) → List ℕ → Bool → List ℕ → Heading × List Segment → Type 0
+Fits rows f mixed table (h, ss) = Boxed f mixed h × (segmentsBy f h ≡ given ss) × (length (rows ss) ≤ length table)
 
 module _ (f : List ℕ) (h : Heading) (t₀ t t′ u₀ u u′ : List ℕ) where
   one-passed : (x y : Passed) → Gathers f h t₀ t u₀ u x → Gathers f h t₀ t′ u₀ u′ y → x ≡ y
@@ -50,13 +51,13 @@ module _ (f : List ℕ) (h : Heading) (t₀ t t′ u₀ u u′ : List ℕ) where
 one-put : {before rows t t′ : List ℕ} → length rows ≤ length before → Put before 0 rows t → Put before 0 rows t′ → t ≡ t′
 one-put room p q = p .held (omega arith) ∙ sym (q .held (omega arith))
 
-pass-result : OneKnown pass.Post (λ κs args (h : Heading). Boxed (now (args .0)) h)
-pass-result κs args h known x y after after′ p q = one-passed _ h _ _ _ _ _ _ x y (p h known) (q h known)
+pass-result : OneKnown pass.Post (λ κs args (h : Heading). Boxed (now (args .0)) (args .1 .0) h)
+pass-result κs args h (known, mix) x y after after′ p q = one-passed _ h _ _ _ _ _ _ x y (p h known mix) (q h known mix)
 
-pass-segments : OneLeftKnown pass.Post (λ κs args. Fits segmentRows (now (args .0)) (now (args .1 .0))) (λ κs after. now (after .1 .0))
-pass-segments κs args (h, ss) (known, read, room) x y after after′ p q =
-    one-put room (rows-put _ h x (p h known) read .0) (rows-put _ h y (q h known) read .0)
+pass-segments : OneLeftKnown pass.Post (λ κs args. Fits segmentRows (now (args .0)) (args .1 .0) (now (args .1 .1 .0))) (λ κs after. now (after .1 .1 .0))
+pass-segments κs args (h, ss) ((known, mix), read, room) x y after after′ p q =
+    one-put room (rows-put _ h x (p h known mix) read .0) (rows-put _ h y (q h known mix) read .0)
 
-pass-chunks : OneLeftKnown pass.Post (λ κs args. Fits chunkRows (now (args .0)) (now (args .1 .1 .0))) (λ κs after. now (after .1 .1 .0))
-pass-chunks κs args (h, ss) (known, read, room) x y after after′ p q =
-    one-put room (rows-put _ h x (p h known) read .1) (rows-put _ h y (q h known) read .1)
+pass-chunks : OneLeftKnown pass.Post (λ κs args. Fits chunkRows (now (args .0)) (args .1 .0) (now (args .1 .1 .1 .0))) (λ κs after. now (after .1 .1 .1 .0))
+pass-chunks κs args (h, ss) ((known, mix), read, room) x y after after′ p q =
+    one-put room (rows-put _ h x (p h known mix) read .1) (rows-put _ h y (q h known mix) read .1)

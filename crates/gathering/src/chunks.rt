@@ -8,6 +8,7 @@ use segment::chunk::ChunkStep;
 use segment::chunk::Cursor;
 use segment::tops::TOPS;
 ghost use Prim.Native.Nat.{_+_, _≤_};
+ghost use mathlib.Core.Path.{_≡_};
 ghost use Rattle.boxes.specs.Framing.{boxOf};
 ghost use Rattle.partial.specs.Heading.{Heading};
 ghost use Rattle.partial.specs.Limits.{chunkLimit};
@@ -25,6 +26,7 @@ pub enum ChunksRead {
 pub(crate) fn chunks_of(
     file: &[u8],
     tops: &[u64; TOPS],
+    mixed: bool,
     pseg: Place,
     l: Location,
     first: Cursor,
@@ -32,13 +34,13 @@ pub(crate) fn chunks_of(
     table: &mut [u64],
 ) -> ChunksRead
     requires { ⌜ before .chunks + l .count ≤ chunkLimit ⌝ }
-    ensures { λ r. ⌜ ((h : Heading) → Searched (now (file .entry)) (boxOf (first .last)) (h .boxes) → Tops (h .boxes) (now (tops .entry)) → Chunked (now (file .entry)) h (pseg .0) l first before (now (table .entry)) (now (table .exit)) r) ⌝ }
+    ensures { λ r. ⌜ ((h : Heading) → mixed ≡ h .mixed → Searched (now (file .entry)) (boxOf (first .last)) (h .boxes) → Tops (h .boxes) (now (tops .entry)) → Chunked (now (file .entry)) h (pseg .0) l first before (now (table .entry)) (now (table .exit)) r) ⌝ }
 {
     let end = l.end;
     let mut cursor = first;
     let mut i = 0;
     while i < l.count {
-        match cursor.step(file, tops, pseg, l) {
+        match cursor.step(file, tops, mixed, pseg, l) {
             ChunkStep::Refused(n) => return ChunksRead::Refused(n),
             ChunkStep::Given(chunk, next) => {
                 put_chunk(table, before.chunks + i, before.segments, i, chunk);

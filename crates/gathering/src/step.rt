@@ -35,6 +35,7 @@ pub enum SegmentRead {
 pub(crate) fn segment_of(
     file: &[u8],
     tops: &[u64; TOPS],
+    mixed: bool,
     b: Framed,
     before: Gathered,
     last: Framed,
@@ -42,7 +43,7 @@ pub(crate) fn segment_of(
     chunks: &mut [u64],
 ) -> SegmentRead
     requires { ⌜ (before .segments ≤ boxLimit) × (before .chunks ≤ chunkLimit) ⌝ }
-    ensures { λ r. ⌜ Counted before r × ((h : Heading) (ss : List Segment) → Searched (now (file .entry)) (boxOf last) (h .boxes) → Tops (h .boxes) (now (tops .entry)) → before ≡ gatheredOf ss → Segmented (now (file .entry)) h ss (boxOf b) (now (segments .entry)) (now (segments .exit)) (now (chunks .entry)) (now (chunks .exit)) r) ⌝ }
+    ensures { λ r. ⌜ Counted before r × ((h : Heading) (ss : List Segment) → mixed ≡ h .mixed → Searched (now (file .entry)) (boxOf last) (h .boxes) → Tops (h .boxes) (now (tops .entry)) → before ≡ gatheredOf ss → Segmented (now (file .entry)) h ss (boxOf b) (now (segments .entry)) (now (segments .exit)) (now (chunks .entry)) (now (chunks .exit)) r) ⌝ }
 {
     let place = b.at;
     match parts_of(file, b) {
@@ -64,7 +65,7 @@ pub(crate) fn segment_of(
                 start: Position(fields.offset),
                 last,
             };
-            match chunks_of(file, tops, place, location, first, before, chunks) {
+            match chunks_of(file, tops, mixed, place, location, first, before, chunks) {
                 ChunksRead::Refused(n) => SegmentRead::Refused(n),
                 ChunksRead::Given(cursor) => {
                     put_segment(segments, before.segments, place, fields, count, header);

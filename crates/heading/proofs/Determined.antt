@@ -18,6 +18,7 @@ head-told g h e =
     λ i. record {
       boxes = e i .boxes;
       segments = e i .segments;
+      mixed = e i .mixed;
       url = record { place = record { 0 = e i .url .place }; size = e i .url .size };
       mime = record { place = record { 0 = e i .mime .place }; size = e i .mime .size };
     }

@@ -1,6 +1,6 @@
 -- Laws of the stages of a heading: which refusal comes where, and what is told where none does.
 use Prim.Native.Nat.{ℕ, _≤_, _<_}
-use mathlib.Core.Bool.{true, false}
+use mathlib.Core.Bool.{Bool, true, false}
 use mathlib.Core.List.{List}
 use mathlib.Core.Path.{_≡_}
 use borrow.Author.Tests.{le-leb, lt-leb}
@@ -46,7 +46,7 @@ module _ (f : List ℕ) where
     pfil-refused ftyp brand wrong = rw (ftyp, brand, wrong)
 
     -- after stage 9, with the box that is second
-    module _ (t : Fronted f bs) (b : Framed) (same : boxOf b ≡ boxAt 1 bs) where
+    module _ {mixed : Bool} (t : Fronted f mixed bs) (b : Framed) (same : boxOf b ≡ boxAt 1 bs) where
       pub inner-refused : {n : ℕ} → boxesIn Pfil f (b .body .0) (b .end .0) ≡ refused n → judged f bs ≡ refused n
       unfolding judged
       inner-refused e = rw (t .ftyp, t .brand, t .pfil, ← same, box-fields b, e)
@@ -60,14 +60,14 @@ module _ (f : List ℕ) where
         unfolding judged
         surl-refused pfhd wrong = rw (t .ftyp, t .brand, t .pfil, ← same, box-fields b, inner, pfhd, wrong)
 
-        pub all-right : pfhdRight f is ≡ true → surlRight f is ≡ true → judged f bs ≡ given (record { boxes = bs; inner = is })
+        pub all-right : pfhdRight f is ≡ true → surlRight f is ≡ true → judged f bs ≡ given (record { boxes = bs; inner = is; mixed = mixed })
         unfolding judged
-        all-right pfhd surl = rw (t .ftyp, t .brand, t .pfil, ← same, box-fields b, inner, pfhd, surl)
+        all-right pfhd surl = rw (t .ftyp, t .brand, t .pfil, ← same, box-fields b, inner, pfhd, surl, ← (t .brands))
 
   -- what is told where there is no refusal
   pub found-told : (bs is : List Box) (h : Head) → h .boxes ≡ length bs → h .segments ≡ length (those pseg bs)
       → partOf (h .url) ≡ url f (firstOf surl is)
       → partOf (h .mime) ≡ mime f (firstOf surl is)
-      → headedAnswer (Found h) ≡ given (factsOf f (record { boxes = bs; inner = is }))
+      → headedAnswer (Found h) ≡ given (factsOf f (record { boxes = bs; inner = is; mixed = h .mixed }))
   unfolding headedAnswer factsOf
-  found-told bs is h boxes segments url mime = λ i. given (record { boxes = boxes i; segments = segments i; url = url i; mime = mime i })
+  found-told bs is h boxes segments url mime = λ i. given (record { boxes = boxes i; segments = segments i; mixed = h .mixed; url = url i; mime = mime i })

@@ -15,7 +15,7 @@ ghost use Rattle.boxes.specs.Answer.{given};
 ghost use Rattle.boxes.specs.Framing.{Box, boxOf};
 ghost use Rattle.boxes.specs.Kinds.{boxAt};
 ghost use Rattle.tallying.specs.Rules.{tallyOf};
-ghost use Rattle.partial.specs.Heading.{ftypRight, brandRight};
+ghost use Rattle.partial.specs.Heading.{ftypRight, branded, pmff, brandRight};
 ghost use Rattle.heading.specs.Steps.{Within};
 
 // The bytes of the major brand and the minor version, which stand before the compatible brands.
@@ -39,18 +39,29 @@ pub(crate) fn ftyp_right(b: Framed, boxes: Tally) -> bool
     keeps(Container::File, FTYP, boxes.of(FTYP))
 }
 
-// Whether one of the compatible brands, four bytes each to the end, is `paff`.
-pub(crate) fn brand_right(file: &[u8], b: Framed) -> bool
+// Whether one of the compatible brands, four bytes each to the end, is that one.
+pub(crate) fn has_brand(file: &[u8], b: Framed, brand: u64) -> bool
     requires { ⌜ Within (length (now file)) b ⌝ }
-    ensures { λ r. ⌜ ((bs : List Box) → boxOf b ≡ boxAt 0 bs → r ≡ brandRight (now (file .entry)) bs) ⌝ }
+    ensures { λ r. ⌜ ((bs : List Box) → boxOf b ≡ boxAt 0 bs → r ≡ branded brand (now (file .entry)) bs) ⌝ }
 {
     let end = b.end.0;
     let mut at = b.body.0 + BRANDS_FROM;
     while at + 4 <= end {
-        if unsigned(file, Place(at), 4) == PAFF {
+        if unsigned(file, Place(at), 4) == brand {
             return true;
         }
         at += 4;
     }
     false
+}
+
+// Whether one of the two brands is there, of a file of which it is known whether it is mixed.
+pub(crate) fn brand_right(file: &[u8], b: Framed, mixed: bool) -> bool
+    requires { ⌜ Within (length (now file)) b ⌝ }
+    ensures { λ r. ⌜ ((bs : List Box) → boxOf b ≡ boxAt 0 bs → mixed ≡ branded pmff (now (file .entry)) bs → r ≡ brandRight (now (file .entry)) bs) ⌝ }
+{
+    if mixed {
+        return true;
+    }
+    has_brand(file, b, PAFF)
 }

@@ -3,10 +3,12 @@ use crate::answers::Headed;
 use crate::find::box_at;
 use crate::ftyp::brand_right;
 use crate::ftyp::ftyp_right;
+use crate::ftyp::has_brand;
 use crate::pfil::inner_of;
 use crate::pfil::pfil_right;
 use boxes::kinds::Container;
 use numerals::place::Place;
+use partial::brand::PMFF;
 use partial::limits::FILE_LIMIT;
 use partial::refusals::BRAND_MISSING;
 use partial::refusals::FILE_TOO_LONG;
@@ -33,12 +35,13 @@ pub fn heading_of(file: &[u8]) -> Headed
     if !ftyp_right(first, boxes) {
         return Headed::Refused(FTYP_WRONG);
     }
-    if !brand_right(file, first) {
+    let mixed = has_brand(file, first, PMFF);
+    if !brand_right(file, first, mixed) {
         return Headed::Refused(BRAND_MISSING);
     }
     let second = box_at(file, 1);
     if !pfil_right(second, boxes) {
         return Headed::Refused(PFIL_WRONG);
     }
-    inner_of(file, second, boxes)
+    inner_of(file, second, boxes, mixed)
 }

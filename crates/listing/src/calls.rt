@@ -69,7 +69,7 @@ pub fn list(
             if missing.len() as u64 / RANGE_ROW < totals.missing {
                 return Listed::Refused(TABLE_TOO_SHORT);
             }
-            pass(file, segments, chunks);
+            pass(file, judged.head.mixed, segments, chunks);
             put_lists(&spans, n, end, had, missing);
             Listed::Lists {
                 had: totals.had,

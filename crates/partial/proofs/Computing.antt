@@ -5,6 +5,7 @@ use Rattle.boxes.specs.Kinds
 use Rattle.partial.specs.Sequences
 use Rattle.partial.specs.Segments
 use Rattle.partial.specs.Heading
+use Rattle.partial.specs.Mixed
 use Rattle.partial.specs.Entries
 use Rattle.partial.specs.Meaning
 use Rattle.partial.specs.Reading
@@ -30,10 +31,11 @@ unfolding
     Sequences.someOf Sequences.allOf Sequences.sum Sequences.largest Sequences.within Sequences.stretch
     Segments.isState Segments.present Segments.corrupted Segments.hasPlace Segments.isOpen Segments.isLast Segments.endOf
     Segments.chunksOf
-    Heading.ftypRight Heading.brandsFrom Heading.brands Heading.brandRight Heading.pfilRight
+    Heading.ftypRight Heading.brandsFrom Heading.brands Heading.branded Heading.brandRight Heading.pfilRight
     Heading.pfhdFormed Heading.pfhdRight Heading.text Heading.url Heading.mime Heading.surlFormed Heading.surlRight
     Heading.fileBoxes Heading.judged Heading.heading
-    Entries.plocHead Entries.state Entries.stateOf Entries.entry Entries.mayLie Entries.offsetPlace Entries.placeOf
+    Mixed.allowed Mixed.fillUp Mixed.wholeBoxes Mixed.boxesOf Mixed.areBoxes Mixed.boxesMany
+    Entries.plocHead Entries.state Entries.stateOf Entries.entry Entries.inData Entries.mayLie Entries.offsetPlace Entries.placeOf
     Entries.chunkStep Entries.chunksFrom
     Reading.offsetWidth Reading.pshdFields Reading.pshdRight Reading.segment Reading.segmentsFrom Reading.segments Reading.reading
     Reading.earlierSegments Reading.admitted
@@ -47,12 +49,13 @@ unfolding
     Tables.servedPart Tables.asked Tables.textOf
     Map.ascii Map.decimal Map.line Map.refusedLine Map.rangeLine Map.rangeLines Map.sourceLine Map.totalLine Map.mapOf Map.mapText
     BoxList.hex BoxList.prints BoxList.shown BoxList.each BoxList.typeBytes BoxList.userBytes BoxList.boxLine BoxList.boxLines BoxList.boxesText
-    Begin.beginning Begin.isText Begin.begun
-    Addition.asks Addition.items Addition.listRight Addition.dataSize Addition.dataRight Addition.anyPresent Addition.sayable
-    Append.dataBox Append.addedBoxes Append.placed Append.lengthSize Append.offsetSize Append.flagByte Append.entryBytes
+    Begin.brandCode Begin.beginning Begin.isText Begin.begun
+    Addition.asks Addition.items Addition.listRight Addition.dataSize Addition.dataRight Addition.goesOut Addition.goesIn Addition.dataFor Addition.boxesFor
+    Addition.outsideRight Addition.sayable
+    Append.insideData Append.outsideData Append.anyInside Append.dataBox Append.stored Append.addedBoxes Append.back Append.placedWith Append.placed Append.lengthSize Append.offsetSize Append.flagByte Append.entryBytes
     Append.plocBody Append.versionFor Append.pshdBody Append.psegBody Append.added Append.psegPlace Append.newChunks
     Append.newSegment Append.admission Append.appended Append.result
     Runs.fileIn Runs.sizeAfter Runs.begin Runs.append Runs.appendAll
-    Again.dataOf Again.listFor Again.again Again.writeAgain
+    Again.dataOf Again.listFor Again.someOutside Again.again Again.writeAgain
     Carried.carriedBy Carried.carried Carried.orElse
 computing = tt

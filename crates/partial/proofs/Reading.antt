@@ -1,6 +1,7 @@
 -- Laws of reading: what an accepted file gives, what is put behind a file, every refusal, and what is handed back and printed.
 pub mod HeadingAppendLaws
 pub mod KeptLaws
+pub mod LieLaws
 pub mod LimitLaws
 pub mod PartLaws
 pub mod BoxListLaws

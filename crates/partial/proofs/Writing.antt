@@ -5,10 +5,12 @@ pub mod AdditionLaws
 pub mod AgainLaws
 pub mod BegunLaws
 pub mod BoxesStandLaws
+pub mod DataLaws
 pub mod EntriesBackLaws
 pub mod FieldsBackLaws
 pub mod GrownLaws
 pub mod NewSegmentLaws
+pub mod OutsideLaws
 pub mod PlacedLaws
 pub mod ReadsBackLaws
 pub mod ReasonLaws
@@ -16,5 +18,8 @@ pub mod RepairTimeLaws
 pub mod ResultLaws
 pub mod RunAgainLaws
 pub mod StandsLaws
+pub mod StoredLaws
+pub mod ToldOutsideLaws
+pub mod WholeLaws
 pub mod WriterLaws
 pub mod WrittenAgainLaws

@@ -1,6 +1,6 @@
 -- Document 01, "Append": the bytes that it writes, the segment that they say, and its refusals in order.
 use Prim.Native.Nat.{ℕ, _+_, _*_}
-use mathlib.Core.Bool.{true, false}
+use mathlib.Core.Bool.{Bool, true, false}
 use mathlib.Core.List.{List, [], _∷_, _++_}
 use mathlib.Core.Option.{Option·getD}
 use lib.ListN.{length, take}
@@ -12,21 +12,37 @@ use Rattle.boxes.specs.Kinds.{pseg, pshd, ploc, pdat}
 use Rattle.numerals.specs.declared.numbers.Offset.{Offset}
 use Rattle.numerals.specs.declared.numbers.Offset.the-variants.{Ahead, Back}
 use Rattle.partial.specs.Limits.{fileLimit}
-use Rattle.partial.specs.Sequences.{allOf}
+use Rattle.partial.specs.Sequences.{someOf, allOf}
 use Rattle.partial.specs.Segments.{Chunk, Segment, present, corrupted, hasPlace}
 use Rattle.partial.specs.Heading.{Heading, heading}
 use Rattle.partial.specs.Entries.{offsetPlace}
 use Rattle.partial.specs.Reading.{offsetWidth, segments, admitted}
 use Rattle.partial.specs.Begin.{versionAndFlags}
-use Rattle.partial.specs.Addition.{Addition, flagsFor, Item, items, listRight, dataSize, dataRight, anyPresent}
+use Rattle.partial.specs.Mixed.{boxesMany}
+use Rattle.partial.specs.Addition.{Addition, flagsFor, Item, items, listRight, sizeOf, dataRight, goesOut, goesIn, dataFor, outsideRight}
 
--- one `pdat` with the data in chunk order, if any chunk is present
+-- the data that goes into `pdat`, and that of the chunks outside, each in chunk order
+unfoldable pub insideData : Addition → List ℕ
+insideData a = dataFor (goesIn (a .outside)) (items (a .list)) (a .bytes)
+
+unfoldable pub outsideData : Addition → List ℕ
+outsideData a = dataFor (goesOut (a .outside)) (items (a .list)) (a .bytes)
+
+-- whether there is a `pdat`: the data of some chunk goes there
+unfoldable pub anyInside : Addition → Bool
+anyInside a = someOf (goesIn (a .outside)) (items (a .list))
+
+-- one `pdat` with the data that goes there, if any does
 unfoldable pub dataBox : Addition → List ℕ
-dataBox a = elim (anyPresent a) [ true ↦ boxed (pdat .code) (a .bytes) | false ↦ [] ]
+dataBox a = elim (anyInside a) [ true ↦ boxed (pdat .code) (insideData a) | false ↦ [] ]
 
--- how many boxes append adds to the file: the `pseg`, and that `pdat`
+-- all that stands before the `pseg`: that `pdat`, then the chunks outside
+unfoldable pub stored : Addition → List ℕ
+stored a = dataBox a ++ outsideData a
+
+-- how many boxes append adds to the file: that `pdat`, the boxes outside, and the `pseg`
 unfoldable pub addedBoxes : Addition → ℕ
-addedBoxes a = elim (anyPresent a) [ true ↦ 2 | false ↦ 1 ]
+addedBoxes a = (elim (anyInside a) [ true ↦ 1 | false ↦ 0 ]) + boxesMany (outsideData a) + 1
 
 -- an item with the offset of its data from the first byte of the `pseg` box, 0 where it has no data
 pub record Placed : Type 0 where
@@ -34,16 +50,29 @@ pub record Placed : Type 0 where
   pub state : ℕ
   pub offset : Offset
 
--- items whose data ends where the `pseg` starts: each lies as far back as there are bytes from it on
-unfoldable pub placed : List Item → List Placed
-placed [] = []
-placed (i ∷ is) =
+-- how far before the `pseg` the data of the first of some items lies, as many bytes as there are from it on: behind the data in `pdat` stand so many
+-- bytes outside
+unfoldable pub back : Bool → ℕ → Item → List Item → ℕ
+back outside out i is =
+    elim (goesOut outside i) [
+      | true ↦ sizeOf (goesOut outside) (i ∷ is)
+      | false ↦ sizeOf (goesIn outside) (i ∷ is) + out
+    ]
+
+-- items of which so many bytes stand outside, with their offsets
+unfoldable pub placedWith : Bool → ℕ → List Item → List Placed
+placedWith outside out [] = []
+placedWith outside out (i ∷ is) =
     record {
       size = i .size;
       state = i .state;
-      offset = elim (present (i .state)) [ true ↦ Back (dataSize (i ∷ is)) | false ↦ Ahead 0 ];
+      offset = elim (present (i .state)) [ true ↦ Back (back outside out i is) | false ↦ Ahead 0 ];
     }
-    ∷ placed is
+    ∷ placedWith outside out is
+
+-- the items of a chunk list with their offsets
+unfoldable pub placed : Bool → List Item → List Placed
+placed outside is = placedWith outside (sizeOf (goesOut outside) is) is
 
 -- `length_size`: the least that holds every size
 unfoldable pub lengthSize : List Placed → ℕ
@@ -83,15 +112,15 @@ pshdBody a =
 
 -- the body of the `pseg`: `pshd` and `ploc`
 unfoldable pub psegBody : Addition → List ℕ
-psegBody a = boxed (pshd .code) (pshdBody a) ++ boxed (ploc .code) (plocBody (placed (items (a .list))))
+psegBody a = boxed (pshd .code) (pshdBody a) ++ boxed (ploc .code) (plocBody (placed (a .outside) (items (a .list))))
 
 -- what append adds to a file: the data, then the `pseg`
 unfoldable pub added : Addition → List ℕ
-added a = dataBox a ++ boxed (pseg .code) (psegBody a)
+added a = stored a ++ boxed (pseg .code) (psegBody a)
 
 -- the place of that `pseg` in a file that had n bytes
 unfoldable pub psegPlace : ℕ → Addition → ℕ
-psegPlace n a = n + length (dataBox a)
+psegPlace n a = n + length (stored a)
 
 -- the chunks that placed items tell of, from a source position on, of a `pseg` at a place
 unfoldable pub newChunks : ℕ → ℕ → List Placed → List Chunk
@@ -115,7 +144,7 @@ newSegment at a =
       repairTime = a .repairTime;
       headerPlace = at + frontSize + frontSize;
       headerLength = length (pshdBody a);
-      chunks = newChunks at (a .sourceOffset) (placed (items (a .list)));
+      chunks = newChunks at (a .sourceOffset) (placed (a .outside) (items (a .list)));
     }
 
 -- 1, 6, 13, 22, 23 or 25 if the result would have it; else the result's segments
@@ -135,6 +164,7 @@ appended limit buffer n a = do
   ss ← segments limit f h
   _ ← hold 31 (listRight (a .list))
   _ ← hold 32 (dataRight a)
+  _ ← hold 35 (outsideRight h a)
   _ ← admission limit h ss n a
   let size = n + length (added a)
   _ ← hold 33 (leb size (length buffer))

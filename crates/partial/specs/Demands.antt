@@ -16,7 +16,9 @@ use Rattle.boxes.specs.declared.kinds.Container.the-variants.{File}
 use Rattle.partial.specs.Limits.{fileLimit, segmentLimit, chunkLimit}
 use Rattle.partial.specs.Sequences.{someOf, sum, within}
 use Rattle.partial.specs.Segments.{Chunk, Segment, good, endOf, chunksOf}
+use Rattle.partial.specs.declared.brand.Brand.{Brand}
 use Rattle.partial.specs.Heading.{Part, Heading, heading}
+use Rattle.partial.specs.Mixed.{allowed}
 use Rattle.partial.specs.Meaning.{givesSize, describedLength, supplier, supplied, chunkNo, chunkFor, served, servedRun, missingRun}
 use Rattle.partial.specs.Meaning.{reply, servedFor, missingFor, notBelow}
 use Rattle.partial.specs.Reading.{segments, reading, earlierSegments}
@@ -26,10 +28,10 @@ use Rattle.partial.specs.Tables.{tabled, listed, totals, bytesIn, served
 use Rattle.partial.specs.Map.{refusedLine, sourceLine, rangeLines, totalLine, mapText}
 use Rattle.partial.specs.BoxList.{each, boxLine, boxesText}
 use Rattle.partial.specs.Begin.{beginning, isText, begun}
-use Rattle.partial.specs.Addition.{Addition, items, listRight, dataRight, sayable}
+use Rattle.partial.specs.Addition.{Addition, items, listRight, dataRight, outsideRight, sayable}
 use Rattle.partial.specs.Append.{addedBoxes, added, psegPlace, newSegment, appended, result}
 use Rattle.partial.specs.Runs.{Lent, lent, fileIn, begin, append, appendAll}
-use Rattle.partial.specs.Again.{again, writeAgain}
+use Rattle.partial.specs.Again.{again, settled, writeAgain}
 use Rattle.partial.specs.Carried.{carried, orElse}
 
 -- whether a number is one of some
@@ -48,11 +50,11 @@ pub record Demand1 (limit : ℕ) : Type 0 where
   -- one numbered refusal, of those that the paper has for the call
   pub readNumbers : (f a b : List ℕ) (n : ℕ) → tabled limit f a b ≡ refused n → T (within 1 26 n)
   pub listNumbers : (f a b h m : List ℕ) (n : ℕ) → listed limit f a b h m ≡ refused n → T (within 1 26 n)
-  pub beginNumbers : (buffer u m : List ℕ) (n : ℕ) → begun buffer u m ≡ refused n → T (oneOf (34 ∷ 1 ∷ 33 ∷ []) n)
+  pub beginNumbers : (buffer : List ℕ) (brand : Brand) (u m : List ℕ) (n : ℕ) → begun buffer brand u m ≡ refused n → T (oneOf (34 ∷ 1 ∷ 33 ∷ []) n)
   pub appendNumbers :
       (buffer : List ℕ) (size : ℕ) (a : Addition) (n : ℕ)
       → appended limit buffer size a ≡ refused n
-      → (T (within 1 25 n) × (n ≡ 12 → ⊥)) ⊎ T (oneOf (30 ∷ 31 ∷ 32 ∷ 33 ∷ []) n)
+      → (T (within 1 25 n) × (n ≡ 12 → ⊥)) ⊎ T (oneOf (30 ∷ 31 ∷ 32 ∷ 33 ∷ 35 ∷ []) n)
   pub textNumbers : (text buffer : List ℕ) (n : ℕ) → textWritten text buffer ≡ refused n → n ≡ 33
   -- asking answers that number too, and the two texts are empty
   pub askNumbers : (f a b : List ℕ) (p n : ℕ) → tabled limit f a b ≡ refused n → asked (tabled limit f a b) p ≡ refused n
@@ -66,7 +68,10 @@ pub record Demand1 (limit : ℕ) : Type 0 where
       (rows : List Segment → List ℕ) (f a b h m table : List ℕ) (n : ℕ)
       → listed limit f a b h m ≡ refused n
       → after rows (listed limit f a b h m) table ≡ table
-  pub beginKept : (buffer u m : List ℕ) (n : ℕ) → begun buffer u m ≡ refused n → written (beginning u m) (begun buffer u m) buffer ≡ buffer
+  pub beginKept :
+      (buffer : List ℕ) (brand : Brand) (u m : List ℕ) (n : ℕ)
+      → begun buffer brand u m ≡ refused n
+      → written (beginning brand u m) (begun buffer brand u m) buffer ≡ buffer
   pub appendKept : NothingChanges limit
   pub textKept : (text buffer : List ℕ) (n : ℕ) → textWritten text buffer ≡ refused n → written text (textWritten text buffer) buffer ≡ buffer
 
@@ -92,6 +97,25 @@ pub record Listing (ss : List Segment) : Type 0 where
 abbrev Beside : ℕ → Chunk → Type 0
 Beside p c = (p < c .start) ⊎ (c .start + c .size ≤ p)
 
+-- a chunk lies in one `pdat` body
+pub record InData (h : Heading) (c : Chunk) : Type 0 where
+  pub number : ℕ
+  pub there : number < length (h .boxes)
+  pub kind : is pdat (boxAt number (h .boxes)) ≡ true
+  pub from : boxAt number (h .boxes) .body ≤ c .place
+  pub to : c .place + c .size ≤ boxAt number (h .boxes) .end
+
+-- a good chunk of a mixed file is exactly one or several neighbouring whole boxes, none of type `ftyp`, `pfil`, `pseg` or `pdat`
+pub record Whole (h : Heading) (c : Chunk) : Type 0 where
+  pub mixed : h .mixed ≡ true
+  pub isGood : c .state ≡ good
+  pub first : ℕ
+  pub more : ℕ
+  pub there : first + more < length (h .boxes)
+  pub starts : boxAt first (h .boxes) .at ≡ c .place
+  pub ends : boxAt (first + more) (h .boxes) .end ≡ c .place + c .size
+  pub each : (k : ℕ) → k ≤ more → T (allowed (boxAt (first + k) (h .boxes)))
+
 -- "Serving": of a position that is supplied
 pub record Serving (f : List ℕ) (h : Heading) (ss : List Segment) (p : ℕ) : Type 0 where
   -- by the first good chunk that covers it
@@ -99,13 +123,8 @@ pub record Serving (f : List ℕ) (h : Heading) (ss : List Segment) (p : ℕ) : 
   pub isGood : chunkFor ss p .state ≡ good
   pub covered : (chunkFor ss p .start ≤ p) × (p < chunkFor ss p .start + chunkFor ss p .size)
   pub earliest : (k : ℕ) → k < supplier (chunksOf ss) p → chunkNo ss k .state ≡ good → Beside p (chunkNo ss k)
-  -- out of one `pdat` body
-  pub inData :
-      (k : ℕ)
-      × (k < length (h .boxes))
-      × (is pdat (boxAt k (h .boxes)) ≡ true)
-      × (boxAt k (h .boxes) .body ≤ chunkFor ss p .place)
-      × (chunkFor ss p .place + chunkFor ss p .size ≤ boxAt k (h .boxes) .end)
+  -- out of one `pdat` body, or of whole boxes
+  pub lies : InData h (chunkFor ss p) ⊎ Whole h (chunkFor ss p)
   -- the byte is the file's, as far behind the chunk's place as the position is behind the chunk's start
   pub byte : served f ss p ≡ some (getD f (chunkFor ss p .place + (p - chunkFor ss p .start)) 0)
   -- the part holds p and the positions after it, as long as they are supplied by the same chunk, and no longer
@@ -193,16 +212,20 @@ pub record Demand2 (limit : ℕ) : Type 0 where
       → reading limit (fileIn (append limit (lent buffer n) a)) ≡ given (ss ++ (newSegment (psegPlace n a) a ∷ []))
   -- and those say again what was added, with the same bytes
   pub sameAgain :
-      (buffer : List ℕ) (n : ℕ) (a : Addition) (size : ℕ)
+      (buffer : List ℕ) (n : ℕ) (a : Addition) (size : ℕ) (h : Heading)
       → appended limit buffer n a ≡ given size
-      → again (fileIn (append limit (lent buffer n) a)) (newSegment (psegPlace n a) a) ≡ a
+      → let g = fileIn (append limit (lent buffer n) a) in
+      heading g ≡ given h
+      → again g h (newSegment (psegPlace n a) a) ≡ settled a
+  pub sameBytes : (a : Addition) → added (settled a) ≡ added a
   -- of a file that begin and append alone made, written into any buffer that it fits
   pub writtenAgain :
-      (buffer u m : List ℕ) (additions : List Addition) (other : List ℕ) (ss : List Segment)
-      → let f = fileIn (appendAll limit (begin buffer u m) additions) in
-      reading limit f ≡ given ss
+      (buffer : List ℕ) (brand : Brand) (u m : List ℕ) (additions : List Addition) (other : List ℕ) (h : Heading) (ss : List Segment)
+      → let f = fileIn (appendAll limit (begin buffer brand u m) additions) in
+      heading f ≡ given h
+      → reading limit f ≡ given ss
       → length f ≤ length other
-      → fileIn (writeAgain limit other f ss) ≡ f
+      → fileIn (writeAgain limit other f h ss) ≡ f
 
 -- after an accepted addition, seen from the files and their segments before and after
 pub record Grown (f g : List ℕ) (ss ts : List Segment) (a : Addition) : Type 0 where
@@ -227,6 +250,7 @@ InAgreement ss = (s t : Segment) → List·Memᴰ s ss → List·Memᴰ t ss →
 pub record Right (limit : ℕ) (h : Heading) (ss : List Segment) (n : ℕ) (a : Addition) : Type 0 where
   pub list : T (listRight (a .list))
   pub bytes : T (dataRight a)
+  pub outside : T (outsideRight h a)
   pub small : n + length (added a) ≤ fileLimit
   pub boxes : length (h .boxes) + addedBoxes a ≤ boxLimit
   pub few : length ss < segmentLimit
@@ -257,13 +281,24 @@ pub record Reasons (limit : ℕ) (buffer : List ℕ) (n : ℕ) (a : Addition) : 
       → listRight (a .list) ≡ true
       → dataRight a ≡ false
       → appended limit buffer n a ≡ refused 32
-  -- then what the result would have, 1, 6, 13, 22, 23 or 25, and then 33
-  pub byResult :
-      (ss : List Segment)
+  pub outsideWrong :
+      (h : Heading) (ss : List Segment)
       → n ≤ length buffer
-      → earlierSegments limit (fileIn (lent buffer n)) ≡ given ss
+      → heading (fileIn (lent buffer n)) ≡ given h
+      → segments limit (fileIn (lent buffer n)) h ≡ given ss
       → listRight (a .list) ≡ true
       → dataRight a ≡ true
+      → outsideRight h a ≡ false
+      → appended limit buffer n a ≡ refused 35
+  -- then what the result would have, 1, 6, 13, 22, 23 or 25, and then 33
+  pub byResult :
+      (h : Heading) (ss : List Segment)
+      → n ≤ length buffer
+      → heading (fileIn (lent buffer n)) ≡ given h
+      → segments limit (fileIn (lent buffer n)) h ≡ given ss
+      → listRight (a .list) ≡ true
+      → dataRight a ≡ true
+      → outsideRight h a ≡ true
       → T (sayable a)
       → let g = result buffer n a in
       appended limit buffer n a ≡ (reading limit g >>= λ _. hold 33 (leb (length g) (length buffer)) >>= λ _. given (length g))
@@ -275,6 +310,7 @@ pub record Reasons (limit : ℕ) (buffer : List ℕ) (n : ℕ) (a : Addition) : 
       → segments limit (fileIn (lent buffer n)) h ≡ given ss
       → listRight (a .list) ≡ true
       → dataRight a ≡ true
+      → outsideRight h a ≡ true
       → 2 ^ 16 ≤ length (items (a .list))
       → appended limit buffer n a
       ≡ (hold 1 (leb (n + length (added a)) fileLimit)
@@ -288,14 +324,17 @@ pub record Demand3 (limit : ℕ) : Type 0 where
   pub takes : (f : List ℕ) → Takes limit f
   -- a beginning with two texts, within the limit and the buffer, is given its length
   pub begins :
-      (buffer u m : List ℕ)
+      (buffer : List ℕ) (brand : Brand) (u m : List ℕ)
       → T (isText u)
       → T (isText m)
-      → length (beginning u m) ≤ fileLimit
-      → length (beginning u m) ≤ length buffer
-      → begun buffer u m ≡ given (length (beginning u m))
+      → length (beginning brand u m) ≤ fileLimit
+      → length (beginning brand u m) ≤ length buffer
+      → begun buffer brand u m ≡ given (length (beginning brand u m))
   -- one just begun serves nothing and has described length 0
-  pub justBegun : (buffer u m : List ℕ) (n : ℕ) → begun buffer u m ≡ given n → earlierSegments limit (fileIn (begin buffer u m)) ≡ given []
+  pub justBegun :
+      (buffer : List ℕ) (brand : Brand) (u m : List ℕ) (n : ℕ)
+      → begun buffer brand u m ≡ given n
+      → earlierSegments limit (fileIn (begin buffer brand u m)) ≡ given []
   -- a run leaves a file that append takes
   pub stands :
       (l : Lent) (additions : List Addition) (ss : List Segment)

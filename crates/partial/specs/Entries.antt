@@ -1,6 +1,6 @@
 -- Document 01, the `ploc` paragraph and refusals 17 to 24: the entries of a `ploc`, and the chunks that they tell of.
 use Prim.Native.Nat.{ℕ, zero, suc, _+_, _-_, _/_, _%_}
-use mathlib.Core.Bool.{Bool, true, false, _&&_}
+use mathlib.Core.Bool.{Bool, true, false, _&&_, _||_}
 use mathlib.Core.List.{List, [], _∷_}
 use mathlib.Core.Option.{Option, none, some}
 use lib.ListN.{getD}
@@ -14,6 +14,7 @@ use Rattle.numerals.specs.declared.numbers.Offset.the-variants.{Ahead, Back}
 use Rattle.partial.specs.Sequences.{someOf}
 use Rattle.partial.specs.Segments.{Chunk, good, damaged, lost, present, hasPlace}
 use Rattle.partial.specs.Heading.{Heading}
+use Rattle.partial.specs.Mixed.{wholeBoxes}
 
 -- the head of a `ploc`: its two widths, its `chunk_count`, and the places of its first entry and of its end
 pub record Ploc : Type 0 where
@@ -69,9 +70,13 @@ entry f l at = do
   _ ← hold 17 (leb (rest + width) (l .end))
   given (record { state = s; size = number f (at + 1) (l .lengthSize); offset = signed width (number f rest width); next = rest + width })
 
--- where a chunk of a state may lie: wholly in one `pdat` body, whatever its state
+-- whether so many bytes at a place lie wholly in one `pdat` body
+unfoldable pub inData : List Box → ℕ → ℕ → Bool
+inData bs place size = someOf (λ b. is pdat b && leb (b .body) place && leb (place + size) (b .end)) bs
+
+-- where a chunk of a state may lie: in one `pdat` body; a good one of a mixed file also as whole boxes outside
 unfoldable pub mayLie : Heading → ℕ → ℕ → ℕ → Bool
-mayLie h state place size = someOf (λ b. is pdat b && leb (b .body) place && leb (place + size) (b .end)) (h .boxes)
+mayLie h state place size = inData (h .boxes) place size || (h .mixed && eqb state good && wholeBoxes (h .boxes) place (place + size))
 
 -- the place that an offset gives, counted from the first byte of the `pseg` box; none before the file's first byte
 unfoldable pub offsetPlace : ℕ → Offset → Option ℕ

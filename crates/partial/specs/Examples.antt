@@ -1,5 +1,6 @@
 -- Document 01, "Numbers to hold against it" and "Errors this trade makes": worked examples as one table with one statement, computed over
--- the definitions. P1 to P12 are the paper's; the others are the map and the rows of P10, and a case of each error that no P shows.
+-- the definitions. P1 to P12 are the paper's; the others are the map and the rows of P10, a case of each error that no P shows, and those
+-- of document 02.
 use Prim.Native.Nat.{ℕ, _-_}
 use mathlib.Core.Bool.{Bool, true, false}
 use mathlib.Core.List.{List, [], _∷_, _++_, map}
@@ -10,18 +11,20 @@ use lib.IntN.{ℤ, pos, negsuc}
 use Rattle.boxes.specs.Answer.{Answer, refused, given, _>>=_, hold}
 use Rattle.numerals.specs.Numbers.{number, bytesOf, valueOf, signed, holdsOffset, leastWidth}
 use Rattle.boxes.specs.Framing.{uuid, header, boxed}
-use Rattle.boxes.specs.Kinds.{pdat, pseg, pshd, ploc, is}
+use Rattle.boxes.specs.Kinds.{ftyp, pdat, pseg, pshd, ploc, is}
 use Rattle.numerals.specs.declared.numbers.Offset.the-variants.{Back}
+use Rattle.partial.specs.declared.brand.Brand.{Brand}
+use Rattle.partial.specs.declared.brand.Brand.the-variants.{Paff, Pmff}
 use Rattle.partial.specs.Limits.{programLimit, sourceLimit}
 use Rattle.partial.specs.Entries.{plocHead, entry}
 use Rattle.partial.specs.Meaning.{describedLength, isClosed, served}
 use Rattle.partial.specs.Reading.{reading}
 use Rattle.partial.specs.Memory.{after}
-use Rattle.partial.specs.Tables.{missingRows, tabled, summary, segmentRows, chunkRows}
+use Rattle.partial.specs.Tables.{missingRows, tabled, summary, segmentRows, chunkRows, bytesIn, servedPart}
 use Rattle.partial.specs.Map.{ascii, mapText, refusedLine}
 use Rattle.partial.specs.BoxList.{boxesText}
 use Rattle.partial.specs.Addition.{Addition}
-use Rattle.partial.specs.Append.{added}
+use Rattle.partial.specs.Append.{added, appended}
 use Rattle.partial.specs.Runs.{lent, fileIn, begin, append}
 use Rattle.partial.specs.Lesson.{begunBytes, firstBytes, secondBytes}
 
@@ -97,21 +100,25 @@ P7 = record { defined = widthBack 129; paper = pos 2 ∷ [] }
 abbrev spare : List ℕ
 spare = replicate 100 255
 
--- the file that begin writes with URL `a` and empty MIME
-abbrev begunFile : List ℕ
-begunFile = fileIn (begin spare (97 ∷ []) [])
+-- the file that begin writes with a brand, URL `a` and empty MIME
+abbrev begunFile : Brand → List ℕ
+begunFile brand = fileIn (begin spare brand (97 ∷ []) [])
 
 -- P8: it has 55 bytes, the last fifteen those of its `surl`
 abbrev P8 : Example
 P8 =
     record {
-      defined = pos (length begunFile) ∷ map pos (drop 40 begunFile);
+      defined = pos (length (begunFile Paff)) ∷ map pos (drop 40 (begunFile Paff));
       paper = map pos (55 ∷ 0x00 ∷ 0x00 ∷ 0x00 ∷ 0x0f ∷ 0x73 ∷ 0x75 ∷ 0x72 ∷ 0x6c ∷ 0x00 ∷ 0x00 ∷ 0x00 ∷ 0x00 ∷ 0x61 ∷ 0x00 ∷ 0x00 ∷ []);
     }
 
--- a segment at an offset, last or not, with a chunk list and data
+-- a segment with its good chunks outside `pdat` or not, at an offset, last or not, with a chunk list and data
+abbrev segmentWith : Bool → ℕ → Bool → List ℕ → List ℕ → Addition
+segmentWith outside offset last list bytes =
+    record { sourceOffset = offset; repairTime = 0; last = last; outside = outside; list = list; bytes = bytes }
+
 abbrev segmentAt : ℕ → Bool → List ℕ → List ℕ → Addition
-segmentAt offset last list bytes = record { sourceOffset = offset; repairTime = 0; last = last; list = list; bytes = bytes }
+segmentAt = segmentWith false
 
 -- the file that append makes of a file
 abbrev grownBy : List ℕ → Addition → List ℕ
@@ -294,11 +301,107 @@ boxes3 =
       paper = map pos (ascii "0\t26\tuuid\t000123456789abcdef1032547698badc\n26\t8\t\\x09 ~\\x7f\nrefused\t2\n");
     }
 
+-- document 02, [2]: what begin writes with the brand `pmff`, major and the one compatible; the rest is as in P8's file
+abbrev mixedBytes : List ℕ
+mixedBytes =
+    0x00 ∷ 0x00 ∷ 0x00 ∷ 0x14 ∷ 0x66 ∷ 0x74 ∷ 0x79 ∷ 0x70 ∷ 0x70 ∷ 0x6d ∷ 0x66 ∷ 0x66 ∷ 0x00 ∷ 0x00 ∷ 0x00 ∷ 0x00 ∷
+    0x70 ∷ 0x6d ∷ 0x66 ∷ 0x66 ∷ drop 20 begunBytes
+
+abbrev begunMixed : Example
+begunMixed = record { defined = map pos (begunFile Pmff); paper = map pos mixedBytes }
+
+-- a movie fragment: a `moof` of 10 bytes and an `mdat` of 11
+abbrev moof : List ℕ
+moof = 0x00 ∷ 0x00 ∷ 0x00 ∷ 0x0a ∷ 0x6d ∷ 0x6f ∷ 0x6f ∷ 0x66 ∷ 41 ∷ 42 ∷ []
+
+abbrev mdat : List ℕ
+mdat = 0x00 ∷ 0x00 ∷ 0x00 ∷ 0x0b ∷ 0x6d ∷ 0x64 ∷ 0x61 ∷ 0x74 ∷ 51 ∷ 52 ∷ 53 ∷ []
+
+-- a file with those compatible brands, those boxes and a segment at 0; its one chunk, with that flag byte and size, lies so many bytes before its
+-- `pseg`: the part served from 0 on
+abbrev servedOf : List ℕ → List ℕ → ℕ → ℕ → ℕ → List ℤ
+servedOf brands boxes flags size back =
+    let start = boxed (ftyp .code) (bytesOf 4 0 ++ (bytesOf 4 0 ++ brands)) ++ drop 20 begunBytes in
+    let f = start ++ (boxes ++ foreign 0 0 flags size ((256 - back) ∷ [])) in
+    says (reading sourceLimit f >>= λ ss. given (map pos (bytesIn f (servedPart (given ss) 0))))
+
+-- "A good chunk may then also lie in the file outside `pdat`, if it is exactly one or several neighbouring whole top-level boxes": `moof`, `mdat`, both
+abbrev wholeServed : Example
+wholeServed =
+    let of = servedOf (ascii "pmff") (moof ++ mdat) 0x40 in
+    record { defined = of 10 21 ++ (of 11 11 ++ of 21 21); paper = map pos (moof ++ (mdat ++ (moof ++ mdat))) }
+
+-- a box and a half, the end of a box and the next, a run with a `pdat` in it, and a damaged chunk: 24
+abbrev notWhole : Example
+notWhole =
+    let of = servedOf (ascii "pmff") in
+    record {
+      defined =
+          of (moof ++ mdat) 0x40 15 21
+          ++ (of (moof ++ mdat) 0x40 20 20
+          ++ (of (moof ++ (boxed (pdat .code) (7 ∷ []) ++ mdat)) 0x40 30 30 ++ of (moof ++ mdat) 0xc0 10 21));
+      paper = map pos (24 ∷ 24 ∷ 24 ∷ 24 ∷ []);
+    }
+
+-- "8 only if neither brand is there"; "with both brands present the `pmff` rules hold": neither, `paff`, and both in either order
+abbrev byBrand : Example
+byBrand =
+    let of : List ℕ → List ℤ = λ brands. servedOf brands mdat 0x40 11 11 in
+    record {
+      defined = of (ascii "mp42") ++ (of (ascii "paff") ++ (of (ascii "paffpmff") ++ of (ascii "pmffpaff")));
+      paper = map pos (8 ∷ 24 ∷ (mdat ++ mdat));
+    }
+
+-- a `free` of 8 bytes and an `mdat` of 16
+abbrev free : List ℕ
+free = 0x00 ∷ 0x00 ∷ 0x00 ∷ 0x08 ∷ 0x66 ∷ 0x72 ∷ 0x65 ∷ 0x65 ∷ []
+
+abbrev mdat16 : List ℕ
+mdat16 = 0x00 ∷ 0x00 ∷ 0x00 ∷ 0x10 ∷ 0x6d ∷ 0x64 ∷ 0x61 ∷ 0x74 ∷ 71 ∷ 72 ∷ 73 ∷ 74 ∷ 75 ∷ 76 ∷ 77 ∷ 78 ∷ []
+
+-- what is added for good 8, damaged 3, good 16: the `pdat`, the two boxes, and the `pseg` with its `pshd` and `ploc`; the chunks lie 24, 27 and 16 bytes
+-- before it
+abbrev outsideBytes : List ℕ
+outsideBytes =
+    0x00 ∷ 0x00 ∷ 0x00 ∷ 0x0b ∷ 0x70 ∷ 0x64 ∷ 0x61 ∷ 0x74 ∷ 61 ∷ 62 ∷ 63 ∷
+    0x00 ∷ 0x00 ∷ 0x00 ∷ 0x08 ∷ 0x66 ∷ 0x72 ∷ 0x65 ∷ 0x65 ∷
+    0x00 ∷ 0x00 ∷ 0x00 ∷ 0x10 ∷ 0x6d ∷ 0x64 ∷ 0x61 ∷ 0x74 ∷ 71 ∷ 72 ∷ 73 ∷ 74 ∷ 75 ∷ 76 ∷ 77 ∷ 78 ∷
+    0x00 ∷ 0x00 ∷ 0x00 ∷ 0x3a ∷ 0x70 ∷ 0x73 ∷ 0x65 ∷ 0x67 ∷
+    0x00 ∷ 0x00 ∷ 0x00 ∷ 0x18 ∷ 0x70 ∷ 0x73 ∷ 0x68 ∷ 0x64 ∷ 0x00 ∷ 0x00 ∷ 0x00 ∷ 0x00 ∷
+    0x00 ∷ 0x00 ∷ 0x00 ∷ 0x00 ∷ 0x00 ∷ 0x00 ∷ 0x00 ∷ 0x00 ∷ 0x00 ∷ 0x00 ∷ 0x00 ∷ 0x00 ∷
+    0x00 ∷ 0x00 ∷ 0x00 ∷ 0x1a ∷ 0x70 ∷ 0x6c ∷ 0x6f ∷ 0x63 ∷ 0x00 ∷ 0x00 ∷ 0x00 ∷ 0x00 ∷ 0x11 ∷ 0x00 ∷ 0x00 ∷ 0x00 ∷ 0x03 ∷
+    0x40 ∷ 0x08 ∷ 0xe8 ∷ 0xc0 ∷ 0x03 ∷ 0xe5 ∷ 0x40 ∷ 0x10 ∷ 0xf0 ∷ []
+
+-- "append stores all its good chunks outside, in chunk order, after the `pdat` of damaged ones"; what is missing then is the damaged one
+abbrev storedOutside : Example
+storedOutside =
+    let f = grownBy mixedBytes (segmentWith true 0 false (8 ∷ 2 ∷ 3 ∷ 1 ∷ 16 ∷ 2 ∷ []) (free ++ (61 ∷ 62 ∷ 63 ∷ mdat16))) in
+    record { defined = map pos f ++ says (missingIn f); paper = map pos (mixedBytes ++ (outsideBytes ++ (8 ∷ 3 ∷ []))) }
+
+-- what append answers to a file, at 0, of chunks whose good ones are to go outside
+abbrev answerOf : List ℕ → List ℕ → List ℕ → List ℤ
+answerOf f list bytes =
+    says (appended sourceLimit (f ++ spare) (length f) (segmentWith true 0 false list bytes) >>= λ size. given (pos size ∷ []))
+
+-- "35, after 32, for a good chunk to go outside that isn't whole allowed boxes or whose file isn't `pmff`": a box and a byte, a `pdat`, a `paff` file; a byte
+-- too many is 32. With no good chunk there is nothing to go outside: 55 bytes, a `pdat` of 11 and a `pseg` of 52
+abbrev outsideWrong : Example
+outsideWrong =
+    record {
+      defined =
+          answerOf mixedBytes (9 ∷ 2 ∷ []) (free ++ (1 ∷ []))
+          ++ (answerOf mixedBytes (8 ∷ 2 ∷ []) (boxed (pdat .code) [])
+          ++ (answerOf begunBytes (8 ∷ 2 ∷ []) free
+          ++ (answerOf begunBytes (8 ∷ 2 ∷ []) (free ++ (1 ∷ [])) ++ answerOf begunBytes (3 ∷ 1 ∷ []) (61 ∷ 62 ∷ 63 ∷ []))));
+      paper = map pos (35 ∷ 35 ∷ 35 ∷ 32 ∷ 118 ∷ []);
+    }
+
 unfoldable pub table : List Example
 table =
     P1 ∷ P2 ∷ P3 ∷ P4 ∷ P5 ∷ P6 ∷ P7 ∷ P8 ∷ P9 ∷ P10 ∷ P11 ∷ P12 ∷
     map10 ∷ map11 ∷ rowsFit ∷ rowsShort ∷ ahead ∷ overHeader ∷ damagedBytes ∷ openLast ∷ otherFlags ∷
-    vendorForms ∷ largeVendorForms ∷ boxes3 ∷ []
+    vendorForms ∷ largeVendorForms ∷ boxes3 ∷
+    begunMixed ∷ wholeServed ∷ notWhole ∷ byBrand ∷ storedOutside ∷ outsideWrong ∷ []
 
 -- at every row the definitions say what the paper says
 abbrev pub AsThePaperSays : Type 0

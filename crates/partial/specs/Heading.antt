@@ -1,6 +1,6 @@
 -- Document 01, refusals 1 to 11: the file's boxes, `ftyp` and `pfil`. Boxes of other kinds are passed over.
 use Prim.Native.Nat.{ℕ, zero, suc, _+_, _-_, _/_, _%_}
-use mathlib.Core.Bool.{Bool, not, _&&_}
+use mathlib.Core.Bool.{Bool, not, _&&_, _||_}
 use mathlib.Core.List.{List, [], _∷_}
 use lib.ListN.{length, getD}
 use lib.Dec.{leb, eqb}
@@ -32,12 +32,20 @@ brandsFrom f (suc more) at = number f at 4 ∷ brandsFrom f more (at + 4)
 unfoldable pub brands : List ℕ → Box → List ℕ
 brands f b = brandsFrom f ((b .end - b .body - 8) / 4) (b .body + 8)
 
+-- whether some compatible brand of a file with these boxes is that one
+unfoldable pub branded : ℕ → List ℕ → List Box → Bool
+branded brand f bs = someOf (eqb brand) (brands f (boxAt 0 bs))
+
+-- the brand of partial files, and that of mixed ones
 abbrev pub paff : ℕ
 paff = 0x70616666
 
--- 8: some compatible brand is `paff`
+abbrev pub pmff : ℕ
+pmff = 0x706d6666
+
+-- 8: one of the two is there
 unfoldable pub brandRight : List ℕ → List Box → Bool
-brandRight f bs = someOf (eqb paff) (brands f (boxAt 0 bs))
+brandRight f bs = branded paff f bs || branded pmff f bs
 
 -- 9: `pfil` is second, and there is no other
 unfoldable pub pfilRight : List Box → Bool
@@ -71,10 +79,11 @@ surlFormed f b = leb (b .body + 4) (b .end) && eqb (number f (b .body) 4) 0 && e
 unfoldable pub surlRight : List ℕ → List Box → Bool
 surlRight f bs = right Pfil surl bs && allOf (surlFormed f) (those surl bs)
 
--- the boxes of the file and those of its `pfil`
+-- the boxes of the file and those of its `pfil`; whether the file is mixed, whatever other brands it has
 pub record Heading : Type 0 where
   pub boxes : List Box
   pub inner : List Box
+  pub mixed : Bool
 
 -- stages 1 to 6: the file's boxes
 unfoldable pub fileBoxes : List ℕ → Answer (List Box)
@@ -91,7 +100,7 @@ judged f boxes = do
   inner ← boxesIn Pfil f (boxAt 1 boxes .body) (boxAt 1 boxes .end)
   _ ← hold 10 (pfhdRight f inner)
   _ ← hold 11 (surlRight f inner)
-  given (record { boxes = boxes; inner = inner })
+  given (record { boxes = boxes; inner = inner; mixed = branded pmff f boxes })
 
 -- stages 1 to 11
 unfoldable pub heading : List ℕ → Answer Heading

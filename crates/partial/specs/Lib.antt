@@ -2,6 +2,7 @@ pub mod Limits
 pub mod Sequences
 pub mod Segments
 pub mod Heading
+pub mod Mixed
 pub mod Entries
 pub mod Meaning
 pub mod Reading

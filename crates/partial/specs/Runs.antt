@@ -5,6 +5,7 @@ use lib.ListN.{take}
 use Rattle.boxes.specs.Answer.{Answer, refused, given}
 use Rattle.partial.specs.Memory.{written}
 use Rattle.partial.specs.Begin.{beginning, begun}
+use Rattle.partial.specs.declared.brand.Brand.{Brand}
 use Rattle.partial.specs.Addition.{Addition}
 use Rattle.partial.specs.Append.{appended, result}
 
@@ -22,10 +23,10 @@ sizeAfter (refused n) size = size
 sizeAfter (given n) size = n
 
 -- what begin leaves: the file just begun, or after a refusal no file
-unfoldable pub begin : List ℕ → List ℕ → List ℕ → Lent
-begin buffer urlText mimeText =
-    let answer = begun buffer urlText mimeText in
-    lent (written (beginning urlText mimeText) answer buffer) (sizeAfter answer 0)
+unfoldable pub begin : List ℕ → Brand → List ℕ → List ℕ → Lent
+begin buffer brand urlText mimeText =
+    let answer = begun buffer brand urlText mimeText in
+    lent (written (beginning brand urlText mimeText) answer buffer) (sizeAfter answer 0)
 
 -- what append leaves: the result, or after a refusal the file as it was
 unfoldable pub append : ℕ → Lent → Addition → Lent

@@ -4,7 +4,7 @@
 pub const FILE_TOO_LONG: u64 = 1;
 // The first box is not `ftyp`, it is ill-formed, or there is a second.
 pub const FTYP_WRONG: u64 = 7;
-// No compatible brand is `paff`.
+// No compatible brand is `paff` or `pmff`.
 pub const BRAND_MISSING: u64 = 8;
 // The second box is not `pfil`, or there is another.
 pub const PFIL_WRONG: u64 = 9;
@@ -36,7 +36,7 @@ pub const NO_STATE: u64 = 21;
 pub const TOO_MANY_CHUNKS: u64 = 22;
 // A source offset or chunk end is over its limit.
 pub const SOURCE_TOO_LONG: u64 = 23;
-// A present chunk does not lie wholly in one `pdat` body.
+// A present chunk lies neither wholly in one `pdat` body nor, good and in a mixed file, as whole allowed boxes.
 pub const OUTSIDE_DATA: u64 = 24;
 // Two known sizes differ, or a segment end or open offset lies above the known size.
 pub const SIZES_DIFFER: u64 = 25;
@@ -54,3 +54,5 @@ pub const DATA_WRONG: u64 = 32;
 pub const BUFFER_TOO_SHORT: u64 = 33;
 // A zero byte stands in a URL or MIME text.
 pub const ZERO_IN_TEXT: u64 = 34;
+// A good chunk to go outside is not whole allowed boxes, or its file is not mixed.
+pub const NOT_WHOLE_BOXES: u64 = 35;

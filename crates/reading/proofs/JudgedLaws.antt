@@ -52,6 +52,10 @@ pub facts-segments : (f : List ℕ) (h : Heading) (head : Head) → factsOf f h 
 unfolding factsOf
 facts-segments f h head e = sym (ap (λ x. x .segments) e)
 
+pub facts-mixed : (f : List ℕ) (h : Heading) {x : Facts} → factsOf f h ≡ x → x .mixed ≡ h .mixed
+unfolding factsOf
+facts-mixed f h e = sym (ap (λ (x : Facts). x .mixed) e)
+
 -- ---- stages 13 to 25
 
 module _ (f : List ℕ) (h : Heading) where

@@ -35,15 +35,15 @@ pub enum Judgement {
     Given(Judged),
 }
 
-// Stages 13 to 25 of a file whose framing is right and that has so many `pseg` boxes; the rows of its chunks go into a table that has room for them all.
-fn segments_of(file: &[u8], count: u64, chunks: &mut [u64]) -> Passed
-    ensures { λ r. ⌜ ((h : Heading) → boxesIn File (now (file .entry)) 0 (length (now (file .entry))) ≡ given (h .boxes) → count ≡ length (those pseg (h .boxes)) → (gatheredAnswer r ≡ gatheredIn (now (file .entry)) h) × RowsIn (segments sourceLimit (now (file .entry)) h) (now (chunks .entry)) (now (chunks .exit))) ⌝ }
+// Stages 13 to 25 of a file, mixed or not, whose framing is right and that has so many `pseg` boxes; the rows of its chunks go into a table that has room for them all.
+fn segments_of(file: &[u8], mixed: bool, count: u64, chunks: &mut [u64]) -> Passed
+    ensures { λ r. ⌜ ((h : Heading) → boxesIn File (now (file .entry)) 0 (length (now (file .entry))) ≡ given (h .boxes) → mixed ≡ h .mixed → count ≡ length (those pseg (h .boxes)) → (gatheredAnswer r ≡ gatheredIn (now (file .entry)) h) × RowsIn (segments sourceLimit (now (file .entry)) h) (now (chunks .entry)) (now (chunks .exit))) ⌝ }
 {
     if SEGMENT_LIMIT < count {
         return Passed::Refused(TOO_MANY_SEGMENTS);
     }
     let mut no_segments = [0; 1];
-    match pass(file, &mut no_segments, chunks) {
+    match pass(file, mixed, &mut no_segments, chunks) {
         Passed::Refused(n) => Passed::Refused(n),
         Passed::Given(gathered) => {
             let sizes = gathered.sizes;
@@ -62,7 +62,7 @@ pub fn earlier_of(file: &[u8]) -> Judgement
     let mut no_chunks = [0; 1];
     match heading_of(file) {
         Headed::Refused(n) => Judgement::Refused(n),
-        Headed::Found(head) => match segments_of(file, head.segments, &mut no_chunks) {
+        Headed::Found(head) => match segments_of(file, head.mixed, head.segments, &mut no_chunks) {
             Passed::Refused(n) => Judgement::Refused(n),
             Passed::Given(gathered) => Judgement::Given(Judged { head, gathered }),
         },
@@ -79,7 +79,7 @@ pub fn judge_into(file: &[u8], chunks: &mut [u64]) -> Judgement
             if !keeps(Container::File, PSEG, head.segments) {
                 return Judgement::Refused(NO_SEGMENT);
             }
-            match segments_of(file, head.segments, chunks) {
+            match segments_of(file, head.mixed, head.segments, chunks) {
                 Passed::Refused(n) => Judgement::Refused(n),
                 Passed::Given(gathered) => Judgement::Given(Judged { head, gathered }),
             }

@@ -1,6 +1,6 @@
 -- Laws of a cursor's step: what its entry and its chunk's place decide, and what each answer says.
 use Prim.Native.Nat.{ℕ, _+_}
-use mathlib.Core.Bool.{true, false}
+use mathlib.Core.Bool.{Bool, true, false}
 use mathlib.Core.List.{List}
 use mathlib.Core.Path.{_≡_, refl, sym, ap, ap₂, subst, _∙_}
 use native.Mathlib.Omega.{arith}
@@ -47,47 +47,47 @@ abbrev After : List ℕ → CodeCursor → List Box → CodeChunk → CodeCursor
 After f c bs chunk next = Onward f (boxOf (c .last)) bs (hasPlace (chunk .state) (chunk .size)) (chunk .place .0) (chunk .size) (boxOf (next .last))
 
 -- what a step tells
-module _ {f tops : List ℕ} {pseg : ℕ} {l : Ploc} {c : CodeCursor} where
-  pub steps-refused : {n : ℕ} → ((h : Heading) → Searched f (boxOf (c .last)) (h .boxes) → Tops (h .boxes) tops → chunkStep sourceLimit f h pseg l (cursorOf c) ≡ refused n) → Steps f tops pseg l c (Refused n)
+module _ {f tops : List ℕ} {mixed : Bool} {pseg : ℕ} {l : Ploc} {c : CodeCursor} where
+  pub steps-refused : {n : ℕ} → ((h : Heading) → mixed ≡ h .mixed → Searched f (boxOf (c .last)) (h .boxes) → Tops (h .boxes) tops → chunkStep sourceLimit f h pseg l (cursorOf c) ≡ refused n) → Steps f tops mixed pseg l c (Refused n)
   unfolding chunkAnswer
   steps-refused fault =
       record {
-        answer = λ h p t. sym (fault h p t);
-        onward = λ h p t e.
+        answer = λ h mix p t. sym (fault h mix p t);
+        onward = λ h mix p t e.
             let z : _≡_ {A = ℕ} 0 1 = cc in
             absurd (omega arith);
       }
 
   pub steps-given : {chunk : CodeChunk} {next : CodeCursor}
-      → ((h : Heading) → Searched f (boxOf (c .last)) (h .boxes) → Tops (h .boxes) tops → chunkStep sourceLimit f h pseg l (cursorOf c) ≡ given (chunkOf chunk, cursorOf next))
-      → ((h : Heading) → Searched f (boxOf (c .last)) (h .boxes) → Tops (h .boxes) tops → After f c (h .boxes) chunk next)
-      → Steps f tops pseg l c (Given chunk next)
+      → ((h : Heading) → mixed ≡ h .mixed → Searched f (boxOf (c .last)) (h .boxes) → Tops (h .boxes) tops → chunkStep sourceLimit f h pseg l (cursorOf c) ≡ given (chunkOf chunk, cursorOf next))
+      → ((h : Heading) → mixed ≡ h .mixed → Searched f (boxOf (c .last)) (h .boxes) → Tops (h .boxes) tops → After f c (h .boxes) chunk next)
+      → Steps f tops mixed pseg l c (Given chunk next)
   unfolding chunkAnswer
   steps-given {chunk} {next} steps onward =
       record {
-        answer = λ h p t. sym (steps h p t);
-        onward = λ h p t {chunk = chunk′} {next = next′} e.
+        answer = λ h mix p t. sym (steps h mix p t);
+        onward = λ h mix p t {chunk = chunk′} {next = next′} e.
             let there : chunk ≡ chunk′ = cc in
             let same : next ≡ next′ = cc in
-            subst (λ (k : CodeChunk). After f c (h .boxes) k next′) there (subst (After f c (h .boxes) chunk) same (onward h p t));
+            subst (λ (k : CodeChunk). After f c (h .boxes) k next′) there (subst (After f c (h .boxes) chunk) same (onward h mix p t));
       }
 
   -- two answers about a step are the same
-  pub one-step : (h : Heading) → Searched f (boxOf (c .last)) (h .boxes) → Tops (h .boxes) tops → (x y : ChunkStep) → Steps f tops pseg l c x → Steps f tops pseg l c y → x ≡ y
+  pub one-step : (h : Heading) → mixed ≡ h .mixed → Searched f (boxOf (c .last)) (h .boxes) → Tops (h .boxes) tops → (x y : ChunkStep) → Steps f tops mixed pseg l c x → Steps f tops mixed pseg l c y → x ≡ y
   unfolding chunkAnswer
-  one-step h p t (Refused n) (Refused m) u v =
-      let same = u .answer h p t ∙ sym (v .answer h p t) in
+  one-step h mix p t (Refused n) (Refused m) u v =
+      let same = u .answer h mix p t ∙ sym (v .answer h mix p t) in
       cc
-  one-step h p t (Refused n) (Given k b) u v =
-      let same = u .answer h p t ∙ sym (v .answer h p t) in
+  one-step h mix p t (Refused n) (Given k b) u v =
+      let same = u .answer h mix p t ∙ sym (v .answer h mix p t) in
       cc
-  one-step h p t (Given j a) (Refused m) u v =
-      let same = u .answer h p t ∙ sym (v .answer h p t) in
+  one-step h mix p t (Given j a) (Refused m) u v =
+      let same = u .answer h mix p t ∙ sym (v .answer h mix p t) in
       cc
-  one-step h p t (Given j a) (Given k b) u v =
-      let same : _≡_ {A = Chunk × Cursor} (chunkOf j, cursorOf a) (chunkOf k, cursorOf b) = given-same (u .answer h p t ∙ sym (v .answer h p t)) in
+  one-step h mix p t (Given j a) (Given k b) u v =
+      let same : _≡_ {A = Chunk × Cursor} (chunkOf j, cursorOf a) (chunkOf k, cursorOf b) = given-same (u .answer h mix p t ∙ sym (v .answer h mix p t)) in
       let chunk : j ≡ k = λ i. record { start = record { 0 = same i .0 .start }; size = same i .0 .size; state = same i .0 .state; place = record { 0 = same i .0 .place } } in
-      let last : a .last ≡ b .last = one-onward (a .last) (b .last) (u .onward h p t refl) (subst (λ (k : CodeChunk). After f c (h .boxes) k b) (sym chunk) (v .onward h p t refl)) in
+      let last : a .last ≡ b .last = one-onward (a .last) (b .last) (u .onward h mix p t refl) (subst (λ (k : CodeChunk). After f c (h .boxes) k b) (sym chunk) (v .onward h mix p t refl)) in
       ap₂ Given chunk (λ i. record { at = record { 0 = same i .1 .at }; start = record { 0 = same i .1 .start }; last = last i })
 
 -- what each answer about a step says

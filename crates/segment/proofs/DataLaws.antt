@@ -18,8 +18,7 @@ use Rattle.boxes.specs.declared.kinds.Container.the-variants.{File}
 use Rattle.boxes.proofs.ContainerLaws.{boxes-standing, boxes-apart}
 use Rattle.boxes.proofs.KindLaws.{boxAt-getD, is-eqb}
 use Rattle.boxes.proofs.ToldLaws.{box-told}
-use Rattle.partial.specs.Entries.{mayLie}
-use Rattle.partial.specs.Heading.{Heading}
+use Rattle.partial.specs.Entries.{inData}
 use Rattle.partial.specs.Sequences.{someOf}
 use Rattle.partial.proofs.Meaning.SequenceLaws.{which, both, some-at, some-by}
 use Rattle.segment.specs.Data.{holdsChunk, Among, Searched, found, Finds, Onward}
@@ -57,15 +56,16 @@ module _ (place size : ℕ) (b : Box) where
     pub holds-whole : place + size ≤ b .end
     holds-whole = leb-true (place + size) (b .end) (tests .1)
 
--- a chunk may lie where a box holds it
-pub lies-some : (h : Heading) (state place size : ℕ) → mayLie h state place size ≡ someOf (holdsChunk place size) (h .boxes)
-unfolding mayLie holdsChunk
-lies-some h state place size = refl
+-- a chunk lies in data where a box holds it
+pub data-some : (bs : List Box) (place size : ℕ) → inData bs place size ≡ someOf (holdsChunk place size) bs
+unfolding inData holdsChunk
+data-some bs place size = refl
 
 -- no box holds a chunk past the file's end
-pub none-past : (f : List ℕ) {bs : List Box} → boxesIn File f 0 (length f) ≡ given bs → (place size : ℕ) → length f ≤ place → 0 < size → someOf (holdsChunk place size) bs ≡ false
-none-past f {bs} known place size far some =
-    elim (which (someOf (holdsChunk place size) bs)) [
+pub none-past : (f : List ℕ) {bs : List Box} → boxesIn File f 0 (length f) ≡ given bs → (place size : ℕ) → length f < place + size → inData bs place size ≡ false
+none-past f {bs} known place size far =
+    data-some bs place size
+    ∙ elim (which (someOf (holdsChunk place size) bs)) [
       | inr e ↦ e
       | inl e ↦
           let (k, there, holds) = some-at (holdsChunk place size) noBox bs e in
@@ -102,45 +102,45 @@ module _ {f tops : List ℕ} {last : Box} {place size : ℕ} where
   unfolding found
   finds-box b holds among =
       record {
-        answer = λ h p t state.
-            let a = among (h .boxes) p t in
-            sym (lies-some h state place size ∙ some-by (holdsChunk place size) noBox (h .boxes) (a .number) (a .there) (ap (holdsChunk place size) (sym (boxAt-getD (a .number) (h .boxes)) ∙ a .same) ∙ holds));
+        answer = λ bs p t.
+            let a = among bs p t in
+            sym (data-some bs place size ∙ some-by (holdsChunk place size) noBox bs (a .number) (a .there) (ap (holdsChunk place size) (sym (boxAt-getD (a .number) bs) ∙ a .same) ∙ holds));
         holds = λ {b = b′} e.
             let same : b ≡ b′ = cc in
             subst (λ (b : Framed). holdsChunk place size (boxOf b) ≡ true) same holds;
-        onward = λ h p t {b = b′} e.
+        onward = λ bs p t {b = b′} e.
             let same : b ≡ b′ = cc in
-            subst (λ b. Searched f (boxOf b) (h .boxes)) same (record { boxes = p .boxes; known = λ _. among (h .boxes) p t });
+            subst (λ b. Searched f (boxOf b) bs) same (record { boxes = p .boxes; known = λ _. among bs p t });
       }
 
   pub finds-none : ((bs : List Box) → Searched f last bs → Tops bs tops → someOf (holdsChunk place size) bs ≡ false) → Finds f tops last place size Nowhere
   unfolding found
   finds-none none =
       record {
-        answer = λ h p t state. sym (lies-some h state place size ∙ none (h .boxes) p t);
+        answer = λ bs p t. sym (data-some bs place size ∙ none bs p t);
         holds = λ e. cc;
-        onward = λ h p t e.
+        onward = λ bs p t e.
             let z : _≡_ {A = ℕ} 0 1 = cc in
             absurd (omega arith);
       }
 
   -- two searches find the same box
-  pub one-found : (h : Heading) → Searched f last (h .boxes) → Tops (h .boxes) tops → (x y : Held) → Finds f tops last place size x → Finds f tops last place size y → x ≡ y
+  pub one-found : (bs : List Box) → Searched f last bs → Tops bs tops → (x y : Held) → Finds f tops last place size x → Finds f tops last place size y → x ≡ y
   unfolding found
-  one-found h known t (In a) (In b) p q =
+  one-found bs known t (In a) (In b) p q =
       let first = p .holds refl in
       let second = q .holds refl in
-      let among = p .onward h known t refl .known (holds-kind place size (boxOf a) first) in
-      let among′ = q .onward h known t refl .known (holds-kind place size (boxOf b) second) in
+      let among = p .onward bs known t refl .known (holds-kind place size (boxOf a) first) in
+      let among′ = q .onward bs known t refl .known (holds-kind place size (boxOf b) second) in
       ap In (box-told a b (one-holds f (known .boxes) place size among among′ first second))
-  one-found h known t (In a) Nowhere p q = absurd (false≢true (sym (p .answer h known t 0 ∙ sym (q .answer h known t 0))))
-  one-found h known t Nowhere (In b) p q = absurd (false≢true (p .answer h known t 0 ∙ sym (q .answer h known t 0)))
-  one-found h known t Nowhere Nowhere p q = refl
+  one-found bs known t (In a) Nowhere p q = absurd (false≢true (sym (p .answer bs known t ∙ sym (q .answer bs known t))))
+  one-found bs known t Nowhere (In b) p q = absurd (false≢true (p .answer bs known t ∙ sym (q .answer bs known t)))
+  one-found bs known t Nowhere Nowhere p q = refl
 
 -- after the same chunk the same box is to be looked at first
 pub one-onward : {f : List ℕ} {last : Box} {bs : List Box} {placed : Bool} {place size : ℕ} (a b : Framed) → Onward f last bs placed place size (boxOf a) → Onward f last bs placed place size (boxOf b) → a ≡ b
-one-onward {f} {placed = placed} {place} {size} a b x y =
-    elim (which placed) [
+one-onward {f} {bs = bs} {placed} {place} {size} a b x y =
+    elim (which (placed && inData bs place size)) [
       | inl e ↦
           let among = x .known .known (holds-kind place size (boxOf a) (x .holds e)) in
           let among′ = y .known .known (holds-kind place size (boxOf b) (y .holds e)) in

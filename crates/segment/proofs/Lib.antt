@@ -3,3 +3,4 @@ pub mod DataLaws
 pub mod Determined
 pub mod PlacedLaws
 pub mod TopsLaws
+pub mod WholeLaws

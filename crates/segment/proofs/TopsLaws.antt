@@ -1,6 +1,6 @@
 -- Laws of the table of a file's boxes: how it is filled, and that the box that holds a chunk is the last one that starts before it.
 use Prim.Native.Nat.{ℕ, _+_, _^_, _≤_, _<_}
-use mathlib.Core.Bool.{true, false}
+use mathlib.Core.Bool.{Bool, true, false, false≢true}
 use mathlib.Core.List.{List, [], _∷_, _++_}
 use mathlib.Core.Logic.{inl, inr}
 use mathlib.Core.Option.{some}
@@ -26,7 +26,7 @@ use Rattle.boxes.proofs.WalkLaws.{Passed, met, over-left}
 use Rattle.partial.specs.Sequences.{someOf}
 use Rattle.partial.proofs.Meaning.SequenceLaws.{which, some-at}
 use Rattle.segment.specs.Data.{holdsChunk, Among}
-use Rattle.segment.specs.Tops.{Tops, Before}
+use Rattle.segment.specs.Tops.{Tops, Before, Ascends, Listed}
 use Rattle.segment.proofs.DataLaws.{holds-low, holds-whole}
 
 -- a walk that met one box more has room for it
@@ -64,10 +64,31 @@ one-table {bs} {x} {y} p q =
       | no there ↦ p .listed k (omega arith) ∙ sym (q .listed k (omega arith))
     ])
 
--- the last box of a file that starts before a place
-module _ (f : List ℕ) {bs : List Box} (known : boxesIn File f 0 (length f) ≡ given bs) (short : length f < 2 ^ 64) {tops : List ℕ} (t : Tops bs tops) {place k : ℕ} (last : Before tops place k) where
-  -- the table has room for all
-  few : length bs ≤ 512
+-- whether a place stands in a table
+module _ {tops : List ℕ} {place k : ℕ} where
+  pub listed-at : k < 512 → {r : Bool} → getD tops k 0 ≡ place → r ≡ true → Listed tops place r
+  listed-at inner at found = record { there = λ _. (k, inner, at); missing = λ none. absurd (false≢true (sym none ∙ found)) }
+
+  -- it does not where it is neither the last one before it nor the next
+  pub listed-not : Before tops place k → (getD tops k 0 ≡ place → ⊥) → (k + 1 < 512 → getD tops (k + 1) 0 ≡ place → ⊥) → {r : Bool} → r ≡ false → Listed tops place r
+  listed-not last other follower none =
+      record {
+        there = λ found. absurd (false≢true (sym none ∙ found));
+        missing = λ _ ascends j inner at.
+            elim (decLe j k) [
+              | yes most ↦
+                  elim (decLe k 0) [
+                    | yes first ↦ other (ap (λ (n : ℕ). getD tops n 0) (omega arith) ∙ at)
+                    | no later ↦ omega (arith, last .before (omega arith), ascends j k most (last .there))
+                  ]
+              | no more ↦ follower (omega arith) (omega (arith, last .next (omega arith), ascends (k + 1) j (omega arith) inner))
+            ];
+      }
+
+-- the table of the boxes of a file
+module _ (f : List ℕ) {bs : List Box} (known : boxesIn File f 0 (length f) ≡ given bs) (short : length f < 2 ^ 64) {tops : List ℕ} (t : Tops bs tops) where
+  -- it has room for all
+  pub few : length bs ≤ 512
   few = rw box-limit at (boxes-few File f 0 (length f) known)
 
   -- a box that comes later starts no earlier
@@ -80,54 +101,68 @@ module _ (f : List ℕ) {bs : List Box} (known : boxesIn File f 0 (length f) ≡
             omega (arith, boxes-apart File f 0 (length f) known i j less there)
       ]
 
-  -- it holds a chunk at the place, or none does, since a chunk is behind the header of its box and not behind its end
-  only-last : (size j : ℕ) → j < length bs → holdsChunk place size (boxAt j bs) ≡ true → j ≡ k
-  only-last size j there holds =
-      let inside = boxes-standing File f 0 (length f) known j there .inside in
-      let low = holds-low place size (boxAt j bs) holds in
-      let whole = holds-whole place size (boxAt j bs) holds in
-      elim (decLe j k) [
-        | no more ↦
-            let next = last .next (omega (arith, few)) in
-            absurd (omega (arith, t .listed (k + 1) (omega arith), ascend (k + 1) j (omega arith) there))
-        | yes most ↦
-            elim (eq-or-lt-of-le most) [
-              | inl same ↦ same
-              | inr less ↦
-                  let before = last .before (omega arith) in
-                  elim (decLe (length bs) k) [
-                    | yes past ↦ absurd (omega (arith, t .beyond k past (last .there)))
-                    | no inner ↦ absurd (omega (arith, t .listed k (omega arith), boxes-apart File f 0 (length f) known j k less (omega arith)))
-                  ]
+  pub tops-ascend : Ascends tops
+  tops-ascend i j most inner =
+      elim (decLe (length bs) i) [
+        | yes past ↦ omega (arith, t .beyond i past (omega arith), t .beyond j (omega arith) inner)
+        | no there ↦
+            let inside = boxes-standing File f 0 (length f) known i (omega arith) .inside in
+            elim (decLe (length bs) j) [
+              | yes past ↦ omega (arith, t .listed i (omega arith), t .beyond j past inner)
+              | no there ↦ omega (arith, t .listed i (omega arith), t .listed j (omega arith), ascend i j most (omega arith))
             ]
       ]
 
-  -- what is read where it stands is one of the file's boxes
-  pub last-among : {b : Box} → header f (getD tops k 0) (length f) ≡ given b → Among bs b
-  last-among {b} read =
-      elim (decLe (length bs) k) [
-        | yes past ↦
-            let inside = header-inside f (getD tops k 0) (length f) read in
-            absurd (omega (arith, t .beyond k past (last .there)))
-        | no there ↦
-            let stands = boxes-standing File f 0 (length f) known k (omega arith) in
-            record {
-              number = k;
-              there = omega arith;
-              same = given-same (sym (stands .read) ∙ rw (t .listed k (omega arith)) at read);
-            }
-      ]
+  -- the last box that starts before a place
+  module _ {place k : ℕ} (last : Before tops place k) where
+    -- it holds a chunk at the place, or none does, since a chunk is behind the header of its box and not behind its end
+    only-last : (size j : ℕ) → j < length bs → holdsChunk place size (boxAt j bs) ≡ true → j ≡ k
+    only-last size j there holds =
+        let inside = boxes-standing File f 0 (length f) known j there .inside in
+        let low = holds-low place size (boxAt j bs) holds in
+        let whole = holds-whole place size (boxAt j bs) holds in
+        elim (decLe j k) [
+          | no more ↦
+              let next = last .next (omega (arith, few)) in
+              absurd (omega (arith, t .listed (k + 1) (omega arith), ascend (k + 1) j (omega arith) there))
+          | yes most ↦
+              elim (eq-or-lt-of-le most) [
+                | inl same ↦ same
+                | inr less ↦
+                    let before = last .before (omega arith) in
+                    elim (decLe (length bs) k) [
+                      | yes past ↦ absurd (omega (arith, t .beyond k past (last .there)))
+                      | no inner ↦ absurd (omega (arith, t .listed k (omega arith), boxes-apart File f 0 (length f) known j k less (omega arith)))
+                    ]
+              ]
+        ]
 
-  -- where it does not hold the chunk no box does
-  pub last-other : (size : ℕ) → ((j : ℕ) → j < length bs → header f (getD tops k 0) (length f) ≡ given (boxAt j bs) → holdsChunk place size (boxAt j bs) ≡ true → ⊥) → someOf (holdsChunk place size) bs ≡ false
-  last-other size none =
-      elim (which (someOf (holdsChunk place size) bs)) [
-        | inr e ↦ e
-        | inl e ↦
-            let (j, there, found) = some-at (holdsChunk place size) noBox bs e in
-            let holds = rw (← boxAt-getD j bs) at found in
-            let here = only-last size j there holds in
-            let stands = boxes-standing File f 0 (length f) known j there in
-            let starts : boxAt j bs .at ≡ getD tops k 0 = sym (t .listed j there) ∙ ap (λ (n : ℕ). getD tops n 0) here in
-            absurd (none j there (subst (λ (n : ℕ). header f n (length f) ≡ given (boxAt j bs)) starts (stands .read)) holds)
-      ]
+    -- what is read where it stands is one of the file's boxes
+    pub last-among : {b : Box} → header f (getD tops k 0) (length f) ≡ given b → Among bs b
+    last-among {b} read =
+        elim (decLe (length bs) k) [
+          | yes past ↦
+              let inside = header-inside f (getD tops k 0) (length f) read in
+              absurd (omega (arith, t .beyond k past (last .there)))
+          | no there ↦
+              let stands = boxes-standing File f 0 (length f) known k (omega arith) in
+              record {
+                number = k;
+                there = omega arith;
+                same = given-same (sym (stands .read) ∙ rw (t .listed k (omega arith)) at read);
+              }
+        ]
+
+    -- where it does not hold the chunk no box does
+    pub last-other : (size : ℕ) → ((j : ℕ) → j < length bs → header f (getD tops k 0) (length f) ≡ given (boxAt j bs) → holdsChunk place size (boxAt j bs) ≡ true → ⊥) → someOf (holdsChunk place size) bs ≡ false
+    last-other size none =
+        elim (which (someOf (holdsChunk place size) bs)) [
+          | inr e ↦ e
+          | inl e ↦
+              let (j, there, found) = some-at (holdsChunk place size) noBox bs e in
+              let holds = rw (← boxAt-getD j bs) at found in
+              let here = only-last size j there holds in
+              let stands = boxes-standing File f 0 (length f) known j there in
+              let starts : boxAt j bs .at ≡ getD tops k 0 = sym (t .listed j there) ∙ ap (λ (n : ℕ). getD tops n 0) here in
+              absurd (none j there (subst (λ (n : ℕ). header f n (length f) ≡ given (boxAt j bs)) starts (stands .read)) holds)
+        ]

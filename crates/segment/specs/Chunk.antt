@@ -1,5 +1,6 @@
 -- Document 01, "Chunks follow each other in the source from `source_byte_offset`": what is told of a cursor's step.
 use Prim.Native.Nat.{ℕ}
+use mathlib.Core.Bool.{Bool}
 use mathlib.Core.List.{List}
 use mathlib.Core.Path.{_≡_}
 use Rattle.boxes.specs.Answer.{Answer, refused, given}
@@ -28,8 +29,8 @@ unfoldable pub chunkAnswer : ChunkStep → Answer (Chunk × Cursor)
 chunkAnswer (Refused n) = refused n
 chunkAnswer (Given chunk next) = given (chunkOf chunk, cursorOf next)
 
--- a cursor's step, and the box to be looked at first in the next one
-pub record Steps (f tops : List ℕ) (pseg : ℕ) (l : Ploc) (c : CodeCursor) (r : ChunkStep) : Type 0 where
-  pub answer : (h : Heading) → Searched f (boxOf (c .last)) (h .boxes) → Tops (h .boxes) tops → chunkAnswer r ≡ chunkStep sourceLimit f h pseg l (cursorOf c)
-  pub onward : (h : Heading) → Searched f (boxOf (c .last)) (h .boxes) → Tops (h .boxes) tops → {chunk : CodeChunk} {next : CodeCursor} → r ≡ Given chunk next
+-- a cursor's step in a file that is mixed or not, and the box to be looked at first in the next one
+pub record Steps (f tops : List ℕ) (mixed : Bool) (pseg : ℕ) (l : Ploc) (c : CodeCursor) (r : ChunkStep) : Type 0 where
+  pub answer : (h : Heading) → mixed ≡ h .mixed → Searched f (boxOf (c .last)) (h .boxes) → Tops (h .boxes) tops → chunkAnswer r ≡ chunkStep sourceLimit f h pseg l (cursorOf c)
+  pub onward : (h : Heading) → mixed ≡ h .mixed → Searched f (boxOf (c .last)) (h .boxes) → Tops (h .boxes) tops → {chunk : CodeChunk} {next : CodeCursor} → r ≡ Given chunk next
       → Onward f (boxOf (c .last)) (h .boxes) (hasPlace (chunk .state) (chunk .size)) (chunk .place .0) (chunk .size) (boxOf (next .last))

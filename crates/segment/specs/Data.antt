@@ -10,8 +10,7 @@ use Rattle.boxes.specs.Framing.{Box, boxesIn, boxOf}
 use Rattle.boxes.specs.Kinds.{pdat, is, boxAt}
 use Rattle.boxes.specs.declared.framing.Framed.{Framed}
 use Rattle.boxes.specs.declared.kinds.Container.the-variants.{File}
-use Rattle.partial.specs.Entries.{mayLie}
-use Rattle.partial.specs.Heading.{Heading}
+use Rattle.partial.specs.Entries.{inData}
 use Rattle.segment.specs.Tops.{Tops}
 use Rattle.segment.specs.declared.data.Held.{Held}
 use Rattle.segment.specs.declared.data.Held.the-variants.{In, Nowhere}
@@ -36,14 +35,14 @@ unfoldable pub found : Held → Bool
 found (In b) = true
 found Nowhere = false
 
--- what a search by the table of the file's boxes finds: a box exactly where a chunk may lie, and then the data box of the file that holds it
+-- what a search by the table of the file's boxes finds: a box exactly where one holds the chunk, and then the data box of the file that does
 pub record Finds (f tops : List ℕ) (last : Box) (place size : ℕ) (r : Held) : Type 0 where
-  pub answer : (h : Heading) → Searched f last (h .boxes) → Tops (h .boxes) tops → (state : ℕ) → found r ≡ mayLie h state place size
+  pub answer : (bs : List Box) → Searched f last bs → Tops bs tops → found r ≡ inData bs place size
   pub holds : {b : Framed} → r ≡ In b → holdsChunk place size (boxOf b) ≡ true
-  pub onward : (h : Heading) → Searched f last (h .boxes) → Tops (h .boxes) tops → {b : Framed} → r ≡ In b → Searched f (boxOf b) (h .boxes)
+  pub onward : (bs : List Box) → Searched f last bs → Tops bs tops → {b : Framed} → r ≡ In b → Searched f (boxOf b) bs
 
--- the box to be looked at first after a chunk: the one that holds it; where the chunk has no place, the one before
+-- the box to be looked at first after a chunk: the one that holds it; where the chunk has no place, or lies outside, the one before
 pub record Onward (f : List ℕ) (last : Box) (bs : List Box) (placed : Bool) (place size : ℕ) (next : Box) : Type 0 where
   pub known : Searched f next bs
-  pub holds : placed ≡ true → holdsChunk place size next ≡ true
-  pub kept : placed ≡ false → next ≡ last
+  pub holds : (placed && inData bs place size) ≡ true → holdsChunk place size next ≡ true
+  pub kept : (placed && inData bs place size) ≡ false → next ≡ last

@@ -1,5 +1,6 @@
 -- The places of the boxes of a file, in a table.
 use Prim.Native.Nat.{ℕ, _+_, _<_, _≤_}
+use mathlib.Core.Bool.{Bool, true, false}
 use mathlib.Core.List.{List}
 use mathlib.Core.Path.{_≡_}
 use lib.ListN.{length, getD}
@@ -17,3 +18,12 @@ pub record Before (tops : List ℕ) (place number : ℕ) : Type 0 where
   pub there : number < 512
   pub before : 0 < number → getD tops number 0 < place
   pub next : number + 1 < 512 → place ≤ getD tops (number + 1) 0
+
+-- no number of a table is less than one before it
+abbrev pub Ascends : List ℕ → Type 0
+Ascends tops = (i j : ℕ) → i ≤ j → j < 512 → getD tops i 0 ≤ getD tops j 0
+
+-- whether a place stands in a table that ascends
+pub record Listed (tops : List ℕ) (place : ℕ) (r : Bool) : Type 0 where
+  pub there : r ≡ true → (k : ℕ) × (k < 512) × (getD tops k 0 ≡ place)
+  pub missing : r ≡ false → Ascends tops → (k : ℕ) → k < 512 → getD tops k 0 ≡ place → ⊥

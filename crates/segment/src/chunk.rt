@@ -37,8 +37,15 @@ pub enum ChunkStep {
 
 impl Cursor {
     // The chunk of the next entry of a `ploc` in the `pseg` at a place, by the table of the file's boxes. It starts where the one before it ends.
-    pub fn step(self, s: &[u8], tops: &[u64; TOPS], pseg: Place, l: Location) -> ChunkStep
-        ensures { λ r. ⌜ Steps (now (s .entry)) (now (tops .entry)) (pseg .0) (plocOf l) self r ⌝ }
+    pub fn step(
+        self,
+        s: &[u8],
+        tops: &[u64; TOPS],
+        mixed: bool,
+        pseg: Place,
+        l: Location,
+    ) -> ChunkStep
+        ensures { λ r. ⌜ Steps (now (s .entry)) (now (tops .entry)) mixed (pseg .0) (plocOf l) self r ⌝ }
     {
         let start = self.start;
         let last = self.last;
@@ -50,7 +57,7 @@ impl Cursor {
                 if !ends_by(start.0, size, SOURCE_LIMIT) {
                     return ChunkStep::Refused(SOURCE_TOO_LONG);
                 }
-                match placed_at(s, tops, last, pseg, e) {
+                match placed_at(s, tops, mixed, last, pseg, e) {
                     Placed::Refused(n) => ChunkStep::Refused(n),
                     Placed::At(place, held) => ChunkStep::Given(
                         Chunk {

@@ -3,3 +3,4 @@ pub mod chunk;
 pub mod data;
 mod placed;
 pub mod tops;
+pub mod whole;

@@ -100,7 +100,7 @@ boxes-bytes κs args x y after after′ p q = p .left ∙ sym (q .left)
 begin-result : OneResult begin.Post
 begin-result κs args x y after after′ p q = p .said .number ∙ sym (q .said .number)
 
-begin-told : OneLeft begin.Post (λ κs after. now (after .1 .1 .1 .0))
+begin-told : OneLeft begin.Post (λ κs after. now (after .1 .1 .1 .1 .0))
 begin-told κs args x y after after′ p q = p .said .values ∙ sym (q .said .values)
 
 begin-bytes : OneLeft begin.Post (λ κs after. now (after .0))
@@ -109,7 +109,7 @@ begin-bytes κs args x y after after′ p q = p .left ∙ sym (q .left)
 append-result : OneResult append.Post
 append-result κs args x y after after′ p q = p .said .number ∙ sym (q .said .number)
 
-append-told : OneLeft append.Post (λ κs after. now (after .1 .1 .1 .1 .1 .1 .1 .0))
+append-told : OneLeft append.Post (λ κs after. now (after .1 .1 .1 .1 .1 .1 .1 .1 .0))
 append-told κs args x y after after′ p q = p .said .values ∙ sym (q .said .values)
 
 append-bytes : OneLeft append.Post (λ κs after. now (after .0))

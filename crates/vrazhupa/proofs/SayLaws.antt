@@ -1,5 +1,6 @@
 -- Laws of what an exported call says: after a refusal, of an answer, and of answers that are the same.
 use Prim.Native.Nat.{ℕ}
+use mathlib.Core.Bool.{Bool}
 use mathlib.Core.List.{List}
 use mathlib.Core.Path.{_≡_, subst}
 use Rattle.boxes.specs.Answer.{Answer, refused, given}
@@ -22,7 +23,7 @@ module _ {A : Type 0} (numbers : A → List ℕ) {answer : Answer A} {told : Lis
   says-same {told′ = told′} {r = r} e s = subst (λ (x : Answer A). Says numbers x told told′ r) e s
 
 -- what is appended by a header is what is appended by an equal one
-pub appends-by : {buffer buffer′ : List ℕ} {n : ℕ} {header header′ : SegmentHeader} {r : Written} (list bytes : List ℕ) → header ≡ header′
-    → Appends buffer buffer′ n (asks header list bytes) r
-    → Appends buffer buffer′ n (asks header′ list bytes) r
-appends-by {buffer} {buffer′} {n} {r = r} list bytes e a = subst (λ (h : SegmentHeader). Appends buffer buffer′ n (asks h list bytes) r) e a
+pub appends-by : {buffer buffer′ : List ℕ} {n : ℕ} {header header′ : SegmentHeader} {r : Written} (outside : Bool) (list bytes : List ℕ) → header ≡ header′
+    → Appends buffer buffer′ n (asks header outside list bytes) r
+    → Appends buffer buffer′ n (asks header′ outside list bytes) r
+appends-by {buffer} {buffer′} {n} {r = r} outside list bytes e a = subst (λ (h : SegmentHeader). Appends buffer buffer′ n (asks h outside list bytes) r) e a

@@ -11,6 +11,7 @@ use Rattle.partial.specs.Heading.{Part}
 use Rattle.partial.specs.Limits.{sourceLimit}
 use Rattle.partial.specs.Memory.{after, written, textWritten}
 use Rattle.partial.specs.Reading.{reading}
+use Rattle.partial.specs.declared.brand.Brand.{Brand}
 use Rattle.partial.specs.Tables.{tabled, listed, summary, totals, servedPart, asked, textOf, hadRows, missingRows}
 use Rattle.reading.specs.Tables.{Filled}
 use Rattle.vrazhupa.specs.Says.{Says, summaryNumbers, totalsNumbers, replyNumbers, partNumbers, lengthNumbers}
@@ -43,9 +44,9 @@ pub record SaysPrinted (text buffer buffer′ told told′ : List ℕ) (r : ℕ)
   pub said : Says lengthNumbers (textWritten text buffer) told told′ r
   pub left : buffer′ ≡ written text (textWritten text buffer) buffer
 
-pub record SaysBegun (url mime buffer buffer′ told told′ : List ℕ) (r : ℕ) : Type 0 where
-  pub said : Says lengthNumbers (begun buffer url mime) told told′ r
-  pub left : buffer′ ≡ written (beginning url mime) (begun buffer url mime) buffer
+pub record SaysBegun (brand : Brand) (url mime buffer buffer′ told told′ : List ℕ) (r : ℕ) : Type 0 where
+  pub said : Says lengthNumbers (begun buffer brand url mime) told told′ r
+  pub left : buffer′ ≡ written (beginning brand url mime) (begun buffer brand url mime) buffer
 
 pub record SaysAppended (buffer buffer′ : List ℕ) (n : ℕ) (a : Addition) (told told′ : List ℕ) (r : ℕ) : Type 0 where
   pub said : Says lengthNumbers (appended sourceLimit buffer n a) told told′ r

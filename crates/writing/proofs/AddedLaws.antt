@@ -1,7 +1,7 @@
 -- Laws of the boxes that append adds: the numbers that each is made of, and how long they are.
 use Prim.Native.Nat.{ℕ, _+_, _*_, _%_, _^_, _≤_, _<_, min}
-use mathlib.Core.Bool.{true, false}
-use mathlib.Core.List.{List, [], _∷_, _++_, map}
+use mathlib.Core.Bool.{Bool, true, false, not}
+use mathlib.Core.List.{List, [], _∷_, _++_, map, append-assoc}
 use mathlib.Core.Logic.{_⊎_, inl, inr, ⊎-elim}
 use mathlib.Core.Path.{_≡_, refl, sym, ap, _∙_}
 use native.Mathlib.Omega.{arith}
@@ -14,22 +14,26 @@ use Rattle.boxes.proofs.BoxedLaws.{front-size, length-boxed}
 use Rattle.numerals.specs.Numbers.{bytesOf, holds, holdsOffset}
 use Rattle.numerals.proofs.NumberLaws.{length-bytesOf}
 use Rattle.numerals.proofs.WidthLaws.{below-holds, leastWidth-within}
-use Rattle.partial.specs.Addition.{asks, flagsFor, Item, items, anyPresent}
-use Rattle.partial.specs.Append.{placed, lengthSize, offsetSize, flagByte, entryBytes, plocBody, versionFor, pshdBody, psegBody, dataBox, added}
+use Rattle.partial.specs.Addition.{asks, flagsFor, Item, items, sizeOf, goesOut, goesIn, dataFor}
+use Rattle.partial.specs.Append.{placed, lengthSize, offsetSize, flagByte, entryBytes, plocBody, versionFor, pshdBody, psegBody}
+use Rattle.partial.specs.Append.{insideData, outsideData, anyInside, dataBox, stored, added}
 use Rattle.partial.specs.Limits.{fileLimit}
 use Rattle.partial.specs.Reading.{offsetWidth}
 use Rattle.partial.specs.Segments.{isLast, present, corrupted}
 use Rattle.partial.specs.Sequences.{allOf, sum}
 use Rattle.partial.specs.declared.header.SegmentHeader.{SegmentHeader}
 use Rattle.partial.proofs.Meaning.SequenceLaws.{which}
+use Rattle.partial.proofs.Writing.DataLaws.{sizes-split, length-inside, length-outside}
 use Rattle.partial.proofs.Writing.FieldsBackLaws.{length-pshd, sizes-eight, sizes-held, offsets-held}
 use Rattle.partial.proofs.Writing.PlacedLaws.{length-placed, sizes-placed, offsets-eight}
-use Rattle.adding.specs.Counts.{presentOf, Whole, Counted}
+use Rattle.outside.specs.declared.chunks.Outside.{Outside}
+use Rattle.outside.proofs.ChunkLaws.{outside-bytes}
+use Rattle.adding.specs.Counts.{Whole, Sorted}
 use Rattle.adding.specs.Layout.{PsegLaid, Laid}
 use Rattle.adding.specs.declared.counts.Counts.{Counts}
 use Rattle.adding.specs.declared.layout.Layout.{Layout}
-use Rattle.adding.proofs.CountLaws.{counted-present, none-present, some-present}
-use Rattle.writing.specs.Append.{dataPart, pshdBox, plocBox, psegBox, dataOf, Entries, Fits}
+use Rattle.adding.proofs.OutsideLaws.{data-counted, inside-none, inside-some}
+use Rattle.writing.specs.Append.{dataPart, pshdBox, plocBox, psegBox, Entries, Fits}
 
 -- a number of one byte is that byte
 pub one-byte : (n : ℕ) → n < 256 → bytesOf 1 n ≡ n ∷ []
@@ -40,15 +44,17 @@ one-byte n low =
 
 -- ---- `pdat`
 
-module _ (n : ℕ) (bytes : List ℕ) where
-  pub no-part : n ≡ 0 → dataPart n bytes ≡ []
-  no-part none = rw (eq-eqb n 0 none, dataPart)
+module _ (o there : Bool) (list bytes : List ℕ) where
+  pub no-part : there ≡ false → dataPart o there list bytes ≡ []
+  no-part none = rw (none, dataPart)
 
-  pub some-part : (n ≡ 0 → ⊥) → dataPart n bytes ≡ boxed (pdat .code) bytes
-  some-part some = rw (ne-eqb n 0 some, dataPart)
+  pub some-part : there ≡ true → dataPart o there list bytes ≡ boxed (pdat .code) (dataFor (goesIn o) (items list) bytes)
+  some-part some = rw (some, dataPart)
 
-  pub part-long : (n ≡ 0 → ⊥) → length (dataPart n bytes) ≡ 8 + length bytes
-  part-long some = ap length (some-part some) ∙ length-boxed (pdat .code) bytes ∙ ap (λ (k : ℕ). k + length bytes) front-size
+  pub part-long : there ≡ true → length (dataPart o there list bytes) ≡ 8 + length (dataFor (goesIn o) (items list) bytes)
+  part-long some =
+      let inner = dataFor (goesIn o) (items list) bytes in
+      ap length (some-part some) ∙ length-boxed (pdat .code) inner ∙ ap (λ (k : ℕ). k + length inner) front-size
 
 -- ---- `pshd`
 
@@ -96,27 +102,20 @@ last-flag flags =
 
 module _ (h : SegmentHeader) where
   pub pshd-numbers : {version width : ℕ} → version ≡ versionFor (h .offset .0) → width ≡ offsetWidth (versionFor (h .offset .0))
-      → bytesOf 1 version ++ (bytesOf 3 (h .flags % 2) ++ (bytesOf width (h .offset .0) ++ bytesOf 8 (h .repair))) ≡ pshdBody (asks h [] [])
+      → bytesOf 1 version ++ (bytesOf 3 (h .flags % 2) ++ (bytesOf width (h .offset .0) ++ bytesOf 8 (h .repair))) ≡ pshdBody (asks h false [] [])
   unfolding pshdBody asks
   pshd-numbers v w =
       let low = version-low (h .offset .0) in
       rw (v, w, one-byte (versionFor (h .offset .0)) (omega arith), last-flag (h .flags))
 
-  pub pshd-long : length (pshdBody (asks h [] [])) ≡ 12 + offsetWidth (versionFor (h .offset .0))
+  pub pshd-long : length (pshdBody (asks h false [] [])) ≡ 12 + offsetWidth (versionFor (h .offset .0))
   unfolding asks
-  pshd-long = omega (arith, length-pshd (asks h [] []))
+  pshd-long = omega (arith, length-pshd (asks h false [] []))
 
   pub pshd-box-long : length (pshdBox h) ≡ 20 + offsetWidth (versionFor (h .offset .0))
-  pshd-box-long = omega (arith, length-boxed (pshd .code) (pshdBody (asks h [] [])), front-size, pshd-long)
+  pshd-box-long = omega (arith, length-boxed (pshd .code) (pshdBody (asks h false [] [])), front-size, pshd-long)
 
 -- ---- `ploc`
-
-module _ (size state : ℕ) where
-  pub data-there : present state ≡ true → dataOf size state ≡ size
-  data-there there = rw (there, dataOf)
-
-  pub data-absent : present state ≡ false → dataOf size state ≡ 0
-  data-absent absent = rw (absent, dataOf)
 
 -- no state but these three has a flag
 pub no-flags : (state : ℕ) → (state ≡ 2 → ⊥) → (state ≡ 1 → ⊥) → (state ≡ 0 → ⊥) → flagByte state ≡ 0
@@ -139,89 +138,112 @@ flags-low state =
           ]
     ]
 
--- widths are at most 8
-pub widths-low : (is : List Item) {l o : ℕ} → l ≡ lengthSize (placed is) → o ≡ offsetSize (placed is) → (l ≤ 8) × (o ≤ 8)
-unfolding lengthSize offsetSize
-widths-low is wide-l wide-o = (rw wide-l (leastWidth-within _), rw wide-o (leastWidth-within _))
+module _ (o : Bool) (is : List Item) {l w : ℕ} (wide-l : l ≡ lengthSize (placed o is)) (wide-w : w ≡ offsetSize (placed o is)) where
+  -- widths are at most 8
+  pub widths-low : (l ≤ 8) × (w ≤ 8)
+  unfolding lengthSize offsetSize
+  widths-low = (rw wide-l (leastWidth-within _), rw wide-w (leastWidth-within _))
 
--- widths that hold every size and offset of items that fit
-pub widths-hold : (is : List Item) → Fits is → {l o : ℕ} → l ≡ lengthSize (placed is) → o ≡ offsetSize (placed is) → Entries l o is
-widths-hold is fits {l} {o} wide-l wide-o =
-    let ps = placed is in
-    let sum-low : sum (map (λ p. p .size) ps) < 2 ^ 64 = rw (sizes-placed is) (fits .sizes) in
-    record {
-      narrow = widths-low is wide-l wide-o;
-      sizes = ap (λ (w : ℕ). allOf (λ p. holds w (p .size)) ps) wide-l ∙ sizes-held ps (sizes-eight ps sum-low);
-      offsets = ap (λ (w : ℕ). allOf (λ p. holdsOffset w (p .offset)) ps) wide-o ∙ offsets-held ps (offsets-eight is (fits .offsets));
-    }
+  -- widths that hold every size and offset of items that fit
+  pub widths-hold : Fits is → Entries l w (placed o is)
+  widths-hold fits =
+      let ps = placed o is in
+      let sum-low : sum (map (λ p. p .size) ps) < 2 ^ 64 = rw (sizes-placed o is) (fits .sizes) in
+      record {
+        narrow = widths-low;
+        sizes = ap (λ (k : ℕ). allOf (λ p. holds k (p .size)) ps) wide-l ∙ sizes-held ps (sizes-eight ps sum-low);
+        offsets = ap (λ (k : ℕ). allOf (λ p. holdsOffset k (p .offset)) ps) wide-w ∙ offsets-held ps (offsets-eight o is (fits .offsets));
+      }
 
-module _ (is : List Item) {l o : ℕ} (wide-l : l ≡ lengthSize (placed is)) (wide-o : o ≡ offsetSize (placed is)) where
   pub ploc-numbers : {n : ℕ} → n ≡ length is
-      → bytesOf 4 0 ++ (bytesOf 1 (l * 16 + o) ++ (bytesOf 2 0 ++ (bytesOf 2 n ++ entryBytes l o (placed is)))) ≡ plocBody (placed is)
+      → bytesOf 4 0 ++ (bytesOf 1 (l * 16 + w) ++ (bytesOf 2 0 ++ (bytesOf 2 n ++ entryBytes l w (placed o is)))) ≡ plocBody (placed o is)
   unfolding plocBody
   ploc-numbers count =
-      let (low-l, low-o) = widths-low is wide-l wide-o in
-      rw (one-byte (l * 16 + o) (omega arith), count, ← length-placed is, wide-l, wide-o)
+      let (low-l, low-w) = widths-low in
+      rw (one-byte (l * 16 + w) (omega arith), count, ← length-placed o is, wide-l, wide-w)
 
-  pub ploc-long : length (plocBody (placed is)) ≡ 9 + length (entryBytes l o (placed is))
+  pub ploc-long : length (plocBody (placed o is)) ≡ 9 + length (entryBytes l w (placed o is))
   unfolding plocBody
-  ploc-long = simp (length-append, length-bytesOf, sym wide-l, sym wide-o) (omega arith)
+  ploc-long = simp (length-append, length-bytesOf, sym wide-l, sym wide-w) (omega arith)
 
-pub ploc-box-long : (list : List ℕ) {l o : ℕ} → l ≡ lengthSize (placed (items list)) → o ≡ offsetSize (placed (items list))
-    → length (plocBox list) ≡ 17 + length (entryBytes l o (placed (items list)))
-ploc-box-long list wide-l wide-o =
-    omega (arith, length-boxed (ploc .code) (plocBody (placed (items list))), front-size, ploc-long (items list) wide-l wide-o)
+module _ (o : Bool) (list : List ℕ) where
+  pub ploc-box-long : {l w : ℕ} → l ≡ lengthSize (placed o (items list)) → w ≡ offsetSize (placed o (items list))
+      → length (plocBox o list) ≡ 17 + length (entryBytes l w (placed o (items list)))
+  ploc-box-long wide-l wide-w =
+      omega (arith, length-boxed (ploc .code) (plocBody (placed o (items list))), front-size, ploc-long o (items list) wide-l wide-w)
 
-pub ploc-size-of : (list : List ℕ) {n : ℕ} → n ≡ min (length (plocBody (placed (items list)))) (fileLimit + 1) → length (plocBox list) ≤ fileLimit
-    → n ≡ length (plocBody (placed (items list)))
-ploc-size-of list size small = omega (arith, length-boxed (ploc .code) (plocBody (placed (items list))))
+  pub ploc-size-of : {n : ℕ} → n ≡ min (length (plocBody (placed o (items list)))) (fileLimit + 1) → length (plocBox o list) ≤ fileLimit
+      → n ≡ length (plocBody (placed o (items list)))
+  ploc-size-of size small = omega (arith, length-boxed (ploc .code) (plocBody (placed o (items list))))
 
 -- ---- `pseg`
 
-module _ (h : SegmentHeader) (list : List ℕ) where
-  pub pseg-boxes : pshdBox h ++ plocBox list ≡ psegBody (asks h list [])
+module _ (h : SegmentHeader) (o : Bool) (list : List ℕ) where
+  pub pseg-boxes : pshdBox h ++ plocBox o list ≡ psegBody (asks h o list [])
   unfolding asks psegBody pshdBody
   pseg-boxes = refl
 
-  pub pseg-box-long : length (psegBox h list) ≡ 8 + (length (pshdBox h) + length (plocBox list))
+  pub pseg-box-long : length (psegBox h o list) ≡ 8 + (length (pshdBox h) + length (plocBox o list))
   pseg-box-long =
-      length-boxed (pseg .code) (psegBody (asks h list []))
-      ∙ omega (arith, front-size, ap length pseg-boxes, length-append (pshdBox h) (plocBox list))
+      length-boxed (pseg .code) (psegBody (asks h o list []))
+      ∙ omega (arith, front-size, ap length pseg-boxes, length-append (pshdBox h) (plocBox o list))
 
-  pub pseg-size-of : {n : ℕ} → n ≡ min (length (psegBody (asks h list []))) (fileLimit + 1) → length (psegBox h list) ≤ fileLimit
-      → n ≡ length (psegBody (asks h list []))
-  pseg-size-of size small = omega (arith, length-boxed (pseg .code) (psegBody (asks h list [])))
+  pub pseg-size-of : {n : ℕ} → n ≡ min (length (psegBody (asks h o list []))) (fileLimit + 1) → length (psegBox h o list) ≤ fileLimit
+      → n ≡ length (psegBody (asks h o list []))
+  pseg-size-of size small = omega (arith, length-boxed (pseg .code) (psegBody (asks h o list [])))
 
 -- ---- all of it
 
 -- the layout of the `pseg` does not depend on the data
-pub pseg-laid : (h : SegmentHeader) (list bytes : List ℕ) {l : Layout} → Laid (asks h list bytes) l → PsegLaid (asks h list []) l
+pub pseg-laid : (h : SegmentHeader) (o : Bool) (list bytes : List ℕ) {l : Layout} → Laid (asks h o list bytes) l → PsegLaid (asks h o list []) l
 unfolding asks psegBody pshdBody
-pseg-laid h list bytes laid = record { pshd = laid .pseg .pshd; ploc = laid .pseg .ploc; body = laid .pseg .body }
+pseg-laid h o list bytes laid = record { pshd = laid .pseg .pshd; ploc = laid .pseg .ploc; body = laid .pseg .body }
 
-module _ (h : SegmentHeader) (list bytes : List ℕ) {c : Counts} (counted : Counted (asks h list bytes) c) where
+module _ (h : SegmentHeader) (o : Bool) (list bytes : List ℕ) {c : Counts} {x : Outside} (sorted : Sorted (asks h o list bytes) c x) where
   pub whole-of : Whole (items list) c
   unfolding asks
-  whole-of = counted .items
+  whole-of = sorted .counted .items
 
-  many : c .present ≡ presentOf (items list)
-  many = counted-present (items list) (whole-of .counts)
+  -- how many bytes go outside
+  pub out-size : x .bytes ≡ sizeOf (goesOut o) (items list)
+  unfolding asks outsideData
+  out-size =
+      ap (λ (x : Outside). x .bytes) (sorted .outside)
+      ∙ outside-bytes o (items list) bytes
+      ∙ length-outside (asks h o list bytes) (data-counted (sorted .counted))
 
-  data-part : dataPart (c .present) bytes ≡ dataBox (asks h list bytes)
-  unfolding dataBox anyPresent asks
-  data-part =
-      elim (which (eqb (c .present) 0)) [
-        | inl e ↦
-            let none = eqb-true (c .present) 0 e in
-            no-part (c .present) bytes none ∙ sym (rw (dataBox, none-present (items list) (sym many ∙ none)))
-        | inr e ↦
-            let some = eqb-false (c .present) 0 e in
-            some-part (c .present) bytes some ∙ sym (rw (dataBox, some-present (items list) (λ h. some (many ∙ h))))
+  -- and the others go into `pdat`
+  pub in-size : c .bytes ≡ length (dataFor (goesIn o) (items list) bytes) + x .bytes
+  unfolding asks insideData
+  in-size =
+      omega (
+        arith,
+        out-size,
+        sorted .counted .items .bytes,
+        sizes-split o (items list),
+        length-inside (asks h o list bytes) (data-counted (sorted .counted)),
+      )
+
+  -- there is a `pdat` where more chunks are present than go outside
+  there-inside : not (eqb (c .present) (x .chunks)) ≡ anyInside (asks h o list bytes)
+  there-inside =
+      elim (which (eqb (c .present) (x .chunks))) [
+        | inl e ↦ ap not e ∙ sym (inside-none sorted (eqb-true (c .present) (x .chunks) e))
+        | inr e ↦ ap not e ∙ sym (inside-some sorted (eqb-false (c .present) (x .chunks) e))
       ]
 
-  pub added-parts : dataPart (c .present) bytes ++ psegBox h list ≡ added (asks h list bytes)
-  unfolding added asks psegBody pshdBody
-  added-parts = ap (λ (s : List ℕ). s ++ psegBox h list) data-part
+  abbrev pub thereIs : Bool
+  thereIs = not (eqb (c .present) (x .chunks))
 
-  pub added-long : length (added (asks h list bytes)) ≡ length (dataPart (c .present) bytes) + length (psegBox h list)
-  added-long = sym (ap length added-parts) ∙ length-append (dataPart (c .present) bytes) (psegBox h list)
+  pub added-parts : dataPart o thereIs list bytes ++ (dataFor (goesOut o) (items list) bytes ++ psegBox h o list) ≡ added (asks h o list bytes)
+  unfolding added stored dataBox insideData outsideData asks psegBody pshdBody
+  added-parts =
+      ap (λ (there : Bool). dataPart o there list bytes ++ (dataFor (goesOut o) (items list) bytes ++ psegBox h o list)) there-inside
+      ∙ sym (append-assoc (dataBox (asks h o list bytes)) (dataFor (goesOut o) (items list) bytes) (psegBox h o list))
+
+  pub added-long : length (added (asks h o list bytes))
+      ≡ length (dataPart o thereIs list bytes) + (length (dataFor (goesOut o) (items list) bytes) + length (psegBox h o list))
+  added-long =
+      sym (ap length added-parts)
+      ∙ length-append (dataPart o thereIs list bytes) _
+      ∙ ap (λ (n : ℕ). length (dataPart o thereIs list bytes) + n) (length-append (dataFor (goesOut o) (items list) bytes) (psegBox h o list))

@@ -1,6 +1,6 @@
 -- Laws of appending a segment: what each test decides, and what the call leaves.
 use Prim.Native.Nat.{ℕ, _+_, _%_, _^_, _≤_, _<_}
-use mathlib.Core.Bool.{true, false, not, _&&_, and-false}
+use mathlib.Core.Bool.{Bool, true, false, not, _&&_, and-false}
 use mathlib.Core.List.{List, _++_, append-assoc}
 use mathlib.Core.Path.{_≡_, refl, sym, ap, _∙_}
 use native.Mathlib.Omega.{arith}
@@ -11,7 +11,7 @@ use lib.Seq.{length-take-le}
 use Rattle.boxes.specs.Answer.{Answer, refused, given, _>>=_, hold}
 use Rattle.boxes.proofs.AnswerLaws.{refused-same, given-same, both-given}
 use Rattle.numerals.proofs.StoredLaws.{stored-room}
-use Rattle.partial.specs.Addition.{Addition, asks, items, listRight, dataSize, dataRight}
+use Rattle.partial.specs.Addition.{Addition, asks, items, listRight, dataSize, dataRight, outsideRight}
 use Rattle.partial.specs.Answers.{writtenAnswer}
 use Rattle.partial.specs.Append.{added, admission, appended, result}
 use Rattle.partial.specs.Heading.{Heading, heading}
@@ -25,7 +25,7 @@ use Rattle.partial.specs.declared.answers.Written.the-variants as Written
 use Rattle.partial.specs.declared.header.SegmentHeader.{SegmentHeader}
 use Rattle.partial.proofs.Writing.AddedBoxesLaws.{data-low, length-added}
 use Rattle.partial.proofs.Writing.ReadsBackLaws.{Offered, Admits, admits, earlier-of}
-use Rattle.partial.proofs.Writing.ReasonLaws.{list-wrong, data-wrong}
+use Rattle.partial.proofs.Writing.ReasonLaws.{list-wrong, data-wrong, outside-wrong}
 use Rattle.partial.proofs.Writing.ResultLaws.{appended-offered}
 use Rattle.heading.specs.Facts.{factsOf, factsBy}
 use Rattle.filling.specs.Rows.{Put}
@@ -33,12 +33,14 @@ use Rattle.gathering.specs.Gathered.{gatheredOf}
 use Rattle.reading.specs.Judged.{gatheredIn, judgedIn, earlierTold}
 use Rattle.reading.specs.declared.judging.Judged.{Judged}
 use Rattle.reading.proofs.JudgedLaws.{first-refused}
+use Rattle.outside.specs.declared.chunks.Outside.{Outside}
 use Rattle.adding.specs.Admission.{Beside, Asked, admittedLength}
-use Rattle.adding.specs.Counts.{countsOf, Counted}
+use Rattle.adding.specs.Counts.{countsOf, Counted, Sorted}
 use Rattle.adding.specs.Layout.{Laid}
 use Rattle.adding.specs.declared.counts.Counts.{Counts}
 use Rattle.adding.specs.declared.layout.Layout.{Layout}
 use Rattle.adding.proofs.CountLaws.{counted-bytes}
+use Rattle.adding.proofs.OutsideLaws.{data-counted, right-whole}
 use Rattle.writing.specs.Append.{Fits, Appends}
 
 -- ---- what the call leaves
@@ -86,10 +88,10 @@ module _ (list : List ℕ) where
     unfolding listRight
     list-right even right = rw (eq-eqb (length list % 2) 0 even, sym right-of ∙ right)
 
-module _ (header : SegmentHeader) (list bytes : List ℕ) {c : Counts} where
+module _ (header : SegmentHeader) (o : Bool) (list bytes : List ℕ) {c : Counts} where
   module _ (counts : c ≡ countsOf (items list)) (few : length bytes < 2 ^ 63) where
     -- a sum that was cut is longer than any data
-    pub data-differs : (length bytes ≡ c .bytes → ⊥) → dataRight (asks header list bytes) ≡ false
+    pub data-differs : (length bytes ≡ c .bytes → ⊥) → dataRight (asks header o list bytes) ≡ false
     unfolding dataRight asks
     data-differs other =
         ne-eqb (length bytes) (dataSize (items list))
@@ -97,15 +99,11 @@ module _ (header : SegmentHeader) (list bytes : List ℕ) {c : Counts} where
         let cut = counted-bytes (items list) counts in
         other (omega arith))
 
-    pub counted-of : length bytes ≡ c .bytes → Counted (asks header list bytes) c
+    pub counted-of : length bytes ≡ c .bytes → Counted (asks header o list bytes) c
     unfolding asks
     counted-of same =
         let cut = counted-bytes (items list) counts in
         record { items = record { counts = counts; bytes = omega arith }; bytes = sym same }
-
-  pub data-right : Counted (asks header list bytes) c → dataRight (asks header list bytes) ≡ true
-  unfolding dataRight asks
-  data-right counted = eq-eqb (length bytes) (dataSize (items list)) (sym (counted .bytes) ∙ counted .items .bytes)
 
 -- ---- the file
 
@@ -125,6 +123,7 @@ pub record Earlier (f : List ℕ) (j : Judged) : Type 0 where
   pub head : heading f ≡ given h
   pub read : segments sourceLimit f h ≡ given ss
   pub beside : Beside h ss j
+  pub mixed : j .head .mixed ≡ h .mixed
 
 pub earlier : (f : List ℕ) (j : Judged) → earlierTold f ≡ given (record { facts = factsBy (j .head); gathered = j .gathered }) → Earlier f j
 unfolding earlierTold judgedIn gatheredIn factsOf
@@ -141,62 +140,80 @@ earlier f j e =
         boxes = sym (ap (λ x. x .facts .boxes) (given-same e));
         segments = sym (given-same same ∙ ap (λ x. x .gathered) (given-same e));
       };
+      mixed = sym (ap (λ x. x .facts .mixed) (given-same e));
     }
+
+-- it has one heading
+pub headed-mixed : {f : List ℕ} {j : Judged} → Earlier f j → {h : Heading} → heading f ≡ given h → j .head .mixed ≡ h .mixed
+headed-mixed file head = file .mixed ∙ ap (λ (h : Heading). h .mixed) (given-same (sym (file .head) ∙ head))
 
 -- ---- the tests, in their order
 
-module _ (buffer : List ℕ) (n : ℕ) (header : SegmentHeader) (list bytes : List ℕ) (fits : n ≤ length buffer) (j : Judged) (file : Earlier (take n buffer) j) where
+module _ (buffer : List ℕ) (n : ℕ) (header : SegmentHeader) (o : Bool) (list bytes : List ℕ) (fits : n ≤ length buffer) (j : Judged) (file : Earlier (take n buffer) j) where
   stands : earlierSegments sourceLimit (take n buffer) ≡ given (file .ss)
   stands = earlier-of sourceLimit (take n buffer) (file .h) (file .ss) (file .head) (file .read)
 
-  pub wrong-list : listRight list ≡ false → appended sourceLimit buffer n (asks header list bytes) ≡ refused 31
+  pub wrong-list : listRight list ≡ false → appended sourceLimit buffer n (asks header o list bytes) ≡ refused 31
   unfolding asks
-  wrong-list wrong = list-wrong sourceLimit buffer n (asks header list bytes) fits stands wrong
+  wrong-list wrong = list-wrong sourceLimit buffer n (asks header o list bytes) fits stands wrong
 
   module _ (right : listRight list ≡ true) where
-    pub wrong-data : dataRight (asks header list bytes) ≡ false → appended sourceLimit buffer n (asks header list bytes) ≡ refused 32
+    pub wrong-data : dataRight (asks header o list bytes) ≡ false → appended sourceLimit buffer n (asks header o list bytes) ≡ refused 32
     unfolding asks
-    wrong-data wrong = data-wrong sourceLimit buffer n (asks header list bytes) fits stands right wrong
+    wrong-data wrong = data-wrong sourceLimit buffer n (asks header o list bytes) fits stands right wrong
 
-    module _ {c : Counts} (counted : Counted (asks header list bytes) c) {l : Layout} (laid : Laid (asks header list bytes) l) where
-      offered : Offered sourceLimit (take n buffer) (file .h) (file .ss) (asks header list bytes)
+    pub wrong-outside : dataRight (asks header o list bytes) ≡ true → outsideRight (file .h) (asks header o list bytes) ≡ false
+        → appended sourceLimit buffer n (asks header o list bytes) ≡ refused 35
+    unfolding asks
+    wrong-outside carried wrong = outside-wrong sourceLimit buffer n (asks header o list bytes) fits (file .head) (file .read) right carried wrong
+
+    module _ {c : Counts} {x : Outside} (sorted : Sorted (asks header o list bytes) c x) (outer : outsideRight (file .h) (asks header o list bytes) ≡ true)
+        {l : Layout} (laid : Laid (asks header o list bytes) l) where
+      offered : Offered sourceLimit (take n buffer) (file .h) (file .ss) (asks header o list bytes)
       unfolding asks
-      offered = record { headed = file .head; before = file .read; list = right; carried = data-right header list bytes counted }
+      offered = record { headed = file .head; before = file .read; list = right; carried = data-counted (sorted .counted); outside = outer }
 
-      by-admission : appended sourceLimit buffer n (asks header list bytes)
-          ≡ (admission sourceLimit (file .h) (file .ss) n (asks header list bytes)
-          >>= λ _. hold 33 (leb (n + length (added (asks header list bytes))) (length buffer)) >>= λ _. given (n + length (added (asks header list bytes))))
-      by-admission = appended-offered sourceLimit buffer n (asks header list bytes) (file .h) (file .ss) fits offered
+      by-admission : appended sourceLimit buffer n (asks header o list bytes)
+          ≡ (admission sourceLimit (file .h) (file .ss) n (asks header o list bytes)
+          >>= λ _. hold 33 (leb (n + length (added (asks header o list bytes))) (length buffer)) >>= λ _. given (n + length (added (asks header o list bytes))))
+      by-admission = appended-offered sourceLimit buffer n (asks header o list bytes) (file .h) (file .ss) fits offered
 
-      asked : Asked (asks header list bytes) header c l
+      asked : Asked (asks header o list bytes) header c x l
       unfolding asks
-      asked = record { offset = refl; last = refl; counted = counted; laid = laid }
+      asked =
+          record {
+            offset = refl;
+            last = refl;
+            sorted = sorted;
+            whole = right-whole (file .h) (asks header o list bytes) (sorted .outside) outer;
+            laid = laid;
+          }
 
       module _ (r : Written)
-          (answer : (h : Heading) (ss : List Segment) (a : Addition) → Beside h ss j → Asked a header c l → writtenAnswer r ≡ admittedLength h ss n a) where
-        told : writtenAnswer r ≡ admittedLength (file .h) (file .ss) n (asks header list bytes)
-        told = answer (file .h) (file .ss) (asks header list bytes) (file .beside) asked
+          (answer : (h : Heading) (ss : List Segment) (a : Addition) → Beside h ss j → Asked a header c x l → writtenAnswer r ≡ admittedLength h ss n a) where
+        told : writtenAnswer r ≡ admittedLength (file .h) (file .ss) n (asks header o list bytes)
+        told = answer (file .h) (file .ss) (asks header o list bytes) (file .beside) asked
 
-        pub not-admitted : {k : ℕ} → r ≡ Written.Refused k → appended sourceLimit buffer n (asks header list bytes) ≡ refused k
+        pub not-admitted : {k : ℕ} → r ≡ Written.Refused k → appended sourceLimit buffer n (asks header o list bytes) ≡ refused k
         unfolding writtenAnswer admittedLength
         not-admitted e =
             by-admission
-            ∙ rw (first-refused (admission sourceLimit (file .h) (file .ss) n (asks header list bytes)) _ (sym told ∙ ap writtenAnswer e))
+            ∙ rw (first-refused (admission sourceLimit (file .h) (file .ss) n (asks header o list bytes)) _ (sym told ∙ ap writtenAnswer e))
 
         module _ {m : ℕ} (e : r ≡ Written.Length m) where
           taken : (ts : List Segment)
-              × (admission sourceLimit (file .h) (file .ss) n (asks header list bytes) ≡ given ts)
-              × (given (n + length (added (asks header list bytes))) ≡ given m)
+              × (admission sourceLimit (file .h) (file .ss) n (asks header o list bytes) ≡ given ts)
+              × (given (n + length (added (asks header o list bytes))) ≡ given m)
           unfolding writtenAnswer admittedLength
-          taken = both-given (admission sourceLimit (file .h) (file .ss) n (asks header list bytes)) _ (sym told ∙ ap writtenAnswer e)
+          taken = both-given (admission sourceLimit (file .h) (file .ss) n (asks header o list bytes)) _ (sym told ∙ ap writtenAnswer e)
 
-          pub new-length : m ≡ n + length (added (asks header list bytes))
+          pub new-length : m ≡ n + length (added (asks header o list bytes))
           new-length = sym (given-same (taken .2))
 
-          all-held : Admits sourceLimit (file .h) (file .ss) n (asks header list bytes)
-          all-held = admits sourceLimit (file .h) (file .ss) n (asks header list bytes) (taken .1) .0
+          all-held : Admits sourceLimit (file .h) (file .ss) n (asks header o list bytes)
+          all-held = admits sourceLimit (file .h) (file .ss) n (asks header o list bytes) (taken .1) .0
 
-          pub added-small : length (added (asks header list bytes)) ≤ fileLimit
+          pub added-small : length (added (asks header o list bytes)) ≤ fileLimit
           added-small = omega (arith, all-held .small)
 
           pub items-fit : Fits (items list)
@@ -206,16 +223,16 @@ module _ (buffer : List ℕ) (n : ℕ) (header : SegmentHeader) (list bytes : Li
               record {
                 count = omega (arith, held .chunks);
                 sizes = omega (arith, held .low);
-                offsets = omega (arith, held .small, length-added (asks header list bytes), data-low (asks header list bytes) (data-right header list bytes counted));
+                offsets = omega (arith, held .small, length-added (asks header o list bytes), data-low (asks header o list bytes) (data-counted (sorted .counted)));
               }
 
-          pub too-short : length buffer < m → appended sourceLimit buffer n (asks header list bytes) ≡ refused 33
+          pub too-short : length buffer < m → appended sourceLimit buffer n (asks header o list bytes) ≡ refused 33
           too-short short =
               let long = new-length in
-              by-admission ∙ rw (taken .1, lt-leb (n + length (added (asks header list bytes))) (length buffer) (omega arith))
+              by-admission ∙ rw (taken .1, lt-leb (n + length (added (asks header o list bytes))) (length buffer) (omega arith))
 
-          pub appended-given : {end : ℕ} → m ≤ length buffer → end ≡ n + length (added (asks header list bytes))
-              → appended sourceLimit buffer n (asks header list bytes) ≡ given end
+          pub appended-given : {end : ℕ} → m ≤ length buffer → end ≡ n + length (added (asks header o list bytes))
+              → appended sourceLimit buffer n (asks header o list bytes) ≡ given end
           appended-given room ends =
               let long = new-length in
-              by-admission ∙ rw (taken .1, le-leb (n + length (added (asks header list bytes))) (length buffer) (omega arith), ends)
+              by-admission ∙ rw (taken .1, le-leb (n + length (added (asks header o list bytes))) (length buffer) (omega arith), ends)

@@ -11,50 +11,51 @@ use Rattle.partial.specs.Begin.{beginning, isText, begun}
 use Rattle.partial.specs.Limits.{fileLimit}
 use Rattle.partial.specs.Memory.{after, filled}
 use Rattle.partial.specs.declared.answers.Written.the-variants as Written
+use Rattle.partial.specs.declared.brand.Brand.{Brand}
 use Rattle.writing.specs.Begin.{Begins}
 
-module _ (url mime buffer : List ℕ) where
-  pub url-zero : isText url ≡ false → begun buffer url mime ≡ refused 34
+module _ (brand : Brand) (url mime buffer : List ℕ) where
+  pub url-zero : isText url ≡ false → begun buffer brand url mime ≡ refused 34
   unfolding begun
   url-zero zero = rw zero
 
-  pub mime-zero : isText mime ≡ false → begun buffer url mime ≡ refused 34
+  pub mime-zero : isText mime ≡ false → begun buffer brand url mime ≡ refused 34
   unfolding begun
   mime-zero zero = rw (zero, and-false)
 
   module _ (plain-url : isText url ≡ true) (plain-mime : isText mime ≡ true) where
-    pub too-long : fileLimit < length (beginning url mime) → begun buffer url mime ≡ refused 1
+    pub too-long : fileLimit < length (beginning brand url mime) → begun buffer brand url mime ≡ refused 1
     unfolding begun
-    too-long long = rw (plain-url, plain-mime, lt-leb (length (beginning url mime)) fileLimit long)
+    too-long long = rw (plain-url, plain-mime, lt-leb (length (beginning brand url mime)) fileLimit long)
 
-    module _ (small : length (beginning url mime) ≤ fileLimit) where
-      pub too-short : length buffer < length (beginning url mime) → begun buffer url mime ≡ refused 33
+    module _ (small : length (beginning brand url mime) ≤ fileLimit) where
+      pub too-short : length buffer < length (beginning brand url mime) → begun buffer brand url mime ≡ refused 33
       unfolding begun
       too-short short =
           rw (
             plain-url,
             plain-mime,
-            le-leb (length (beginning url mime)) fileLimit small,
-            lt-leb (length (beginning url mime)) (length buffer) short,
+            le-leb (length (beginning brand url mime)) fileLimit small,
+            lt-leb (length (beginning brand url mime)) (length buffer) short,
           )
 
-      pub begun-given : length (beginning url mime) ≤ length buffer → begun buffer url mime ≡ given (length (beginning url mime))
+      pub begun-given : length (beginning brand url mime) ≤ length buffer → begun buffer brand url mime ≡ given (length (beginning brand url mime))
       unfolding begun
       begun-given room =
           rw (
             plain-url,
             plain-mime,
-            le-leb (length (beginning url mime)) fileLimit small,
-            le-leb (length (beginning url mime)) (length buffer) room,
+            le-leb (length (beginning brand url mime)) fileLimit small,
+            le-leb (length (beginning brand url mime)) (length buffer) room,
           )
 
   -- after a refusal the buffer is as it was
-  pub begins-refused : {n : ℕ} → begun buffer url mime ≡ refused n → Begins url mime buffer buffer (Written.Refused n)
+  pub begins-refused : {n : ℕ} → begun buffer brand url mime ≡ refused n → Begins brand url mime buffer buffer (Written.Refused n)
   unfolding writtenAnswer after
   begins-refused e = record { answer = rw e; left = rw e }
 
   -- a file that was begun fills it
-  pub begins-given : {buffer′ : List ℕ} {n : ℕ} → begun buffer url mime ≡ given n → buffer′ ≡ filled (beginning url mime) buffer
-      → Begins url mime buffer buffer′ (Written.Length n)
+  pub begins-given : {buffer′ : List ℕ} {n : ℕ} → begun buffer brand url mime ≡ given n → buffer′ ≡ filled (beginning brand url mime) buffer
+      → Begins brand url mime buffer buffer′ (Written.Length n)
   unfolding writtenAnswer after
   begins-given e full = record { answer = rw e; left = rw e full }

@@ -1,185 +1,197 @@
 -- Laws of the entries of a `ploc`, written one behind the other.
-use Prim.Native.Nat.{ℕ, suc, _+_, _-_, _*_, _/_, _≤_, _<_}
-use mathlib.Core.Bool.{Bool, true, false}
+use Prim.Native.Nat.{ℕ, _+_, _-_, _*_, _/_, _≤_, _<_}
+use mathlib.Core.Bool.{Bool, true, false, true≢false}
 use mathlib.Core.List.{List, [], _∷_, _++_, append-nil, append-assoc}
 use mathlib.Core.Path.{_≡_, refl, sym, ap, subst, _∙_}
 use native.Mathlib.Omega.{arith}
-use lib.ListN.{length, drop, getD, length-append, length-drop}
-use lib.Seq.{drop-cons}
+use lib.ListN.{length, getD, length-append}
 use Rattle.numerals.specs.Numbers.{bytesOf, twosComplement, holds, holdsOffset}
 use Rattle.numerals.specs.declared.numbers.Offset.{Offset}
 use Rattle.numerals.specs.declared.numbers.Offset.the-variants.{Ahead, Back}
 use Rattle.numerals.proofs.NumberLaws.{length-bytesOf}
-use Rattle.partial.specs.Addition.{Item, items, dataSize}
-use Rattle.partial.specs.Append.{placed, flagByte, entryBytes}
+use Rattle.partial.specs.Addition.{Item, items, sizeOf, dataSize, goesOut, goesIn}
+use Rattle.partial.specs.Append.{back, placedWith, placed, flagByte, entryBytes}
 use Rattle.partial.specs.Segments.{present}
-use Rattle.partial.specs.Sequences.{allOf, sum}
+use Rattle.partial.specs.Sequences.{allOf}
 use Rattle.partial.proofs.Meaning.SequenceLaws.{both}
+use Rattle.partial.proofs.Writing.DataLaws.{outside, inside, nowhere, goes, size-on, size-past, data-one, data-none, sizes-split}
+use Rattle.partial.proofs.Writing.PlacedLaws.{back-out}
+use Rattle.outside.proofs.ItemLaws.{itemAt, itemsFrom, items-from, items-none}
 use Rattle.filling.specs.Rows.{Puts}
-use Rattle.filling.proofs.PutsLaws.{puts-same, puts-more}
-use Rattle.writing.specs.Append.{dataOf, entryOf, Entry, Entries}
+use Rattle.writing.specs.Append.{entryOf, Entry, Entries, Distances}
+use Rattle.writing.specs.declared.ploc.Backs.{Backs}
 use Rattle.writing.proofs.AddedLaws.{one-byte, flags-low}
-use Rattle.writing.proofs.PutLaws.{puts-none}
+use Rattle.writing.proofs.PutLaws.{Partly, partly-start, partly-same, partly-end, partly-room, partly-more}
 
 -- ---- an entry
 
-module _ (l o size state back : ℕ) where
-  pub entry-least : 1 + l ≤ length (entryOf l o size state back)
+module _ (l w size state back : ℕ) where
+  pub entry-least : 1 + l ≤ length (entryOf l w size state back)
   entry-least =
-      let offset : List ℕ = elim (present state) [ true ↦ bytesOf o (twosComplement o (Back back)) | false ↦ [] ] in
+      let offset : List ℕ = elim (present state) [ true ↦ bytesOf w (twosComplement w (Back back)) | false ↦ [] ] in
       omega (arith, length-append (bytesOf l size) offset, length-bytesOf l size)
 
-  pub entry-absent : {flags : ℕ} → flags ≡ flagByte state → present state ≡ false → bytesOf 1 flags ++ bytesOf l size ≡ entryOf l o size state back
+  pub entry-absent : {flags : ℕ} → flags ≡ flagByte state → present state ≡ false → bytesOf 1 flags ++ bytesOf l size ≡ entryOf l w size state back
   entry-absent flags absent = rw (flags, one-byte (flagByte state) (flags-low state), absent, entryOf) (sym (ap (λ (s : List ℕ). flagByte state ∷ s) (append-nil (bytesOf l size))))
 
   pub entry-there : {flags : ℕ} → flags ≡ flagByte state → present state ≡ true
-      → bytesOf 1 flags ++ (bytesOf l size ++ bytesOf o (twosComplement o (Back back))) ≡ entryOf l o size state back
+      → bytesOf 1 flags ++ (bytesOf l size ++ bytesOf w (twosComplement w (Back back))) ≡ entryOf l w size state back
   entry-there flags there = rw (flags, one-byte (flagByte state) (flags-low state), there, entryOf)
 
-  pub entry-long : present state ≡ true → length (entryOf l o size state back) ≡ 1 + l + o
+  pub entry-long : present state ≡ true → length (entryOf l w size state back) ≡ 1 + l + w
   entry-long there =
       sym (ap length (entry-there refl there))
       ∙ simp (length-append, length-bytesOf) (omega arith)
 
 -- ---- an item
 
-module _ (i : Item) (is : List Item) where
-  pub data-first : dataSize (i ∷ is) ≡ dataOf (i .size) (i .state) + dataSize is
-  unfolding dataSize sum
-  data-first = refl
-
-  pub entry-first : (l o : ℕ)
-      → entryBytes l o (placed (i ∷ is)) ≡ entryOf l o (i .size) (i .state) (dataSize (i ∷ is)) ++ entryBytes l o (placed is)
-  unfolding placed entryBytes
-  entry-first l o =
-      let n = dataSize (i ∷ is) in
-      let offset : List ℕ = elim (present (i .state)) [ true ↦ bytesOf o (twosComplement o (Back n)) | false ↦ [] ] in
-      let rest = entryBytes l o (placed is) in
+module _ (o : Bool) (out : ℕ) (i : Item) (is : List Item) (l w : ℕ) where
+  pub entry-first : entryBytes l w (placedWith o out (i ∷ is))
+      ≡ entryOf l w (i .size) (i .state) (back o out i is) ++ entryBytes l w (placedWith o out is)
+  unfolding placedWith entryBytes
+  entry-first =
+      let n = back o out i is in
+      let offset : List ℕ = elim (present (i .state)) [ true ↦ bytesOf w (twosComplement w (Back n)) | false ↦ [] ] in
+      let rest = entryBytes l w (placedWith o out is) in
       ap (λ (s : List ℕ). flagByte (i .state) ∷ (bytesOf l (i .size) ++ (s ++ rest))) (same n (present (i .state)) _ (λ e. rw e))
       ∙ ap (λ (s : List ℕ). flagByte (i .state) ∷ s) (sym (append-assoc (bytesOf l (i .size)) offset rest))
     where
       same : (n : ℕ) (there : Bool) (z : Offset) → (there ≡ true → z ≡ Back n)
-          → _≡_ {A = List ℕ} (elim there [ true ↦ bytesOf o (twosComplement o z) | false ↦ [] ])
-          (elim there [ true ↦ bytesOf o (twosComplement o (Back n)) | false ↦ [] ])
-      same n true z back = ap (λ (z : Offset). bytesOf o (twosComplement o z)) (back refl)
-      same n false z back = refl
+          → _≡_ {A = List ℕ} (elim there [ true ↦ bytesOf w (twosComplement w z) | false ↦ [] ])
+          (elim there [ true ↦ bytesOf w (twosComplement w (Back n)) | false ↦ [] ])
+      same n true z far = ap (λ (z : Offset). bytesOf w (twosComplement w z)) (far refl)
+      same n false z far = refl
 
   -- what holds every entry holds the first, and those behind it
-  pub entry-held : (l o : ℕ) → Entries l o (i ∷ is) → Entry l o (i .size) (i .state) (dataSize (i ∷ is))
-  unfolding placed allOf
-  entry-held l o held =
-      record {
-        narrow = held .narrow;
-        sized = both (holds l (i .size)) _ (held .sizes) .0;
-        offset = λ e.
-            ap (λ (z : Offset). holdsOffset o z) (sym (rw e)) ∙ both (holdsOffset o (elim (present (i .state)) [ true ↦ Back (dataSize (i ∷ is)) | false ↦ Ahead 0 ])) _ (held .offsets) .0;
-      }
+  module _ (held : Entries l w (placedWith o out (i ∷ is))) where
+    pub entry-held : Entry l w (i .size) (i .state) (back o out i is)
+    unfolding placedWith allOf
+    entry-held =
+        record {
+          narrow = held .narrow;
+          sized = both (holds l (i .size)) _ (held .sizes) .0;
+          offset = λ e.
+              ap (λ (z : Offset). holdsOffset w z) (sym (rw e))
+              ∙ both (holdsOffset w (elim (present (i .state)) [ true ↦ Back (back o out i is) | false ↦ Ahead 0 ])) _ (held .offsets) .0;
+        }
 
-  pub entries-rest : (l o : ℕ) → Entries l o (i ∷ is) → Entries l o is
-  unfolding placed allOf
-  entries-rest l o held =
-      record {
-        narrow = held .narrow;
-        sizes = both (holds l (i .size)) _ (held .sizes) .1;
-        offsets = both (holdsOffset o (elim (present (i .state)) [ true ↦ Back (dataSize (i ∷ is)) | false ↦ Ahead 0 ])) _ (held .offsets) .1;
-      }
+    pub entries-rest : Entries l w (placedWith o out is)
+    unfolding placedWith allOf
+    entries-rest =
+        record {
+          narrow = held .narrow;
+          sizes = both (holds l (i .size)) _ (held .sizes) .1;
+          offsets = both (holdsOffset w (elim (present (i .state)) [ true ↦ Back (back o out i is) | false ↦ Ahead 0 ])) _ (held .offsets) .1;
+        }
 
--- ---- the items of a list
+-- ---- how far the data lies
 
-module _ (list : List ℕ) (i : ℕ) where
-  -- the item of a number
-  abbrev pub itemAt : Item
-  itemAt = record { size = getD list (2 * i) 0; state = getD list (2 * i + 1) 0 }
+module _ (o : Bool) (i : Item) (is : List Item) where
+  -- an item that goes outside takes its data from there, and any other from `pdat`
+  outer-sizes : goesOut o i ≡ true
+      → (sizeOf (goesOut o) (i ∷ is) ≡ dataSize (i ∷ []) + sizeOf (goesOut o) is) × (sizeOf (goesIn o) (i ∷ is) ≡ sizeOf (goesIn o) is)
+  outer-sizes e =
+      elim (goes o i) [
+        | outside out into there ↦ (omega (arith, size-on (goesOut o) i is out, data-one i there), size-past (goesIn o) i is into)
+        | inside out into there ↦ absurd (true≢false (sym e ∙ out))
+        | nowhere out into there ↦ absurd (true≢false (sym e ∙ out))
+      ]
 
-  abbrev pub itemsFrom : List Item
-  itemsFrom = items (drop (2 * i) list)
+  inner-sizes : goesOut o i ≡ false
+      → (sizeOf (goesIn o) (i ∷ is) ≡ dataSize (i ∷ []) + sizeOf (goesIn o) is) × (sizeOf (goesOut o) (i ∷ is) ≡ sizeOf (goesOut o) is)
+  inner-sizes e =
+      elim (goes o i) [
+        | outside out into there ↦ absurd (true≢false (sym out ∙ e))
+        | inside out into there ↦ (omega (arith, size-on (goesIn o) i is into, data-one i there), size-past (goesOut o) i is out)
+        | nowhere out into there ↦ (omega (arith, size-past (goesIn o) i is into, data-none i there), size-past (goesOut o) i is out)
+      ]
 
-pub items-from : (list : List ℕ) (i : ℕ) → i < length list / 2 → itemsFrom list i ≡ itemAt list i ∷ itemsFrom list (i + 1)
-unfolding items
-items-from list i less =
-    let next : suc (2 * i) ≡ 2 * i + 1 = omega arith in
-    let last : suc (2 * i + 1) ≡ 2 * (i + 1) = omega arith in
-    let first = drop-cons list (2 * i) 0 (omega arith) ∙ ap (λ (n : ℕ). getD list (2 * i) 0 ∷ drop n list) next in
-    let second = drop-cons list (2 * i + 1) 0 (omega arith) ∙ ap (λ (n : ℕ). getD list (2 * i + 1) 0 ∷ drop n list) last in
-    ap items (first ∙ ap (λ (rest : List ℕ). getD list (2 * i) 0 ∷ rest) second)
+  module _ {out : ℕ} {b : Backs} (far : Distances o out (i ∷ is) b) where
+    pub outer-back : goesOut o i ≡ true → b .outside ≡ back o out i is
+    outer-back e = far .outside ∙ sym (back-out o out i is e)
 
--- of less than two numbers there is no item
-items-short : (s : List ℕ) → length s < 2 → items s ≡ []
-unfolding items
-items-short [] short = refl
-items-short (size ∷ []) short = refl
-items-short (size ∷ state ∷ rest) short = absurd (omega arith)
+    pub inner-back : goesOut o i ≡ false → b .inside ≡ back o out i is
+    unfolding back
+    inner-back e = far .inside ∙ sym (rw (back, e))
 
-pub items-none : (list : List ℕ) (i : ℕ) → length list / 2 ≤ i → itemsFrom list i ≡ []
-items-none list i all = items-short (drop (2 * i) list) (omega (arith, length-drop (2 * i) list))
+    module _ {n : ℕ} (size : n ≡ dataSize (i ∷ [])) where
+      pub outer-past : goesOut o i ≡ true → (n ≤ b .outside) × Distances o out is (record { inside = b .inside; outside = b .outside - n })
+      outer-past e =
+          let (outs, ins) = outer-sizes e in
+          let far-in = far .inside in
+          let far-out = far .outside in
+          (omega arith, record { inside = omega arith; outside = omega arith })
+
+      pub inner-past : goesOut o i ≡ false → (n ≤ b .inside) × Distances o out is (record { inside = b .inside - n; outside = b .outside })
+      inner-past e =
+          let (ins, outs) = inner-sizes e in
+          let far-in = far .inside in
+          let far-out = far .outside in
+          (omega arith, record { inside = omega arith; outside = omega arith })
+
+-- of all items, by how much data there is, and how much of it outside
+pub all-distances : (o : Bool) (is : List Item) {n out : ℕ} → n ≡ dataSize is → out ≡ sizeOf (goesOut o) is
+    → Distances o (sizeOf (goesOut o) is) is (record { inside = n; outside = out })
+all-distances o is all outs = record { inside = all ∙ sizes-split o is; outside = outs }
 
 -- ---- the loop
 
--- before an item: those before it are written, and the data from it on is known
-pub record Midway (list : List ℕ) (l o : ℕ) (buffer₀ : List ℕ) (at : ℕ) (buffer : List ℕ) (next back i : ℕ) : Type 0 where
-  pub done : List ℕ
-  pub puts : Puts buffer₀ at done buffer next
-  pub all : done ++ entryBytes l o (placed (itemsFrom list i)) ≡ entryBytes l o (placed (items list))
-  pub data-left : back ≡ dataSize (itemsFrom list i)
-  pub held : Entries l o (itemsFrom list i)
+-- the entries of items, where so many bytes stand outside
+abbrev entriesOf : Bool → List ℕ → ℕ → ℕ → List Item → List ℕ
+entriesOf o list l w is = entryBytes l w (placedWith o (sizeOf (goesOut o) (items list)) is)
 
-module _ (list : List ℕ) (l o : ℕ) (buffer₀ : List ℕ) (at : ℕ) where
-  pub midway-start : {back : ℕ} → Entries l o (items list) → back ≡ dataSize (items list) → Midway list l o buffer₀ at buffer₀ at back 0
-  midway-start held size = record { done = []; puts = puts-none buffer₀ at; all = refl; data-left = size; held = held }
+-- before an item: those before it are written, and how far the data from it on lies is known
+pub record Midway (o : Bool) (list : List ℕ) (l w : ℕ) (buffer₀ : List ℕ) (at : ℕ) (buffer : List ℕ) (next : ℕ) (left : Backs) (i : ℕ) : Type 0 where
+  pub bytes : Partly (entryBytes l w (placed o (items list))) buffer₀ at buffer next (entriesOf o list l w (itemsFrom list i))
+  pub distances : Distances o (sizeOf (goesOut o) (items list)) (itemsFrom list i) left
+  pub held : Entries l w (placedWith o (sizeOf (goesOut o) (items list)) (itemsFrom list i))
 
-  module _ {buffer : List ℕ} {next back i : ℕ} (m : Midway list l o buffer₀ at buffer next back i) where
+module _ (o : Bool) (list : List ℕ) (l w : ℕ) (buffer₀ : List ℕ) (at : ℕ) where
+  pub midway-start : {left : Backs} → Entries l w (placed o (items list)) → Distances o (sizeOf (goesOut o) (items list)) (items list) left
+      → Midway o list l w buffer₀ at buffer₀ at left 0
+  unfolding placed
+  midway-start held far = record { bytes = partly-start _ buffer₀ at; distances = far; held = held }
+
+  module _ {buffer : List ℕ} {next i : ℕ} {left : Backs} (m : Midway o list l w buffer₀ at buffer next left i) where
     module _ (less : i < length list / 2) where
       from : itemsFrom list i ≡ itemAt list i ∷ itemsFrom list (i + 1)
       from = items-from list i less
 
-      size-from : back ≡ dataSize (itemAt list i ∷ itemsFrom list (i + 1))
-      size-from = m .data-left ∙ ap dataSize from
+      pub midway-distances : Distances o (sizeOf (goesOut o) (items list)) (itemAt list i ∷ itemsFrom list (i + 1)) left
+      midway-distances = subst (λ is. Distances o (sizeOf (goesOut o) (items list)) is left) from (m .distances)
 
-      -- the bytes of its entry, and of those behind it
-      bytes-from : entryBytes l o (placed (itemsFrom list i))
-          ≡ entryOf l o (getD list (2 * i) 0) (getD list (2 * i + 1) 0) back ++ entryBytes l o (placed (itemsFrom list (i + 1)))
-      bytes-from =
-          ap (λ (is : List Item). entryBytes l o (placed is)) from
-          ∙ entry-first (itemAt list i) (itemsFrom list (i + 1)) l o
-          ∙ ap (λ (n : ℕ). entryOf l o (getD list (2 * i) 0) (getD list (2 * i + 1) 0) n ++ entryBytes l o (placed (itemsFrom list (i + 1)))) (sym size-from)
+      held-from : Entries l w (placedWith o (sizeOf (goesOut o) (items list)) (itemAt list i ∷ itemsFrom list (i + 1)))
+      held-from = subst (λ is. Entries l w (placedWith o (sizeOf (goesOut o) (items list)) is)) from (m .held)
 
-      pub midway-entry : Entry l o (getD list (2 * i) 0) (getD list (2 * i + 1) 0) back
-      midway-entry =
-          subst (Entry l o (getD list (2 * i) 0) (getD list (2 * i + 1) 0)) (sym size-from)
-          (entry-held (itemAt list i) (itemsFrom list (i + 1)) l o (subst (Entries l o) from (m .held)))
+      -- the entry of an item whose data lies so far back, and those behind it
+      module _ {n : ℕ} (far : n ≡ back o (sizeOf (goesOut o) (items list)) (itemAt list i) (itemsFrom list (i + 1))) where
+        abbrev entry : List ℕ
+        entry = entryOf l w (getD list (2 * i) 0) (getD list (2 * i + 1) 0) n
 
-      pub midway-data : back ≡ dataOf (getD list (2 * i) 0) (getD list (2 * i + 1) 0) + dataSize (itemsFrom list (i + 1))
-      midway-data = size-from ∙ data-first (itemAt list i) (itemsFrom list (i + 1))
+        bytes-from : Partly (entryBytes l w (placed o (items list))) buffer₀ at buffer next (entry ++ entriesOf o list l w (itemsFrom list (i + 1)))
+        bytes-from =
+            partly-same _ _ _
+            (ap (entriesOf o list l w) from
+            ∙ entry-first o _ (itemAt list i) (itemsFrom list (i + 1)) l w
+            ∙ ap (λ (k : ℕ). entryOf l w (getD list (2 * i) 0) (getD list (2 * i + 1) 0) k ++ entriesOf o list l w (itemsFrom list (i + 1))) (sym far))
+            (m .bytes)
 
-      pub midway-room : at + length (entryBytes l o (placed (items list))) ≤ length buffer₀
-          → next + length (entryOf l o (getD list (2 * i) 0) (getD list (2 * i + 1) 0) back) ≤ length buffer
-      midway-room room =
-          let rest = entryBytes l o (placed (itemsFrom list (i + 1))) in
-          let entry = entryOf l o (getD list (2 * i) 0) (getD list (2 * i + 1) 0) back in
-          let whole : length (m .done) + (length entry + length rest) ≡ length (entryBytes l o (placed (items list))) =
-          ap (λ (n : ℕ). length (m .done) + n) (sym (ap length bytes-from ∙ length-append entry rest))
-          ∙ sym (length-append (m .done) (entryBytes l o (placed (itemsFrom list i))))
-          ∙ ap length (m .all) in
-          omega (arith, m .puts .end, m .puts .put .long)
+        pub midway-entry : Entry l w (getD list (2 * i) 0) (getD list (2 * i + 1) 0) n
+        midway-entry = rw far (entry-held o _ (itemAt list i) (itemsFrom list (i + 1)) l w held-from)
 
-      pub midway-more : {buffer′ : List ℕ} {next′ back′ : ℕ}
-          → Puts buffer next (entryOf l o (getD list (2 * i) 0) (getD list (2 * i + 1) 0) back) buffer′ next′
-          → back′ ≡ back - dataOf (getD list (2 * i) 0) (getD list (2 * i + 1) 0)
-          → Midway list l o buffer₀ at buffer′ next′ back′ (i + 1)
-      midway-more entry less-data =
-          let bytes = entryOf l o (getD list (2 * i) 0) (getD list (2 * i + 1) 0) back in
-          record {
-            done = m .done ++ bytes;
-            puts = puts-more (m .puts) entry;
-            all = append-assoc (m .done) bytes (entryBytes l o (placed (itemsFrom list (i + 1))))
-                ∙ ap (λ (more : List ℕ). m .done ++ more) (sym bytes-from)
-                ∙ m .all;
-            data-left = omega (arith, midway-data);
-            held = entries-rest (itemAt list i) (itemsFrom list (i + 1)) l o (subst (Entries l o) from (m .held));
-          }
+        pub midway-room : at + length (entryBytes l w (placed o (items list))) ≤ length buffer₀ → next + length entry ≤ length buffer
+        midway-room room = partly-room _ _ _ entry _ bytes-from room
 
-    pub midway-end : length list / 2 ≤ i → Puts buffer₀ at (entryBytes l o (placed (items list))) buffer next
-    unfolding placed entryBytes
-    midway-end past =
-        let none : entryBytes l o (placed (itemsFrom list i)) ≡ [] = ap (λ (is : List Item). entryBytes l o (placed is)) (items-none list i past) in
-        puts-same (sym (append-nil (m .done)) ∙ ap (λ (more : List ℕ). m .done ++ more) (sym none) ∙ m .all) (m .puts)
+        pub midway-more : {buffer′ : List ℕ} {next′ : ℕ} {left′ : Backs} → Puts buffer next entry buffer′ next′
+            → Distances o (sizeOf (goesOut o) (items list)) (itemsFrom list (i + 1)) left′
+            → Midway o list l w buffer₀ at buffer′ next′ left′ (i + 1)
+        midway-more puts far-rest =
+            record {
+              bytes = partly-more _ _ _ entry _ bytes-from puts;
+              distances = far-rest;
+              held = entries-rest o _ (itemAt list i) (itemsFrom list (i + 1)) l w held-from;
+            }
+
+    pub midway-end : length list / 2 ≤ i → Puts buffer₀ at (entryBytes l w (placed o (items list))) buffer next
+    unfolding placedWith entryBytes
+    midway-end past = partly-end _ _ _ (partly-same _ _ _ (ap (entriesOf o list l w) (items-none list i past)) (m .bytes))

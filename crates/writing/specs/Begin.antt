@@ -6,8 +6,9 @@ use Rattle.partial.specs.Answers.{writtenAnswer}
 use Rattle.partial.specs.Begin.{beginning, begun}
 use Rattle.partial.specs.Memory.{written}
 use Rattle.partial.specs.declared.answers.Written.{Written}
+use Rattle.partial.specs.declared.brand.Brand.{Brand}
 
--- the answer and the buffer, each by what the two texts and the buffer decide
-pub record Begins (url mime buffer buffer′ : List ℕ) (r : Written) : Type 0 where
-  pub answer : writtenAnswer r ≡ begun buffer url mime
-  pub left : buffer′ ≡ written (beginning url mime) (begun buffer url mime) buffer
+-- the answer and the buffer, each by what the brand, the two texts and the buffer decide
+pub record Begins (brand : Brand) (url mime buffer buffer′ : List ℕ) (r : Written) : Type 0 where
+  pub answer : writtenAnswer r ≡ begun buffer brand url mime
+  pub left : buffer′ ≡ written (beginning brand url mime) (begun buffer brand url mime) buffer

@@ -4,12 +4,12 @@ use mathlib.Core.List.{List, [], _∷_, _++_}
 use Rattle.numerals.specs.Numbers.{bytesOf}
 use Rattle.boxes.specs.Framing.{boxed}
 use Rattle.boxes.specs.Kinds.{ftyp, pfil, pfhd, surl}
-use Rattle.partial.specs.Begin.{versionAndFlags}
-use Rattle.partial.specs.Heading.{paff}
+use Rattle.partial.specs.Begin.{versionAndFlags, brandCode}
+use Rattle.partial.specs.declared.brand.Brand.{Brand}
 
--- major `paff`, minor 0, one brand `paff`
-abbrev pub ftypBox : List ℕ
-ftypBox = boxed (ftyp .code) (bytesOf 4 paff ++ (bytesOf 4 0 ++ bytesOf 4 paff))
+-- the brand as major, minor 0, the brand as the one compatible
+abbrev pub ftypBox : Brand → List ℕ
+ftypBox brand = boxed (ftyp .code) (bytesOf 4 (brandCode brand) ++ (bytesOf 4 0 ++ bytesOf 4 (brandCode brand)))
 
 -- flags 0
 abbrev pub pfhdBox : List ℕ

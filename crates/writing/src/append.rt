@@ -1,50 +1,110 @@
 // Appending a segment to a file in a lent buffer.
+use crate::pdat::put_chosen;
 use crate::pdat::put_pdat;
 use crate::pseg::put_pseg;
 use adding::admission::admission;
+use adding::admission::outside_right;
 use adding::counts::Counts;
 use adding::counts::counts_of;
 use adding::layout::Layout;
 use adding::layout::layout_of;
 use numerals::place::Place;
+use outside::chunks::Outside;
+use outside::chunks::outside_of;
 use partial::answers::Written;
 use partial::header::SegmentHeader;
 use partial::refusals::BUFFER_TOO_SHORT;
 use partial::refusals::CHUNK_LIST_WRONG;
 use partial::refusals::DATA_WRONG;
 use partial::refusals::LENGTH_OVER_BUFFER;
+use partial::refusals::NOT_WHOLE_BOXES;
 use reading::judging::Judged;
 use reading::judging::Judgement;
 use reading::judging::earlier_of;
 ghost use Prim.Native.Nat.{_+_, _≤_};
+ghost use mathlib.Core.Bool.{true};
 ghost use mathlib.Core.Path.{_≡_};
 ghost use lib.ListN.{length, take};
 ghost use Rattle.boxes.specs.Answer.{given};
-ghost use Rattle.partial.specs.Addition.{asks, items};
+ghost use Rattle.partial.specs.Addition.{asks, items, listRight, outsideRight};
 ghost use Rattle.partial.specs.Append.{added};
+ghost use Rattle.partial.specs.Heading.{Heading, heading};
 ghost use Rattle.partial.specs.Limits.{fileLimit};
 ghost use Rattle.heading.specs.Facts.{factsBy};
 ghost use Rattle.reading.specs.Judged.{earlierTold};
-ghost use Rattle.adding.specs.Counts.{Counted};
+ghost use Rattle.adding.specs.Counts.{Sorted};
 ghost use Rattle.adding.specs.Layout.{Laid};
 ghost use Rattle.filling.specs.Rows.{Puts};
 ghost use Rattle.writing.specs.Append.{Fits, Appends};
 
-// Writes all that append adds: the data, then the `pseg`.
+// Writes all that append adds: the `pdat`, if any chunk's data goes there, the chunks outside, and the `pseg`.
 fn put_added(
     buffer: &mut [u8],
     at: Place,
     header: SegmentHeader,
+    outside: bool,
     counts: Counts,
+    stored: Outside,
     layout: Layout,
     list: &[u64],
     bytes: &[u8],
 ) -> Place
-    requires { ⌜ Counted (asks header (now list) (now bytes)) counts × Laid (asks header (now list) (now bytes)) layout × Fits (items (now list)) × (at .0 + length (added (asks header (now list) (now bytes))) ≤ length (now buffer)) × (length (added (asks header (now list) (now bytes))) ≤ fileLimit) ⌝ }
-    ensures { λ r. ⌜ Puts (now (buffer .entry)) (at .0) (added (asks header (now (list .entry)) (now (bytes .entry)))) (now (buffer .exit)) (r .0) ⌝ }
+    requires { ⌜ Sorted (asks header outside (now list) (now bytes)) counts stored × Laid (asks header outside (now list) (now bytes)) layout × Fits (items (now list)) × (at .0 + length (added (asks header outside (now list) (now bytes))) ≤ length (now buffer)) × (length (added (asks header outside (now list) (now bytes))) ≤ fileLimit) ⌝ }
+    ensures { λ r. ⌜ Puts (now (buffer .entry)) (at .0) (added (asks header outside (now (list .entry)) (now (bytes .entry)))) (now (buffer .exit)) (r .0) ⌝ }
 {
-    let pseg = put_pdat(buffer, at, counts.present, bytes);
-    put_pseg(buffer, pseg, header, counts, layout, list)
+    let there = counts.present != stored.chunks;
+    let size = counts.bytes - stored.bytes;
+    let outer = put_pdat(buffer, at, outside, there, size, list, bytes);
+    let pseg = put_chosen(buffer, outer, outside, true, list, bytes);
+    put_pseg(
+        buffer,
+        pseg,
+        header,
+        counts,
+        layout,
+        outside,
+        stored.bytes,
+        list,
+    )
+}
+
+// Appends what is right in itself, if the result is a file and has room.
+fn append_right(
+    buffer: &mut [u8],
+    n: u64,
+    judged: Judged,
+    header: SegmentHeader,
+    outside: bool,
+    counts: Counts,
+    stored: Outside,
+    list: &[u64],
+    bytes: &[u8],
+) -> Written
+    requires { ⌜ (n ≤ length (now buffer)) × (earlierTold (take n (now buffer)) ≡ given (record { facts = factsBy (judged .head); gathered = judged .gathered })) × (listRight (now list) ≡ true) × Sorted (asks header outside (now list) (now bytes)) counts stored × ((h : Heading) → heading (take n (now buffer)) ≡ given h → outsideRight h (asks header outside (now list) (now bytes)) ≡ true) ⌝ }
+    ensures { λ r. ⌜ Appends (now (buffer .entry)) (now (buffer .exit)) n (asks header outside (now (list .entry)) (now (bytes .entry))) r ⌝ }
+{
+    let layout = layout_of(counts, stored, header.offset);
+    match admission(judged, n, header, counts, stored, layout) {
+        Written::Refused(k) => Written::Refused(k),
+        Written::Length(size) => {
+            if (buffer.len() as u64) < size {
+                return Written::Refused(BUFFER_TOO_SHORT);
+            }
+            let at = Place(n);
+            let end = put_added(
+                buffer,
+                at,
+                header,
+                outside,
+                counts,
+                stored,
+                layout,
+                list,
+                bytes,
+            );
+            Written::Length(end.0)
+        }
+    }
 }
 
 // Appends to the file in the first n bytes of the buffer, by what was read of it.
@@ -53,11 +113,12 @@ fn append_to(
     n: u64,
     judged: Judged,
     header: SegmentHeader,
+    outside: bool,
     list: &[u64],
     bytes: &[u8],
 ) -> Written
     requires { ⌜ (n ≤ length (now buffer)) × (earlierTold (take n (now buffer)) ≡ given (record { facts = factsBy (judged .head); gathered = judged .gathered })) ⌝ }
-    ensures { λ r. ⌜ Appends (now (buffer .entry)) (now (buffer .exit)) n (asks header (now (list .entry)) (now (bytes .entry))) r ⌝ }
+    ensures { λ r. ⌜ Appends (now (buffer .entry)) (now (buffer .exit)) n (asks header outside (now (list .entry)) (now (bytes .entry))) r ⌝ }
 {
     if list.len() % 2 != 0 {
         return Written::Refused(CHUNK_LIST_WRONG);
@@ -69,35 +130,41 @@ fn append_to(
     if bytes.len() as u64 != counts.bytes {
         return Written::Refused(DATA_WRONG);
     }
-    let layout = layout_of(counts, header.offset);
-    match admission(judged, n, header, counts, layout) {
-        Written::Refused(k) => Written::Refused(k),
-        Written::Length(size) => {
-            if (buffer.len() as u64) < size {
-                return Written::Refused(BUFFER_TOO_SHORT);
-            }
-            let end = put_added(buffer, Place(n), header, counts, layout, list, bytes);
-            Written::Length(end.0)
-        }
+    let head = judged.head;
+    let stored = outside_of(outside, list, bytes);
+    if !outside_right(head.mixed, stored) {
+        return Written::Refused(NOT_WHOLE_BOXES);
     }
+    append_right(
+        buffer,
+        n,
+        judged,
+        header,
+        outside,
+        counts,
+        stored,
+        list,
+        bytes,
+    )
 }
 
-// Appends a segment to the file in the first bytes of the buffer: one `pdat` with the data, if any chunk is present, and a `pseg`. Answers the new
-// length; after a refusal the buffer is as it was.
+// Appends a segment to the file in the first bytes of the buffer: the data of its chunks, the good ones outside `pdat` or all in one, and a `pseg`.
+// Answers the new length; after a refusal the buffer is as it was.
 pub fn append(
     buffer: &mut [u8],
     length: u64,
     header: SegmentHeader,
+    outside: bool,
     list: &[u64],
     data: &[u8],
 ) -> Written
-    ensures { λ r. ⌜ Appends (now (buffer .entry)) (now (buffer .exit)) length (asks header (now (list .entry)) (now («data» .entry))) r ⌝ }
+    ensures { λ r. ⌜ Appends (now (buffer .entry)) (now (buffer .exit)) length (asks header outside (now (list .entry)) (now («data» .entry))) r ⌝ }
 {
     if (buffer.len() as u64) < length {
         return Written::Refused(LENGTH_OVER_BUFFER);
     }
     match earlier_of(&buffer[..length as usize]) {
         Judgement::Refused(n) => Written::Refused(n),
-        Judgement::Given(judged) => append_to(buffer, length, judged, header, list, data),
+        Judgement::Given(judged) => append_to(buffer, length, judged, header, outside, list, data),
     }
 }

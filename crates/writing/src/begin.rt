@@ -6,6 +6,7 @@ use crate::pfil::put_pfil;
 use crate::texts::is_text;
 use numerals::place::Place;
 use partial::answers::Written;
+use partial::brand::Brand;
 use partial::limits::FILE_LIMIT;
 use partial::refusals::BUFFER_TOO_SHORT;
 use partial::refusals::FILE_TOO_LONG;
@@ -16,6 +17,7 @@ ghost use mathlib.Core.Path.{_≡_};
 ghost use lib.ListN.{length};
 ghost use Rattle.partial.specs.Begin.{beginning};
 ghost use Rattle.partial.specs.Limits.{fileLimit};
+ghost use Rattle.partial.specs.declared.brand.Brand.{Brand};
 ghost use Rattle.writing.specs.Begin.{Begins};
 
 // The bytes of a file with two empty texts.
@@ -23,7 +25,7 @@ const EMPTY_SIZE: u64 = FTYP_SIZE + PFIL_SIZE;
 
 // The bytes of a file whose texts have so many, or one more than a file may have: past that the sum might wrap.
 fn size_with(texts: u64) -> u64
-    ensures { λ r. ⌜ r ≡ min (length (beginning [] []) + texts) (fileLimit + 1) ⌝ }
+    ensures { λ r. ⌜ ((brand : Brand) → r ≡ min (length (beginning brand [] []) + texts) (fileLimit + 1)) ⌝ }
 {
     if FILE_LIMIT - EMPTY_SIZE < texts {
         FILE_LIMIT + 1
@@ -32,9 +34,9 @@ fn size_with(texts: u64) -> u64
     }
 }
 
-// Begins a file: `ftyp`, then `pfil` holding `pfhd` and one `surl`. Answers its length; after a refusal the buffer is as it was.
-pub fn begin(buffer: &mut [u8], url: &[u8], mime: &[u8]) -> Written
-    ensures { λ r. ⌜ Begins (now (url .entry)) (now (mime .entry)) (now (buffer .entry)) (now (buffer .exit)) r ⌝ }
+// Begins a file: `ftyp` with the brand, then `pfil` holding `pfhd` and one `surl`. Answers its length; after a refusal the buffer is as it was.
+pub fn begin(buffer: &mut [u8], brand: Brand, url: &[u8], mime: &[u8]) -> Written
+    ensures { λ r. ⌜ Begins brand (now (url .entry)) (now (mime .entry)) (now (buffer .entry)) (now (buffer .exit)) r ⌝ }
 {
     if !is_text(url) {
         return Written::Refused(ZERO_IN_TEXT);
@@ -49,7 +51,7 @@ pub fn begin(buffer: &mut [u8], url: &[u8], mime: &[u8]) -> Written
     if (buffer.len() as u64) < size {
         return Written::Refused(BUFFER_TOO_SHORT);
     }
-    let pfil = put_ftyp(buffer, Place(0));
+    let pfil = put_ftyp(buffer, Place(0), brand);
     let end = put_pfil(buffer, pfil, url, mime);
     Written::Length(end.0)
 }

@@ -4,9 +4,13 @@ use crate::puts::put_front;
 use boxes::framing::FRONT_SIZE;
 use boxes::kinds::FTYP;
 use numerals::place::Place;
+use partial::brand::Brand;
 use partial::brand::PAFF;
+use partial::brand::PMFF;
 ghost use Prim.Native.Nat.{_+_, _≤_};
+ghost use mathlib.Core.Path.{_≡_};
 ghost use lib.ListN.{length};
+ghost use Rattle.partial.specs.Begin.{brandCode};
 ghost use Rattle.writing.specs.Boxes.{ftypBox};
 ghost use Rattle.filling.specs.Rows.{Puts};
 
@@ -16,13 +20,24 @@ const FTYP_BODY: u64 = 12;
 // The bytes of the box.
 pub(crate) const FTYP_SIZE: u64 = FRONT_SIZE + FTYP_BODY;
 
-// Writes `ftyp`: major `paff`, minor 0, one brand `paff`.
-pub(crate) fn put_ftyp(buffer: &mut [u8], at: Place) -> Place
-    requires { ⌜ at .0 + length ftypBox ≤ length (now buffer) ⌝ }
-    ensures { λ r. ⌜ Puts (now (buffer .entry)) (at .0) ftypBox (now (buffer .exit)) (r .0) ⌝ }
+// The four bytes of a brand, as one number.
+fn code_of(brand: Brand) -> u64
+    ensures { λ r. ⌜ r ≡ brandCode brand ⌝ }
 {
+    match brand {
+        Brand::Paff => PAFF,
+        Brand::Pmff => PMFF,
+    }
+}
+
+// Writes `ftyp`: the brand as major, minor 0, the brand as the one compatible.
+pub(crate) fn put_ftyp(buffer: &mut [u8], at: Place, brand: Brand) -> Place
+    requires { ⌜ at .0 + length (ftypBox brand) ≤ length (now buffer) ⌝ }
+    ensures { λ r. ⌜ Puts (now (buffer .entry)) (at .0) (ftypBox brand) (now (buffer .exit)) (r .0) ⌝ }
+{
+    let code = code_of(brand);
     let major = put_front(buffer, at, FTYP.code, FTYP_BODY);
-    let minor = put_field(buffer, major, 4, PAFF);
-    let brand = put_field(buffer, minor, 4, 0);
-    put_field(buffer, brand, 4, PAFF)
+    let minor = put_field(buffer, major, 4, code);
+    let compatible = put_field(buffer, minor, 4, 0);
+    put_field(buffer, compatible, 4, code)
 }

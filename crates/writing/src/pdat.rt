@@ -1,22 +1,73 @@
-// The `pdat` box, as it is written.
+// The data of an addition, as it is written: the `pdat` with what goes there, and the chunks outside.
 use crate::puts::put_bytes;
 use crate::puts::put_front;
 use boxes::kinds::PDAT;
+use fields::state::present;
 use numerals::place::Place;
-ghost use Prim.Native.Nat.{_+_, _≤_};
+use outside::items::end_of;
+use outside::items::goes_out;
+ghost use Prim.Native.Nat.{ℕ, _+_, _≤_};
+ghost use mathlib.Core.Path.{_≡_};
 ghost use lib.ListN.{length};
+ghost use Rattle.partial.specs.Addition.{items, dataFor, goesIn};
 ghost use Rattle.partial.specs.Limits.{fileLimit};
 ghost use Rattle.filling.specs.Rows.{Puts};
-ghost use Rattle.writing.specs.Append.{dataPart};
+ghost use Rattle.writing.specs.Append.{chosen, dataPart};
 
-// Writes the data in one `pdat` where any chunk is present, and else nothing.
-pub(crate) fn put_pdat(buffer: &mut [u8], at: Place, present: u64, bytes: &[u8]) -> Place
-    requires { ⌜ (at .0 + length (dataPart present (now bytes)) ≤ length (now buffer)) × (length (dataPart present (now bytes)) ≤ fileLimit) ⌝ }
-    ensures { λ r. ⌜ Puts (now (buffer .entry)) (at .0) (dataPart present (now (bytes .entry))) (now (buffer .exit)) (r .0) ⌝ }
+// Whether an item's data is among what goes outside, or else among what goes into `pdat`.
+fn is_chosen(outside: bool, out: bool, state: u64) -> bool
+    ensures { λ r. ⌜ ((size : ℕ) → r ≡ chosen outside out (record { size = size; state = state })) ⌝ }
 {
-    if present == 0 {
+    if goes_out(outside, state) {
+        return out;
+    }
+    if out { false } else { present(state) }
+}
+
+// Copies what goes outside, or else what goes into `pdat`, out of the data of all in chunk order: each chunk in one block copy.
+pub(crate) fn put_chosen(
+    buffer: &mut [u8],
+    at: Place,
+    outside: bool,
+    out: bool,
+    list: &[u64],
+    bytes: &[u8],
+) -> Place
+    requires { ⌜ at .0 + length (dataFor (chosen outside out) (items (now list)) (now bytes)) ≤ length (now buffer) ⌝ }
+    ensures { λ r. ⌜ Puts (now (buffer .entry)) (at .0) (dataFor (chosen outside out) (items (now (list .entry))) (now (bytes .entry))) (now (buffer .exit)) (r .0) ⌝ }
+{
+    let mut next = at;
+    let mut from = 0;
+    let mut i = 0;
+    while i < list.len() / 2 {
+        let size = list[2 * i];
+        let state = list[2 * i + 1];
+        let end = end_of(from, size, state, bytes.len());
+        if is_chosen(outside, out, state) {
+            next = put_bytes(buffer, next, &bytes[from..end]);
+        }
+        from = end;
+        i += 1;
+    }
+    next
+}
+
+// Writes the `pdat`, where there is one, with the data that goes there, so many bytes.
+pub(crate) fn put_pdat(
+    buffer: &mut [u8],
+    at: Place,
+    outside: bool,
+    there: bool,
+    size: u64,
+    list: &[u64],
+    bytes: &[u8],
+) -> Place
+    requires { ⌜ (size ≡ length (dataFor (goesIn outside) (items (now list)) (now bytes))) × (at .0 + length (dataPart outside there (now list) (now bytes)) ≤ length (now buffer)) × (length (dataPart outside there (now list) (now bytes)) ≤ fileLimit) ⌝ }
+    ensures { λ r. ⌜ Puts (now (buffer .entry)) (at .0) (dataPart outside there (now (list .entry)) (now (bytes .entry))) (now (buffer .exit)) (r .0) ⌝ }
+{
+    if !there {
         return at;
     }
-    let body = put_front(buffer, at, PDAT.code, bytes.len() as u64);
-    put_bytes(buffer, body, bytes)
+    let body = put_front(buffer, at, PDAT.code, size);
+    put_chosen(buffer, body, outside, false, list, bytes)
 }

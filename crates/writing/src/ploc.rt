@@ -10,16 +10,19 @@ use fields::state::GOOD;
 use fields::state::LOST;
 use fields::state::present;
 use numerals::place::Place;
-ghost use Prim.Native.Nat.{_+_, _≤_};
+use outside::items::data_of;
+use outside::items::goes_out;
+ghost use Prim.Native.Nat.{ℕ, _+_, _≤_};
+ghost use mathlib.Core.List.{List, _∷_};
 ghost use mathlib.Core.Path.{_≡_};
 ghost use lib.ListN.{length};
-ghost use Rattle.partial.specs.Addition.{items, dataSize};
-ghost use Rattle.partial.specs.Append.{placed, flagByte, entryBytes};
+ghost use Rattle.partial.specs.Addition.{Item, items, sizeOf, goesOut};
+ghost use Rattle.partial.specs.Append.{back, placed, placedWith, flagByte, entryBytes};
 ghost use Rattle.partial.specs.Limits.{fileLimit};
 ghost use Rattle.adding.specs.Counts.{Whole};
 ghost use Rattle.adding.specs.Layout.{PlocLaid};
 ghost use Rattle.filling.specs.Rows.{Puts};
-ghost use Rattle.writing.specs.Append.{dataOf, Entry, entryOf, Entries, Fits, plocBox};
+ghost use Rattle.writing.specs.Append.{Entry, entryOf, Entries, Distances, Fits, plocBox};
 
 // The flags of a chunk: bit corrupted, bit present, six zero bits.
 fn flags_of(state: u64) -> u64
@@ -32,13 +35,6 @@ fn flags_of(state: u64) -> u64
         return 0xc0;
     }
     if state == LOST { 0x80 } else { 0 }
-}
-
-// How many bytes of data an item has.
-fn data_of(size: u64, state: u64) -> u64
-    ensures { λ r. ⌜ r ≡ dataOf size state ⌝ }
-{
-    if present(state) { size } else { 0 }
 }
 
 // Two widths: of the sizes and of the offsets.
@@ -67,34 +63,82 @@ fn put_entry(
     put_back(buffer, next, widths.offset, back)
 }
 
-// Writes the entries of a chunk list with so many bytes of data: those of each item lie before the `pseg` with all that follow them.
-fn put_entries(buffer: &mut [u8], at: Place, widths: Widths, bytes: u64, list: &[u64]) -> Place
-    requires { ⌜ Entries (widths .size) (widths .offset) (items (now list)) × (bytes ≡ dataSize (items (now list))) × (at .0 + length (entryBytes (widths .size) (widths .offset) (placed (items (now list)))) ≤ length (now buffer)) ⌝ }
-    ensures { λ r. ⌜ Puts (now (buffer .entry)) (at .0) (entryBytes (widths .size) (widths .offset) (placed (items (now (list .entry))))) (now (buffer .exit)) (r .0) ⌝ }
+// How far before the `pseg` the next data lies: in `pdat`, and outside.
+struct Backs {
+    inside: u64,
+    outside: u64,
+}
+
+impl Backs {
+    // Of the next item, where the good ones go outside or do not.
+    fn of(self, outside: bool, state: u64) -> u64
+        ensures { λ r. ⌜ ((out size : ℕ) (is : List Item) → Distances outside out (record { size = size; state = state } ∷ is) self → r ≡ back outside out (record { size = size; state = state }) is) ⌝ }
+    {
+        if goes_out(outside, state) {
+            self.outside
+        } else {
+            self.inside
+        }
+    }
+
+    // Past that item.
+    fn past(self, outside: bool, size: u64, state: u64) -> Self
+        requires { ⌜ ((out : ℕ) × (is : List Item) × Distances outside out (record { size = size; state = state } ∷ is) self) ⌝ }
+        ensures { λ r. ⌜ ((out : ℕ) (is : List Item) → Distances outside out (record { size = size; state = state } ∷ is) self → Distances outside out is r) ⌝ }
+    {
+        let n = data_of(size, state);
+        if goes_out(outside, state) {
+            Backs {
+                inside: self.inside,
+                outside: self.outside - n,
+            }
+        } else {
+            Backs {
+                inside: self.inside - n,
+                outside: self.outside,
+            }
+        }
+    }
+}
+
+// Writes the entries of a chunk list: the data of each item lies before the `pseg` with all that follows it in `pdat` or outside.
+fn put_entries(
+    buffer: &mut [u8],
+    at: Place,
+    widths: Widths,
+    outside: bool,
+    backs: Backs,
+    list: &[u64],
+) -> Place
+    requires { ⌜ Entries (widths .size) (widths .offset) (placed outside (items (now list))) × Distances outside (sizeOf (goesOut outside) (items (now list))) (items (now list)) backs × (at .0 + length (entryBytes (widths .size) (widths .offset) (placed outside (items (now list)))) ≤ length (now buffer)) ⌝ }
+    ensures { λ r. ⌜ Puts (now (buffer .entry)) (at .0) (entryBytes (widths .size) (widths .offset) (placed outside (items (now (list .entry))))) (now (buffer .exit)) (r .0) ⌝ }
 {
     let mut next = at;
-    let mut back = bytes;
+    let mut left = backs;
     let mut i = 0;
     while i < list.len() / 2 {
         let size = list[2 * i];
         let state = list[2 * i + 1];
+        let back = left.of(outside, state);
         next = put_entry(buffer, next, widths, size, state, back);
-        back -= data_of(size, state);
+        left = left.past(outside, size, state);
         i += 1;
     }
     next
 }
 
-// Writes `ploc`: version 0, flags 0, the two widths, data reference index 0, the chunk count, the entries.
+// Writes `ploc`: version 0, flags 0, the two widths, data reference index 0, the chunk count, the entries. So many bytes stand outside.
 pub(crate) fn put_ploc(
     buffer: &mut [u8],
     at: Place,
     counts: Counts,
     layout: Layout,
+    outside: bool,
+    out: u64,
     list: &[u64],
 ) -> Place
-    requires { ⌜ Whole (items (now list)) counts × PlocLaid (items (now list)) layout × Fits (items (now list)) × (at .0 + length (plocBox (now list)) ≤ length (now buffer)) × (length (plocBox (now list)) ≤ fileLimit) ⌝ }
-    ensures { λ r. ⌜ Puts (now (buffer .entry)) (at .0) (plocBox (now (list .entry))) (now (buffer .exit)) (r .0) ⌝ }
+    requires { ⌜ Whole (items (now list)) counts × PlocLaid outside (items (now list)) layout × Fits (items (now list)) × (out ≡ sizeOf (goesOut outside) (items (now list))) × (at .0 + length (plocBox outside (now list)) ≤ length (now buffer)) × (length (plocBox outside (now list)) ≤ fileLimit) ⌝ }
+    ensures { λ r. ⌜ Puts (now (buffer .entry)) (at .0) (plocBox outside (now (list .entry))) (now (buffer .exit)) (r .0) ⌝ }
 {
     let size = layout.length_size;
     let offset = layout.offset_size;
@@ -103,5 +147,10 @@ pub(crate) fn put_ploc(
     let index = put_field(buffer, widths, 1, (size * 16 + offset) as u64);
     let count = put_field(buffer, index, 2, 0);
     let entries = put_field(buffer, count, 2, counts.items);
-    put_entries(buffer, entries, Widths { size, offset }, counts.bytes, list)
+    let widths = Widths { size, offset };
+    let backs = Backs {
+        inside: counts.bytes,
+        outside: out,
+    };
+    put_entries(buffer, entries, widths, outside, backs, list)
 }

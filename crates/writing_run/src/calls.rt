@@ -1,10 +1,11 @@
-// The calls of a run. A begin is three numbers of two bytes, 0 and the lengths of the URL and of the MIME text, and the two texts. An append is 1, how
-// many numbers of its chunk list are given, and the length of its data; then five numbers of eight bytes, the stated length of the file, source
-// offset, repair time, flags, and the length of the list; then those numbers and the data.
+// The calls of a run. A begin is four numbers of two bytes, 0, the brand (0 is `paff`, 1 `pmff`) and the lengths of the URL and of the MIME text, and the two
+// texts. An append is 1, whether its good chunks go outside (1 where they do), how many numbers of its chunk list are given, and the length of its data; then
+// five numbers of eight bytes, the stated length of the file, source offset, repair time, flags, and the length of the list; then those numbers and the data.
 use crate::list;
 use crate::report;
 use libc::STDIN_FILENO;
 use partial::answers::Written;
+use partial::brand::Brand;
 use partial::header::SegmentHeader;
 use partial::position::Position;
 use printing::records::eight;
@@ -25,19 +26,27 @@ pub fn all(buffer: &mut [u8], list: &mut [u64], bytes: &mut [u8], count: usize, 
 
 // Makes the next call, and prints its answer. The length of the file after it.
 fn call(buffer: &mut [u8], list: &mut [u64], bytes: &mut [u8], length: u64) -> u64 {
-    let mut front = [0u8; 6];
+    let mut front = [0u8; 8];
     io::read_full(STDIN_FILENO, &mut front);
-    let first = pair(front[2], front[3]);
-    let second = pair(front[4], front[5]);
+    let mixed = pair(front[2], front[3]) != 0;
+    let first = pair(front[4], front[5]);
+    let second = pair(front[6], front[7]);
     if pair(front[0], front[1]) == 0 {
-        begins(buffer, bytes, first, second, length)
+        begins(buffer, bytes, mixed, first, second, length)
     } else {
-        appends(buffer, list, bytes, first, second, length)
+        appends(buffer, list, bytes, mixed, first, second, length)
     }
 }
 
 // A call for which there is no room, here and below, is not made.
-fn begins(buffer: &mut [u8], bytes: &mut [u8], url: usize, mime: usize, length: u64) -> u64 {
+fn begins(
+    buffer: &mut [u8],
+    bytes: &mut [u8],
+    mixed: bool,
+    url: usize,
+    mime: usize,
+    length: u64,
+) -> u64 {
     if url > bytes.len() {
         return length;
     }
@@ -46,7 +55,8 @@ fn begins(buffer: &mut [u8], bytes: &mut [u8], url: usize, mime: usize, length: 
     }
     let end = url + mime;
     io::read_full(STDIN_FILENO, &mut bytes[0..end]);
-    let answer = begin(buffer, &bytes[0..url], &bytes[url..end]);
+    let brand = if mixed { Brand::Pmff } else { Brand::Paff };
+    let answer = begin(buffer, brand, &bytes[0..url], &bytes[url..end]);
     report::written(b"begin", buffer, 0, answer);
     after(answer, length)
 }
@@ -55,6 +65,7 @@ fn appends(
     buffer: &mut [u8],
     list: &mut [u64],
     bytes: &mut [u8],
+    outside: bool,
     given: usize,
     size: usize,
     length: u64,
@@ -72,7 +83,7 @@ fn appends(
     list::fill(list, given);
     let data = &mut bytes[0..size];
     io::read_full(STDIN_FILENO, data);
-    let answer = append(buffer, stated, header, list, data);
+    let answer = append(buffer, stated, header, outside, list, data);
     report::written(b"append", buffer, stated, answer);
     after(answer, length)
 }

@@ -55,6 +55,14 @@ module _ {A : Type 0} where
   all-append test [] ys = refl
   all-append test (x ∷ xs) ys = ap (λ b. test x && b) (all-append test xs ys) ∙ sym (and-assoc (test x) (allOf test xs) (allOf test ys))
 
+  -- none passes a test where all pass one that rules it out
+  pub none-by : (test other : A → Bool) → ((x : A) → other x ≡ true → test x ≡ false) → (xs : List A) → allOf other xs ≡ true → someOf test xs ≡ false
+  unfolding someOf allOf
+  none-by test other out [] all = refl
+  none-by test other out (x ∷ xs) all =
+      let (here, there) = both (other x) (allOf other xs) all in
+      rw (out x here) (none-by test other out xs there)
+
   -- by number
   pub some-at : (test : A → Bool) (d : A) (xs : List A) → someOf test xs ≡ true → (k : ℕ) × (k < length xs) × (test (getD xs k d) ≡ true)
   unfolding someOf

@@ -16,12 +16,12 @@ use Rattle.boxes.specs.declared.kinds.Container.{Container}
 use Rattle.boxes.specs.declared.kinds.Container.the-variants.{Pfil, File}
 use Rattle.boxes.proofs.AnswerLaws.{both-given, held, given-same}
 use Rattle.boxes.proofs.HeaderLaws.{moved}
-use Rattle.boxes.proofs.ContainerLaws.{boxes-kept, boxes-appended, boxes-standing}
+use Rattle.boxes.proofs.ContainerLaws.{Filled, boxes-kept, boxes-appended, boxes-standing}
 use Rattle.numerals.proofs.NumberLaws.{number-append}
 use Rattle.boxes.proofs.KindLaws.{boxAt-getD, is-there, firstOf-those, those-nth, right-one, boxAt-first, right-append}
 use Rattle.partial.specs.Limits.{fileLimit}
 use Rattle.partial.specs.Sequences.{allOf, stretch}
-use Rattle.partial.specs.Heading.{ftypRight, brandsFrom, brands, brandRight, pfilRight, pfhdFormed, pfhdRight, text, url, mime}
+use Rattle.partial.specs.Heading.{ftypRight, brandsFrom, brands, branded, pmff, brandRight, pfilRight, pfhdFormed, pfhdRight, text, url, mime}
 use Rattle.partial.specs.Heading.{surlFormed, surlRight, Heading, heading, fileBoxes, judged}
 use Rattle.partial.proofs.Meaning.SequenceLaws.{both, all-by, all-at}
 
@@ -144,6 +144,7 @@ pub record Headed (f : List ℕ) (h : Heading) : Type 0 where
   pub inner : boxesIn Pfil f (boxAt 1 (h .boxes) .body) (boxAt 1 (h .boxes) .end) ≡ given (h .inner)
   pub pfhd : pfhdRight f (h .inner) ≡ true
   pub surl : surlRight f (h .inner) ≡ true
+  pub mixed : h .mixed ≡ branded pmff f (h .boxes)
 
 module _ (f : List ℕ) (h : Heading) where
   pub headed : heading f ≡ given h → Headed f h
@@ -158,15 +159,15 @@ module _ (f : List ℕ) (h : Heading) where
       let (pfhd, e10) = held 10 (pfhdRight f is) _ e6 in
       let (surl, e11) = held 11 (surlRight f is) _ e10 in
       subst (Headed f) (given-same e11)
-      (record { small = small; boxes = boxes; ftyp = ftyp; brand = brand; pfil = pfil; inner = inner; pfhd = pfhd; surl = surl })
+      (record { small = small; boxes = boxes; ftyp = ftyp; brand = brand; pfil = pfil; inner = inner; pfhd = pfhd; surl = surl; mixed = refl })
 
   pub heading-of : Headed f h → heading f ≡ given h
   unfolding heading fileBoxes judged
-  heading-of t = rw (t .small, t .boxes, t .ftyp, t .brand, t .pfil, t .inner, t .pfhd, t .surl)
+  heading-of t = rw (t .small, t .boxes, t .ftyp, t .brand, t .pfil, t .inner, t .pfhd, t .surl, ← (t .mixed))
 
 -- a heading with more boxes behind the file's
 abbrev pub withBoxes : Heading → List Box → Heading
-withBoxes h more = record { boxes = h .boxes ++ more; inner = h .inner }
+withBoxes h more = record { boxes = h .boxes ++ more; inner = h .inner; mixed = h .mixed }
 
 -- stages 1 to 11 of a file with more behind it
 module _ (f g : List ℕ) (h : Heading) (cs : List Box) where
@@ -184,12 +185,12 @@ module _ (f g : List ℕ) (h : Heading) (cs : List Box) where
   pfil-second t = is-there pfil (lit< tt) 1 (h .boxes) (both (is pfil (boxAt 1 (h .boxes))) (right File pfil (h .boxes)) (t .pfil) .0)
 
   pub headed-appended : Headed f h → length (f ++ g) ≤ fileLimit
-      → boxesIn File g 0 (length g) ≡ given cs
+      → Filled g (length g) 0 cs
       → length (h .boxes) + length cs ≤ boxLimit
       → those ftyp (map (moved (length f)) cs) ≡ []
       → those pfil (map (moved (length f)) cs) ≡ []
       → Headed (f ++ g) (withBoxes h (map (moved (length f)) cs))
-  unfolding ftypRight brandRight pfilRight
+  unfolding ftypRight branded brandRight pfilRight
   headed-appended t fits new few no-ftyp no-pfil =
       let bs = h .boxes in
       let ds = map (moved (length f)) cs in
@@ -209,4 +210,5 @@ module _ (f g : List ℕ) (h : Heading) (cs : List Box) where
         inner = rw (boxAt-first bs ds 1 second) (boxes-kept f g (boxAt 1 bs .end) end-second Pfil (boxAt 1 bs .body) ∙ t .inner);
         pfhd = pfhdRight-kept f g (h .inner) (t .pfhd) inner-lie;
         surl = surlRight-kept f g (h .inner) (t .surl) inner-lie;
+        mixed = t .mixed ∙ rw (boxAt-first bs ds 0 first, brand-kept f g (boxAt 0 bs) room end-first);
       }

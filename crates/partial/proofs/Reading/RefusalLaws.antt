@@ -28,8 +28,9 @@ use Rattle.partial.specs.Meaning.{agree, knownSize}
 use Rattle.partial.specs.Reading.{pshdFields, pshdRight, segment, segmentsFrom, segments, reading, admitted, earlierSegments}
 use Rattle.partial.specs.Memory.{fits, after, textWritten}
 use Rattle.partial.specs.Tables.{segmentRows, chunkRows, hadRows, missingRows, tabled, listed, asked, textOf, bytesIn, nowhere}
+use Rattle.partial.specs.declared.brand.Brand.{Brand}
 use Rattle.partial.specs.Begin.{beginning, isText, begun}
-use Rattle.partial.specs.Addition.{Addition, listRight, dataRight}
+use Rattle.partial.specs.Addition.{Addition, listRight, dataRight, outsideRight}
 use Rattle.partial.specs.Append.{addedBoxes, newSegment, added, appended, admission, psegPlace}
 use Rattle.partial.specs.Runs.{lent, sizeAfter, append}
 use Rattle.partial.specs.Demands.{Demand1, Takes}
@@ -220,7 +221,7 @@ module _ (limit : ℕ) where
       (λ ss. only-held OfReading 26 (fits (hadRows ss) h && fits (missingRows ss) m) _ tt (only-given OfReading ss))
 
   abbrev OfAddition : ℕ → Type 0
-  OfAddition n = OfFile n ⊎ T (someOf (eqb n) (30 ∷ 31 ∷ 32 ∷ 33 ∷ []))
+  OfAddition n = OfFile n ⊎ T (someOf (eqb n) (30 ∷ 31 ∷ 32 ∷ 33 ∷ 35 ∷ []))
 
   early-added : (n : ℕ) → T (within 1 11 n) → OfAddition n
   early-added n t = inl (early-file n t)
@@ -251,16 +252,17 @@ module _ (limit : ℕ) where
       (λ ss.
       only-held OfAddition 31 (listRight (a .list)) _ (inr tt)
       (only-held OfAddition 32 (dataRight a) _ (inr tt)
+      (only-held OfAddition 35 (outsideRight h a) _ (inr tt)
       (only-then OfAddition (admission limit h ss n a) _ (admission-only h ss n a)
-      (λ _. only-held OfAddition 33 (leb size (length buffer)) _ (inr tt) (only-given OfAddition size)))))))
+      (λ _. only-held OfAddition 33 (leb size (length buffer)) _ (inr tt) (only-given OfAddition size))))))))
 
 abbrev OfBegin : ℕ → Type 0
 OfBegin n = T (someOf (eqb n) (34 ∷ 1 ∷ 33 ∷ []))
 
-begun-only : (buffer u m : List ℕ) → Only OfBegin (begun buffer u m)
+begun-only : (buffer : List ℕ) (brand : Brand) (u m : List ℕ) → Only OfBegin (begun buffer brand u m)
 unfolding begun someOf
-begun-only buffer u m =
-    let n = length (beginning u m) in
+begun-only buffer brand u m =
+    let n = length (beginning brand u m) in
     only-held OfBegin 34 (isText u && isText m) _ tt
     (only-held OfBegin 1 (leb n fileLimit) _ tt (only-held OfBegin 33 (leb n (length buffer)) _ tt (only-given OfBegin n)))
 
@@ -298,7 +300,7 @@ demand1 limit =
       textsEmpty = text-empty limit;
       tablesKept = λ rows f a b. memory-kept rows (tabled limit f a b);
       listsKept = λ rows f a b h m. memory-kept rows (listed limit f a b h m);
-      beginKept = λ buffer u m. memory-kept (λ _. beginning u m) (begun buffer u m) buffer;
+      beginKept = λ buffer brand u m. memory-kept (λ _. beginning brand u m) (begun buffer brand u m) buffer;
       appendKept = append-kept limit;
       textKept = λ text buffer. memory-kept (λ _. text) (textWritten text buffer) buffer;
     }

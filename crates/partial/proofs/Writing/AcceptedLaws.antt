@@ -80,7 +80,13 @@ pub accepts : (limit : ℕ) (buffer : List ℕ) (n : ℕ) (a : Addition) (h : He
     → appended limit buffer n a ≡ given (n + length (added a))
 unfolding fileIn
 accepts limit buffer n a h ss fits head read right room =
-    let offered : Offered limit (take n buffer) h ss a = record { headed = head; before = read; list = passes _ (right .list); carried = passes _ (right .bytes) } in
+    let offered : Offered limit (take n buffer) h ss a = record {
+      headed = head;
+      before = read;
+      list = passes _ (right .list);
+      carried = passes _ (right .bytes);
+      outside = passes _ (right .outside);
+    } in
     let ok : Admits limit h ss n a = record {
       small = right .small;
       boxes = right .boxes;

@@ -1,8 +1,8 @@
 -- A file just begun has a heading and no segment, so that append takes it.
-use Prim.Native.Nat.{ℕ, zero, suc, _+_, _-_, _≤_, _<_, _/_, _%_}
-use mathlib.Core.Bool.{true, not, _&&_}
+use Prim.Native.Nat.{ℕ, zero, suc, _+_, _-_, _≤_, _<_, _/_, _%_, _^_}
+use mathlib.Core.Bool.{Bool, true, not, _&&_, _||_, or-false}
 use mathlib.Core.List.{List, [], _∷_, _++_}
-use mathlib.Core.Path.{_≡_, refl, ap, _∙_}
+use mathlib.Core.Path.{_≡_, refl, sym, ap, _∙_}
 use native.Mathlib.Nat.{add-assoc, zero-add, add-zero}
 use native.Mathlib.Numerals.{add-one}
 use native.Mathlib.Omega.{arith}
@@ -21,12 +21,14 @@ use Rattle.boxes.proofs.BoxedLaws.{boxedAt, length-boxed, boxed-stand}
 use Rattle.boxes.proofs.KindLaws.{some-right, firstOf-those, one-right, is-eqb, boxAt-getD, first-is}
 use Rattle.partial.specs.Limits.{fileLimit}
 use Rattle.partial.specs.Sequences.{someOf, allOf, stretch}
-use Rattle.partial.specs.Heading.{Heading, paff, ftypRight, brandsFrom, brands, brandRight, pfilRight, pfhdFormed, pfhdRight, text}
-use Rattle.partial.specs.Heading.{url, mime, surlFormed, surlRight}
+use Rattle.partial.specs.Heading.{Heading, paff, pmff, ftypRight, brandsFrom, brands, branded, brandRight, pfilRight, pfhdFormed}
+use Rattle.partial.specs.Heading.{pfhdRight, text, url, mime, surlFormed, surlRight}
 use Rattle.partial.specs.Meaning.{knownSize, agree}
 use Rattle.partial.specs.Reading.{segmentsFrom, segments, earlierSegments}
 use Rattle.partial.specs.Memory.{after, filled}
-use Rattle.partial.specs.Begin.{versionAndFlags, beginning, isText, begun}
+use Rattle.partial.specs.declared.brand.Brand.{Brand}
+use Rattle.partial.specs.declared.brand.Brand.the-variants.{Paff, Pmff}
+use Rattle.partial.specs.Begin.{versionAndFlags, brandCode, beginning, isText, begun}
 use Rattle.partial.specs.Runs.{lent, fileIn, sizeAfter, begin}
 use Rattle.partial.proofs.Meaning.SequenceLaws.{both, passes}
 use Rattle.partial.proofs.Writing.StandsLaws.{Stands, stands-behind, stands-head, stands-tail, stands-left, stands-right}
@@ -91,10 +93,26 @@ module _ (u m : List ℕ) where
           mime-back,
         ) (eq-eqb (b .body + 4 + length u + 1 + length m + 1) (b .end) (omega arith))
 
+-- a brand fits its four bytes
+brand-fits : (brand : Brand) → brandCode brand < 256 ^ 4
+unfolding brandCode
+brand-fits Paff = lit< tt
+brand-fits Pmff = lit< tt
+
+-- whether a file begun with it is mixed
+abbrev pub isMixed : Brand → Bool
+isMixed brand = eqb pmff (brandCode brand)
+
+-- a brand is one of the two
+either-brand : (brand : Brand) → eqb paff (brandCode brand) || isMixed brand ≡ true
+unfolding brandCode
+either-brand Paff = refl
+either-brand Pmff = refl
+
 -- the heading of a file just begun
-module _ (u m : List ℕ) where
+module _ (brand : Brand) (u m : List ℕ) where
   abbrev brandBody : List ℕ
-  brandBody = bytesOf 4 paff ++ (bytesOf 4 0 ++ bytesOf 4 paff)
+  brandBody = bytesOf 4 (brandCode brand) ++ (bytesOf 4 0 ++ bytesOf 4 (brandCode brand))
 
   abbrev fileBody : List ℕ
   fileBody = boxed (pfhd .code) versionAndFlags ++ boxed (surl .code) (sourceBody u m)
@@ -116,59 +134,59 @@ module _ (u m : List ℕ) where
   sourceBox = boxedAt (filePlace + (frontSize + length versionAndFlags)) (surl .code) (length (sourceBody u m))
 
   abbrev pub begunHeading : Heading
-  begunHeading = record { boxes = brandBox ∷ fileBox ∷ []; inner = plainBox ∷ sourceBox ∷ [] }
+  begunHeading = record { boxes = brandBox ∷ fileBox ∷ []; inner = plainBox ∷ sourceBox ∷ []; mixed = isMixed brand }
 
-  stands-all : Stands (beginning u m) 0 (boxed (ftyp .code) brandBody ++ boxed (pfil .code) fileBody)
+  stands-all : Stands (beginning brand u m) 0 (boxed (ftyp .code) brandBody ++ boxed (pfil .code) fileBody)
   unfolding beginning
-  stands-all = stands-behind [] (beginning u m)
+  stands-all = stands-behind [] (beginning brand u m)
 
-  stands-brand : Stands (beginning u m) (0 + frontSize) brandBody
-  stands-brand = stands-two (beginning u m) 0 (ftyp .code) (pfil .code) brandBody fileBody stands-all .0
+  stands-brand : Stands (beginning brand u m) (0 + frontSize) brandBody
+  stands-brand = stands-two (beginning brand u m) 0 (ftyp .code) (pfil .code) brandBody fileBody stands-all .0
 
-  stands-file : Stands (beginning u m) filePlace fileBody
-  stands-file = stands-two (beginning u m) 0 (ftyp .code) (pfil .code) brandBody fileBody stands-all .1
+  stands-file : Stands (beginning brand u m) filePlace fileBody
+  stands-file = stands-two (beginning brand u m) 0 (ftyp .code) (pfil .code) brandBody fileBody stands-all .1
 
-  begun-boxes : length (beginning u m) ≤ fileLimit → boxesIn File (beginning u m) 0 (length (beginning u m)) ≡ given (begunHeading .boxes)
+  begun-boxes : length (beginning brand u m) ≤ fileLimit → boxesIn File (beginning brand u m) 0 (length (beginning brand u m)) ≡ given (begunHeading .boxes)
   unfolding beginning
   begun-boxes small =
-      rw (zero-add (length (beginning u m))) at
-      (boxed-stand File (ftyp .code) (pfil .code) brandBody fileBody (lit< tt) (lit< tt) refl refl (omega arith) (beginning u m) 0 stands-all)
+      rw (zero-add (length (beginning brand u m))) at
+      (boxed-stand File (ftyp .code) (pfil .code) brandBody fileBody (lit< tt) (lit< tt) refl refl (omega arith) (beginning brand u m) 0 stands-all)
 
-  begun-inner : length (beginning u m) ≤ fileLimit → boxesIn Pfil (beginning u m) (fileBox .body) (fileBox .end) ≡ given (begunHeading .inner)
+  begun-inner : length (beginning brand u m) ≤ fileLimit → boxesIn Pfil (beginning brand u m) (fileBox .body) (fileBox .end) ≡ given (begunHeading .inner)
   unfolding beginning
   begun-inner small =
       let long = length-append (boxed (ftyp .code) brandBody) (boxed (pfil .code) fileBody) in
       let long-file = length-boxed (pfil .code) fileBody in
       rw (add-assoc (0 + (frontSize + length brandBody)) frontSize (length fileBody)) at
-      (boxed-stand Pfil (pfhd .code) (surl .code) versionAndFlags (sourceBody u m) (lit< tt) (lit< tt) refl refl (omega arith) (beginning u m) filePlace stands-file)
+      (boxed-stand Pfil (pfhd .code) (surl .code) versionAndFlags (sourceBody u m) (lit< tt) (lit< tt) refl refl (omega arith) (beginning brand u m) filePlace stands-file)
 
-  pub source-stands : Stands (beginning u m) (sourceBox .body) (sourceBody u m)
-  source-stands = stands-two (beginning u m) filePlace (pfhd .code) (surl .code) versionAndFlags (sourceBody u m) stands-file .1
+  pub source-stands : Stands (beginning brand u m) (sourceBox .body) (sourceBody u m)
+  source-stands = stands-two (beginning brand u m) filePlace (pfhd .code) (surl .code) versionAndFlags (sourceBody u m) stands-file .1
 
   pub source-ends : sourceBox .body + length (sourceBody u m) ≡ sourceBox .end
   source-ends = add-assoc (filePlace + (frontSize + length versionAndFlags)) frontSize (length (sourceBody u m))
 
-  pub source-inside : sourceBox .end ≤ length (beginning u m)
+  pub source-inside : sourceBox .end ≤ length (beginning brand u m)
   unfolding beginning
   source-inside = simp (length-append, length-boxed) (omega arith)
 
   only-source : those surl (begunHeading .inner) ≡ sourceBox ∷ []
   only-source = only-second surl plainBox sourceBox (is-eqb surl plainBox) (is-eqb surl sourceBox)
 
-  begun-surl : isText u ≡ true → isText m ≡ true → surlRight (beginning u m) (begunHeading .inner) ≡ true
+  begun-surl : isText u ≡ true → isText m ≡ true → surlRight (beginning brand u m) (begunHeading .inner) ≡ true
   unfolding surlRight allOf
   begun-surl plain-url plain-mime =
       let some-source = some-right surl (begunHeading .inner) refl (rw only-source (omega arith)) in
-      rw (some-source, only-source, surl-back u m (beginning u m) sourceBox source-stands source-ends plain-url plain-mime)
+      rw (some-source, only-source, surl-back u m (beginning brand u m) sourceBox source-stands source-ends plain-url plain-mime)
 
   pub first-source : firstOf surl (begunHeading .inner) ≡ sourceBox
   first-source = firstOf-those surl (begunHeading .inner) ∙ ap (boxAt 0) only-source ∙ boxAt-getD 0 (sourceBox ∷ [])
 
-  pub begun-url : isText u ≡ true → isText m ≡ true → url (beginning u m) sourceBox ≡ record { place = sourceBox .body + 4; size = length u }
-  begun-url plain-url plain-mime = url-back u m (beginning u m) sourceBox source-stands source-ends plain-url plain-mime
+  pub begun-url : isText u ≡ true → isText m ≡ true → url (beginning brand u m) sourceBox ≡ record { place = sourceBox .body + 4; size = length u }
+  begun-url plain-url plain-mime = url-back u m (beginning brand u m) sourceBox source-stands source-ends plain-url plain-mime
 
-  pub begun-mime : isText u ≡ true → isText m ≡ true → mime (beginning u m) sourceBox ≡ record { place = sourceBox .body + 4 + length u + 1; size = length m }
-  begun-mime plain-url plain-mime = mime-back u m (beginning u m) sourceBox source-stands source-ends plain-url plain-mime
+  pub begun-mime : isText u ≡ true → isText m ≡ true → mime (beginning brand u m) sourceBox ≡ record { place = sourceBox .body + 4 + length u + 1; size = length m }
+  begun-mime plain-url plain-mime = mime-back u m (beginning brand u m) sourceBox source-stands source-ends plain-url plain-mime
 
   brand-long : length brandBody ≡ 12
   brand-long = simp (length-append, length-bytesOf) (omega arith)
@@ -186,16 +204,22 @@ module _ (u m : List ℕ) where
         one,
       )
 
-  -- one brand, `paff`
-  begun-brand : brandRight (beginning u m) (begunHeading .boxes) ≡ true
-  unfolding brandRight brands brandsFrom someOf
-  begun-brand =
+  -- one brand, the one that it is begun with
+  begun-branded : (other : ℕ) → branded other (beginning brand u m) (begunHeading .boxes) ≡ eqb other (brandCode brand)
+  unfolding branded brands brandsFrom someOf
+  begun-branded other =
       let long = brand-long in
       let many : (0 + (frontSize + length brandBody) - (0 + frontSize) - 8) / 4 ≡ 1 = omega arith in
-      let minor : Stands (beginning u m) (0 + frontSize + 4) (bytesOf 4 0 ++ bytesOf 4 paff) = rw length-bytesOf at (stands-right (beginning u m) (0 + frontSize) (bytesOf 4 paff) (bytesOf 4 0 ++ bytesOf 4 paff) stands-brand) in
-      let third = rw (length-bytesOf 4 0) at (stands-right (beginning u m) (0 + frontSize + 4) (bytesOf 4 0) (bytesOf 4 paff) minor) in
+      let code = bytesOf 4 (brandCode brand) in
+      let minor : Stands (beginning brand u m) (0 + frontSize + 4) (bytesOf 4 0 ++ code) = rw length-bytesOf at (stands-right (beginning brand u m) (0 + frontSize) code (bytesOf 4 0 ++ code) stands-brand) in
+      let third = rw (length-bytesOf 4 0) at (stands-right (beginning brand u m) (0 + frontSize + 4) (bytesOf 4 0) code minor) in
       let eight : 0 + frontSize + 4 + 4 ≡ 0 + frontSize + 8 = omega arith in
-      rw (first-box ftyp brandBox fileBox, many) (rw (stands-number (beginning u m) (0 + frontSize + 8) 4 paff (lit< tt) (rw eight at third)))
+      rw (first-box ftyp brandBox fileBox, many)
+      (rw (stands-number (beginning brand u m) (0 + frontSize + 8) 4 (brandCode brand) (brand-fits brand) (rw eight at third)) (or-false (eqb other (brandCode brand))))
+
+  begun-brand : brandRight (beginning brand u m) (begunHeading .boxes) ≡ true
+  unfolding brandRight
+  begun-brand = rw (begun-branded paff, begun-branded pmff) (either-brand brand)
 
   begun-pfil : pfilRight (begunHeading .boxes) ≡ true
   unfolding pfilRight
@@ -203,20 +227,20 @@ module _ (u m : List ℕ) where
       let one = one-right pfil (begunHeading .boxes) refl (ap length (only-second pfil brandBox fileBox (is-eqb pfil brandBox) (is-eqb pfil fileBox))) in
       rw (second-box pfil brandBox fileBox, is-eqb pfil fileBox, one)
 
-  begun-pfhd : pfhdRight (beginning u m) (begunHeading .inner) ≡ true
+  begun-pfhd : pfhdRight (beginning brand u m) (begunHeading .inner) ≡ true
   unfolding pfhdRight pfhdFormed
   begun-pfhd =
       let one = one-right pfhd (begunHeading .inner) refl (ap length (only-first pfhd plainBox sourceBox (is-eqb pfhd plainBox) (is-eqb pfhd sourceBox))) in
       let first = first-is pfhd (lit< tt) (begunHeading .inner) (rw (first-box pfhd plainBox sourceBox) (is-eqb pfhd plainBox)) ∙ first-box pfhd plainBox sourceBox in
       let long = length-bytesOf 4 0 in
-      let plain = stands-two (beginning u m) filePlace (pfhd .code) (surl .code) versionAndFlags (sourceBody u m) stands-file .0 in
-      let zero-byte : number (beginning u m) (plainBox .body) 1 ≡ 0 = number-byte (beginning u m) (plainBox .body) ∙ rw add-zero at (plain 0 (rw long (omega arith))) ∙ bytesOf-zero 4 0 in
+      let plain = stands-two (beginning brand u m) filePlace (pfhd .code) (surl .code) versionAndFlags (sourceBody u m) stands-file .0 in
+      let zero-byte : number (beginning brand u m) (plainBox .body) 1 ≡ 0 = number-byte (beginning brand u m) (plainBox .body) ∙ rw add-zero at (plain 0 (rw long (omega arith))) ∙ bytesOf-zero 4 0 in
       rw (one, first, eq-eqb (filePlace + frontSize + 4) (filePlace + (frontSize + length versionAndFlags)) (omega arith), zero-byte)
 
-  pub begun-headed : length (beginning u m) ≤ fileLimit → isText u ≡ true → isText m ≡ true → Headed (beginning u m) begunHeading
+  pub begun-headed : length (beginning brand u m) ≤ fileLimit → isText u ≡ true → isText m ≡ true → Headed (beginning brand u m) begunHeading
   begun-headed small plain-url plain-mime =
       record {
-        small = le-leb (length (beginning u m)) fileLimit small;
+        small = le-leb (length (beginning brand u m)) fileLimit small;
         boxes = begun-boxes small;
         ftyp = begun-ftyp;
         brand = begun-brand;
@@ -224,47 +248,48 @@ module _ (u m : List ℕ) where
         inner = rw (second-box pfil brandBox fileBox) (begun-inner small);
         pfhd = begun-pfhd;
         surl = begun-surl plain-url plain-mime;
+        mixed = sym (begun-branded pmff);
       }
 
   -- and no segment
-  pub begun-segments : (limit : ℕ) → segments limit (beginning u m) begunHeading ≡ given []
+  pub begun-segments : (limit : ℕ) → segments limit (beginning brand u m) begunHeading ≡ given []
   unfolding segments segmentsFrom agree knownSize
   begun-segments limit = rw (neither pseg brandBox fileBox (is-eqb pseg brandBox) (is-eqb pseg fileBox))
 
-  begun-taken : (limit : ℕ) → length (beginning u m) ≤ fileLimit → isText u ≡ true → isText m ≡ true → earlierSegments limit (beginning u m) ≡ given []
+  begun-taken : (limit : ℕ) → length (beginning brand u m) ≤ fileLimit → isText u ≡ true → isText m ≡ true → earlierSegments limit (beginning brand u m) ≡ given []
   unfolding earlierSegments
-  begun-taken limit small plain-url plain-mime = rw (heading-of (beginning u m) begunHeading (begun-headed small plain-url plain-mime)) (begun-segments limit)
+  begun-taken limit small plain-url plain-mime = rw (heading-of (beginning brand u m) begunHeading (begun-headed small plain-url plain-mime)) (begun-segments limit)
 
 -- what begin accepts, and the file that it leaves
-module _ (buffer u m : List ℕ) where
-  pub begin-given : (n : ℕ) → begun buffer u m ≡ given n
-      → (isText u ≡ true) × (isText m ≡ true) × (length (beginning u m) ≤ fileLimit) × (fileIn (begin buffer u m) ≡ beginning u m)
+module _ (buffer : List ℕ) (brand : Brand) (u m : List ℕ) where
+  pub begin-given : (n : ℕ) → begun buffer brand u m ≡ given n
+      → (isText u ≡ true) × (isText m ≡ true) × (length (beginning brand u m) ≤ fileLimit) × (fileIn (begin buffer brand u m) ≡ beginning brand u m)
   unfolding begun begin fileIn sizeAfter after filled
   begin-given n e =
-      let whole : ℕ = length (beginning u m) in
+      let whole : ℕ = length (beginning brand u m) in
       let (plain, e1) = held 34 (isText u && isText m) _ e in
       let (small, e2) = held 1 (leb whole fileLimit) _ e1 in
       let (room, e3) = held 33 (leb whole (length buffer)) _ e2 in
       let (plain-url, plain-mime) = both (isText u) (isText m) plain in
-      (plain-url, plain-mime, leb-true whole fileLimit small, rw (e, take-at (beginning u m) (drop whole buffer) n (given-same e3)))
+      (plain-url, plain-mime, leb-true whole fileLimit small, rw (e, take-at (beginning brand u m) (drop whole buffer) n (given-same e3)))
 
-  pub begin-fits : isText u ≡ true → isText m ≡ true → length (beginning u m) ≤ fileLimit → length (beginning u m) ≤ length buffer
-      → begin buffer u m ≡ lent (filled (beginning u m) buffer) (length (beginning u m))
+  pub begin-fits : isText u ≡ true → isText m ≡ true → length (beginning brand u m) ≤ fileLimit → length (beginning brand u m) ≤ length buffer
+      → begin buffer brand u m ≡ lent (filled (beginning brand u m) buffer) (length (beginning brand u m))
   unfolding begun begin sizeAfter after
   begin-fits plain-url plain-mime small room =
-      let whole : ℕ = length (beginning u m) in
+      let whole : ℕ = length (beginning brand u m) in
       rw (plain-url, plain-mime, le-leb whole fileLimit small, le-leb whole (length buffer) room)
 
 -- a beginning with two texts, within the limit and the buffer, is given its length
-pub begins : (buffer u m : List ℕ) → T (isText u) → T (isText m) → length (beginning u m) ≤ fileLimit → length (beginning u m) ≤ length buffer
-    → begun buffer u m ≡ given (length (beginning u m))
+pub begins : (buffer : List ℕ) (brand : Brand) (u m : List ℕ) → T (isText u) → T (isText m) → length (beginning brand u m) ≤ fileLimit → length (beginning brand u m) ≤ length buffer
+    → begun buffer brand u m ≡ given (length (beginning brand u m))
 unfolding begun
-begins buffer u m plain-url plain-mime small room =
-    let whole : ℕ = length (beginning u m) in
+begins buffer brand u m plain-url plain-mime small room =
+    let whole : ℕ = length (beginning brand u m) in
     rw (passes (isText u) plain-url, passes (isText m) plain-mime, le-leb whole fileLimit small, le-leb whole (length buffer) room)
 
 -- one just begun serves nothing and has described length 0
-pub just-begun : (limit : ℕ) (buffer u m : List ℕ) (n : ℕ) → begun buffer u m ≡ given n → earlierSegments limit (fileIn (begin buffer u m)) ≡ given []
-just-begun limit buffer u m n e =
-    let (plain-url, plain-mime, small, file) = begin-given buffer u m n e in
-    rw file (begun-taken u m limit small plain-url plain-mime)
+pub just-begun : (limit : ℕ) (buffer : List ℕ) (brand : Brand) (u m : List ℕ) (n : ℕ) → begun buffer brand u m ≡ given n → earlierSegments limit (fileIn (begin buffer brand u m)) ≡ given []
+just-begun limit buffer brand u m n e =
+    let (plain-url, plain-mime, small, file) = begin-given buffer brand u m n e in
+    rw file (begun-taken brand u m limit small plain-url plain-mime)

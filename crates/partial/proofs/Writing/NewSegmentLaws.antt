@@ -20,15 +20,15 @@ use Rattle.partial.specs.Limits.{chunkLimit}
 use Rattle.partial.specs.Sequences.{allOf, sum}
 use Rattle.partial.specs.Segments.{Segment, endOf, chunksOf}
 use Rattle.partial.specs.Heading.{Heading}
-use Rattle.partial.specs.Entries.{mayLie}
 use Rattle.partial.specs.Reading.{pshdRight, segment, pshdFields}
-use Rattle.partial.specs.Addition.{items, Addition, flagsFor, dataSize, dataRight}
-use Rattle.partial.specs.Append.{dataBox, plocBody, pshdBody, added, newChunks, newSegment, Placed, placed, psegBody, psegPlace}
-use Rattle.partial.proofs.Writing.PlacedLaws.{formed, sizes-placed, length-placed, placed-tell, offsets-eight}
+use Rattle.partial.specs.Addition.{items, Addition, flagsFor, sizeOf, dataSize, dataRight, goesOut}
+use Rattle.partial.specs.Append.{stored, plocBody, pshdBody, added, newChunks, newSegment, Placed, placed, psegBody, psegPlace}
+use Rattle.partial.proofs.Writing.DataLaws.{sizes-split}
+use Rattle.partial.proofs.Writing.PlacedLaws.{formed, sizes-placed, length-placed, OutLie, placed-tell, offsets-eight}
 use Rattle.partial.proofs.Writing.StandsLaws.{Stands, stands-behind, stands-right}
 use Rattle.partial.proofs.Writing.EntriesBackLaws.{chunks-back}
 use Rattle.partial.proofs.Writing.FieldsBackLaws.{fields-back, plocOf, head-back, sizes-held, offsets-held}
-use Rattle.partial.proofs.Writing.AddedBoxesLaws.{data-low}
+use Rattle.partial.proofs.Writing.AddedBoxesLaws.{data-low, InLie}
 use Rattle.partial.proofs.Writing.BoxesStandLaws.{stands-body, stands-two, only-second, first-box, only-first, neither}
 
 -- the new chunks are as many as the items, and as long
@@ -45,17 +45,17 @@ sizes-chunks at start (p ∷ ps) = ap (λ (ns : List ℕ). p .size ∷ ns) (size
 module _ (at : ℕ) (a : Addition) where
   pub length-new : length (newSegment at a .chunks) ≡ length (items (a .list))
   unfolding newSegment
-  length-new = length-chunks at (a .sourceOffset) (placed (items (a .list))) ∙ length-placed (items (a .list))
+  length-new = length-chunks at (a .sourceOffset) (placed (a .outside) (items (a .list))) ∙ length-placed (a .outside) (items (a .list))
 
   pub end-new : endOf (newSegment at a) ≡ a .sourceOffset + sum (map (λ i. i .size) (items (a .list)))
   unfolding newSegment endOf
-  end-new = rw (sizes-chunks at (a .sourceOffset) (placed (items (a .list))), sizes-placed (items (a .list)))
+  end-new = rw (sizes-chunks at (a .sourceOffset) (placed (a .outside) (items (a .list))), sizes-placed (a .outside) (items (a .list)))
 
 -- what the fields of an addition have to be for its bytes to say them
 pub record Sayable (a : Addition) : Type 0 where
   pub offset : a .sourceOffset < 2 ^ 64
   pub time : a .repairTime < 2 ^ 64
-  pub sizes : allOf (λ p. holds 8 (p .size)) (placed (items (a .list))) ≡ true
+  pub sizes : allOf (λ p. holds 8 (p .size)) (placed (a .outside) (items (a .list))) ≡ true
   pub count : length (items (a .list)) < 2 ^ 16
 
 -- the segment of a `pseg` box at a place, whose body stands there and before which its data lies
@@ -64,7 +64,7 @@ module _ (limit : ℕ) (g : List ℕ) (h : Heading) (before : List Segment) (a :
   headerBox = boxedAt (at + frontSize) (pshd .code) (length (pshdBody a))
 
   abbrev locationBox : Box
-  locationBox = boxedAt (at + frontSize + (frontSize + length (pshdBody a))) (ploc .code) (length (plocBody (placed (items (a .list)))))
+  locationBox = boxedAt (at + frontSize + (frontSize + length (pshdBody a))) (ploc .code) (length (plocBody (placed (a .outside) (items (a .list)))))
 
   abbrev inners : List Box
   inners = headerBox ∷ locationBox ∷ []
@@ -95,14 +95,16 @@ module _ (limit : ℕ) (g : List ℕ) (h : Heading) (before : List Segment) (a :
       → Stands g (at + frontSize) (psegBody a)
       → dataSize (items (a .list)) ≤ at
       → dataSize (items (a .list)) < 2 ^ 63
-      → ((state place size : ℕ) → 0 < size → at ≤ place + dataSize (items (a .list)) → place + size ≤ at → mayLie h state place size ≡ true)
+      → InLie h at a
+      → OutLie h at (a .outside) (items (a .list))
       → segment limit g h before (boxedAt at (pseg .code) (length (psegBody a)))
       ≡ (hold 22 (leb (length (chunksOf before) + length (newSegment at a .chunks)) chunkLimit)
       >>= λ _. hold 23 (leb (endOf (newSegment at a)) limit) >>= λ _. given (newSegment at a))
-  unfolding segment newSegment psegBody
-  segment-at says listed small stands data-low data-small lie =
+  unfolding segment newSegment psegBody placed
+  segment-at says listed small stands data-low data-small lie outer =
       let list = items (a .list) in
-      let ps = placed list in
+      let ps = placed (a .outside) list in
+      let all = sizes-split (a .outside) list in
       let here : ℕ = at + frontSize in
       let second : ℕ = here + (frontSize + length (pshdBody a)) in
       let total : ℕ = a .sourceOffset + sum (map (λ p. p .size) ps) in
@@ -115,9 +117,10 @@ module _ (limit : ℕ) (g : List ℕ) (h : Heading) (before : List Segment) (a :
       let long : here + (frontSize + length (pshdBody a)) - (here + frontSize) ≡ length (pshdBody a) = omega arith in
       let right-header = header-right (rw fields whole) in
       let chunks = chunks-back limit g h at (plocOf locationBox ps) ps (record { at = second + frontSize + 9; start = a .sourceOffset }) stands-entries ends
-      (placed-tell h at list listed data-low lie) (sizes-held ps (says .sizes)) (offsets-held ps (offsets-eight list data-small)) in
-      let sizes = sizes-placed list in
-      let count = length-placed list in
+      (placed-tell h at (a .outside) (sizeOf (goesOut (a .outside)) list) list listed (omega arith) (omega arith) lie outer) (sizes-held ps (says .sizes))
+      (offsets-held ps (offsets-eight (a .outside) list data-small)) in
+      let sizes = sizes-placed (a .outside) list in
+      let count = length-placed (a .outside) list in
       rw (length-new at a, end-new at a, ← sizes, ← count)
       (elim (decLe (a .sourceOffset) limit) [
         | yes low ↦
@@ -129,7 +132,7 @@ module _ (limit : ℕ) (g : List ℕ) (h : Heading) (before : List Segment) (a :
       ])
     where
       both-tests : (few low : Bool)
-          → (hold 22 few >>= λ _. hold 23 low >>= (λ _. given (newChunks at (a .sourceOffset) (placed (items (a .list))))) >>= λ cs. given (record {
+          → (hold 22 few >>= λ _. hold 23 low >>= (λ _. given (newChunks at (a .sourceOffset) (placed (a .outside) (items (a .list))))) >>= λ cs. given (record {
             place = at;
             sourceOffset = a .sourceOffset;
             flags = flagsFor (a .last);
@@ -151,18 +154,15 @@ pub new-segment : (limit : ℕ) (f : List ℕ) (h : Heading) (before : List Segm
     → length (psegBody a) < 2 ^ 32
     → dataRight a ≡ true
     → dataSize (items (a .list)) < 2 ^ 63
-    → ((state place size : ℕ)
-    → 0 < size
-    → psegPlace (length f) a ≤ place + dataSize (items (a .list))
-    → place + size ≤ psegPlace (length f) a
-    → mayLie h state place size ≡ true)
+    → InLie h (psegPlace (length f) a) a
+    → OutLie h (psegPlace (length f) a) (a .outside) (items (a .list))
     → segment limit (f ++ added a) h before (boxedAt (psegPlace (length f) a) (pseg .code) (length (psegBody a)))
     ≡ (hold 22 (leb (length (chunksOf before) + length (newSegment (psegPlace (length f) a) a .chunks)) chunkLimit)
     >>= λ _. hold 23 (leb (endOf (newSegment (psegPlace (length f) a) a)) limit) >>= λ _. given (newSegment (psegPlace (length f) a) a))
 unfolding added psegPlace
-new-segment limit f h before a says listed small right data-small lie =
-    let at : ℕ = length f + length (dataBox a) in
+new-segment limit f h before a says listed small right data-small lie outer =
+    let at : ℕ = length f + length (stored a) in
     let g = f ++ added a in
-    let stands : Stands g at (boxed (pseg .code) (psegBody a)) = stands-right g (length f) (dataBox a) (boxed (pseg .code) (psegBody a)) (stands-behind f (added a)) in
+    let stands : Stands g at (boxed (pseg .code) (psegBody a)) = stands-right g (length f) (stored a) (boxed (pseg .code) (psegBody a)) (stands-behind f (added a)) in
     let stands-seg = stands-body g at (pseg .code) (psegBody a) stands in
-    segment-at limit g h before a at says listed small stands-seg (omega (arith, data-low a right)) data-small lie
+    segment-at limit g h before a at says listed small stands-seg (omega (arith, data-low a right)) data-small lie outer

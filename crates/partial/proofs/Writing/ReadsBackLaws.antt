@@ -1,5 +1,5 @@
 -- A segment that append adds reads back: the longer file has the segments of the file before and then the new one.
-use Prim.Native.Nat.{ℕ, _+_, _%_, _^_, _≤_, _<_}
+use Prim.Native.Nat.{ℕ, _+_, _^_, _≤_, _<_}
 use mathlib.Core.Bool.{Bool, true, false}
 use mathlib.Core.List.{List, [], _∷_, _++_, map}
 use mathlib.Core.Path.{_≡_, refl, sym, ap, _∙_}
@@ -12,30 +12,30 @@ use lib.ListN.{length, take, drop, length-append}
 use lib.Seq.{length-take-le, take-at}
 use Rattle.boxes.specs.Answer.{refused, given, _>>=_, hold}
 use Rattle.boxes.specs.Framing.{Box, boxLimit}
-use Rattle.boxes.specs.Kinds.{ftyp, pfil, pseg, right, those, pdat}
+use Rattle.boxes.specs.Kinds.{ftyp, pfil, pseg, pdat, is, right, those}
 use Rattle.boxes.specs.declared.kinds.Container.the-variants.{File}
 use Rattle.boxes.specs.declared.kinds.Kind.{Kind}
 use Rattle.boxes.proofs.AnswerLaws.{both-given, held, given-same}
 use Rattle.boxes.proofs.KindLaws.{those-append, those-one, is-eqb, some-right, those-nil, those-other}
-use Rattle.boxes.proofs.BoxedLaws.{boxedAt}
-use Rattle.boxes.proofs.ContainerLaws.{boxes-crowded}
+use Rattle.boxes.proofs.ContainerLaws.{Filled, boxes-filled, boxes-crowded}
 use Rattle.partial.specs.Limits.{fileLimit, segmentLimit, chunkLimit}
-use Rattle.partial.specs.Sequences.{allOf, sum}
+use Rattle.partial.specs.Sequences.{sum}
 use Rattle.partial.specs.Segments.{Segment, endOf, chunksOf}
 use Rattle.partial.specs.Heading.{Heading, heading, fileBoxes}
+use Rattle.partial.specs.Mixed.{allowed}
 use Rattle.partial.specs.Meaning.{agree}
 use Rattle.partial.specs.Reading.{segment, segmentsFrom, segments, reading, earlierSegments, admitted}
 use Rattle.partial.specs.Memory.{after, filled}
-use Rattle.partial.specs.Addition.{items, Addition, listRight, dataRight}
-use Rattle.partial.specs.Append.{addedBoxes, added, newSegment, appended, result, admission, psegPlace, psegBody, placed}
+use Rattle.partial.specs.Addition.{items, Addition, listRight, dataRight, outsideRight}
+use Rattle.partial.specs.Append.{addedBoxes, added, newSegment, appended, result, admission, psegPlace, placed}
 use Rattle.partial.specs.Runs.{lent, fileIn, sizeAfter, append}
-use Rattle.partial.proofs.Writing.PlacedLaws.{formed, sizes-placed}
-use Rattle.partial.proofs.Meaning.SequenceLaws.{both}
+use Rattle.partial.proofs.Writing.PlacedLaws.{list-formed, sizes-placed}
 use Rattle.partial.proofs.Reading.HeadingAppendLaws.{headed, heading-of, headed-appended, lies, boxes-lie, those-all, withBoxes}
 use Rattle.partial.proofs.Reading.KeptLaws.{segments-kept}
 use Rattle.partial.proofs.Writing.FieldsBackLaws.{sizes-eight}
-use Rattle.partial.proofs.Writing.AddedBoxesLaws.{newBoxes, addedList, boxes-added, added-moved, those-new, data-low, length-added}
-use Rattle.partial.proofs.Writing.AddedBoxesLaws.{added-many, lie-longer, lie-new}
+use Rattle.partial.proofs.Writing.WholeLaws.{allowed-other, filled-row, row-starts}
+use Rattle.partial.proofs.Writing.AddedBoxesLaws.{segmentBox, newBoxes, boxes-added, added-moved, those-new, data-low, length-added}
+use Rattle.partial.proofs.Writing.AddedBoxesLaws.{added-many, lie-longer, lie-new, out-lie}
 use Rattle.partial.proofs.Writing.NewSegmentLaws.{Sayable, length-new, new-segment, end-new}
 
 -- segments are read box by box
@@ -62,6 +62,7 @@ pub record Offered (limit : ℕ) (f : List ℕ) (h : Heading) (ss : List Segment
   pub before : segments limit f h ≡ given ss
   pub list : listRight (a .list) ≡ true
   pub carried : dataRight a ≡ true
+  pub outside : outsideRight h a ≡ true
 
 -- and one that is admitted
 pub record Taken (limit : ℕ) (f : List ℕ) (h : Heading) (ss : List Segment) (a : Addition) : Type 0 where
@@ -126,16 +127,17 @@ taken limit buffer n a size ss before e =
     let same : ts ≡ ss = given-same (sym earlier ∙ again) in
     let (list, e4) = held 31 (listRight (a .list)) _ e3 in
     let (carried, e5) = held 32 (dataRight a) _ e4 in
-    let (us, admitted-there, e6) = both-given (admission limit h ts n a) _ e5 in
-    let (room, e7) = held 33 (leb (n + length (added a)) (length buffer)) _ e6 in
+    let (outer, e6) = held 35 (outsideRight h a) _ e5 in
+    let (us, admitted-there, e7) = both-given (admission limit h ts n a) _ e6 in
+    let (room, e8) = held 33 (leb (n + length (added a)) (length buffer)) _ e7 in
     let long : length f ≡ n = length-take-le n buffer (leb-true n (length buffer) lent-enough) in (
       h,
       record {
-        offered = record { headed = head; before = again; list = list; carried = carried };
+        offered = record { headed = head; before = again; list = list; carried = carried; outside = outer };
         admits = rw (long, ← same) (admission-of limit h ts n a (admits limit h ts n a {ts = us} admitted-there .0));
       },
       sym long,
-      sym (given-same e7),
+      sym (given-same e8),
     )
 
 -- the segments of a file that append takes are those of its heading
@@ -162,39 +164,44 @@ module _ (limit : ℕ) (f : List ℕ) (h : Heading) (ss : List Segment) (a : Add
   grownHeading = withBoxes h (newBoxes (length f) a)
 
   abbrev newBox : Box
-  newBox = boxedAt (psegPlace (length f) a) (pseg .code) (length (psegBody a))
+  newBox = segmentBox (length f) a
 
   -- of the new boxes the last alone is a `pseg`
   new-psegs : those pseg (newBox ∷ []) ≡ newBox ∷ []
   new-psegs = those-one pseg newBox [] (is-eqb pseg newBox) ∙ ap (λ (bs : List Box). newBox ∷ bs) (those-nil pseg)
 
-  psegs-added : those pseg (grownHeading .boxes) ≡ those pseg (h .boxes) ++ (newBox ∷ [])
-  psegs-added =
-      those-append pseg (h .boxes) (newBoxes (length f) a)
-      ∙ ap (λ (bs : List Box). those pseg (h .boxes) ++ bs) (those-new a (length f) pseg refl ∙ new-psegs)
-
-  -- and none of them is of a kind that the file has once
-  none-new : (k : Kind) → eqb (pdat .code) (k .code) ≡ false → eqb (pseg .code) (k .code) ≡ false → those k (newBoxes (length f) a) ≡ []
-  none-new k no-data no-segment = those-new a (length f) k no-data ∙ those-other k newBox [] (is-eqb k newBox ∙ no-segment) ∙ those-nil k
-
-  pseg-there : right File pseg (grownHeading .boxes) ≡ true
-  pseg-there =
-      let long = length-append (those pseg (h .boxes)) (newBox ∷ []) in
-      some-right pseg (grownHeading .boxes) refl (rw psegs-added (omega arith))
-
   module _ (t : Offered limit f h ss a) where
+    psegs-added : those pseg (grownHeading .boxes) ≡ those pseg (h .boxes) ++ (newBox ∷ [])
+    psegs-added =
+        those-append pseg (h .boxes) (newBoxes (length f) a)
+        ∙ ap (λ (bs : List Box). those pseg (h .boxes) ++ bs) (those-new h a (t .list) (t .carried) (t .outside) (length f) pseg refl (λ b free. allowed-other b free .2) ∙ new-psegs)
+
+    -- and none of them is of a kind that the file has once
+    none-new : (k : Kind) → eqb (pdat .code) (k .code) ≡ false → eqb (pseg .code) (k .code) ≡ false → ((b : Box) → allowed b ≡ true → is k b ≡ false)
+        → those k (newBoxes (length f) a) ≡ []
+    none-new k no-data no-segment free =
+        those-new h a (t .list) (t .carried) (t .outside) (length f) k no-data free ∙ those-other k newBox [] (is-eqb k newBox ∙ no-segment) ∙ those-nil k
+
+    pseg-there : right File pseg (grownHeading .boxes) ≡ true
+    pseg-there =
+        let long = length-append (those pseg (h .boxes)) (newBox ∷ []) in
+        some-right pseg (grownHeading .boxes) refl (rw psegs-added (omega arith))
+
     heading-large : fileLimit < length f + length (added a) → heading (f ++ added a) ≡ refused 1
     unfolding heading fileBoxes
     heading-large over = rw (lt-leb (length (f ++ added a)) fileLimit (rw length-append over))
 
     module _ (small : length f + length (added a) ≤ fileLimit) where
+      new-filled : Filled (added a) (length (added a)) 0 (newBoxes 0 a)
+      new-filled = boxes-added h a (t .list) (t .carried) (t .outside) (omega arith)
+
       heading-crowded : boxLimit < length (h .boxes) + addedBoxes a → heading (f ++ added a) ≡ refused 6
       unfolding heading fileBoxes
       heading-crowded over =
           let head = headed f h (t .headed) in
           rw (
             le-leb (length (f ++ added a)) fileLimit (rw length-append small),
-            boxes-crowded File f (added a) (head .boxes) (boxes-added a (omega arith)) (rw (added-many a) over),
+            boxes-crowded File f (added a) (head .boxes) new-filled (rw (added-many a) over),
           )
 
       pub heading-added : length (h .boxes) + addedBoxes a ≤ boxLimit → heading (f ++ added a) ≡ given grownHeading
@@ -202,28 +209,28 @@ module _ (limit : ℕ) (f : List ℕ) (h : Heading) (ss : List Segment) (a : Add
           let moved-there = added-moved a (length f) in
           heading-of (f ++ added a) grownHeading
           (rw moved-there at
-          (headed-appended f (added a) h (addedList a) (headed f h (t .headed)) (rw length-append small) (boxes-added a (omega arith)) (rw (added-many a) room)
-          (rw moved-there (none-new ftyp refl refl)) (rw moved-there (none-new pfil refl refl))))
+          (headed-appended f (added a) h (newBoxes 0 a) (headed f h (t .headed)) (rw length-append small) new-filled (rw (added-many a) room)
+          (rw moved-there (none-new ftyp refl refl (λ b free. allowed-other b free .0))) (rw moved-there (none-new pfil refl refl (λ b free. allowed-other b free .1)))))
 
       segments-added : Sayable a
           → segments limit (f ++ added a) grownHeading ≡ admitted limit ss (newSegment (psegPlace (length f) a) a)
-      unfolding segments segmentsFrom listRight admitted
+      unfolding segments segmentsFrom admitted
       segments-added says =
           let n = length f in
-          let list = items (a .list) in
           let new : Segment = newSegment (psegPlace n a) a in
           let old : List Box = those pseg (h .boxes) in
           let (enough, e1) = held 13 (leb (length old) segmentLimit) _ (t .before) in
           let (us, read, e2) = both-given (segmentsFrom limit f h [] old) _ e1 in
           let (agreed, e3) = held 25 (agree us) _ e2 in
           let before : segmentsFrom limit f h [] old ≡ given ss = read ∙ e3 in
-          let lie = those-all pseg (lies n) (h .boxes) (boxes-lie File f 0 n (h .boxes) (headed f h (t .headed) .boxes)) in
+          let framed = headed f h (t .headed) .boxes in
+          let lie = those-all pseg (lies n) (h .boxes) (boxes-lie File f 0 n (h .boxes) framed) in
+          let first = row-starts 0 n (h .boxes) (filled-row (omega arith) (boxes-filled File f 0 n framed)) n (omega arith) in
           let kept = segments-kept f (added a) h grownHeading (lie-longer h (newBoxes n a)) limit old [] ss lie before in
           let many = segments-many limit f h old [] before in
           let long : length (old ++ (newBox ∷ [])) ≡ length ss + 1 = length-append old (newBox ∷ []) ∙ omega arith in
           let size = length-added a in
-          let listed = both (eqb (length (a .list) % 2) 0) (allOf formed list) (t .list) .1 in
-          let read-new = new-segment limit f grownHeading ss a says listed (omega arith) (t .carried) (omega (arith, data-low a (t .carried))) (lie-new h n a (t .carried)) in
+          let read-new = new-segment limit f grownHeading ss a says (list-formed (a .list) (t .list)) (omega arith) (t .carried) (omega (arith, data-low a (t .carried))) (lie-new h n a (t .carried)) (out-lie h a (t .list) (t .carried) (t .outside) n first) in
           rw (psegs-added, long, segments-on limit (f ++ added a) grownHeading old (newBox ∷ []) [] kept, read-new)
           (go (leb (length ss + 1) segmentLimit) (leb (length (chunksOf ss) + length (new .chunks)) chunkLimit) (leb (endOf new) limit))
         where
@@ -255,8 +262,7 @@ module _ (limit : ℕ) (f : List ℕ) (h : Heading) (ss : List Segment) (a : Add
 pub taken-sayable : (limit : ℕ) (f : List ℕ) (h : Heading) (ss : List Segment) (a : Addition) → Taken limit f h ss a → limit < 2 ^ 64 → a .repairTime < 2 ^ 64 → Sayable a
 taken-sayable limit f h ss a t below time =
     let (ok, same) = admits limit h ss (length f) a (t .admits) in
-    let sizes = sizes-placed (items (a .list)) in
-    record { offset = omega arith; time = time; sizes = sizes-eight (placed (items (a .list))) (rw sizes-placed (omega arith)); count = omega arith }
+    record { offset = omega arith; time = time; sizes = sizes-eight (placed (a .outside) (items (a .list))) (rw sizes-placed (omega arith)); count = omega arith }
 
 pub reading-added : (limit : ℕ) (f : List ℕ) (h : Heading) (ss : List Segment) (a : Addition) → Taken limit f h ss a → Sayable a
     → reading limit (f ++ added a) ≡ given (ss ++ (newSegment (psegPlace (length f) a) a ∷ []))

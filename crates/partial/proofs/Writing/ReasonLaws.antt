@@ -1,4 +1,4 @@
--- Demand 3, the reasons for which an addition is refused before its result is looked at: 30, the file's own, 31 and 32, in that order.
+-- Demand 3, the reasons for which an addition is refused before its result is looked at: 30, the file's own, 31, 32 and 35, in that order.
 use Prim.Native.Nat.{ℕ, _≤_, _<_}
 use mathlib.Core.Bool.{true, false}
 use mathlib.Core.List.{List}
@@ -8,9 +8,9 @@ use lib.ListN.{length, take}
 use Rattle.boxes.specs.Answer.{Answer, refused, given, _>>=_}
 use Rattle.boxes.proofs.AnswerLaws.{both-given}
 use Rattle.partial.specs.Segments.{Segment}
-use Rattle.partial.specs.Heading.{heading}
+use Rattle.partial.specs.Heading.{Heading, heading}
 use Rattle.partial.specs.Reading.{segments, earlierSegments}
-use Rattle.partial.specs.Addition.{Addition, listRight, dataRight}
+use Rattle.partial.specs.Addition.{Addition, listRight, dataRight, outsideRight}
 use Rattle.partial.specs.Append.{appended}
 
 -- a refusal on the way is the refusal of the whole
@@ -40,3 +40,11 @@ module _ (limit : ℕ) (buffer : List ℕ) (n : ℕ) (a : Addition) where
       data-wrong list wrong =
           let (h, head, read) = both-given (heading (take n buffer)) _ stands in
           rw (le-leb n (length buffer) fits, head, read, list, wrong)
+
+    pub outside-wrong : {h : Heading} {ss : List Segment} → heading (take n buffer) ≡ given h → segments limit (take n buffer) h ≡ given ss
+        → listRight (a .list) ≡ true
+        → dataRight a ≡ true
+        → outsideRight h a ≡ false
+        → appended limit buffer n a ≡ refused 35
+    unfolding appended
+    outside-wrong head read list carried wrong = rw (le-leb n (length buffer) fits, head, read, list, carried, wrong)

@@ -18,9 +18,9 @@ use Rattle.partial.specs.Segments.{Segment, isOpen, endOf, chunksOf}
 use Rattle.partial.specs.Heading.{Heading}
 use Rattle.partial.specs.Meaning.{givesSize, knownSize, agree}
 use Rattle.partial.specs.Reading.{offsetWidth, admitted}
-use Rattle.partial.specs.Addition.{items, Addition, flagsFor, dataRight, anyPresent}
-use Rattle.partial.specs.Append.{dataBox, addedBoxes, plocBody, versionFor, pshdBody, added, newSegment, psegBody, psegPlace}
-use Rattle.partial.specs.Append.{admission, placed}
+use Rattle.partial.specs.Addition.{items, Addition, flagsFor, dataRight, outsideRight}
+use Rattle.partial.specs.Append.{insideData, outsideData, anyInside, dataBox, stored, addedBoxes, placed, plocBody, versionFor}
+use Rattle.partial.specs.Append.{pshdBody, psegBody, added, psegPlace, newSegment, admission}
 use Rattle.partial.specs.Carried.{carried}
 use Rattle.partial.proofs.Meaning.SequenceLaws.{which, all-append}
 use Rattle.partial.proofs.Writing.ReadsBackLaws.{Offered, Taken, Admits, admission-of, admits}
@@ -51,23 +51,31 @@ module _ (s t : Segment) (ends : endOf s ≡ endOf t) (gives : givesSize s ≡ g
 
 -- an addition with as much of its repair time as is written
 abbrev pub cut : Addition → Addition
-cut a = record { sourceOffset = a .sourceOffset; repairTime = a .repairTime % 2 ^ 64; last = a .last; list = a .list; bytes = a .bytes }
+cut a =
+    record {
+      sourceOffset = a .sourceOffset;
+      repairTime = a .repairTime % 2 ^ 64;
+      last = a .last;
+      outside = a .outside;
+      list = a .list;
+      bytes = a .bytes;
+    }
 
 pub added-cut : (a : Addition) → added (cut a) ≡ added a
-unfolding added psegBody pshdBody dataBox anyPresent
+unfolding added psegBody pshdBody stored dataBox anyInside insideData outsideData
 added-cut a =
-    ap (λ (time : List ℕ). dataBox a ++ boxed (pseg .code)
+    ap (λ (time : List ℕ). stored a ++ boxed (pseg .code)
     (boxed (pshd .code) (versionFor (a .sourceOffset) ∷ (bytesOf 3 (flagsFor (a .last)) ++ (bytesOf (offsetWidth (versionFor (a .sourceOffset))) (a .sourceOffset) ++ time)))
-    ++ boxed (ploc .code) (plocBody (placed (items (a .list)))))) (bytesOf-mod 8 (a .repairTime))
+    ++ boxed (ploc .code) (plocBody (placed (a .outside) (items (a .list)))))) (bytesOf-mod 8 (a .repairTime))
 
 -- what append tests of an addition is the same of that one
 module _ (a : Addition) where
   pub place-cut : (n : ℕ) → psegPlace n (cut a) ≡ psegPlace n a
-  unfolding psegPlace dataBox anyPresent
+  unfolding psegPlace stored dataBox anyInside insideData outsideData
   place-cut n = refl
 
   boxes-cut : addedBoxes (cut a) ≡ addedBoxes a
-  unfolding addedBoxes anyPresent
+  unfolding addedBoxes anyInside outsideData
   boxes-cut = refl
 
   agree-cut : (ss : List Segment) (at : ℕ) → agree (ss ++ (newSegment at (cut a) ∷ [])) ≡ agree (ss ++ (newSegment at a ∷ []))
@@ -108,8 +116,8 @@ module _ (limit : ℕ) (h : Heading) (ss : List Segment) (n : ℕ) (a : Addition
 
 module _ (limit : ℕ) (f : List ℕ) (h : Heading) (ss : List Segment) (a : Addition) where
   pub offered-cut : Offered limit f h ss a → Offered limit f h ss (cut a)
-  unfolding dataRight
-  offered-cut t = record { headed = t .headed; before = t .before; list = t .list; carried = t .carried }
+  unfolding dataRight outsideRight
+  offered-cut t = record { headed = t .headed; before = t .before; list = t .list; carried = t .carried; outside = t .outside }
 
   pub taken-cut : Taken limit f h ss a → Taken limit f h ss (cut a)
   taken-cut t =

@@ -12,15 +12,14 @@ use lib.Seq.{length-take-le}
 use Rattle.boxes.specs.Answer.{Answer, refused, given, _>>=_, hold}
 use Rattle.numerals.specs.Numbers.{holds}
 use Rattle.boxes.specs.Framing.{boxLimit}
-use Rattle.boxes.proofs.AnswerLaws.{both-given}
 use Rattle.numerals.proofs.WidthLaws.{below-holds}
 use Rattle.partial.specs.Limits.{fileLimit, segmentLimit, chunkLimit}
 use Rattle.partial.specs.Sequences.{allOf}
 use Rattle.partial.specs.Segments.{Segment, chunksOf}
 use Rattle.partial.specs.Heading.{Heading, heading}
-use Rattle.partial.specs.Reading.{reading, earlierSegments, admitted, segments}
-use Rattle.partial.specs.Addition.{items, Addition, listRight, dataRight, sayable}
-use Rattle.partial.specs.Append.{addedBoxes, added, appended, result, placed, admission, psegPlace}
+use Rattle.partial.specs.Reading.{reading, admitted, segments}
+use Rattle.partial.specs.Addition.{items, Addition, listRight, dataRight, outsideRight, sayable}
+use Rattle.partial.specs.Append.{addedBoxes, added, appended, result, placedWith, placed, admission, psegPlace}
 use Rattle.partial.specs.Runs.{lent, fileIn}
 use Rattle.partial.proofs.Meaning.SequenceLaws.{both, passes}
 use Rattle.partial.proofs.Writing.NewSegmentLaws.{Sayable, length-new}
@@ -28,24 +27,24 @@ use Rattle.partial.proofs.Writing.ReadsBackLaws.{Offered, reading-resul
 use Rattle.partial.proofs.Writing.RepairTimeLaws.{cut, added-cut, offered-cut, admission-cut}
 
 -- the sizes of a list whose numbers 64 bits hold
-sizes-said : (list : List ℕ) → allOf (λ n. ltb n (2 ^ 64)) list ≡ true → allOf (λ p. holds 8 (p .size)) (placed (items list)) ≡ true
-unfolding allOf items placed
-sizes-said [] h = refl
-sizes-said (size ∷ []) h = refl
-sizes-said (size ∷ state ∷ rest) h =
+sizes-said : (o : Bool) (out : ℕ) (list : List ℕ) → allOf (λ n. ltb n (2 ^ 64)) list ≡ true → allOf (λ p. holds 8 (p .size)) (placedWith o out (items list)) ≡ true
+unfolding allOf items placedWith
+sizes-said o out [] h = refl
+sizes-said o out (size ∷ []) h = refl
+sizes-said o out (size ∷ state ∷ rest) h =
     let (first, others) = both (ltb size (2 ^ 64)) (ltb state (2 ^ 64) && allOf (λ n. ltb n (2 ^ 64)) rest) h in
-    rw (below-holds 8 size (ltb-true size (2 ^ 64) first)) (sizes-said rest (both (ltb state (2 ^ 64)) (allOf (λ n. ltb n (2 ^ 64)) rest) others .1))
+    rw (below-holds 8 size (ltb-true size (2 ^ 64) first)) (sizes-said o out rest (both (ltb state (2 ^ 64)) (allOf (λ n. ltb n (2 ^ 64)) rest) others .1))
 
 -- what 64 bits and `chunk_count` can say is said, but for what is cut from the repair time
 said : (a : Addition) → T (sayable a) → Sayable (cut a)
-unfolding sayable
+unfolding sayable placed
 said a h =
     let (front, count) = both (ltb (a .sourceOffset) (2 ^ 64) && allOf (λ n. ltb n (2 ^ 64)) (a .list)) (ltb (length (items (a .list))) (2 ^ 16)) (passes _ h) in
     let (offset, numbers) = both (ltb (a .sourceOffset) (2 ^ 64)) (allOf (λ n. ltb n (2 ^ 64)) (a .list)) front in
     record {
       offset = ltb-true (a .sourceOffset) (2 ^ 64) offset;
       time = mod-lt (a .repairTime) (lit< tt);
-      sizes = sizes-said (a .list) numbers;
+      sizes = sizes-said (a .outside) _ (a .list) numbers;
       count = ltb-true (length (items (a .list))) (2 ^ 16) count;
     }
 
@@ -55,21 +54,22 @@ module _ (limit : ℕ) (buffer : List ℕ) (n : ℕ) (a : Addition) where
       → appended limit buffer n a
       ≡ (admission limit h ss n a >>= λ _. hold 33 (leb (n + length (added a)) (length buffer)) >>= λ _. given (n + length (added a)))
   unfolding appended
-  appended-offered h ss fits t = rw (le-leb n (length buffer) fits, t .headed, t .before, t .list, t .carried)
+  appended-offered h ss fits t = rw (le-leb n (length buffer) fits, t .headed, t .before, t .list, t .carried, t .outside)
 
-  pub by-result : (ss : List Segment) → n ≤ length buffer
-      → earlierSegments limit (fileIn (lent buffer n)) ≡ given ss
+  pub by-result : (h : Heading) (ss : List Segment) → n ≤ length buffer
+      → heading (fileIn (lent buffer n)) ≡ given h
+      → segments limit (fileIn (lent buffer n)) h ≡ given ss
       → listRight (a .list) ≡ true
       → dataRight a ≡ true
+      → outsideRight h a ≡ true
       → T (sayable a)
       → let g = result buffer n a in
       appended limit buffer n a ≡ (reading limit g >>= λ _. hold 33 (leb (length g) (length buffer)) >>= λ _. given (length g))
-  unfolding earlierSegments fileIn result
-  by-result ss fits stands list carried says =
+  unfolding fileIn result
+  by-result h ss fits head read list carried outer says =
       let f : List ℕ = take n buffer in
-      let (h, head, read) = both-given (heading f) _ stands in
       let long : length f ≡ n = length-take-le n buffer fits in
-      let offered : Offered limit f h ss a = record { headed = head; before = read; list = list; carried = carried } in
+      let offered : Offered limit f h ss a = record { headed = head; before = read; list = list; carried = carried; outside = outer } in
       let whole : length (f ++ added a) ≡ n + length (added a) = length-append f (added a) ∙ ap (λ (m : ℕ). m + length (added a)) long in
       let same : reading limit (f ++ added a) ≡ admission limit h ss n (cut a) = rw (added-cut a, long) at (reading-result limit f h ss (cut a) (offered-cut limit f h ss a offered) (said a says)) in
       appended-offered h ss fits offered ∙ rw (whole, same) (sym (admission-cut limit h ss n a _))
@@ -80,14 +80,15 @@ module _ (limit : ℕ) (buffer : List ℕ) (n : ℕ) (a : Addition) where
       → segments limit (fileIn (lent buffer n)) h ≡ given ss
       → listRight (a .list) ≡ true
       → dataRight a ≡ true
+      → outsideRight h a ≡ true
       → 2 ^ 16 ≤ length (items (a .list))
       → appended limit buffer n a
       ≡ (hold 1 (leb (n + length (added a)) fileLimit)
       >>= λ _. hold 6 (leb (length (h .boxes) + addedBoxes a) boxLimit) >>= λ _. hold 13 (leb (length ss + 1) segmentLimit) >>= λ _. refused 22)
   unfolding fileIn admission admitted
-  too-many h ss fits head read list carried many =
+  too-many h ss fits head read list carried outer many =
       let over = lt-leb (length (chunksOf ss) + length (items (a .list))) chunkLimit (omega arith) in
-      appended-offered h ss fits (record { headed = head; before = read; list = list; carried = carried })
+      appended-offered h ss fits (record { headed = head; before = read; list = list; carried = carried; outside = outer })
       ∙ rw (length-new (psegPlace n a) a, over)
       (go _ (leb (n + length (added a)) fileLimit) (leb (length (h .boxes) + addedBoxes a) boxLimit) (leb (length ss + 1) segmentLimit))
     where

@@ -1,67 +1,39 @@
 -- Writing again what a run of additions made: each segment says its addition in the whole file, and is accepted where the whole file fits.
-use Prim.Native.Nat.{ℕ, _+_, _-_, _^_, _≤_, _<_, _%_}
+use Prim.Native.Nat.{ℕ, _+_, _^_, _≤_, _<_}
 use mathlib.Core.Bool.{true}
 use mathlib.Core.List.{List, [], _∷_, _++_, map, append-assoc, append-nil}
-use mathlib.Core.Logic.{inl, inr}
 use mathlib.Core.Path.{_≡_, refl, sym, ap, subst, _∙_}
 use native.Mathlib.Nat.{mod-lt}
 use native.Mathlib.Omega.{arith}
-use borrow.Author.Tests.{le-leb}
-use lib.Dec.{lit<, eqb}
+use borrow.Author.Tests.{le-leb, leb-true}
+use lib.Dec.{lit<}
 use lib.ListN.{length, take, drop, length-append, length-drop}
-use lib.Seq.{take-at, take-append-le, drop-append-le}
+use lib.Seq.{take-at}
 use Rattle.boxes.specs.Answer.{Answer, refused, given}
+use Rattle.boxes.specs.Framing.{Box}
+use Rattle.boxes.specs.declared.kinds.Container.the-variants.{File}
 use Rattle.boxes.proofs.AnswerLaws.{given-same}
 use Rattle.partial.specs.Sequences.{allOf}
-use Rattle.partial.specs.Segments.{Segment, present}
+use Rattle.partial.specs.Segments.{Segment}
 use Rattle.partial.specs.Heading.{Heading, heading}
 use Rattle.partial.specs.Reading.{segments}
 use Rattle.partial.specs.Memory.{after, filled}
-use Rattle.partial.specs.Tables.{bytesIn}
-use Rattle.partial.specs.Addition.{Item, items, Addition, dataRight, dataSize, listRight}
-use Rattle.partial.specs.Append.{dataBox, added, newChunks, newSegment, appended, result, placed, psegPlace}
+use Rattle.partial.specs.Addition.{Addition, dataRight}
+use Rattle.partial.specs.Append.{added, newSegment, appended, result, psegPlace}
 use Rattle.partial.specs.Runs.{Lent, lent, fileIn, sizeAfter, append, appendAll}
-use Rattle.partial.specs.Again.{dataOf, again}
-use Rattle.partial.proofs.Writing.PlacedLaws.{place-present, data-on, formed, formed-some}
-use Rattle.partial.proofs.Meaning.SequenceLaws.{which, both}
+use Rattle.partial.specs.Again.{again, settled}
+use Rattle.partial.proofs.Meaning.SequenceLaws.{both, all-append}
+use Rattle.partial.proofs.Reading.HeadingAppendLaws.{headed, boxes-lie}
 use Rattle.partial.proofs.Reading.ReadingLaws.{reading-segments}
+use Rattle.partial.proofs.Writing.DataLaws.{settled-added, settled-right, settled-admission}
+use Rattle.partial.proofs.Writing.WholeLaws.{beyond, row-beyond}
+use Rattle.partial.proofs.Writing.AddedBoxesLaws.{newBoxes, new-row}
+use Rattle.partial.proofs.Writing.ToldOutsideLaws.{outside-told}
 use Rattle.partial.proofs.Writing.AgainLaws.{same-again}
-use Rattle.partial.proofs.Writing.AddedBoxesLaws.{data-low, length-added}
 use Rattle.partial.proofs.Writing.RepairTimeLaws.{cut, added-cut, taken-cut}
 use Rattle.partial.proofs.Writing.ReadsBackLaws.{Taken, earlier-of, taken, taken-sayable, grownHeading, heading-added}
 use Rattle.partial.proofs.Writing.ReadsBackLaws.{reading-added, file-after, admits}
 use Rattle.partial.proofs.Writing.ResultLaws.{appended-offered}
-
--- ---- each segment says its addition in the whole file
-
--- what is put behind a file changes no part of it
-part-kept : (g more : List ℕ) (place size : ℕ) → place + size ≤ length g → take size (drop place (g ++ more)) ≡ take size (drop place g)
-part-kept g more place size h =
-    rw (drop-append-le place g more (omega arith)) (take-append-le size (drop place g) more (rw length-drop (omega arith)))
-
-data-kept : (g more : List ℕ) (at start : ℕ) (is : List Item) → allOf formed is ≡ true → at ≤ length g → dataSize is ≤ at
-    → dataOf (g ++ more) (newChunks at start (placed is)) ≡ dataOf g (newChunks at start (placed is))
-unfolding dataOf newChunks placed bytesIn allOf
-data-kept g more at start [] right inside low = refl
-data-kept g more at start (i ∷ is) right inside low =
-    let (less, all) = data-on i is in
-    let (first, others) = both (formed i) (allOf formed is) right in
-    let (some-size, known) = formed-some i first in
-    let rest = data-kept g more at (start + i .size) is others inside (omega arith) in
-    elim (which (present (i .state))) [
-      | inl e ↦ rw (e, place-present at i is e low some-size, rest, part-kept g more (at - dataSize (i ∷ is)) (i .size) (omega (arith, all e)))
-      | inr e ↦ rw e rest
-    ]
-
-pub again-kept : (f more : List ℕ) (a : Addition) → listRight (a .list) ≡ true → dataRight a ≡ true
-    → let s = newSegment (psegPlace (length f) a) a in
-    again ((f ++ added a) ++ more) s ≡ again (f ++ added a) s
-unfolding again newSegment psegPlace listRight
-again-kept f more a list right =
-    let size = length-added a in
-    let listed = both (eqb (length (a .list) % 2) 0) (allOf formed (items (a .list))) list .1 in
-    let bytes = data-kept (f ++ added a) more (length f + length (dataBox a)) (a .sourceOffset) (items (a .list)) listed (rw length-append (omega arith)) (omega (arith, data-low a right)) in
-    rw bytes
 
 -- ---- an addition that a file takes is accepted in any buffer that holds the file and has room for the result
 
@@ -92,6 +64,24 @@ append-refused : (limit : ℕ) (buffer : List ℕ) (n : ℕ) (a : Addition) (k :
 unfolding append fileIn after sizeAfter
 append-refused limit buffer n a k e = rw e
 
+-- what can be told of an addition from the file is appended as the addition is
+module _ (limit : ℕ) (a : Addition) where
+  settled-appended : (buffer : List ℕ) (n : ℕ) → appended limit buffer n (settled a) ≡ appended limit buffer n a
+  unfolding appended dataRight
+  settled-appended buffer n = simp (settled-right, settled-admission, settled-added)
+
+  settled-append : (l : Lent) → append limit l (settled a) ≡ append limit l a
+  unfolding append result
+  settled-append (lent buffer n) = rw (settled-appended buffer n, settled-added a)
+
+-- boxes whose bodies start past a place start past one before it
+beyond-earlier : (place at : ℕ) → place ≤ at → (bs : List Box) → allOf (beyond at) bs ≡ true → allOf (beyond place) bs ≡ true
+unfolding allOf
+beyond-earlier place at h [] later = refl
+beyond-earlier place at h (b ∷ bs) later =
+    let (here, others) = both (beyond at b) (allOf (beyond at) bs) later in
+    rw (le-leb place (b .body) (omega (arith, leb-true at (b .body) here))) (beyond-earlier place at h bs others)
+
 -- what a run makes of a file g with a heading and segments, and how what it added is written again into a buffer that holds g
 pub record Rewrites (limit : ℕ) (g : List ℕ) (h : Heading) (ss : List Segment) (whole : List ℕ) : Type 0 where
   pub more : List ℕ
@@ -99,10 +89,33 @@ pub record Rewrites (limit : ℕ) (g : List ℕ) (h : Heading) (ss : List Segmen
   pub heading′ : Heading
   pub headed : heading whole ≡ given heading′
   pub inner : heading′ .inner ≡ h .inner
+  pub mixed : heading′ .mixed ≡ h .mixed
+  pub later : List Box
+  pub boxes : heading′ .boxes ≡ h .boxes ++ later
+  pub behind : allOf (beyond (length g)) later ≡ true
   pub added′ : List Segment
   pub read : segments limit whole heading′ ≡ given (ss ++ added′)
   pub rewritten : (other : List ℕ) → take (length g) other ≡ g → length whole ≤ length other
-      → fileIn (appendAll limit (lent other (length g)) (map (again whole) added′)) ≡ whole
+      → fileIn (appendAll limit (lent other (length g)) (map (again whole heading′) added′)) ≡ whole
+
+-- an addition that a file takes, in the file with any more behind it
+module _ (limit : ℕ) (f : List ℕ) (h : Heading) (ss : List Segment) (a : Addition) (t : Taken limit f h ss a) where
+  -- its boxes start behind the file
+  new-behind : allOf (beyond (length f)) (newBoxes (length f) a) ≡ true
+  new-behind =
+      let small = admits limit h ss (length f) a (t .admits) .0 .small in
+      let row = new-row h a (t .offered .list) (t .offered .carried) (t .offered .outside) (omega arith) (length f) in
+      row-beyond (length f) (length f + length (added a)) (newBoxes (length f) a) row (length f) (omega arith)
+
+  -- and its segment says what of it can be told
+  pub says-whole : (more : List ℕ) (k : Heading) (later : List Box) → k .boxes ≡ grownHeading limit f h ss a .boxes ++ later
+      → allOf (beyond (length (f ++ added a))) later ≡ true
+      → again ((f ++ added a) ++ more) k (newSegment (psegPlace (length f) a) a) ≡ settled a
+  says-whole more k later boxes behind =
+      let n = length f in
+      let lie = boxes-lie File f 0 n (h .boxes) (headed f h (t .offered .headed) .boxes) in
+      same-again f more a k (t .offered .list) (t .offered .carried)
+      (rw boxes (outside-told h n a (t .offered .list) (t .offered .carried) (t .offered .outside) lie later (rw length-append at behind)))
 
 module _ (limit : ℕ) (below : limit < 2 ^ 64) where
   -- one addition more, before the others
@@ -112,19 +125,23 @@ module _ (limit : ℕ) (below : limit < 2 ^ 64) where
   unfolding appendAll
   one-rewrite f h ss a t whole r =
       let s = newSegment (psegPlace (length f) a) a in
-      let says : again whole s ≡ a = rw (r .longer) (again-kept f (r .more) a (t .offered .list) (t .offered .carried) ∙ same-again f a (t .offered .list) (t .offered .carried)) in
+      let long = length-append f (added a) in
+      let says : again whole (r .heading′) s ≡ settled a = rw (r .longer) (says-whole limit f h ss a t (r .more) (r .heading′) (r .later) (r .boxes) (r .behind)) in
       record {
         more = added a ++ r .more;
         longer = r .longer ∙ append-assoc f (added a) (r .more);
         heading′ = r .heading′;
         headed = r .headed;
         inner = r .inner;
+        mixed = r .mixed;
+        later = newBoxes (length f) a ++ r .later;
+        boxes = r .boxes ∙ append-assoc (h .boxes) (newBoxes (length f) a) (r .later);
+        behind = rw (all-append, new-behind limit f h ss a t) (beyond-earlier (length f) (length (f ++ added a)) (omega arith) (r .later) (r .behind));
         added′ = s ∷ r .added′;
         read = rw append-assoc at (r .read);
         rewritten = λ other same room.
-            let long = length-append f (added a) in
             let long-whole : length whole ≡ length (f ++ added a) + length (r .more) = ap length (r .longer) ∙ length-append (f ++ added a) (r .more) in
-            rw (says, append-of limit f h ss a t other same (omega arith))
+            rw (says, settled-append limit a (lent other (length f)), append-of limit f h ss a t other same (omega arith))
             (r .rewritten (filled (f ++ added a) other) (filled-take (f ++ added a) other) (rw (filled-long (f ++ added a) other (omega arith)) room));
       }
 
@@ -162,7 +179,7 @@ module _ (limit : ℕ) (below : limit < 2 ^ 64) where
   pub rewrites : (additions : List Addition) (l : Lent) (h : Heading) (ss : List Segment) → heading (fileIn l) ≡ given h
       → segments limit (fileIn l) h ≡ given ss
       → Rewrites limit (fileIn l) h ss (fileIn (appendAll limit l additions))
-  unfolding appendAll fileIn
+  unfolding appendAll fileIn allOf
   rewrites [] l h ss head read =
       record {
         more = [];
@@ -170,6 +187,10 @@ module _ (limit : ℕ) (below : limit < 2 ^ 64) where
         heading′ = h;
         headed = head;
         inner = refl;
+        mixed = refl;
+        later = [];
+        boxes = sym (append-nil (h .boxes));
+        behind = refl;
         added′ = [];
         read = rw append-nil read;
         rewritten = λ other same room. same;

@@ -1,29 +1,42 @@
 -- Demand 2, over the definitions, at any source limit that 64 bits hold.
 use Prim.Native.Nat.{ℕ, _^_, _<_}
-use mathlib.Core.List.{List, _++_}
-use mathlib.Core.Path.{_≡_, ap, _∙_}
-use lib.ListN.{take}
+use mathlib.Core.List.{List, [], _++_, append-nil}
+use mathlib.Core.Path.{_≡_, refl, sym, ap, _∙_}
+use lib.ListN.{length, take}
 use Rattle.boxes.specs.Answer.{given}
+use Rattle.boxes.proofs.AnswerLaws.{given-same}
+use Rattle.partial.specs.Sequences.{allOf}
+use Rattle.partial.specs.Heading.{Heading, heading}
 use Rattle.partial.specs.Addition.{Addition}
 use Rattle.partial.specs.Append.{added, newSegment, appended, psegPlace}
 use Rattle.partial.specs.Runs.{lent, fileIn, append}
-use Rattle.partial.specs.Again.{again}
+use Rattle.partial.specs.Again.{again, settled}
 use Rattle.partial.specs.Demands.{Demand2}
 use Rattle.partial.proofs.Reading.ReadingLaws.{read-mapped}
-use Rattle.partial.proofs.Writing.AgainLaws.{same-again}
-use Rattle.partial.proofs.Writing.ReadsBackLaws.{taken-any, file-after, reads-back}
+use Rattle.partial.proofs.Writing.DataLaws.{settled-added}
+use Rattle.partial.proofs.Writing.ReadsBackLaws.{taken-any, file-after, reads-back, grownHeading, heading-added, admits}
+use Rattle.partial.proofs.Writing.RunAgainLaws.{says-whole}
 use Rattle.partial.proofs.Writing.WrittenAgainLaws.{written-again}
 use Rattle.partial.proofs.Reading.PartLaws.{part-empty}
 use Rattle.partial.proofs.Reading.PrintedLaws.{printed}
 
 -- a segment that our writer adds says again what was added, with the same bytes
-pub says-again : (limit : ℕ) (buffer : List ℕ) (n : ℕ) (a : Addition) (size : ℕ) → appended limit buffer n a ≡ given size
-    → again (fileIn (append limit (lent buffer n) a)) (newSegment (psegPlace n a) a) ≡ a
-says-again limit buffer n a size e =
-    let (h, ss, t, long, total) = taken-any limit buffer n a size e in
+pub says-again : (limit : ℕ) (buffer : List ℕ) (n : ℕ) (a : Addition) (size : ℕ) (h : Heading) → appended limit buffer n a ≡ given size
+    → let g = fileIn (append limit (lent buffer n) a) in
+    heading g ≡ given h
+    → again g h (newSegment (psegPlace n a) a) ≡ settled a
+unfolding allOf
+says-again limit buffer n a size h e head =
+    let (h₀, ss, t, long, total) = taken-any limit buffer n a size e in
     let f : List ℕ = take n buffer in
-    rw (file-after limit buffer n a size e long total)
-    (ap (λ (m : ℕ). again (f ++ added a) (newSegment (psegPlace m a) a)) long ∙ same-again f a (t .offered .list) (t .offered .carried))
+    let (ok, _) = admits limit h₀ ss (length f) a (t .admits) in
+    let k = grownHeading limit f h₀ ss a in
+    let file = file-after limit buffer n a size e long total in
+    let same : h ≡ k = given-same (sym (rw file at head) ∙ heading-added limit f h₀ ss a (t .offered) (ok .small) (ok .boxes)) in
+    let behind : k .boxes ≡ k .boxes ++ [] = sym (append-nil (k .boxes)) in
+    let told : again (f ++ added a) k (newSegment (psegPlace (length f) a) a) ≡ settled a =
+    rw append-nil at (says-whole limit f h₀ ss a t [] k [] behind refl) in
+    rw (file, same) (ap (λ (m : ℕ). again (f ++ added a) k (newSegment (psegPlace m a) a)) long ∙ told)
 
 pub demand2 : (limit : ℕ) → limit < 2 ^ 64 → Demand2 limit
 demand2 limit below =
@@ -33,5 +46,6 @@ demand2 limit below =
       printed = printed limit;
       readsBack = reads-back limit below;
       sameAgain = says-again limit;
+      sameBytes = settled-added;
       writtenAgain = written-again limit below;
     }

@@ -35,7 +35,7 @@ returns-2 c = λ h ss a beside asked.
     let met1 = c .before .before .before in
     let args = met1 .before .before .before .before .before .args in
     let small = file-test (args .n) beside asked (sym (not-false _ (met1 .if1 .left)) ∙ met1 .before .ends-by .ensures) in
-    admission-6 h ss (args .n) a small (box-test (args .n) beside asked (c .before .before .added-boxes .ensures a (asked .counted)) (sym (not-true _ (c .if2 .taken)) ∙ c .before .ends-by2 .ensures))
+    admission-6 h ss (args .n) a small (box-test (args .n) beside asked (c .before .before .added-boxes .ensures a (asked .sorted) (asked .whole)) (sym (not-true _ (c .if2 .taken)) ∙ c .before .ends-by2 .ensures))
 
 returns-3 : tie.Need-returns-3
 unfolding writtenAnswer
@@ -44,7 +44,7 @@ returns-3 c = λ h ss a beside asked.
     let met1 = met2 .before .before .before in
     let args = met1 .before .before .before .before .before .args in
     let small = file-test (args .n) beside asked (sym (not-false _ (met1 .if1 .left)) ∙ met1 .before .ends-by .ensures) in
-    let boxes = box-test (args .n) beside asked (met2 .before .before .added-boxes .ensures a (asked .counted)) (sym (not-false _ (met2 .if2 .left)) ∙ met2 .before .ends-by2 .ensures) in
+    let boxes = box-test (args .n) beside asked (met2 .before .before .added-boxes .ensures a (asked .sorted) (asked .whole)) (sym (not-false _ (met2 .if2 .left)) ∙ met2 .before .ends-by2 .ensures) in
     admission-13 h ss (args .n) a small boxes (segments-full (args .n) beside asked (c .if3 .taken))
 
 ends-by-requires-3 : tie.Need-ends-by-requires-3
@@ -58,7 +58,7 @@ returns-4 c = λ h ss a beside asked.
     let met1 = met2 .before .before .before in
     let args = met1 .before .before .before .before .before .args in
     let small = file-test (args .n) beside asked (sym (not-false _ (met1 .if1 .left)) ∙ met1 .before .ends-by .ensures) in
-    let boxes = box-test (args .n) beside asked (met2 .before .before .added-boxes .ensures a (asked .counted)) (sym (not-false _ (met2 .if2 .left)) ∙ met2 .before .ends-by2 .ensures) in
+    let boxes = box-test (args .n) beside asked (met2 .before .before .added-boxes .ensures a (asked .sorted) (asked .whole)) (sym (not-false _ (met2 .if2 .left)) ∙ met2 .before .ends-by2 .ensures) in
     let few = segments-few (args .n) beside asked (met3 .if3 .left) in
     admission-22 h ss (args .n) a small boxes few (chunk-test (args .n) beside asked (sym (not-true _ (c .if4 .taken)) ∙ c .before .ends-by3 .ensures))
 
@@ -74,7 +74,7 @@ returns-5 c = λ h ss a beside asked.
     let met1 = met2 .before .before .before in
     let args = met1 .before .before .before .before .before .args in
     let small = file-test (args .n) beside asked (sym (not-false _ (met1 .if1 .left)) ∙ met1 .before .ends-by .ensures) in
-    let boxes = box-test (args .n) beside asked (met2 .before .before .added-boxes .ensures a (asked .counted)) (sym (not-false _ (met2 .if2 .left)) ∙ met2 .before .ends-by2 .ensures) in
+    let boxes = box-test (args .n) beside asked (met2 .before .before .added-boxes .ensures a (asked .sorted) (asked .whole)) (sym (not-false _ (met2 .if2 .left)) ∙ met2 .before .ends-by2 .ensures) in
     let few = segments-few (args .n) beside asked (met3 .if3 .left) in
     let chunks = chunk-test (args .n) beside asked (sym (not-false _ (met4 .if4 .left)) ∙ met4 .before .ends-by3 .ensures) in
     admission-23 h ss (args .n) a small boxes few chunks (source-test (args .n) beside asked (sym (not-true _ (c .if5 .taken)) ∙ c .before .ends-by4 .ensures))
@@ -107,7 +107,7 @@ returns-6 c = λ h ss a beside asked.
     let met1 = met2 .before .before .before in
     let args = met1 .before .before .before .before .before .args in
     let small = file-test (args .n) beside asked (sym (not-false _ (met1 .if1 .left)) ∙ met1 .before .ends-by .ensures) in
-    let boxes = box-test (args .n) beside asked (met2 .before .before .added-boxes .ensures a (asked .counted)) (sym (not-false _ (met2 .if2 .left)) ∙ met2 .before .ends-by2 .ensures) in
+    let boxes = box-test (args .n) beside asked (met2 .before .before .added-boxes .ensures a (asked .sorted) (asked .whole)) (sym (not-false _ (met2 .if2 .left)) ∙ met2 .before .ends-by2 .ensures) in
     let few = segments-few (args .n) beside asked (met3 .if3 .left) in
     let chunks = chunk-test (args .n) beside asked (sym (not-false _ (met4 .if4 .left)) ∙ met4 .before .ends-by3 .ensures) in
     let low = source-test (args .n) beside asked (sym (not-false _ (met5 .if5 .left)) ∙ met5 .before .ends-by4 .ensures) in
@@ -117,8 +117,8 @@ returns-6 c = λ h ss a beside asked.
     let agrees = sym (not-true _ (c .if6 .taken)) ∙ c .before .agree .ensures (ss ++ (new (args .n) a ∷ [])) with in
     admission-25 h ss (args .n) a small boxes few chunks low agrees
 
-add-t14 : tie.Need-add-t14
-add-t14 c =
+add-t15 : tie.Need-add-t15
+add-t15 c =
     let met = c .before .before .before .before .before .before .before .before .before .before .before .before .before .before .before .before .before .before in
     let args = met .before .before .before .before .before .args in
     omega (arith, leb-true (args .n + args .layout .added) fileLimit (sym (met .before .ends-by .ensures) ∙ not-false _ (met .if1 .left)))
@@ -134,7 +134,7 @@ returns-7 c = λ h ss a beside asked.
     let met1 = met2 .before .before .before in
     let args = met1 .before .before .before .before .before .args in
     let small = file-test (args .n) beside asked (sym (not-false _ (met1 .if1 .left)) ∙ met1 .before .ends-by .ensures) in
-    let boxes = box-test (args .n) beside asked (met2 .before .before .added-boxes .ensures a (asked .counted)) (sym (not-false _ (met2 .if2 .left)) ∙ met2 .before .ends-by2 .ensures) in
+    let boxes = box-test (args .n) beside asked (met2 .before .before .added-boxes .ensures a (asked .sorted) (asked .whole)) (sym (not-false _ (met2 .if2 .left)) ∙ met2 .before .ends-by2 .ensures) in
     let few = segments-few (args .n) beside asked (met3 .if3 .left) in
     let chunks = chunk-test (args .n) beside asked (sym (not-false _ (met4 .if4 .left)) ∙ met4 .before .ends-by3 .ensures) in
     let low = source-test (args .n) beside asked (sym (not-false _ (met5 .if5 .left)) ∙ met5 .before .ends-by4 .ensures) in
@@ -164,5 +164,5 @@ admission-spec =
     with-requires
     agree-requires
     returns-6
-    add-t14
+    add-t15
     returns-7)

@@ -54,15 +54,16 @@ within-requires-2 : tie.Need-within-requires-2
 within-requires-2 c κs = search needs
 
 returns : tie.Need-returns
-returns c = λ a counted at.
+returns c = λ a sorted at.
+    let counted = sorted .counted in
     let pdat = c .before in
     let pseg = pdat .before in
     let ploc = pseg .before in
     let width = ploc .before in
-    let offsets = width .before .offset-size .ensures .1 _ (counted .items) in
-    let sizes = width .before .before .length-size .ensures .1 _ (counted .items) in
+    let offsets = width .before .offset-size .ensures .1 (a .outside) _ (counted .items) in
+    let sizes = width .before .before .length-size .ensures .1 (a .outside) _ (counted .items) in
     let at-width = ap (λ n. offsetWidth (versionFor n)) at in
-    let located = ploc .ploc-size .ensures .1 _ (counted .items) sizes offsets in
+    let located = ploc .ploc-size .ensures .1 (a .outside) _ (counted .items) sizes offsets in
     let held : pseg .within .result ≡ min (length (psegBody a)) (fileLimit + 1) = omega (arith, located, width .offset-width .ensures, at-width, pseg-long a) in
     record {
       pseg = record {
@@ -70,7 +71,7 @@ returns c = λ a counted at.
         ploc = record { sizes = sizes; offsets = offsets; body = located };
         body = held;
       };
-      all = omega (arith, pdat .data-size .ensures .1 a counted, held, length-added a, front-size);
+      all = omega (arith, pdat .data-size .ensures .1 a sorted, held, length-added a, front-size);
     }
 
 pub layout-of-spec : {M : Type 1} → statement M

@@ -10,7 +10,7 @@ width-of-requires : tie.Need-width-of-requires
 width-of-requires c κs = search needs
 
 returns : tie.Need-returns
-returns c = (rw (c .width-of .ensures) (leastWidth-within _), λ is whole. c .width-of .ensures ∙ length-wide is _ whole)
+returns c = (rw (c .width-of .ensures) (leastWidth-within _), λ outside is whole. c .width-of .ensures ∙ length-wide outside is _ whole)
 
 pub length-size-spec : {M : Type 1} → statement M
 length-size-spec = tie.close (tie.spec width-of-requires returns)

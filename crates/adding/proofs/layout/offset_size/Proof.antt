@@ -10,7 +10,7 @@ width-of-offset-requires : tie.Need-width-of-offset-requires
 width-of-offset-requires c κs = search needs
 
 returns : tie.Need-returns
-returns c = (rw (c .width-of-offset .ensures) (leastWidth-within _), λ is whole. c .width-of-offset .ensures ∙ offset-wide is _ whole)
+returns c = (rw (c .width-of-offset .ensures) (leastWidth-within _), λ outside is whole. c .width-of-offset .ensures ∙ offset-wide outside is _ whole)
 
 pub offset-size-spec : {M : Type 1} → statement M
 offset-size-spec = tie.close (tie.spec width-of-offset-requires returns)

@@ -57,7 +57,7 @@ within-requires-3 c κs = search needs
 returns : tie.Need-returns
 returns c = (
   omega arith,
-  λ is whole wide far. c .within3 .ensures ∙ ploc-counted is _ whole _ _ _ _ (c .before .before .within .ensures) (c .before .within2 .ensures) wide far,
+  λ outside is whole wide far. c .within3 .ensures ∙ ploc-counted outside is _ whole _ _ _ _ (c .before .before .within .ensures) (c .before .within2 .ensures) wide far,
 )
 
 pub ploc-size-spec : {M : Type 1} → statement M

@@ -1,63 +1,18 @@
--- `heading::ftyp::brand_right` meets its contract. The loop's invariant: no brand passed is `paff`, so those left decide.
-use Prim.Native.Nat.{_+_, _-_, _≤_}
-use mathlib.Core.Path.{_≡_, refl, sym, _∙_}
+-- `heading::ftyp::brand_right` meets its contract: of a mixed file nothing is left to be looked for.
+use mathlib.Core.Path.{_≡_, sym, ap, _∙_}
 use borrow.Author.Needs.{needs}
-use Rattle.heading.proofs.BrandLaws.{branded, brands-of, brand-none, brand-found, brand-passed}
+use Rattle.heading.proofs.BrandLaws.{mixed-right, unmixed-right}
 use Rattle.heading.proofs.ftyp.brand_right.Statement.{statement}
 use Rattle.heading.proofs.ftyp.brand_right.Tie as tie
 
-abbrev Inv-loop : tie.InvT-loop
-Inv-loop file end at₀ at = (at ≤ end + 8) × (branded file end at₀ ≡ branded file end at)
+returns : tie.Need-returns
+returns c bs same told = sym (mixed-right _ bs (sym told ∙ c .if1 .taken))
 
-abbrev μ-loop : tie.MeasureT-loop
-μ-loop file end at₀ at = end + 8 - at
+has-brand-requires : tie.Need-has-brand-requires
+has-brand-requires c κs = search needs
 
-add-at : tie.Need-add-at Inv-loop μ-loop
-add-at c = search needs
-
-loop-holds : tie.Need-loop-holds Inv-loop μ-loop
-loop-holds c = (search needs, refl)
-
-add-loop : tie.Need-add-loop Inv-loop μ-loop
-add-loop c = search needs
-
-unsigned-requires : tie.Need-unsigned-requires Inv-loop μ-loop
-unsigned-requires c κs = search needs
-
-returns : tie.Need-returns Inv-loop μ-loop
-returns c bs same =
-    let at-loop = c .before .before .before in
-    sym (brands-of _ _ bs same ∙ at-loop .loop .inv .1 ∙ brand-found _ _ _ (c .before .before .loop-test .taken) (sym (c .before .unsigned .ensures) ∙ c .if1 .taken))
-
-add-at-2 : tie.Need-add-at-2 Inv-loop μ-loop
-add-at-2 c = search needs
-
-loop-less : tie.Need-loop-less Inv-loop μ-loop
-loop-less c = search needs
-
-loop-again : tie.Need-loop-again Inv-loop μ-loop
-loop-again c =
-    let at-loop = c .before .before .before in (
-      search needs,
-      at-loop .loop .inv .1 ∙ brand-passed _ _ _ (c .before .before .loop-test .taken) (λ e. c .if1 .left (c .before .unsigned .ensures ∙ e)),
-    )
-
-returns-2 : tie.Need-returns-2 Inv-loop μ-loop
-returns-2 c bs same =
-    sym (brands-of _ _ bs same ∙ c .before .loop .inv .1 ∙ brand-none _ _ _ (c .loop-test .left))
+returns-2 : tie.Need-returns-2
+returns-2 c bs same told = c .has-brand .ensures bs same ∙ sym (unmixed-right _ bs (sym told ∙ c .before .if1 .left))
 
 pub brand-right-spec : {M : Type 1} → statement M
-brand-right-spec =
-    tie.close
-    (tie.spec
-    Inv-loop
-    μ-loop
-    add-at
-    loop-holds
-    add-loop
-    unsigned-requires
-    returns
-    add-at-2
-    loop-less
-    loop-again
-    returns-2)
+brand-right-spec = tie.close (tie.spec returns has-brand-requires returns-2)

@@ -8,7 +8,7 @@ use Rattle.boxes.specs.Framing.{Box, boxesIn}
 use Rattle.boxes.specs.declared.kinds.Container.the-variants.{File}
 use Rattle.tallying.specs.Rules.{tallyOf}
 use Rattle.tallying.proofs.RuleLaws.{tally-fault}
-use Rattle.partial.specs.Heading.{ftypRight, brandRight, pfilRight}
+use Rattle.partial.specs.Heading.{ftypRight, branded, pmff, brandRight, pfilRight}
 use Rattle.heading.specs.Facts.{headedAnswer}
 use Rattle.heading.specs.Steps.{Within}
 use Rattle.heading.proofs.FormLaws.{refuted, upheld, tally-known}
@@ -37,17 +37,25 @@ ftyp-told c =
     let (bs, known, counted) = boxes-known (c .before .before) in
     c .ftyp-right .ensures bs counted (c .before .box-at .ensures bs known)
 
-brand-told : (c : tie.After-brand-right)
+mixed-told : (c : tie.After-has-brand)
     → let else2 = c .before .before .before .before in
-    c .brand-right .result ≡ brandRight (else2 .before .before .before .before .before .before .args .file .now) (boxes-known else2 .0)
-brand-told c =
+    c .has-brand .result ≡ branded pmff (else2 .before .before .before .before .before .before .args .file .now) (boxes-known else2 .0)
+mixed-told c =
     let after-first = c .before .before .before in
     let (bs, known, counted) = boxes-known (after-first .before) in
-    c .brand-right .ensures bs (after-first .box-at .ensures bs known)
+    c .has-brand .ensures bs (after-first .box-at .ensures bs known)
 
-pfil-told : (c : tie.After-pfil-right) → c .pfil-right .result ≡ pfilRight (boxes-known (c .before .before .before .before .before .before .before) .0)
+brand-told : (c : tie.After-brand-right)
+    → let else2 = c .before .before .before .before .before in
+    c .brand-right .result ≡ brandRight (else2 .before .before .before .before .before .before .args .file .now) (boxes-known else2 .0)
+brand-told c =
+    let after-first = c .before .before .before .before in
+    let (bs, known, counted) = boxes-known (after-first .before) in
+    c .brand-right .ensures bs (after-first .box-at .ensures bs known) (mixed-told (c .before))
+
+pfil-told : (c : tie.After-pfil-right) → c .pfil-right .result ≡ pfilRight (boxes-known (c .before .before .before .before .before .before .before .before) .0)
 pfil-told c =
-    let (bs, known, counted) = boxes-known (c .before .before .before .before .before .before .before) in
+    let (bs, known, counted) = boxes-known (c .before .before .before .before .before .before .before .before) in
     c .pfil-right .ensures bs counted (c .before .box-at2 .ensures bs known)
 
 returns : tie.Need-returns
@@ -77,13 +85,16 @@ returns-3 c =
     let wrong = refuted (ftyp-told (c .before)) (c .if3 .taken) in
     rw (framed _ (else2 .before .before .before .if1 .left) known, ftyp-refused _ bs wrong)
 
+has-brand-requires : tie.Need-has-brand-requires
+has-brand-requires c κs = first-within (c .before .before)
+
 brand-right-requires : tie.Need-brand-right-requires
-brand-right-requires c κs = first-within (c .before .before)
+brand-right-requires c κs = first-within (c .before .before .before)
 
 returns-4 : tie.Need-returns-4
 unfolding headedAnswer
 returns-4 c =
-    let else3 = c .before .before in
+    let else3 = c .before .before .before in
     let else2 = else3 .before .before .before in
     let (bs, known, counted) = boxes-known else2 in
     let ftyp = upheld (ftyp-told (else3 .before)) (else3 .if3 .left) in
@@ -100,7 +111,7 @@ returns-5 : tie.Need-returns-5
 unfolding headedAnswer
 returns-5 c =
     let else4 = c .before .before .before in
-    let else3 = else4 .before .before in
+    let else3 = else4 .before .before .before in
     let else2 = else3 .before .before .before in
     let (bs, known, counted) = boxes-known else2 in
     let ftyp = upheld (ftyp-told (else3 .before)) (else3 .if3 .left) in
@@ -111,7 +122,7 @@ returns-5 c =
 inner-of-requires : tie.Need-inner-of-requires
 inner-of-requires c κs =
     let after-second = c .before .before in
-    let (bs, known, counted) = boxes-known (after-second .before .before .before .before .before .before) in
+    let (bs, known, counted) = boxes-known (after-second .before .before .before .before .before .before .before) in
     number-within File _ _ _ known (after-second .box-at2 .result) 1 (after-second .box-at2 .ensures bs known)
 
 returns-6 : tie.Need-returns-6
@@ -119,7 +130,7 @@ returns-6 c =
     let else5 = c .before in
     let after-second = else5 .before .before in
     let else4 = after-second .before in
-    let else3 = else4 .before .before in
+    let else3 = else4 .before .before .before in
     let else2 = else3 .before .before .before in
     let (bs, known, counted) = boxes-known else2 in
     rw (framed _ (else2 .before .before .before .if1 .left) known)
@@ -128,6 +139,7 @@ returns-6 c =
       ftyp = upheld (ftyp-told (else3 .before)) (else3 .if3 .left);
       brand = upheld (brand-told (else4 .before)) (else4 .if4 .left);
       pfil = upheld (pfil-told (else5 .before)) (else5 .if5 .left);
+      brands = mixed-told (else4 .before .before);
     }))
 
 pub heading-of-spec : {M : Type 1} → statement M
@@ -140,6 +152,7 @@ heading-of-spec =
     box-at-requires
     ftyp-right-requires
     returns-3
+    has-brand-requires
     brand-right-requires
     returns-4
     box-at-requires-2

@@ -7,7 +7,7 @@ use Rattle.partial.specs.Segments.{chunksOf}
 use Rattle.partial.proofs.Reading.HeadingAppendLaws.{headed}
 use Rattle.gathering.proofs.GatheredLaws.{gathered-segments, gathered-chunks, gathered-sizes}
 use Rattle.gathering.proofs.PassLaws.{rows-put}
-use Rattle.reading.proofs.JudgedLaws.{accepted, read-refused, read-given, read-segments, judgement-refused, judgement-given}
+use Rattle.reading.proofs.JudgedLaws.{facts-mixed, accepted, read-refused, read-given, read-segments, judgement-refused, judgement-given}
 use Rattle.reading.proofs.TableLaws.{tabled-refused, segments-short, chunks-short, tabled-given, segments-filled, chunks-filled}
 use Rattle.listing.proofs.CallsLaws.{known-by, of-file, listed-refused, had-short, missing-short, listed-given, lists-refused, lists-given}
 use borrow.Author.Needs.{needs}
@@ -109,7 +109,7 @@ returns-6 c =
     let had : 2 * length (hadList (a .ss)) ≤ length (args .had .now) = omega (arith, counts .hadMany, c .before .before .before .before .before .before .before .before .before .before .before .before .before .before .before .before .before .if3 .left) in
     let missing : 2 * length (missingList (a .ss)) ≤ length (args .missing .now) = omega (arith, counts .missingMany, c .before .before .before .before .before .before .before .before .before .before .before .before .before .before .before .if4 .left) in
     let read = tabled-given _ _ _ (a .ss) (read-given _ a) segments chunks in
-    let (one, two) = rows-put _ (a .h) _ (c .before .before .before .before .before .before .before .before .before .before .before .before .pass .ensures (a .h) (headed _ (a .h) (a .head) .boxes)) (read-segments _ a) in
+    let (one, two) = rows-put _ (a .h) _ (c .before .before .before .before .before .before .before .before .before .before .before .before .pass .ensures (a .h) (headed _ (a .h) (a .head) .boxes) (facts-mixed _ (a .h) (a .facts))) (read-segments _ a) in
     let lists = of-file spanned (c .before .before .before .before .put-lists .ensures ordered) in
     lists-given _ _ _ _ _ (a .ss) (listed-given _ _ _ _ _ (a .ss) read had missing) counts (segments-filled (a .ss) one segments) (chunks-filled (a .ss) two chunks) (lists .had) (lists .missing) had missing
 

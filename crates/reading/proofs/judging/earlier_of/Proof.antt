@@ -2,7 +2,7 @@
 use mathlib.Core.Path.{sym, _∙_}
 use Rattle.partial.proofs.Reading.HeadingAppendLaws.{headed}
 use Rattle.reading.specs.Judged.{judgedAnswer}
-use Rattle.reading.proofs.JudgedLaws.{heading-refused, heading-found, facts-segments, answer-refused, answer-given}
+use Rattle.reading.proofs.JudgedLaws.{heading-refused, heading-found, facts-segments, facts-mixed, answer-refused, answer-given}
 use Rattle.reading.proofs.JudgedLaws.{earlier-headless, earlier-by, judged-refused, judged-given}
 use borrow.Author.Needs.{needs}
 use Rattle.reading.proofs.judging.earlier_of.Statement.{statement}
@@ -38,7 +38,7 @@ unfolding judgedAnswer
 returns-2 c =
     let met = c .before .before .before .before .before .before .before in
     let (h, known, same) = heading-found _ (met .before .before .heading-of .ensures) (met .head .given .1) in
-    let (answer, _) = c .before .before .before .before .segments-of .ensures h (headed _ h known .boxes) (facts-segments _ h _ same) in
+    let (answer, _) = c .before .before .before .before .segments-of .ensures h (headed _ h known .boxes) (facts-mixed _ h same) (facts-segments _ h _ same) in
     sym (earlier-by _ known ∙ judged-refused _ h (answer-refused answer (c .before .n2 .given .1)))
 
 returns-3 : tie.Need-returns-3
@@ -46,7 +46,7 @@ unfolding judgedAnswer
 returns-3 c =
     let met = c .before .before .before .before .before .before .before in
     let (h, known, same) = heading-found _ (met .before .before .heading-of .ensures) (met .head .given .1) in
-    let (answer, _) = c .before .before .before .before .segments-of .ensures h (headed _ h known .boxes) (facts-segments _ h _ same) in
+    let (answer, _) = c .before .before .before .before .segments-of .ensures h (headed _ h known .boxes) (facts-mixed _ h same) (facts-segments _ h _ same) in
     sym (earlier-by _ known ∙ judged-given _ h (answer-given answer (c .before .gathered .given .1)) same)
 
 pub earlier-of-spec : {M : Type 1} → statement M

@@ -6,7 +6,7 @@ use Rattle.boxes.specs.declared.kinds.Container.the-variants.{File}
 use Rattle.boxes.proofs.KindLaws.{right-count}
 use Rattle.partial.proofs.Reading.HeadingAppendLaws.{headed}
 use Rattle.reading.specs.Judged.{judgedAnswer}
-use Rattle.reading.proofs.JudgedLaws.{heading-refused, heading-found, facts-segments, answer-refused, answer-given}
+use Rattle.reading.proofs.JudgedLaws.{heading-refused, heading-found, facts-segments, facts-mixed, answer-refused, answer-given}
 use Rattle.reading.proofs.JudgedLaws.{reading-headless, reading-none, reading-by, judged-refused, judged-given, read-refused, rows-refused, rows-read}
 use borrow.Author.Needs.{needs}
 use Rattle.reading.proofs.judging.judge_into.Statement.{statement}
@@ -58,7 +58,7 @@ returns-3 c =
     let met = kept .before .before .before in
     let (h, known, same) = heading-found _ (met .before .before .heading-of .ensures) (met .head .given .1) in
     let rule = kept .before .keeps .ensures ∙ ap (rightCount File pseg) (facts-segments _ h _ same) ∙ sym (right-count File pseg (h .boxes)) in
-    let (answer, rows) = c .before .before .before .before .before .segments-of .ensures h (headed _ h known .boxes) (facts-segments _ h _ same) in
+    let (answer, rows) = c .before .before .before .before .before .segments-of .ensures h (headed _ h known .boxes) (facts-mixed _ h same) (facts-segments _ h _ same) in
     let by = reading-by _ known (sym rule ∙ not-false _ (kept .if1 .left)) in
     (sym (by ∙ judged-refused _ h (answer-refused answer (c .before .n2 .given .1))), rows-read _ h known rows)
 
@@ -72,7 +72,7 @@ returns-4 c =
     let met = kept .before .before .before in
     let (h, known, same) = heading-found _ (met .before .before .heading-of .ensures) (met .head .given .1) in
     let rule = kept .before .keeps .ensures ∙ ap (rightCount File pseg) (facts-segments _ h _ same) ∙ sym (right-count File pseg (h .boxes)) in
-    let (answer, rows) = c .before .before .before .before .before .segments-of .ensures h (headed _ h known .boxes) (facts-segments _ h _ same) in
+    let (answer, rows) = c .before .before .before .before .before .segments-of .ensures h (headed _ h known .boxes) (facts-mixed _ h same) (facts-segments _ h _ same) in
     let by = reading-by _ known (sym rule ∙ not-false _ (kept .if1 .left)) in
     (sym (by ∙ judged-given _ h (answer-given answer (c .before .gathered .given .1)) same), rows-read _ h known rows)
 

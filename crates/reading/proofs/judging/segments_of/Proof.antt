@@ -13,7 +13,7 @@ use Rattle.reading.proofs.judging.segments_of.Tie as tie
 
 returns : tie.Need-returns
 unfolding gatheredAnswer
-returns c = λ h known count.
+returns c = λ h known mix count.
     let crowded = gathered-crowded _ h (omega (arith, count)) in
     (sym crowded, rows-ungathered _ h crowded)
 
@@ -37,9 +37,9 @@ same-length c = search needs
 
 returns-2 : tie.Need-returns-2
 unfolding gatheredAnswer
-returns-2 c = λ h known count.
+returns-2 c = λ h known mix count.
     let met = c .before .before .before .before in
-    let gathers = met .before .before .before .before .before .pass .ensures h known in
+    let gathers = met .before .before .before .before .before .pass .ensures h known mix in
     let (ss, read, same) = passed-given _ h _ _ _ _ _ gathers (met .gathered .given .1) in
     let differ = sym (c .before .agree .ensures ss (gathered-sizes ss same)) ∙ not-true _ (c .if2 .taken) in
     (sym (gathered-differ _ h (omega (arith, count)) read differ), passed-rows _ h _ _ _ _ _ gathers)
@@ -49,8 +49,8 @@ same-length-2 c = search needs
 
 returns-3 : tie.Need-returns-3
 unfolding gatheredAnswer
-returns-3 c = λ h known count.
-    let gathers = c .before .before .before .before .before .before .pass .ensures h known in
+returns-3 c = λ h known mix count.
+    let gathers = c .before .before .before .before .before .before .pass .ensures h known mix in
     (sym (gathered-refused _ h (omega (arith, count)) (passed-refused _ h _ _ _ _ _ gathers (c .before .n .given .1))), passed-rows _ h _ _ _ _ _ gathers)
 
 same-length-3 : tie.Need-same-length-3
@@ -58,9 +58,9 @@ same-length-3 c = search needs
 
 returns-4 : tie.Need-returns-4
 unfolding gatheredAnswer
-returns-4 c = λ h known count.
+returns-4 c = λ h known mix count.
     let met = c .before .before .before .before in
-    let gathers = met .before .before .before .before .before .pass .ensures h known in
+    let gathers = met .before .before .before .before .before .pass .ensures h known mix in
     let (ss, read, same) = passed-given _ h _ _ _ _ _ gathers (met .gathered .given .1) in
     let agrees = sym (c .before .agree .ensures ss (gathered-sizes ss same)) ∙ not-false _ (c .if2 .left) in
     (ap given same ∙ sym (gathered-given _ h (omega (arith, count)) read agrees), passed-rows _ h _ _ _ _ _ gathers)

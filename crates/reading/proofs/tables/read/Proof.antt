@@ -6,7 +6,7 @@ use Rattle.partial.specs.Segments.{chunksOf}
 use Rattle.partial.proofs.Reading.HeadingAppendLaws.{headed}
 use Rattle.gathering.proofs.GatheredLaws.{gathered-segments, gathered-chunks, gathered-sizes}
 use Rattle.gathering.proofs.PassLaws.{rows-put}
-use Rattle.reading.proofs.JudgedLaws.{accepted, read-refused, read-given, read-segments, judgement-refused, judgement-given}
+use Rattle.reading.proofs.JudgedLaws.{facts-mixed, accepted, read-refused, read-given, read-segments, judgement-refused, judgement-given}
 use Rattle.reading.proofs.TableLaws.{tabled-refused, segments-short, chunks-short, tabled-given, reads-refused, reads-given, answered, segments-filled, chunks-filled}
 use borrow.Author.Needs.{needs}
 use Rattle.reading.proofs.tables.read.Statement.{statement}
@@ -56,7 +56,7 @@ returns-4 c =
     let args = c .before .before .before .before .before .before .before .before .before .before .before .before .before .before .before .before .before .before .before .before .before .args in
     let segments : 7 * length (a .ss) ≤ length (args .segments .now) = omega (arith, gathered-segments (a .ss) (a .gathered)) in
     let chunks : 6 * length (chunksOf (a .ss)) ≤ length (args .chunks .now) = omega (arith, gathered-chunks (a .ss) (a .gathered)) in
-    let (one, two) = rows-put _ (a .h) _ (c .before .before .before .before .before .pass .ensures (a .h) (headed _ (a .h) (a .head) .boxes)) (read-segments _ a) in
+    let (one, two) = rows-put _ (a .h) _ (c .before .before .before .before .before .pass .ensures (a .h) (headed _ (a .h) (a .head) .boxes) (facts-mixed _ (a .h) (a .facts))) (read-segments _ a) in
     let answer = answered (a .ss) (a .gathered) (c .described .ensures (a .ss) (gathered-sizes (a .ss) (a .gathered))) in
     reads-given _ _ _ (a .ss) (tabled-given _ _ _ (a .ss) (read-given _ a) segments chunks) answer (segments-filled (a .ss) one segments) (chunks-filled (a .ss) two chunks)
 

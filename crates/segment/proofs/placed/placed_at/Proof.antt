@@ -4,7 +4,7 @@ use mathlib.Core.Path.{_≡_, refl, sym, _∙_}
 use native.Mathlib.Omega.{arith}
 use borrow.Author.Tests.{not-true, not-false}
 use Rattle.partial.specs.Segments.{hasPlace}
-use Rattle.segment.proofs.PlacedLaws.{absent, empty, has-place, places-none, places-past, places-nowhere, places-in}
+use Rattle.segment.proofs.PlacedLaws.{absent, empty, has-place, places-none, places-past, places-in, places-whole, places-nowhere}
 use borrow.Author.Needs.{needs}
 use Rattle.segment.proofs.placed.placed_at.Statement.{statement}
 use Rattle.segment.proofs.placed.placed_at.Tie as tie
@@ -42,6 +42,9 @@ enum-known-b c = search needs
 enum-told-2 : tie.Need-enum-told-2
 enum-told-2 c = search needs
 
+lies-whole-requires : tie.Need-lies-whole-requires
+lies-whole-requires c κs = search needs
+
 returns-3 : tie.Need-returns-3
 returns-3 c =
     let some = c .before .before .before in
@@ -54,8 +57,17 @@ returns-4 c =
 
 returns-5 : tie.Need-returns-5
 returns-5 c =
-    let reach = c .before .before .before .before in
-    places-nowhere (has (reach .before .before .before)) (reach .before .before .offset-place .ensures .at (reach .place .given .1)) (c .before .before .held-at .ensures) (c .enum-told2 .given .1)
+    let none = c .before .before in
+    let reach = none .before .before .before .before in
+    places-whole (has (reach .before .before .before)) (reach .before .before .offset-place .ensures .at (reach .place .given .1)) (none .before .before .held-at .ensures) (none .enum-told2 .given .1)
+    (c .before .lies-whole .ensures) refl refl (c .if3 .taken)
+
+returns-6 : tie.Need-returns-6
+returns-6 c =
+    let none = c .before .before in
+    let reach = none .before .before .before .before in
+    places-nowhere (has (reach .before .before .before)) (reach .before .before .offset-place .ensures .at (reach .place .given .1)) (none .before .before .held-at .ensures) (none .enum-told2 .given .1)
+    (c .before .lies-whole .ensures) (c .if3 .left)
 
 pub placed-at-spec : {M : Type 1} → statement M
 placed-at-spec =
@@ -70,6 +82,8 @@ placed-at-spec =
     held-at-requires
     enum-known-b
     enum-told-2
+    lies-whole-requires
     returns-3
     returns-4
-    returns-5)
+    returns-5
+    returns-6)

@@ -22,13 +22,13 @@ is-text-requires : tie.Need-is-text-requires
 is-text-requires c κs = search needs
 
 returns : tie.Need-returns
-returns c = begins-refused _ _ _ (url-zero _ _ _ (sym (c .before .is-text .ensures) ∙ not-true _ (c .if1 .taken)))
+returns c = begins-refused _ _ _ _ (url-zero _ _ _ _ (sym (c .before .is-text .ensures) ∙ not-true _ (c .if1 .taken)))
 
 is-text-requires-2 : tie.Need-is-text-requires-2
 is-text-requires-2 c κs = search needs
 
 returns-2 : tie.Need-returns-2
-returns-2 c = begins-refused _ _ _ (mime-zero _ _ _ (sym (c .before .is-text2 .ensures) ∙ not-true _ (c .if2 .taken)))
+returns-2 c = begins-refused _ _ _ _ (mime-zero _ _ _ _ (sym (c .before .is-text2 .ensures) ∙ not-true _ (c .if2 .taken)))
 
 -- past 34 both are texts
 plain-url : (c : tie.Else2) → isText (c .before .before .before .before .before .before .before .args .url .now) ≡ true
@@ -46,26 +46,35 @@ size-with-requires c κs = search needs
 returns-3 : tie.Need-returns-3
 returns-3 c =
     let plain = c .before .before in
+    let sized = c .before in
     let args = plain .before .before .before .before .before .before .before .args in
-    let long = beginning-long (args .url .now) (args .mime .now) in
-    let empty = beginning-long [] [] in
-    begins-refused _ _ _ (too-long _ _ _ (plain-url plain) (plain-mime plain) (omega arith))
+    let long = beginning-long (args .url .now) (args .mime .now) (args .brand) in
+    let empty = beginning-long [] [] (args .brand) in
+    let size = sized .size-with .ensures (args .brand) in
+    begins-refused _ _ _ _ (too-long _ _ _ _ (plain-url plain) (plain-mime plain) (omega arith))
 
 returns-4 : tie.Need-returns-4
 returns-4 c =
     let plain = c .before .before .before in
+    let sized = c .before .before in
     let args = plain .before .before .before .before .before .before .before .args in
-    let long = beginning-long (args .url .now) (args .mime .now) in
-    let empty = beginning-long [] [] in
-    begins-refused _ _ _ (too-short _ _ _ (plain-url plain) (plain-mime plain) (omega arith) (omega arith))
+    let long = beginning-long (args .url .now) (args .mime .now) (args .brand) in
+    let empty = beginning-long [] [] (args .brand) in
+    let size = sized .size-with .ensures (args .brand) in
+    begins-refused _ _ _ _ (too-short _ _ _ _ (plain-url plain) (plain-mime plain) (omega arith) (omega arith))
 
 put-ftyp-requires : tie.Need-put-ftyp-requires
-put-ftyp-requires c κs = omega (arith, ftyp-long, beginning-long [] [])
+put-ftyp-requires c κs =
+    let sized = c .before .before .before in
+    let brand = sized .before .before .before .before .before .before .before .before .args .brand in
+    omega (arith, ftyp-long brand, beginning-long [] [] brand, sized .size-with .ensures brand)
 
 put-pfil-requires : tie.Need-put-pfil-requires
 put-pfil-requires c κs =
-    let args = c .before .before .before .before .before .before .before .before .before .before .before .before .before .before .before .args in
-    omega (arith, beginning-long [] [], ftyp-long, pfil-long (args .url .now) (args .mime .now))
+    let sized = c .before .before .before .before .before .before .before in
+    let args = sized .before .before .before .before .before .before .before .before .args in
+    let brand = args .brand in
+    omega (arith, beginning-long [] [] brand, ftyp-long brand, sized .size-with .ensures brand, pfil-long (args .url .now) (args .mime .now))
 
 same-length : tie.Need-same-length
 same-length c = search needs
@@ -73,16 +82,18 @@ same-length c = search needs
 returns-5 : tie.Need-returns-5
 returns-5 c =
     let first = c .before .before .before .before in
-    let plain = first .before .before .before .before .before .before .before in
+    let sized = first .before .before .before .before .before .before in
+    let plain = sized .before in
     let args = plain .before .before .before .before .before .before .before .args in
-    let long = beginning-long (args .url .now) (args .mime .now) in
-    let empty = beginning-long [] [] in
-    let small : length (beginning (args .url .now) (args .mime .now)) ≤ fileLimit = omega arith in
-    let room : length (beginning (args .url .now) (args .mime .now)) ≤ length (args .buffer .now) = omega arith in
+    let long = beginning-long (args .url .now) (args .mime .now) (args .brand) in
+    let empty = beginning-long [] [] (args .brand) in
+    let size = sized .size-with .ensures (args .brand) in
+    let small : length (beginning (args .brand) (args .url .now) (args .mime .now)) ≤ fileLimit = omega arith in
+    let room : length (beginning (args .brand) (args .url .now) (args .mime .now)) ≤ length (args .buffer .now) = omega arith in
     let boxes = puts-more (first .before .before .put-ftyp .ensures) (c .before .before .put-pfil .ensures) in
-    let all = puts-same (sym (beginning-boxes (args .url .now) (args .mime .now))) boxes in
-    let answer = begun-given _ _ _ (plain-url plain) (plain-mime plain) small room in
-    begins-given _ _ _ (answer ∙ ap given (sym (all .end ∙ zero-add _))) (put-filled _ (all .put) room)
+    let all = puts-same (sym (beginning-boxes (args .url .now) (args .mime .now) (args .brand))) boxes in
+    let answer = begun-given _ _ _ _ (plain-url plain) (plain-mime plain) small room in
+    begins-given _ _ _ _ (answer ∙ ap given (sym (all .end ∙ zero-add _))) (put-filled _ (all .put) room)
 
 pub begin-spec : {M : Type 1} → statement M
 begin-spec =

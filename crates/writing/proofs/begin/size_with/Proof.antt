@@ -16,10 +16,10 @@ add-result-2 : tie.Need-add-result-2
 add-result-2 c = search needs
 
 returns : tie.Need-returns
-returns c = omega (arith, beginning-long [] [])
+returns c brand = omega (arith, beginning-long [] [] brand)
 
 returns-2 : tie.Need-returns-2
-returns-2 c = omega (arith, beginning-long [] [])
+returns-2 c brand = omega (arith, beginning-long [] [] brand)
 
 pub size-with-spec : {M : Type 1} → statement M
 size-with-spec = tie.close (tie.spec sub-if1 add-result add-result-2 returns returns-2)

@@ -1,7 +1,8 @@
--- `writing::pdat::put_pdat` meets its contract: the header, then the bytes.
-use mathlib.Core.Path.{sym, refl}
+-- `writing::pdat::put_pdat` meets its contract: the header, then the data that goes there.
+use mathlib.Core.Path.{sym}
 use native.Mathlib.Omega.{arith}
 use borrow.Author.Needs.{needs}
+use borrow.Author.Tests.{not-true, not-false}
 use Rattle.boxes.specs.Kinds.{pdat}
 use Rattle.boxes.proofs.BoxedLaws.{front-size}
 use Rattle.filling.proofs.PutsLaws.{puts-same}
@@ -11,19 +12,22 @@ use Rattle.writing.proofs.pdat.put_pdat.Statement.{statement}
 use Rattle.writing.proofs.pdat.put_pdat.Tie as tie
 
 returns : tie.Need-returns
-returns c = puts-same (sym (no-part _ _ (c .if1 .taken))) (puts-none _ _)
+returns c =
+    let args = c .before .before .before .before .args in
+    puts-same (sym (no-part (args .outside) (args .there) (args .list .now) (args .bytes .now) (not-true _ (c .if1 .taken)))) (puts-none _ _)
 
 put-front-requires : tie.Need-put-front-requires
 put-front-requires c κs =
-    let args = c .before .before .before .before .args in
-    let long = part-long (args .present) (args .bytes .now) (c .before .if1 .left) in
+    let args = c .before .before .before .before .before .args in
+    let long = part-long (args .outside) (args .there) (args .list .now) (args .bytes .now) (not-false _ (c .before .if1 .left)) in
     omega (arith, front-size)
 
-put-bytes-requires : tie.Need-put-bytes-requires
-put-bytes-requires c κs =
-    let args = c .before .before .before .before .before .before .before .before .args in
-    let long = part-long (args .present) (args .bytes .now) (c .before .before .before .before .before .if1 .left) in
-    let body = front-end _ _ (c .before .before .before .put-front .ensures) in
+put-chosen-requires : tie.Need-put-chosen-requires
+put-chosen-requires c κs =
+    let front = c .before .before .before in
+    let args = front .before .before .before .before .before .before .args in
+    let long = part-long (args .outside) (args .there) (args .list .now) (args .bytes .now) (not-false _ (front .before .before .if1 .left)) in
+    let body = front-end _ _ (front .put-front .ensures) in
     omega arith
 
 same-length : tie.Need-same-length
@@ -31,8 +35,12 @@ same-length c = search needs
 
 returns-2 : tie.Need-returns-2
 returns-2 c =
-    puts-same (sym (some-part _ _ (c .before .before .before .before .before .before .before .before .if1 .left)))
-    (puts-box (pdat .code) (c .before .before .before .before .before .before .put-front .ensures) refl (c .before .before .put-bytes .ensures))
+    let inner = c .before .before in
+    let front = inner .before .before .before .before in
+    let start = front .before .before .before .before .before .before in
+    let args = start .args in
+    puts-same (sym (some-part (args .outside) (args .there) (args .list .now) (args .bytes .now) (not-false _ (front .before .before .if1 .left))))
+    (puts-box (pdat .code) (front .put-front .ensures) (start .pre .0) (inner .put-chosen .ensures))
 
 pub put-pdat-spec : {M : Type 1} → statement M
-put-pdat-spec = tie.close (tie.spec returns put-front-requires put-bytes-requires same-length returns-2)
+put-pdat-spec = tie.close (tie.spec returns put-front-requires put-chosen-requires same-length returns-2)

@@ -1,22 +1,22 @@
--- `writing::ploc::put_entries` meets its contract. The loop's invariant: the entries passed are written, and the data that is left is known.
-use Prim.Native.Nat.{ℕ, _-_, _/_, _≤_, _<_}
-use mathlib.Core.Path.{ap}
+-- `writing::ploc::put_entries` meets its contract. The loop's invariant: the entries passed are written, and how far the data that is
+-- left lies is known.
+use Prim.Native.Nat.{_-_, _/_, _≤_, _<_}
 use native.Mathlib.Omega.{arith}
 use borrow.Author.Needs.{needs}
 use lib.ListN.{length}
-use Rattle.writing.proofs.EntryLaws.{Midway, midway-start, midway-entry, midway-data, midway-room, midway-more, midway-end}
+use Rattle.writing.proofs.EntryLaws.{Midway, midway-start, midway-distances, midway-entry, midway-room, midway-more, midway-end}
 use Rattle.writing.proofs.ploc.put_entries.Statement.{statement}
 use Rattle.writing.proofs.ploc.put_entries.Tie as tie
 
 abbrev Inv-loop : tie.InvT-loop
-Inv-loop buffer₀ widths bytes list next₀ back₀ i₀ buffer next back i =
-    (i ≤ length list / 2) × Midway list (widths .size) (widths .offset) buffer₀ (next₀ .0) buffer (next .0) back i
+Inv-loop buffer₀ widths outside list next₀ left₀ i₀ buffer next left i =
+    (i ≤ length list / 2) × Midway outside list (widths .size) (widths .offset) buffer₀ (next₀ .0) buffer (next .0) left i
 
 abbrev μ-loop : tie.MeasureT-loop
-μ-loop buffer₀ widths bytes list next₀ back₀ i₀ buffer next back i = length list / 2 - i
+μ-loop buffer₀ widths outside list next₀ left₀ i₀ buffer next left i = length list / 2 - i
 
 loop-holds : tie.Need-loop-holds Inv-loop μ-loop
-loop-holds c = (search needs, midway-start _ _ _ _ _ (c .before .before .pre .0) (c .before .before .pre .1))
+loop-holds c = (search needs, midway-start _ _ _ _ _ _ (c .before .before .pre .0) (c .before .before .pre .1))
 
 mul-size : tie.Need-mul-size Inv-loop μ-loop
 mul-size c = search needs
@@ -39,19 +39,24 @@ mul-state-2 c = search needs
 shared-slice-read-state : tie.Need-shared-slice-read-state Inv-loop μ-loop
 shared-slice-read-state c = search needs
 
+of-requires : tie.Need-of-requires Inv-loop μ-loop
+of-requires c κs = search needs
+
 put-entry-requires : tie.Need-put-entry-requires Inv-loop μ-loop
 put-entry-requires c κs =
-    let m = c .before .before .before .before .loop .inv .1 in
-    let less : c .before .before .before .before .loop .i < length (c .before .before .before .before .before .before .before .args .list .now) / 2 = omega arith in
-    (midway-entry _ _ _ _ _ m less, midway-room _ _ _ _ _ m less (c .before .before .before .before .before .before .before .pre .2))
+    let told = c .before in
+    let met = told .before .before .before .before in
+    let m = met .loop .inv .1 in
+    let start = met .before .before .before in
+    let less : met .loop .i < length (start .args .list .now) / 2 = omega arith in
+    let far = told .of .ensures _ _ _ (midway-distances _ _ _ _ _ _ m less) in
+    (midway-entry _ _ _ _ _ _ m less far, midway-room _ _ _ _ _ _ m less far (start .pre .2))
 
-data-of-requires : tie.Need-data-of-requires Inv-loop μ-loop
-data-of-requires c κs = search needs
-
-sub-back : tie.Need-sub-back Inv-loop μ-loop
-sub-back c =
-    let less : c .before .before .before .before .before .before .before .before .loop .i < length (c .before .before .before .before .before .before .before .before .before .before .before .args .list .now) / 2 = omega arith in
-    omega (arith, midway-data _ _ _ _ _ (c .before .before .before .before .before .before .before .before .loop .inv .1) less)
+past-requires : tie.Need-past-requires Inv-loop μ-loop
+past-requires c κs =
+    let met = c .before .before .before .before .before .before .before .before in
+    let less : met .loop .i < length (met .before .before .before .args .list .now) / 2 = omega arith in
+    (_, _, midway-distances _ _ _ _ _ _ (met .loop .inv .1) less)
 
 add-i : tie.Need-add-i Inv-loop μ-loop
 add-i c = search needs
@@ -61,15 +66,19 @@ loop-less c = search needs
 
 loop-again : tie.Need-loop-again Inv-loop μ-loop
 loop-again c =
-    let at-loop = c .before .before .before .before .before .before .before .before in
-    let less : at-loop .loop .i < length (at-loop .before .before .before .args .list .now) / 2 = omega arith in
-    (omega arith, midway-more _ _ _ _ _ (at-loop .loop .inv .1) less (c .before .before .before .put-entry .ensures) (ap (λ (n : ℕ). at-loop .loop .back - n) (c .data-of .ensures)))
+    let wrote = c .before .before .before in
+    let told = wrote .before .before in
+    let met = told .before .before .before .before in
+    let m = met .loop .inv .1 in
+    let less : met .loop .i < length (met .before .before .before .args .list .now) / 2 = omega arith in
+    let here = midway-distances _ _ _ _ _ _ m less in
+    (omega arith, midway-more _ _ _ _ _ _ m less (told .of .ensures _ _ _ here) (wrote .put-entry .ensures) (c .past .ensures _ _ here))
 
 same-length : tie.Need-same-length Inv-loop μ-loop
 same-length c = search needs
 
 returns : tie.Need-returns Inv-loop μ-loop
-returns c = midway-end _ _ _ _ _ (c .before .loop .inv .1) (omega arith)
+returns c = midway-end _ _ _ _ _ _ (c .before .loop .inv .1) (omega arith)
 
 pub put-entries-spec : {M : Type 1} → statement M
 put-entries-spec =
@@ -85,9 +94,9 @@ put-entries-spec =
     add-state
     mul-state-2
     shared-slice-read-state
+    of-requires
     put-entry-requires
-    data-of-requires
-    sub-back
+    past-requires
     add-i
     loop-less
     loop-again

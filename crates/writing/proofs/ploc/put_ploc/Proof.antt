@@ -8,6 +8,7 @@ use Rattle.partial.specs.Addition.{items}
 use Rattle.adding.proofs.CountLaws.{counted-items}
 use Rattle.filling.proofs.PutsLaws.{puts-same, puts-more}
 use Rattle.writing.proofs.AddedLaws.{widths-low, widths-hold, ploc-numbers, ploc-long, ploc-box-long, ploc-size-of}
+use Rattle.writing.proofs.EntryLaws.{all-distances}
 use Rattle.writing.proofs.PutLaws.{field-end, front-end, puts-box}
 use Rattle.writing.proofs.ploc.put_ploc.Statement.{statement}
 use Rattle.writing.proofs.ploc.put_ploc.Tie as tie
@@ -16,30 +17,32 @@ put-front-requires : tie.Need-put-front-requires
 put-front-requires c κs =
     let start = c .before .before .before in
     let list = start .args .list .now in
+    let outside = start .args .outside in
     let l = start .pre .1 .sizes in
     let o = start .pre .1 .offsets in
-    let size = ploc-size-of list (start .pre .1 .body) (start .pre .4) in
-    omega (arith, front-size, ploc-box-long list l o, ploc-long (items list) l o)
+    let size = ploc-size-of outside list (start .pre .1 .body) (start .pre .5) in
+    omega (arith, front-size, ploc-box-long outside list l o, ploc-long outside (items list) l o)
 
 put-field-requires : tie.Need-put-field-requires
 put-field-requires c κs =
     let front = c .before .before .before in
     let start = front .before .before .before .before in
     let list = start .args .list .now in
+    let outside = start .args .outside in
     let l = start .pre .1 .sizes in
     let o = start .pre .1 .offsets in
     let version = front-end _ _ (front .put-front .ensures) in
-    (search needs, below-holds _ _ (omega arith), omega (arith, ploc-box-long list l o))
+    (search needs, below-holds _ _ (omega arith), omega (arith, ploc-box-long outside list l o))
 
 mul-put-field : tie.Need-mul-put-field
 mul-put-field c =
     let start = c .before .before .before .before .before .before .before .before .before .before .before in
-    record { fits = omega (arith, widths-low _ (start .pre .1 .sizes) (start .pre .1 .offsets)) }
+    record { fits = omega (arith, widths-low _ _ (start .pre .1 .sizes) (start .pre .1 .offsets)) }
 
 add-put-field : tie.Need-add-put-field
 add-put-field c =
     let start = c .before .before .before .before .before .before .before .before .before .before .before in
-    record { fits = omega (arith, widths-low _ (start .pre .1 .sizes) (start .pre .1 .offsets)) }
+    record { fits = omega (arith, widths-low _ _ (start .pre .1 .sizes) (start .pre .1 .offsets)) }
 
 put-field-requires-2 : tie.Need-put-field-requires-2
 put-field-requires-2 c κs =
@@ -47,11 +50,12 @@ put-field-requires-2 c κs =
     let front = first .before .before .before .before in
     let start = front .before .before .before .before in
     let list = start .args .list .now in
+    let outside = start .args .outside in
     let l = start .pre .1 .sizes in
     let o = start .pre .1 .offsets in
     let widths = field-end _ _ (first .put-field .ensures) in
     let version = front-end _ _ (front .put-front .ensures) in
-    (search needs, below-holds _ _ (omega (arith, widths-low (items list) l o)), omega (arith, ploc-box-long list l o))
+    (search needs, below-holds _ _ (omega (arith, widths-low outside (items list) l o)), omega (arith, ploc-box-long outside list l o))
 
 put-field-requires-3 : tie.Need-put-field-requires-3
 put-field-requires-3 c κs =
@@ -60,12 +64,13 @@ put-field-requires-3 c κs =
     let front = first .before .before .before .before in
     let start = front .before .before .before .before in
     let list = start .args .list .now in
+    let outside = start .args .outside in
     let l = start .pre .1 .sizes in
     let o = start .pre .1 .offsets in
     let index = field-end _ _ (second .put-field2 .ensures) in
     let widths = field-end _ _ (first .put-field .ensures) in
     let version = front-end _ _ (front .put-front .ensures) in
-    (search needs, below-holds _ _ (omega arith), omega (arith, ploc-box-long list l o, start .pre .3))
+    (search needs, below-holds _ _ (omega arith), omega (arith, ploc-box-long outside list l o, start .pre .4))
 
 put-field-requires-4 : tie.Need-put-field-requires-4
 put-field-requires-4 c κs =
@@ -75,6 +80,7 @@ put-field-requires-4 c κs =
     let front = first .before .before .before .before in
     let start = front .before .before .before .before in
     let list = start .args .list .now in
+    let outside = start .args .outside in
     let l = start .pre .1 .sizes in
     let o = start .pre .1 .offsets in
     let count = field-end _ _ (third .put-field3 .ensures) in
@@ -87,7 +93,7 @@ put-field-requires-4 c κs =
     let long-0 = front .put-front .ensures .put .long in (
       search needs,
       below-holds _ _ (omega (arith, counted-items (items list) (start .pre .0 .counts), start .pre .2 .count)),
-      omega (arith, ploc-box-long list l o, start .pre .3),
+      omega (arith, ploc-box-long outside list l o, start .pre .4),
     )
 
 put-entries-requires : tie.Need-put-entries-requires
@@ -99,6 +105,7 @@ put-entries-requires c κs =
     let front = first .before .before .before .before in
     let start = front .before .before .before .before in
     let list = start .args .list .now in
+    let outside = start .args .outside in
     let l = start .pre .1 .sizes in
     let o = start .pre .1 .offsets in
     let entries = field-end _ _ (fourth .put-field4 .ensures) in
@@ -111,13 +118,24 @@ put-entries-requires c κs =
     let long-2 = second .put-field2 .ensures .put .long in
     let long-1 = first .put-field .ensures .put .long in
     let long-0 = front .put-front .ensures .put .long in (
-      widths-hold (items list) (start .pre .2) l o,
-      start .pre .0 .bytes,
-      omega (arith, ploc-box-long list l o, start .pre .3),
+      widths-hold outside (items list) l o (start .pre .2),
+      all-distances outside (items list) (start .pre .0 .bytes) (start .pre .3),
+      omega (arith, ploc-box-long outside list l o, start .pre .4),
     )
 
 same-length : tie.Need-same-length
-same-length c = search needs
+same-length c =
+    let fourth = c .before .before .before .before .before .before in
+    let third = fourth .before .before .before .before in
+    let second = third .before .before .before .before in
+    let first = second .before .before .before .before in
+    let front = first .before .before .before .before in
+    let long-4 = fourth .put-field4 .ensures .put .long in
+    let long-3 = third .put-field3 .ensures .put .long in
+    let long-2 = second .put-field2 .ensures .put .long in
+    let long-1 = first .put-field .ensures .put .long in
+    let long-0 = front .put-front .ensures .put .long in
+    omega (arith, c .before .before .put-entries .ensures .put .long)
 
 returns : tie.Need-returns
 returns c =
@@ -128,9 +146,10 @@ returns c =
     let front = first .before .before .before .before in
     let start = front .before .before .before .before in
     let list = start .args .list .now in
+    let outside = start .args .outside in
     let laid = start .pre .1 in
-    let size = ploc-size-of list (laid .body) (start .pre .4) in
-    let numbers = ploc-numbers (items list) (laid .sizes) (laid .offsets) (counted-items (items list) (start .pre .0 .counts)) in
+    let size = ploc-size-of outside list (laid .body) (start .pre .5) in
+    let numbers = ploc-numbers outside (items list) (laid .sizes) (laid .offsets) (counted-items (items list) (start .pre .0 .counts)) in
     puts-box (ploc .code) (front .put-front .ensures) size
     (puts-same numbers
     (puts-more (first .put-field .ensures)

@@ -15,16 +15,16 @@ use Rattle.writing.proofs.pseg.put_pseg.Tie as tie
 put-front-requires : tie.Need-put-front-requires
 put-front-requires c κs =
     let start = c .before .before .before in
-    let long = pseg-box-long (start .args .header) (start .args .list .now) in
-    let size = pseg-size-of (start .args .header) (start .args .list .now) (start .pre .1 .body) (start .pre .4) in
-    omega (arith, front-size, length-boxed (pseg .code) (psegBody (asks (start .args .header) (start .args .list .now) [])))
+    let long = pseg-box-long (start .args .header) (start .args .outside) (start .args .list .now) in
+    let size = pseg-size-of (start .args .header) (start .args .outside) (start .args .list .now) (start .pre .1 .body) (start .pre .5) in
+    omega (arith, front-size, length-boxed (pseg .code) (psegBody (asks (start .args .header) (start .args .outside) (start .args .list .now) [])))
 
 put-pshd-requires : tie.Need-put-pshd-requires
 unfolding asks
 put-pshd-requires c κs =
     let front = c .before .before .before in
     let start = front .before .before .before .before in
-    let long = pseg-box-long (start .args .header) (start .args .list .now) in
+    let long = pseg-box-long (start .args .header) (start .args .outside) (start .args .list .now) in
     let body = front-end _ _ (front .put-front .ensures) in
     (start .pre .1 .pshd, omega arith)
 
@@ -33,9 +33,9 @@ unfolding asks
 put-ploc-requires c κs =
     let front = c .before .before .before .before .before .before .before in
     let start = front .before .before .before .before in
-    let long = pseg-box-long (start .args .header) (start .args .list .now) in
+    let long = pseg-box-long (start .args .header) (start .args .outside) (start .args .list .now) in
     let body = front-end _ _ (front .put-front .ensures) in
-    (start .pre .0, start .pre .1 .ploc, start .pre .2, omega (arith, start .pre .3), omega (arith, start .pre .4))
+    (start .pre .0, start .pre .1 .ploc, start .pre .2, start .pre .3, omega (arith, start .pre .4), omega (arith, start .pre .5))
 
 same-length : tie.Need-same-length
 same-length c = search needs
@@ -44,9 +44,9 @@ returns : tie.Need-returns
 returns c =
     let front = c .before .before .before .before .before .before .before .before .before .before in
     let start = front .before .before .before .before in
-    let size = pseg-size-of (start .args .header) (start .args .list .now) (start .pre .1 .body) (start .pre .4) in
+    let size = pseg-size-of (start .args .header) (start .args .outside) (start .args .list .now) (start .pre .1 .body) (start .pre .5) in
     puts-box (pseg .code) (front .put-front .ensures) size
-    (puts-same (pseg-boxes (start .args .header) (start .args .list .now)) (puts-more (c .before .before .before .before .before .before .put-pshd .ensures) (c .before .before .put-ploc .ensures)))
+    (puts-same (pseg-boxes (start .args .header) (start .args .outside) (start .args .list .now)) (puts-more (c .before .before .before .before .before .before .put-pshd .ensures) (c .before .before .put-ploc .ensures)))
 
 pub put-pseg-spec : {M : Type 1} → statement M
 put-pseg-spec = tie.close (tie.spec put-front-requires put-pshd-requires put-ploc-requires same-length returns)

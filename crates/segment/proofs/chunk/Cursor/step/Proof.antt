@@ -37,7 +37,7 @@ unfolding entryAnswer
 returns c =
     let met = c .before .before .before .before in
     let read = sym (met .before .before .entry-at .ensures) ∙ ap entryAnswer (met .e .given .1) in
-    steps-refused (λ h p t. step-far _ _ h _ _ _ read (sym (c .before .ends-by .ensures) ∙ not-true _ (c .if1 .taken)))
+    steps-refused (λ h mix p t. step-far _ _ h _ _ _ read (sym (c .before .ends-by .ensures) ∙ not-true _ (c .if1 .taken)))
 
 placed-at-requires : tie.Need-placed-at-requires
 placed-at-requires c κs = search needs
@@ -48,14 +48,14 @@ enum-known-n-2 c = search needs
 enum-known-place : tie.Need-enum-known-place
 enum-known-place c = search needs
 
-add-t22 : tie.Need-add-t22
-add-t22 c = omega (arith, ends (c .before .before .before .before .before))
+add-t23 : tie.Need-add-t23
+add-t23 c = omega (arith, ends (c .before .before .before .before .before))
 
 returns-2 : tie.Need-returns-2
 unfolding entryAnswer
 returns-2 c =
     let fault = sym (c .before .before .before .entry-at .ensures) ∙ ap entryAnswer (c .before .n .given .1) in
-    steps-refused (λ h p t. step-refused _ _ h _ _ _ fault)
+    steps-refused (λ h mix p t. step-refused _ _ h _ _ _ fault)
 
 returns-3 : tie.Need-returns-3
 unfolding entryAnswer placeAnswer
@@ -63,7 +63,7 @@ returns-3 c =
     let within = c .before .before .before .before in
     let met = within .before .before .before .before in
     let read = sym (met .before .before .entry-at .ensures) ∙ ap entryAnswer (met .e .given .1) in
-    steps-refused (λ h p t. step-unplaced _ _ h _ _ _ read (near within) (sym (c .before .before .before .placed-at .ensures .answer h p t) ∙ ap placeAnswer (c .before .n2 .given .1)))
+    steps-refused (λ h mix p t. step-unplaced _ _ h _ _ _ read (near within) (sym (c .before .before .before .placed-at .ensures .answer h mix p t) ∙ ap placeAnswer (c .before .n2 .given .1)))
 
 returns-4 : tie.Need-returns-4
 unfolding entryAnswer placeAnswer
@@ -73,7 +73,7 @@ returns-4 c =
     let read = sym (met .before .before .entry-at .ensures) ∙ ap entryAnswer (met .e .given .1) in
     let placed = c .before .before .before .before .placed-at .ensures in
     let at = c .before .before .place .given .1 in
-    steps-given (λ h p t. step-placed _ _ h _ _ _ read (near within) (sym (placed .answer h p t) ∙ ap placeAnswer at)) (λ h p t. placed .onward h p t at)
+    steps-given (λ h mix p t. step-placed _ _ h _ _ _ read (near within) (sym (placed .answer h mix p t) ∙ ap placeAnswer at)) (λ h mix p t. placed .onward h mix p t at)
 
 pub step-spec : {M : Type 1} → statement M
 step-spec =
@@ -87,7 +87,7 @@ step-spec =
     placed-at-requires
     enum-known-n-2
     enum-known-place
-    add-t22
+    add-t23
     returns-2
     returns-3
     returns-4)

@@ -1,0 +1,4 @@
+pub mod ChunkLaws
+pub mod Determined
+pub mod ItemLaws
+pub mod WholeLaws
