@@ -7,11 +7,10 @@ use native.Mathlib.Decide.{decLe}
 use native.Mathlib.Numerals.{add-one}
 use native.Mathlib.Omega.{arith}
 use mathlib.Core.List.{List, [], _∷_, _++_, append-assoc, append-nil}
-use borrow.Author.Count.{below-more}
 use lib.Arith.{digits-lt, digits-div, digits-mod, mod-mul}
-use lib.ListN.{length, getD, set, length-append, List·getD-append, List·getD-eq-default}
+use lib.ListN.{length, getD, length-append, List·getD-append, List·getD-eq-default}
 use lib.Pow.{pow-add, ones-split, ones-lt, suc-ones, high}
-use lib.Seq.{getD-at, getD-append-add, getD-set-same, getD-set-other}
+use lib.Seq.{getD-at, getD-append-add}
 use Rattle.numerals.specs.Numbers.{number, bytesOf}
 
 -- ---- reading
@@ -19,16 +18,6 @@ use Rattle.numerals.specs.Numbers.{number, bytesOf}
 -- past the end stands 0
 pub past-end : (s : List ℕ) (n : ℕ) → length s ≤ n → 0 ≡ getD s n 0
 past-end s n h = sym (List·getD-eq-default s 0 h)
-
--- a list that has the first bytes from a place, and is given the next one
-pub gathered-more : (f s : List ℕ) (at i d : ℕ) → i < length f
-    → ((k : ℕ) → k < i → getD f k 0 ≡ getD s (at + k) 0)
-    → d ≡ getD s (at + i) 0
-    → (k : ℕ) → k < i + 1 → getD (set f i d) k 0 ≡ getD s (at + k) 0
-gathered-more f s at i d inside before here =
-    below-more (λ k. getD (set f i d) k 0 ≡ getD s (at + k) 0) i
-    (λ k h. getD-set-other f i k d 0 (λ e. omega arith) ∙ before k h)
-    (getD-set-same f i d 0 inside ∙ here)
 
 -- no bytes are 0, and one byte is itself
 pub number-none : (s : List ℕ) (at : ℕ) → number s at 0 ≡ 0

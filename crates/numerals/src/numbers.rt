@@ -32,40 +32,18 @@ fn byte_after(s: &[u8], at: Place, i: usize) -> u8
     if i < s.len() - from { s[from + i] } else { 0 }
 }
 
-// The w bytes from a place, in the front of a small array.
-fn gather(s: &[u8], at: Place, w: usize) -> [u8; 8]
-    requires { ⌜ w ≤ 8 ⌝ }
-    ensures { λ r. ⌜ ((k : ℕ) → k < w → getD r k 0 ≡ getD (now (s .entry)) (at .0 + k) 0) ⌝ }
-{
-    let mut field = [0u8; 8];
-    let mut i = 0;
-    while i < w {
-        field[i] = byte_after(s, at, i);
-        i += 1;
-    }
-    field
-}
-
-// The number in the first w bytes of a field.
-fn number_in(field: [u8; 8], w: usize) -> u64
-    requires { ⌜ w ≤ 8 ⌝ }
-    ensures { λ r. ⌜ r ≡ number field 0 w ⌝ }
-{
-    let mut n: u64 = 0;
-    let mut i = 0;
-    while i < w {
-        n = n * 256 + field[i] as u64;
-        i += 1;
-    }
-    n
-}
-
-// The number of that width at a place. Bytes past the end count as 0.
+// The number of that width at a place, worked out straight from the bytes. Those past the end count as 0.
 pub fn unsigned(s: &[u8], at: Place, width: usize) -> u64
     ensures { λ r. ⌜ r ≡ number (now (s .entry)) (at .0) (min width 8) ⌝ }
 {
     let w = within(width);
-    number_in(gather(s, at, w), w)
+    let mut n: u64 = 0;
+    let mut i = 0;
+    while i < w {
+        n = n * 256 + byte_after(s, at, i) as u64;
+        i += 1;
+    }
+    n
 }
 
 // The largest number of w bytes: one more would not fit where w is 8.

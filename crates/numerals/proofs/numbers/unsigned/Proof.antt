@@ -1,27 +1,71 @@
--- `numerals::numbers::unsigned` meets its contract: the field has the bytes of the place, so it has its number.
-use mathlib.Core.Path.{_∙_}
-use native.Mathlib.Nat.{zero-add}
+-- `numerals::numbers::unsigned` meets its contract. The loop's invariant: the number of the bytes passed, which is below that power of 256.
+use Prim.Native.Nat.{_-_, _^_, _≤_, _<_}
+use mathlib.Core.Path.{_≡_}
 use borrow.Author.Needs.{needs}
-use Rattle.numerals.proofs.NumberLaws.{number-same}
+use native.Mathlib.Omega.{arith}
+use mir.Syntax.{w8}
+use mir.Val.{Fits}
+use Rattle.numerals.specs.Numbers.{number}
+use Rattle.numerals.proofs.NumberLaws.{number-more, more-below, room}
 use Rattle.numerals.proofs.numbers.unsigned.Statement.{statement}
 use Rattle.numerals.proofs.numbers.unsigned.Tie as tie
 
-within-requires : tie.Need-within-requires
+abbrev Inv-loop : tie.InvT-loop
+Inv-loop s at width w n₀ i₀ n i = (i ≤ w) × (n ≡ number s (at .0) i) × (n < 256 ^ i)
+
+abbrev μ-loop : tie.MeasureT-loop
+μ-loop s at width w n₀ i₀ n i = w - i
+
+within-requires : tie.Need-within-requires Inv-loop μ-loop
 within-requires c κs = search needs
 
-gather-requires : tie.Need-gather-requires
-gather-requires c κs = search needs
+loop-holds : tie.Need-loop-holds Inv-loop μ-loop
+unfolding number
+loop-holds c = search needs
 
-number-in-requires : tie.Need-number-in-requires
-number-in-requires c κs = search needs
+mul-n : tie.Need-mul-n Inv-loop μ-loop
+mul-n c = omega (arith, c .before .before .within .ensures, room _ 0 _ (c .before .loop .inv .2) (omega arith) (omega (arith, c .before .before .within .ensures)))
 
-returns : tie.Need-returns
+byte-after-requires : tie.Need-byte-after-requires Inv-loop μ-loop
+byte-after-requires c κs = search needs
+
+cast-n : tie.Need-cast-n Inv-loop μ-loop
+cast-n c = search needs
+
+add-n : tie.Need-add-n Inv-loop μ-loop
+add-n c =
+    let byte : Fits w8 (c .byte-after .result) = search needs in
+    record { fits = room _ _ _ (c .before .before .loop .inv .2) (byte .fits) (omega (arith, c .before .before .before .within .ensures)) }
+
+add-i : tie.Need-add-i Inv-loop μ-loop
+add-i c = omega (arith, c .before .before .before .within .ensures)
+
+loop-less : tie.Need-loop-less Inv-loop μ-loop
+loop-less c = search needs
+
+loop-again : tie.Need-loop-again Inv-loop μ-loop
+loop-again c =
+    let byte : Fits w8 (c .byte-after .result) = search needs in
+    (search needs, rw (number-more, ← c .byte-after .ensures, ← c .before .before .loop .inv .1), more-below _ _ _ (c .before .before .loop .inv .2) (byte .fits))
+
+returns : tie.Need-returns Inv-loop μ-loop
 returns c =
-    rw (← c .before .before .within .ensures)
-    (c .number-in .ensures
-    ∙ number-same (c .before .gather .result) (c .before .before .before .before .args .s .now) 0
-    (c .before .before .before .before .args .at .0) (c .before .before .within .result)
-    (λ k h. rw zero-add (c .before .gather .ensures k h)))
+    let all : c .before .loop .i ≡ c .before .before .within .result = omega arith in
+    rw (← c .before .before .within .ensures, ← all) (c .before .loop .inv .1)
 
 pub unsigned-spec : {M : Type 1} → statement M
-unsigned-spec = tie.close (tie.spec within-requires gather-requires number-in-requires returns)
+unsigned-spec =
+    tie.close
+    (tie.spec
+    Inv-loop
+    μ-loop
+    within-requires
+    loop-holds
+    mul-n
+    byte-after-requires
+    cast-n
+    add-n
+    add-i
+    loop-less
+    loop-again
+    returns)
