@@ -27,7 +27,6 @@ enum refusal {
     WIDTH_OVER_EIGHT = 18,
     DATA_REFERENCE = 19,
     RESERVED_BIT = 20,
-    NEITHER_BIT = 21,
     TOO_MANY_CHUNKS = 22,
     POSITION_OVER_LIMIT = 23,
     MAY_NOT_LIE_THERE = 24,
@@ -69,7 +68,7 @@ enum { USER_TYPE = 16 };
 /* The flag of `pshd` for the last segment, and the flag bytes of a chunk's entry. */
 enum { LAST_SEGMENT = 1 };
 enum { CORRUPTED = 0x80, PRESENT = 0x40, RESERVED = 0x3f };
-enum { LOST = 0, DAMAGED = 1, GOOD = 2 };
+enum { LOST = 0, DAMAGED = 1, GOOD = 2, ELSEWHERE = 3 };
 
 /* A place counts bytes of the partial file, a position bytes of the source; neither stands for the other. The limits let both fit 32 bits. */
 typedef uint32_t file_place;

@@ -287,9 +287,12 @@ struct entries {
     unsigned length_size, offset_size;
 };
 
+/* The state that a flag byte without a reserved bit tells by its two others. */
 static inline uint8_t state_of(uint8_t flags)
 {
-    return flags == PRESENT ? GOOD : flags == CORRUPTED ? LOST : DAMAGED;
+    static const uint8_t states[] = {[0] = ELSEWHERE, [PRESENT >> 6] = GOOD, [CORRUPTED >> 6] = LOST, [(CORRUPTED | PRESENT) >> 6] = DAMAGED};
+
+    return states[flags >> 6];
 }
 
 /* Reads the chunks of a segment; `*position` goes from the segment's offset to its end. */
@@ -306,8 +309,6 @@ static enum refusal read_entries(struct partial *partial, uint32_t number, struc
         uint8_t flags = *at++;
         if (flags & RESERVED)
             return RESERVED_BIT;
-        if (flags == 0)
-            return NEITHER_BIT;
         unsigned rest = entries.length_size + (flags & PRESENT ? entries.offset_size : 0);
         if (entries.end - at < (ptrdiff_t)rest)
             return BAD_PLOC;

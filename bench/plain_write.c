@@ -94,6 +94,12 @@ static unsigned width_of(uint64_t value)
     return width;
 }
 
+/* Whether the bytes of a chunk of this state are kept. */
+static bool is_present(uint64_t state)
+{
+    return state == DAMAGED || state == GOOD;
+}
+
 /* Checks the chunk list and the number of data bytes, and sums the list up. */
 static enum refusal check_list(struct addition *add, size_t list_length)
 {
@@ -107,11 +113,11 @@ static enum refusal check_list(struct addition *add, size_t list_length)
     add->size = 0;
     for (uint64_t i = 0; i < add->count; i++) {
         uint64_t size = add->list[2 * i], state = add->list[2 * i + 1];
-        if (size == 0 || state > GOOD)
+        if (size == 0 || state > ELSEWHERE)
             return BAD_CHUNK_LIST;
         bits |= size;
         add->size = size > UINT64_MAX - add->size ? UINT64_MAX : add->size + size;
-        if (state != LOST) {
+        if (is_present(state)) {
             add->present++;
             if (size > left)
                 over = true;
@@ -155,7 +161,7 @@ static enum refusal check_outside(const struct partial *partial, struct addition
                 return NOT_TO_GO_OUTSIDE;
             add->out += size;
         }
-        if (state != LOST)
+        if (is_present(state))
             bytes += size;
     }
     return ACCEPTED;
@@ -200,7 +206,7 @@ static enum refusal check_result(const struct partial *partial, struct addition 
 
 static uint8_t *put_ploc(uint8_t *at, const struct addition *add)
 {
-    static const uint8_t flags[] = {[LOST] = CORRUPTED, [DAMAGED] = CORRUPTED | PRESENT, [GOOD] = PRESENT};
+    static const uint8_t flags[] = {[LOST] = CORRUPTED, [DAMAGED] = CORRUPTED | PRESENT, [GOOD] = PRESENT, [ELSEWHERE] = 0};
     uint64_t inside = 0 - add->data_length, outside = 0 - add->out; /* from the `pseg` to the next chunk's bytes, in two's complement */
 
     at = put_header(at, add->ploc, PLOC);
@@ -212,7 +218,7 @@ static uint8_t *put_ploc(uint8_t *at, const struct addition *add)
         uint64_t size = add->list[2 * i], state = add->list[2 * i + 1];
         *at++ = flags[state];
         at = put(at, size, add->length_size);
-        if (state != LOST) {
+        if (is_present(state)) {
             uint64_t *offset = goes_outside(add, state) ? &outside : &inside;
             at = put(at, *offset, add->offset_size);
             *offset += size;
@@ -228,7 +234,7 @@ static uint8_t *put_data(uint8_t *at, const struct addition *add, bool outside)
 
     for (uint64_t i = 0; i < add->count; i++) {
         uint64_t size = add->list[2 * i], state = add->list[2 * i + 1];
-        if (state == LOST)
+        if (!is_present(state))
             continue;
         if (goes_outside(add, state) == outside)
             at = put_bytes(at, bytes, (size_t)size);

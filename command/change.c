@@ -41,8 +41,8 @@ static size_t map_chunks(const struct segment *segment, struct bytes *parts, uin
     size_t total = 0;
     for (size_t i = 0; i < segment->count; i++) {
         const struct chunk *chunk = &segment->chunks[i];
-        parts[i] = chunk->state == LOST ? (struct bytes){NULL, 0} : map_data(chunk->data);
-        list[2 * i] = chunk->state == LOST ? chunk->size : parts[i].length;
+        parts[i] = chunk->data == NULL ? (struct bytes){NULL, 0} : map_data(chunk->data);
+        list[2 * i] = chunk->data == NULL ? chunk->size : parts[i].length;
         list[2 * i + 1] = (uint64_t)chunk->state;
         if (parts[i].length > SIZE_MAX / 4 - total) {
             errno = EFBIG;
@@ -76,7 +76,7 @@ static uint64_t answer_by_chunk(struct bytes file, const struct bytes *parts, co
 {
     for (size_t i = 0; i < count; i++) {
         uint64_t told[1];
-        if (list[2 * i + 1] == GOOD &&
+        if (list[2 * i + 1] == VRAZHUPA_GOOD &&
             vrazhupa_append(file.at, file.length, file.length, 0, 0, false, true, list + 2 * i, 2, parts[i].at, parts[i].length, told) == NOT_TO_GO_OUTSIDE) {
             return NOT_TO_GO_OUTSIDE;
         }

@@ -6,10 +6,7 @@
 #include <stddef.h>
 #include <stdint.h>
 
-/* The states of a chunk. */
-enum { LOST = 0, DAMAGED = 1, GOOD = 2 };
-
-/* A chunk to be appended: a size that was lost, or the name of the file with its bytes. */
+/* A chunk to be appended, by its state: the name of the file with its bytes, or, where that is NULL, a size of which no byte is kept. */
 struct chunk {
     int state;
     uint64_t size;

@@ -3,6 +3,7 @@
 #include "files.h"
 #include "say.h"
 #include "show.h"
+#include "vrazhupa.h"
 
 #include <string.h>
 
@@ -74,11 +75,12 @@ static void begin_in(struct words words)
 /* Adds a chunk to the segment; false where the option names none. */
 static bool take_chunk(struct segment *segment, const char *option, struct words *words)
 {
-    struct chunk chunk = {LOST, 0, NULL};
-    if (strcmp(option, "--lost") == 0) {
+    struct chunk chunk = {VRAZHUPA_LOST, 0, NULL};
+    if (strcmp(option, "--lost") == 0 || strcmp(option, "--elsewhere") == 0) {
+        chunk.state = option[2] == 'l' ? VRAZHUPA_LOST : VRAZHUPA_ELSEWHERE;
         chunk.size = number_in(value_of(words, option));
     } else if (strcmp(option, "--good") == 0 || strcmp(option, "--damaged") == 0) {
-        chunk.state = option[2] == 'g' ? GOOD : DAMAGED;
+        chunk.state = option[2] == 'g' ? VRAZHUPA_GOOD : VRAZHUPA_DAMAGED;
         chunk.data = value_of(words, option);
     } else {
         return false;

@@ -24,7 +24,7 @@ static const char usage[] = "usage: paff map FILE\n"
                             "       paff rows FILE\n"
                             "       paff get FILE FIRST LENGTH\n"
                             "       paff begin [--brand paff|pmff] FILE URL [MIME]\n"
-                            "       paff append FILE --offset N [--last] [--time T] [--outside] (--good DATA | --damaged DATA | --lost SIZE)...\n";
+                            "       paff append FILE --offset N [--last] [--time T] [--outside] (--good DATA | --damaged DATA | --lost SIZE | --elsewhere SIZE)...\n";
 
 /* A mapped file that another program cut, or a disk that cannot be read, comes as this signal. */
 static void on_lost_page(int signal_number)

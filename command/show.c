@@ -68,12 +68,21 @@ static void put_text(const char *word, const uint8_t *text, uint64_t length)
     printf("\n");
 }
 
-static void put_row(const uint64_t *row, int numbers)
+static void put_segment(uint64_t number, const uint64_t *row)
 {
-    for (int i = 0; i < numbers; i++) {
-        printf("%s%" PRIu64, i ? "\t" : "", row[i]);
+    printf("%" PRIu64, number);
+    for (int i = 0; i < VRAZHUPA_SEGMENT_ROW; i++) {
+        printf("\t%" PRIu64, row[i]);
     }
     printf("\n");
+}
+
+/* A chunk, with the word for its state that append takes as an option. */
+static void put_chunk(const uint64_t *row)
+{
+    static const char *const states[] = {
+        [VRAZHUPA_LOST] = "lost", [VRAZHUPA_DAMAGED] = "damaged", [VRAZHUPA_GOOD] = "good", [VRAZHUPA_ELSEWHERE] = "elsewhere"};
+    printf("%" PRIu64 "\t%" PRIu64 "\t%" PRIu64 "\t%" PRIu64 "\t%s\t%" PRIu64 "\n", row[0], row[1], row[2], row[3], states[row[4]], row[5]);
 }
 
 void show_rows(const char *name)
@@ -88,12 +97,11 @@ void show_rows(const char *name)
     put_text("mime", file.at + mime[0], mime[1]);
     printf("segment\tplace\toffset\tflags\ttime\tchunks\theader\tlength\n");
     for (uint64_t i = 0; i < counts[0]; i++) {
-        printf("%" PRIu64 "\t", i);
-        put_row(&segments[i * VRAZHUPA_SEGMENT_ROW], VRAZHUPA_SEGMENT_ROW);
+        put_segment(i, &segments[i * VRAZHUPA_SEGMENT_ROW]);
     }
     printf("segment\tindex\tstart\tsize\tstate\tplace\n");
     for (uint64_t i = 0; i < counts[1]; i++) {
-        put_row(&chunks[i * VRAZHUPA_CHUNK_ROW], VRAZHUPA_CHUNK_ROW);
+        put_chunk(&chunks[i * VRAZHUPA_CHUNK_ROW]);
     }
     end(DONE);
 }

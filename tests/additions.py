@@ -10,7 +10,7 @@ FREE = box(b"free")
 BOXES = 512
 SEGMENTS = 64
 CHUNKS = 1_024
-LOST, DAMAGED, GOOD = 0, 1, 2
+LOST, DAMAGED, GOOD, ELSEWHERE = 0, 1, 2, 3
 OUTSIDE = [b"moof", b"mdat", b"free", b"surl", b"ploc", b"moov"]
 NEVER_OUTSIDE = [b"ftyp", b"pfil", b"pseg", b"pdat"]
 FAULTS_OF_APPEND = [30, "own", 31, 32, 35, 6, 13, 22, 23, 25, 33]
@@ -22,6 +22,16 @@ def sizes(chunk_list):
     return sum(chunk_list[0::2])
 
 
+def is_present(state):
+    """Whether a chunk of this state has data."""
+    return state in (DAMAGED, GOOD)
+
+
+def absent(rng):
+    """A state without data."""
+    return rng.choice([LOST, ELSEWHERE])
+
+
 def any_inside(chunk_list, outside):
     """Whether append writes a pdat."""
     return any(state == DAMAGED or state == GOOD and not outside for state in chunk_list[1::2])
@@ -30,7 +40,7 @@ def any_inside(chunk_list, outside):
 def added_length(source_offset, chunk_list, data, outside=False):
     """How many bytes the paper lets append write for these arguments."""
     chunk_sizes, states = chunk_list[0::2], chunk_list[1::2]
-    present = len([state for state in states if state != LOST])
+    present = len([state for state in states if is_present(state)])
     length_size = (max(chunk_sizes, default=0).bit_length() + 7) // 8
     offset_size = 0
     while present and len(data) > 2 ** (8 * offset_size - 1):
@@ -70,7 +80,7 @@ def data_for(rng, chunk_list, outside):
     """The data of a chunk list: whole boxes for the chunks that go outside, any bytes for the others."""
     parts = []
     for size, state in zip(chunk_list[0::2], chunk_list[1::2]):
-        if state != LOST:
+        if is_present(state):
             parts.append(boxes_of(rng, size) if outside and state == GOOD else rng.randbytes(size))
     return b"".join(parts)
 
@@ -86,13 +96,13 @@ def random_chunk_list(rng, room, outside):
     chunk_list = []
     for _ in range(rng.choice([0, 1, 1, 2, 2, 3, 4])):
         size = rng.choice([1, 2, rng.randint(1, 9), rng.randint(1, 15)])
-        state = rng.choice([LOST, DAMAGED, GOOD, GOOD, GOOD])
+        state = rng.choice([absent(rng), absent(rng), DAMAGED, GOOD, GOOD, GOOD])
         if outside and state == GOOD:
             size = rng.choice([8, 9, rng.randint(8, 20), rng.randint(16, 60)])
         if rng.random() < 0.02:
             size = rng.choice([128, 129, 255, 256, 300])
         if rng.random() < 0.02:
-            size, state = rng.choice([256, 65_535, 65_536, 2 ** 24, room]), LOST
+            size, state = rng.choice([256, 65_535, 65_536, 2 ** 24, room]), absent(rng)
         if 0 < size <= room:
             room -= size
             chunk_list += [size, state]
@@ -115,7 +125,7 @@ def acceptable(rng, file):
     outside = rng.random() < (0.6 if is_mixed(file) else 0.1)
     chunk_list = random_chunk_list(rng, limit, outside)
     if outside and not is_mixed(file):
-        chunk_list = [number if at % 2 == 0 else min(number, DAMAGED) for at, number in enumerate(chunk_list)]
+        chunk_list = [DAMAGED if at % 2 == 1 and number == GOOD else number for at, number in enumerate(chunk_list)]
     room = max(0, reach - sizes(chunk_list))
     source_offset = rng.choice([0, room, rng.randint(0, room), min(end, room)])
     return {
@@ -172,8 +182,8 @@ def rows(file):
 def spoil_chunk_list(rng, given):
     chunk_list = given["chunk_list"]
     given["chunk_list"] = rng.choice([
-        chunk_list + [1], chunk_list + [0, rng.randint(0, 2)], [0, 0] + chunk_list,
-        chunk_list + [1, rng.choice([3, 4, 255, 2 ** 64 - 1])]])
+        chunk_list + [1], chunk_list + [0, rng.randint(0, 3)], [0, 0] + chunk_list,
+        chunk_list + [1, rng.choice([4, 4, 5, 7, 255, 256, 259, 2 ** 32 + 3, 2 ** 63 + 3, 2 ** 64 - 1])]])
 
 
 def spoil_data(rng, given):
@@ -189,7 +199,7 @@ def outside_parts(given):
     for size, state in zip(given["chunk_list"][0::2], given["chunk_list"][1::2]):
         if given["outside"] and state == GOOD:
             parts.append(given["data"][at:at + size])
-        at += size if state != LOST else 0
+        at += size if is_present(state) else 0
     return parts
 
 
@@ -229,14 +239,14 @@ def fill_with_segments(rng, given):
 
 
 def fill_with_chunks(rng, given):
-    """Chunks of one byte each in the file: lost, of width 0 and size 0."""
+    """Chunks of one byte each in the file: not present, of width 0 and size 0."""
     if not given["chunk_list"]:
-        set_chunks(rng, given, [1, LOST])
+        set_chunks(rng, given, [1, absent(rng)])
     file = given["buffer"]
     left = rng.randrange(len(given["chunk_list"]) // 2)
     count = CHUNKS - left - len(rows(file)[1])
-    lost = ploc(0, 0, count * [entry(0x80, 0, 0)])
-    set_file(given, file + box(b"pseg", pshd(0), lost))
+    located = ploc(0, 0, count * [entry(rng.choice([0x80, 0x00]), 0, 0)])
+    set_file(given, file + box(b"pseg", pshd(0), located))
 
 
 def overstep_limit(rng, given):
@@ -244,11 +254,11 @@ def overstep_limit(rng, given):
     if cause == "offset":
         given["source_offset"] = rng.choice([LIMIT + 1, LIMIT + 1, 2 ** 63, 2 ** 64 - 1])
     elif cause == "end":
-        set_chunks(rng, given, given["chunk_list"] + [rng.randint(1, 9), LOST])
+        set_chunks(rng, given, given["chunk_list"] + [rng.randint(1, 9), absent(rng)])
         given["source_offset"] = max(0, LIMIT + 1 - sizes(given["chunk_list"]))
     else:
         size = rng.choice([LIMIT + 1, 2 ** 40, 2 ** 64 - 1])
-        set_chunks(rng, given, given["chunk_list"] + [size, LOST])
+        set_chunks(rng, given, given["chunk_list"] + [size, absent(rng)])
 
 
 def overstep_size(rng, given):
@@ -257,16 +267,16 @@ def overstep_size(rng, given):
     if not closed:
         if end < 10:
             set_file(given, given["buffer"] + open_segment(10))
-        set_chunks(rng, given, [rng.randint(1, 5), LOST])
+        set_chunks(rng, given, [rng.randint(1, 5), absent(rng)])
         given["source_offset"], given["last"] = rng.randint(0, 4), True
     elif rng.random() < 0.5 and end < LIMIT - 9:
-        set_chunks(rng, given, rng.choice([[], [rng.randint(1, 9), LOST], [2, 2]]))
+        set_chunks(rng, given, rng.choice([[], [rng.randint(1, 9), absent(rng)], [2, 2]]))
         given["source_offset"] = end + 1 if not given["chunk_list"] else end
     elif end > 1:
-        set_chunks(rng, given, [1, LOST])
+        set_chunks(rng, given, [1, absent(rng)])
         given["source_offset"], given["last"] = rng.randint(0, min(end - 2, 50)), True
     else:
-        set_chunks(rng, given, [end + 1, LOST])
+        set_chunks(rng, given, [end + 1, absent(rng)])
         given["source_offset"] = 0
 
 

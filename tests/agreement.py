@@ -14,10 +14,11 @@ import time
 
 import agreement_cases
 import agreement_crates
+import generate
 
 # Every refusal of the base; 1 and 27 are met by statements on the length of a list that is not written out.
 BY_LENGTH = {1, 27}
-REFUSALS = set(range(1, 28)) | set(range(30, 36))
+REFUSALS = {1, 26, 27} | set(generate.FAULTS) | set(range(30, 36))
 
 
 def arguments():

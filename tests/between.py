@@ -4,8 +4,8 @@ usage: python3 tests/between.py [--cases N] [--seed S] [--request R] --old WORDS
 
 WORDS, in quotes, are how each driver is run; both are made of tests/scale/*.c, as tests/scale.py says. They are sent the cases that tests/scale.py makes with that
 seed, without the calls that only one of them has, or cannot be asked. Of each call its answer and a sum of each lent memory, with what lies around it, are compared.
-Differences are counted by old answer, new answer and call. With --request R one is expected where the model says of the call's file that this request changes its
-answer, from the old one if the model can tell that, and the new answer is the model's; without, none is. The status is 1 where one is not expected;
+Differences are counted by old answer, new answer and call. With --request R one is expected where the model says of the call that this request changes its
+answer, from the old one if the model can tell that (tests/before.py), and the new answer is the model's; without, none is. The status is 1 where one is not expected;
 `tests/scale.py --seed S --show CASE` shows a case.
 
 A driver for an implementation from before request 2 is built with that one's header and -DBEFORE_MIXED.
@@ -20,20 +20,18 @@ import sys
 import tempfile
 from collections import Counter, defaultdict, namedtuple
 
-import brands
 import remembering
-import vendors
+from before import CHANGES
 from scale import AT_ONCE, send
-from scale_stream import BEFORE, END, FILE, TOO_LARGE, Stream
+from scale_stream import BEFORE, END, FILE, LIST, TOO_LARGE, Stream
 
-# Of each request that changes answers, whether it changes that of a call on a file from the old one.
-CHANGES = {1: lambda file, name, old: vendors.refused_for_its_size(file), 2: brands.changes}
 # What begin and append were not asked before request 2.
 SINCE_MIXED = {"begin": "begin-mixed", "append": "append-outside"}
 SHOWN = 10
 
-# A call that both made: its number in the stream, the model's answer, and the file that it was about, None where that is too large to be kept.
-Made = namedtuple("Made", "case name answer file")
+# A call that both made: its number in the stream, the model's answer, the file that it was about, None where that is too large to be kept, and the chunk list of an append,
+# eight bytes a number.
+Made = namedtuple("Made", "case name answer file packed_list")
 
 
 class Driver:
@@ -73,7 +71,7 @@ class Both(Stream):
     def send(self, name, refusal, numbers, record):
         asked = SINCE_MIXED[name] if name in SINCE_MIXED and numbers[-1] else name
         if asked in self.shared:
-            self.made.append(Made(self.cases, name, refusal, self.file_of(name, numbers)))
+            self.made.append(Made(self.cases, name, refusal, self.file_of(name, numbers), self.held.get(LIST)))
             self.write(record)
         else:
             self.left_out[asked] += 1
@@ -95,7 +93,7 @@ def differences(made, old, new, changes):
         if before == after:
             continue
         old_answer, new_answer = [int(line.split()[0]) for line in (before, after)]
-        expected = new_answer == call.answer and call.file is not None and changes(call.file, call.name, old_answer)
+        expected = new_answer == call.answer and call.file is not None and changes(call, old_answer)
         found[old_answer, new_answer, expected][call.name] += 1
         if not expected and len(shown) < SHOWN:
             shown.append(f"case {call.case}, {call.name}: {before}, then {after}")

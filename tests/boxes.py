@@ -56,14 +56,14 @@ def ploc(length_size, offset_size, entries, count=None, reference=0, large=False
 
 
 def entry(flag_byte, length_size, size, offset_size=0, offset=None):
-    """One entry; a lost chunk has no offset field, so its offset is None."""
+    """One entry; a chunk that is not present has no offset field, so its offset is None."""
     field = b"" if offset is None else offset.to_bytes(offset_size, "big", signed=True)
     return bytes([flag_byte]) + size.to_bytes(length_size, "big") + field
 
 
-def lost_segment(offset, sizes, flags=0, version=0, width=4):
-    """A pseg of lost chunks only."""
-    entries = [entry(0x80, width, size) for size in sizes]
+def lost_segment(offset, sizes, flags=0, version=0, width=4, flag_byte=0x80):
+    """A pseg of chunks that are not present: lost, or by another flag byte held elsewhere."""
+    entries = [entry(flag_byte, width, size) for size in sizes]
     return box(b"pseg", pshd(offset, flags, version=version), ploc(width, 0, entries))
 
 

@@ -77,7 +77,7 @@ def reading(command):
     claim("boxes of 1 GiB", ended(measured(command, "boxes", "film")), 0, boxes)
     claim_measure("boxes of 1 GiB", command)
     rows = b"url\tu\nmime\t\nsegment\tplace\toffset\tflags\ttime\tchunks\theader\tlength\n0\t%d\t0\t0\t0\t1\t%d\t16\n"
-    rows += b"segment\tindex\tstart\tsize\tstate\tplace\n0\t0\t0\t%d\t2\t%d\n"
+    rows += b"segment\tindex\tstart\tsize\tstate\tplace\n0\t0\t0\t%d\tgood\t%d\n"
     place = len(FRONT) + 8
     claim("rows of 1 GiB", command.run("rows", "film"), 0, rows % (place + SIZE, place + SIZE + 16, SIZE, place))
     for first, length in [(SIZE - 5, 5), (SIZE - 1, 1), (0, 3), (BLOCK - 2, 4), (536_870_910, 5), (SIZE - 2, 1)]:

@@ -14,8 +14,9 @@ SOON = 5
 # The status is negative after a death by that signal, and a word where there was no end within LONGEST seconds.
 Answer = namedtuple("Answer", "status out err")
 
-# A chunk to append: its kind is a word of the command, its value the bytes that were kept of it, or how many were lost.
+# A chunk to append: its kind is a word of the command, its value the bytes that are kept of it, or how many it has where none are.
 Chunk = namedtuple("Chunk", "kind value")
+KEPT = ("good", "damaged")
 
 
 class Command:
@@ -57,7 +58,7 @@ class Command:
         words += [] if time is None else ["--time", str(time)]
         for number, chunk in enumerate(chunks):
             value = chunk.value
-            words += ["--" + chunk.kind, str(value) if chunk.kind == "lost" else self.put(f"piece{number}", value)]
+            words += ["--" + chunk.kind, self.put(f"piece{number}", value) if chunk.kind in KEPT else str(value)]
         return words
 
     def append(self, film, offset, chunks, last=False, time=None, outside=False, **how):
@@ -85,6 +86,10 @@ def damaged(value):
 
 def lost(size):
     return Chunk("lost", size)
+
+
+def elsewhere(size):
+    return Chunk("elsewhere", size)
 
 
 # What is wanted of an answer.

@@ -5,8 +5,8 @@ import random
 
 import generate
 import model
-from boxes import box, head, open_segment, sized, sized_large
-from command_run import claim, claim_held, claim_missing, damaged, good, lost
+from boxes import box, head, lost_segment, open_segment, sized, sized_large
+from command_run import claim, claim_held, claim_missing, damaged, elsewhere, good, lost
 from command_wanted import appended, claim_boxes, claim_get, claim_map, claim_rows, film_of, number_of
 from corpus import ROOT
 
@@ -21,7 +21,7 @@ SAMPLE_BOXES = b"0\t20\tftyp\n20\t35\tpfil\n55\t12\tpdat\n67\t54\tpseg\n121\t13\
 SEGMENT_HEADING = b"segment\tplace\toffset\tflags\ttime\tchunks\theader\tlength\n"
 CHUNK_HEADING = b"segment\tindex\tstart\tsize\tstate\tplace\n"
 SAMPLE_ROWS = (b"url\ta\nmime\t\n" + SEGMENT_HEADING + b"0\t67\t0\t1\t0\t2\t83\t16\n1\t134\t2\t0\t0\t1\t150\t16\n"
-               + CHUNK_HEADING + b"0\t0\t0\t4\t2\t63\n0\t1\t4\t6\t0\t0\n1\t0\t2\t5\t2\t129\n")
+               + CHUNK_HEADING + b"0\t0\t0\t4\tgood\t63\n0\t1\t4\t6\tlost\t0\n1\t0\t2\t5\tgood\t129\n")
 SAMPLE_BYTES = bytes([11, 12, 13, 14, 23, 24, 25])
 
 
@@ -69,11 +69,27 @@ def texts(command):
         command.put("film", film_of((0, [lost(1)]), url=url, mime=mime))
         place = 54 + len(url) + len(mime)
         wanted = b"url\t" + shown_url + b"\nmime\t" + shown_mime + b"\n" + SEGMENT_HEADING + b"0\t%d\t0\t0\t0\t1\t%d\t16\n" % (place, place + 16)
-        wanted += CHUNK_HEADING + b"0\t0\t0\t1\t0\t0\n"
+        wanted += CHUNK_HEADING + b"0\t0\t0\t1\tlost\t0\n"
         claim(f"the texts {url} and {mime}", command.run("rows", "film"), 0, wanted)
     every = bytes(range(1, 256))
     claim_all("every byte in a text", command, film_of((0, [lost(1)]), url=every, mime=every[::-1]))
     claim_all("long texts", command, film_of((0, [lost(1)]), url=every * 300, mime=b"m" * 70_000))
+
+
+def states(command):
+    """By hand: a chunk of each state in the rows, the map and the bytes that can be got."""
+    film = film_of((3, [good(b"ab"), elsewhere(5), damaged(b"hijk"), lost(1)], True))
+    command.put("film", film)
+    rows = CHUNK_HEADING + b"0\t0\t3\t2\tgood\t63\n0\t1\t5\t5\telsewhere\t0\n0\t2\t10\t4\tdamaged\t65\n0\t3\t14\t1\tlost\t0\n"
+    claim("rows of each state", command.run("rows", "film"), 0, b"url\tu\nmime\t\n" + SEGMENT_HEADING + b"0\t69\t3\t1\t0\t4\t85\t16\n" + rows)
+    claim("the map of each state", command.run("map", "film"), 0, b"source\t15\tclosed\nmiss\t0\t3\nhave\t3\t2\nmiss\t5\t10\ntotal\t2\t13\n")
+    for first, length, position in [(5, 1, 5), (9, 2, 9), (3, 3, 5), (14, 1, 14), (2, 3, 2)]:
+        claim_missing(f"get {first} {length} of each state", command.run("get", "film", str(first), str(length)), position)
+    claim("the good one of each state", command.run("get", "film", "3", "2"), 0, b"ab")
+    for name, file in [("foreign", head() + lost_segment(4, [6, 0, 2], flag_byte=0)), ("to the limit", film_of((0, [elsewhere(4_294_967_295)], True))),
+                       ("1,024 of them", film_of((0, [elsewhere(3)] * 1_024))), ("good over it", film_of((0, [elsewhere(9)]), (2, [good(b"cde")]))),
+                       ("over a good one", film_of((2, [good(b"cde")]), (0, [elsewhere(9)], True)))]:
+        claim_all(f"held elsewhere, {name}", command, file, [(0, 1), (2, 3), (2, 4), (4, 1)])
 
 
 def vendors(command):
@@ -180,5 +196,5 @@ def generated(command):
 
 
 def check(command):
-    for part in (clerk, missing, texts, vendors, names, refusals, limits, generated):
+    for part in (clerk, missing, texts, states, vendors, names, refusals, limits, generated):
         part(command)

@@ -14,7 +14,8 @@ FEW_OR_MANY_WORDS = ["", "map", "map film other", "boxes", "boxes film other", "
 NO_COMMANDS = ["show film", "Map film", "maps film", "ma film", "box film", "boxlist film", "film", "film map", "-map film", "--map film", "append-film"]
 OPTIONS = [
     "--offset", "--offset 0", "--lost 1", "--good piece", "--last --lost 1", "--offset 0 --last", "--offset 0 --time 4", "--time 4 --lost 1",
-    "--offset 0 --lost", "--offset 0 --good", "--offset 0 --damaged", "--offset 0 --lost 1 --time", "--offset 0 --lost 1 --offset",
+    "--offset 0 --lost", "--offset 0 --elsewhere", "--elsewhere 1", "--offset 0 --elsewhere piece", "--offset 0 --elsewhere 1 2", "--offset 0 --elsewhere=1",
+    "--offset 0 --elsewher 1", "--offset 0 --elsewhere --lost 1", "--offset 0 --good", "--offset 0 --damaged", "--offset 0 --lost 1 --time", "--offset 0 --lost 1 --offset",
     "--offset 0 --offset 0 --lost 1", "--offset 0 --lost 1 --offset 4", "--offset 0 --time 1 --time 1 --lost 1",
     "--offset 0 --last --last --lost 1", "--offset 0 --last --lost 1 --last", "--offset 0 --outside --outside --lost 1", "--offset 0 --outside", "--outside --lost 1",
     "--offset 0 --lost 1 --outside 1", "--offset 0 --inside --lost 1", "--offset 0 --lost 1 --outsid", "--offset 0 --brand pmff --lost 1", "--offset 0 --first --lost 1", "--offset 0 --lost 1 --state 2",
@@ -37,6 +38,8 @@ def words(command):
     answer = command.run()
     named = all(word in answer.err for word in (b"usage: ", b"map", b"boxes", b"rows", b"get", b"begin", b"append"))
     expect("usage names each subcommand", named and in_form(answer.err) or answer.err)
+    named = all(word in answer.err for word in (b"--good DATA", b"--damaged DATA", b"--lost SIZE", b"--elsewhere SIZE"))
+    expect("usage names each chunk", named or answer.err)
 
 
 BRANDS = ["isom new u", "Pmff new u", "paf new u", "pmfff new u", "pmff --brand paff new u", "pmff --brand pmff new u", "pmff --brand"]
@@ -58,6 +61,7 @@ def numbers(command):
         claim_usage(command, "get", "film", "0", text)
         claim_usage(command, "append", "film", "--offset", text, "--lost", "1")
         claim_usage(command, "append", "film", "--offset", "4", "--lost", text)
+        claim_usage(command, "append", "film", "--offset", "4", "--elsewhere", text)
         claim_usage(command, "append", "film", "--offset", "4", "--lost", "1", "--time", text)
     claim("zeros in front of a number", command.run("get", "film", 30 * "0" + "1", "02"), 0, b"bc")
     claim("only zeros", command.run("get", "film", 30 * "0", "00"), 0)

@@ -1,10 +1,11 @@
 """Says what the command is to answer, by its manual page and the independent model."""
 
 import model
-from command_run import claim, claim_missing
+from command_run import KEPT, claim, claim_missing
 from maps import refusal_in
 
-STATES = {"lost": model.LOST, "damaged": model.DAMAGED, "good": model.GOOD}
+STATES = {"lost": model.LOST, "damaged": model.DAMAGED, "good": model.GOOD, "elsewhere": model.ELSEWHERE}
+WORDS = {state: word for word, state in STATES.items()}
 SEGMENT_HEADING = ("segment", "place", "offset", "flags", "time", "chunks", "header", "length")
 CHUNK_HEADING = ("segment", "index", "start", "size", "state", "place")
 
@@ -42,7 +43,7 @@ def rows_text(file):
     for number, row in enumerate(answer[1]):
         text += model.line(number, *row)
     text += model.line(*CHUNK_HEADING)
-    return text + b"".join(model.line(*row) for row in answer[2])
+    return text + b"".join(model.line(*row[:4], WORDS[row[4]], row[5]) for row in answer[2])
 
 
 def got(file, first, length):
@@ -60,9 +61,9 @@ def appended(file, offset, chunks, last=False, time=None, outside=False):
     """The number of the refusal, 0 where it is taken, and the file after an append."""
     chunk_list, data = [], b""
     for chunk in chunks:
-        size = chunk.value if chunk.kind == "lost" else len(chunk.value)
+        size = len(chunk.value) if chunk.kind in KEPT else chunk.value
         chunk_list += [size, STATES[chunk.kind]]
-        data += b"" if chunk.kind == "lost" else chunk.value
+        data += chunk.value if chunk.kind in KEPT else b""
     buffer = file + bytes(len(data) + 100 + 17 * len(chunks))
     answer, buffer = model.append(buffer, len(file), offset, time or 0, last, outside, chunk_list, data)
     return (answer[1], file) if answer[0] == "refused" else (0, buffer[:answer[1]])

@@ -6,7 +6,7 @@ import random
 import additions
 import generate
 from boxes import box, head, lost_segment, open_segment
-from command_run import Chunk, claim, claim_held, claim_refused, damaged, good, lost
+from command_run import KEPT, Chunk, claim, claim_held, claim_refused, damaged, elsewhere, good, lost
 from command_wanted import appended, begun, claim_boxes, claim_map, claim_rows, film_of
 from expecting import expect
 from model import PMFF
@@ -15,7 +15,7 @@ SEED = 23_001_141
 RUNS = 40
 LIMIT = 4_294_967_295
 TOP = 2 ** 64 - 1
-KINDS = ["lost", "damaged", "good"]
+KINDS = ["lost", "damaged", "good", "elsewhere"]
 MOOF, MDAT = box(b"moof", b"0123456789"), box(b"mdat", b"abcd", large=True)
 
 
@@ -83,7 +83,9 @@ def appends(command):
     found = claim_append("the sample's segment", command, begun(b"a"), 0, [good(bytes([11, 12, 13, 14])), lost(6)], True)
     expect("the sample's segment by hand", found, begun(b"a") + by_hand)
     for name, offset, chunks, last, time in [
-            ("all three kinds", 5, [good(b"abc"), lost(300), damaged(b"de"), good(b"f")], False, None), ("only lost", 0, [lost(1)], False, 0),
+            ("all four kinds", 5, [good(b"abc"), lost(300), damaged(b"de"), elsewhere(7), good(b"f")], False, None), ("only lost", 0, [lost(1)], False, 0),
+            ("only held elsewhere", 4, [elsewhere(6)], False, None), ("held elsewhere to the limit", 1, [elsewhere(LIMIT - 1)], True, 3),
+            ("1,024 held elsewhere", 0, [elsewhere(1)] * 1_024, False, None),
             ("only damaged", 9, [damaged(b"abc")], True, 7), ("the largest time", 0, [lost(1)], False, TOP),
             ("to the limit", LIMIT - 3, [good(b"abc")], True, 1), ("a lost chunk to the limit", 0, [lost(LIMIT)], True, None),
             ("1,024 chunks", 0, [lost(1)] * 1_024, False, None), ("1,024 good chunks", 0, [good(b"ab")] * 1_024, False, None),
@@ -94,6 +96,25 @@ def appends(command):
     for number, chunks in enumerate([[good(b"abcd"), lost(6)], [good(b"zzzzz"), damaged(b"q")], [lost(10)], [good(b"0123456789")]]):
         file = claim_append(f"append {number} of one film", command, file, 0, chunks, number == 3)
     claim("what was served first stays", command.run("get", "film", "0", "10"), 0, b"abcdz56789")
+
+
+def appends_elsewhere(command):
+    """By hand: chunks held elsewhere in the order of their words, of which no byte is kept; read back, mapped, and mended."""
+    by_hand = bytes.fromhex("0000000d 70646174 61626364 65 0000003f 70736567 00000018 70736864 00000001 00000004 0000000000000006"
+                            "0000001f 706c6f63 00000000 21 0000 0004 00012c 400002fb 000001 c00003fd")
+    chunks = [elsewhere(300), good(b"ab"), elsewhere(1), damaged(b"cde")]
+    found = claim_append("held elsewhere", command, begun(b"u"), 4, chunks, True, 6)
+    expect("held elsewhere by hand", found, begun(b"u") + by_hand)
+    claim("the map of what is held elsewhere", command.run("map", "film"), 0, b"source\t310\tclosed\nmiss\t0\t304\nhave\t304\t2\nmiss\t306\t4\ntotal\t2\t308\n")
+    claim_rows("what is held elsewhere", command, "film", found)
+    found = claim_append("what was held elsewhere, come back", command, found, 0, [good(bytes(range(250))), elsewhere(9), good(b"x" * 51)])
+    found = claim_append("held elsewhere over it", command, found, 0, [elsewhere(310)], True)
+    claim("the map of what came back", command.run("map", "film"), 0, b"source\t310\tclosed\nhave\t0\t250\nmiss\t250\t9\nhave\t259\t51\ntotal\t301\t9\n")
+    claim("what came back", command.run("get", "film", "259", "51"), 0, b"x" * 45 + b"ab" + b"x" * 4)
+    mixed = begun(b"u", brand=PMFF)
+    claim_append("held elsewhere beside boxes outside", command, mixed, 0, [elsewhere(3), good(MOOF), elsewhere(4), damaged(b"xyz"), good(MDAT)], outside=True)
+    for brand in (b"paff", b"pmff"):
+        claim_append(f"held elsewhere, asked outside of {brand}", command, begun(b"u", brand=brand), 0, [elsewhere(9)], outside=True)
 
 
 def appends_outside(command):
@@ -125,13 +146,15 @@ def words_in_any_order(command):
     command.put("a", b"aa")
     command.put("b", b"bbb")
     command.put("m", MOOF)
-    for words in ["--outside --good m --offset 0 --last --damaged b --time 4 --lost 4", "--lost 4 --good m --time 4 --damaged b --offset 0 --outside --last",
+    for words in ["--elsewhere 5 --good a --offset 0 --last --lost 4 --time 4", "--lost 4 --elsewhere 5 --time 4 --offset 0 --last --good a",
+                  "--good a --lost 4 --offset 0 --time 4 --elsewhere 5 --last --elsewhere 5", "--outside --elsewhere 5 --time 4 --good m --offset 0 --last --damaged b",
+                  "--outside --good m --offset 0 --last --damaged b --time 4 --lost 4", "--lost 4 --good m --time 4 --damaged b --offset 0 --outside --last",
                   "--good a --offset 0 --last --damaged b --time 4 --lost 4", "--last --time 4 --good a --damaged b --lost 4 --offset 0",
                   "--lost 4 --good a --time 4 --damaged b --offset 0 --last"]:
         command.put("film", file)
-        chunks = {"a": good(b"aa"), "b": damaged(b"bbb"), "m": good(MOOF), "4": lost(4)}
+        chunks = {"a": good(b"aa"), "b": damaged(b"bbb"), "m": good(MOOF), "4": lost(4), "5": elsewhere(5)}
         pairs = zip(words.split(), words.split()[1:])
-        order = [chunks[value] for option, value in pairs if option in ("--good", "--damaged", "--lost")]
+        order = [chunks[value] for option, value in pairs if option in ("--good", "--damaged", "--lost", "--elsewhere")]
         claim(f"append {words}", command.run("append", "film", *words.split()), 0)
         claim_held(f"the file after {words}", command, "film", appended(file, 0, order, True, 4, "--outside" in words)[1])
 
@@ -177,7 +200,7 @@ def files_refused(command):
 
 def lists_refused(command):
     file = film_of((0, [good(b"abcd")]))
-    for name, chunks in [("lost 0", [lost(0)]), ("empty data", [good(b"")]), ("empty damaged data", [damaged(b"")]),
+    for name, chunks in [("lost 0", [lost(0)]), ("0 held elsewhere", [elsewhere(0)]), ("0 held elsewhere at last", [good(b"ab"), elsewhere(0)]), ("empty data", [good(b"")]), ("empty damaged data", [damaged(b"")]),
                          ("at last", [good(b"ab"), lost(0)]), ("at first", [damaged(b""), good(b"ab")])]:
         refused(name, 31, command, file, 4, chunks)
     refused("before 22", 31, command, file, 4, [lost(1)] * 1_025 + [lost(0)])
@@ -206,18 +229,20 @@ def counts_refused(command):
     claim_append("64 segments", command, head() + 63 * open_segment(5), 0, [good(b"a")])
     refused("1,025 chunks at once", 22, command, begun(b"u"), 0, [lost(1)] * 1_025)
     refused("5,000 chunks at once", 22, command, begun(b"u"), 0, [lost(TOP)] * 5_000)
+    refused("1,025 held elsewhere", 22, command, begun(b"u"), 0, [elsewhere(1)] * 1_025)
     refused("1,025 chunks with the file's", 22, command, head() + lost_segment(0, [1] * 1_000), 0, [lost(1)] * 24 + [good(b"a")])
 
 
 def sizes_refused(command):
     file = film_of((0, [good(b"abcd"), lost(6)]))
     for offset, chunks in [(LIMIT, [lost(1)]), (LIMIT - 3, [good(b"abcd")]), (LIMIT + 1, [good(b"a")]), (TOP, [lost(1)]), (0, [lost(TOP)]),
-                           (1, [lost(TOP)]), (0, [lost(2 ** 63), lost(2 ** 63)]), (5, [lost(TOP), lost(8)]), (0, [good(b"a"), lost(LIMIT)])]:
+                           (1, [lost(TOP)]), (0, [lost(2 ** 63), lost(2 ** 63)]), (5, [lost(TOP), lost(8)]), (0, [good(b"a"), lost(LIMIT)]),
+                           (1, [elsewhere(LIMIT)]), (LIMIT, [elsewhere(1)]), (1, [elsewhere(TOP)]), (0, [elsewhere(2 ** 63), elsewhere(2 ** 63)])]:
         refused(f"{chunks} at {offset}", 23, command, file, offset, chunks)
     refused("a size below the end", 25, command, file, 0, [lost(9)], True)
     closed = film_of((0, [good(b"abcd"), lost(6)], True))
     for offset, chunks, last in [
-            (7, [good(b"abcd")], False), (0, [lost(9)], True), (0, [lost(11)], True), (10, [lost(1)], False), (LIMIT - 1, [lost(1)], False)]:
+            (7, [good(b"abcd")], False), (7, [elsewhere(4)], False), (0, [elsewhere(9)], True), (0, [lost(9)], True), (0, [lost(11)], True), (10, [lost(1)], False), (LIMIT - 1, [lost(1)], False)]:
         refused(f"{chunks} at {offset} of a closed film", 25, command, closed, offset, chunks, last)
     claim_append("the same size again", command, closed, 7, [good(b"xyz")], True)
 
@@ -231,8 +256,9 @@ def some_addition(rng, file):
         rng.choice([additions.overstep_limit, additions.overstep_size, additions.spoil_outside])(rng, given)
     chunks, at = [], 0
     for size, state in zip(given["chunk_list"][0::2], given["chunk_list"][1::2]):
-        chunks.append(Chunk(KINDS[state], size if state == 0 else given["data"][at:at + size]))
-        at += size if state != 0 else 0
+        kind = KINDS[state]
+        chunks.append(Chunk(kind, given["data"][at:at + size] if kind in KEPT else size))
+        at += size if kind in KEPT else 0
     time = given["repair_time"] if rng.random() < 0.8 else None
     return given["buffer"], given["source_offset"], chunks or [lost(1)], given["last"], time, given["outside"]
 
@@ -251,6 +277,6 @@ def random_runs(command):
 
 
 def check(command):
-    for part in (beginnings, brands, appends, appends_outside, words_in_any_order, data_anywhere, files_refused, lists_refused, outside_refused, counts_refused,
+    for part in (beginnings, brands, appends, appends_elsewhere, appends_outside, words_in_any_order, data_anywhere, files_refused, lists_refused, outside_refused, counts_refused,
                  sizes_refused, random_runs, beginnings_in_the_way):
         part(command)

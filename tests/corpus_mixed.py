@@ -1,7 +1,7 @@
 """Makes records on mixed files: the brands, and which boxes of the file a chunk may be."""
 
 from boxes import box, entry, ftyp, open_segment, pfhd, ploc, pshd, surl
-from foreign import DAMAGED, GOOD, LOST
+from foreign import DAMAGED, ELSEWHERE, GOOD, LOST
 from plan import Data, Entry, Other, Plan, Segment, Whole
 from record import refused, taken
 
@@ -52,6 +52,7 @@ def places():
         yield refused(24, f"a damaged chunk as {name}", behind(front, size, offset, DAMAGED))
         yield refused(24, f"not mixed, a good chunk as {name}", behind(front, size, offset, brands=[b"paff"]))
         yield taken(f"a lost chunk as {name}", behind(front, size, None, LOST))
+        yield taken(f"a chunk held elsewhere as {name}", behind(front, size, None, ELSEWHERE))
     for name, front, size, offset in MAY_NOT:
         yield refused(24, f"a good chunk as {name}", behind(front, size, offset))
     yield taken("a damaged chunk in a pdat of a mixed file", behind(PDAT, 18, -18, DAMAGED))

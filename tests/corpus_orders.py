@@ -1,7 +1,7 @@
 """Makes records with two faults in one file, of which the one that the paper asks first is to be answered."""
 
 from boxes import box, entry, full, head, lost_segment, open_segment, pfhd, ploc, pshd, surl
-from foreign import GOOD, LIMIT
+from foreign import ELSEWHERE, GOOD, LIMIT
 from record import refused
 
 # Faults in the order in which the paper asks for them. Those of one segment are all put into the first.
@@ -25,7 +25,6 @@ FAULTS = [
     (22, "1025 chunks"),
     (23, "offset over its limit"),
     (20, "reserved bit"),
-    (21, "neither bit"),
     (17, "offset cut short"),
     (23, "end over its limit"),
     (24, "chunk in no pdat"),
@@ -55,8 +54,7 @@ def pfil_with(faults):
 
 
 def entry_with(faults):
-    flag_byte = 0 if "neither bit" in faults else GOOD
-    flag_byte += 1 if "reserved bit" in faults else 0
+    flag_byte = GOOD + (1 if "reserved bit" in faults else 0)
     size = 2 ** 40 if "end over its limit" in faults else 8
     offset = 1000 if "chunk in no pdat" in faults else -8
     made = entry(flag_byte, 8, size, 2, offset)
@@ -112,7 +110,7 @@ def pairs():
 
 # The first segment's fault counts, and in one segment the first entry's.
 
-IN_A_SEGMENT = [name for number, name in FAULTS[9:24]]
+IN_A_SEGMENT = [name for number, name in FAULTS[9:23]]
 
 
 def two_segments():
@@ -127,19 +125,20 @@ def two_segments():
 
 ENTRIES = [
     (20, "reserved bit", b"\x41"),
-    (21, "neither bit", b"\0"),
+    (20, "reserved bit beside neither", b"\x01"),
     (23, "end over its limit", entry(GOOD, 4, LIMIT, 1, -8)),
+    (23, "end over its limit, held elsewhere", entry(ELSEWHERE, 4, LIMIT)),
     (24, "in no pdat", entry(GOOD, 4, 1, 1, 0)),
 ]
 
 
 def two_entries():
-    front = entry(GOOD, 4, 8, 1, -8)
-    for number, name, made in ENTRIES:
-        for _, other, behind in ENTRIES + [(17, "cut short", b"")]:
-            located = ploc(4, 1, [front, made.ljust(6, b"\0"), behind])
-            file = head() + box(b"pdat", b"abcdefgh") + box(b"pseg", pshd(0), located)
-            yield refused(number, f"second entry {name}; third, {other}", file)
+    for state, front in [("good", entry(GOOD, 4, 8, 1, -8)), ("elsewhere", entry(ELSEWHERE, 4, 8))]:
+        for number, name, made in ENTRIES:
+            for _, other, behind in ENTRIES + [(17, "cut short", b"")]:
+                located = ploc(4, 1, [front, made.ljust(6, b"\0"), behind])
+                file = head() + box(b"pdat", b"abcdefgh") + box(b"pseg", pshd(0), located)
+                yield refused(number, f"first entry {state}; second, {name}; third, {other}", file)
 
 
 def records():

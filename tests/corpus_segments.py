@@ -1,7 +1,7 @@
 """Makes records on the parts of a pseg: pshd, ploc, its entries, and the limits of chunks and of the source."""
 
 from boxes import box, entry, ftyp, full, head, lost_segment, open_segment, pfhd, ploc, pshd, surl
-from foreign import DAMAGED, GOOD, LIMIT, LOST
+from foreign import DAMAGED, ELSEWHERE, GOOD, LIMIT, LOST
 from plan import Data, Entry, Plan, Segment
 from record import refused, taken
 
@@ -78,13 +78,11 @@ def files_of_entries():
     yield refused(17, "an entry left over", of_entries(LOST_5, LOST_5, count=1))
     yield refused(17, "an entry left over in an open segment", of_entries(LOST_5, count=0))
     for bit in range(6):
-        for flag_byte in (0, LOST, GOOD, DAMAGED):
+        for flag_byte in (ELSEWHERE, LOST, GOOD, DAMAGED):
             yield refused(20, f"flag byte {flag_byte + 2 ** bit}", of_entries(bytes([flag_byte + 2 ** bit, 5])))
     yield refused(20, "flag byte 255 of the second entry", of_entries(LOST_5, b"\xff\x05"))
-    yield refused(21, "flag byte 0", of_entries(b"\0\x05"))
-    yield refused(21, "flag byte 0 of the third entry", of_entries(LOST_5, LOST_5, b"\0"))
     yield taken("entries of each state", of_entries(
-        entry(GOOD, 1, 2, 1, -6), LOST_5, entry(DAMAGED, 1, 3, 1, -3), entry(GOOD, 1, 0, 1, 99), entry(DAMAGED, 1, 0, 1, -99)))
+        entry(GOOD, 1, 2, 1, -6), LOST_5, entry(DAMAGED, 1, 3, 1, -3), entry(GOOD, 1, 0, 1, 99), entry(ELSEWHERE, 1, 7), entry(DAMAGED, 1, 0, 1, -99)))
 
 
 def in_shared_data(counts):

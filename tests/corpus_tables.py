@@ -1,11 +1,11 @@
 """Makes records on lent tables that are too short, exact, and ample."""
 
 from boxes import box, entry, head, lost_segment, open_segment, ploc, pshd
-from foreign import DAMAGED, GOOD, LOST
+from foreign import DAMAGED, ELSEWHERE, GOOD
 from record import refused, taken
 
 # Two segments and three chunks: 14 and 18 numbers.
-ENTRIES = [entry(GOOD, 1, 2, 1, -4), entry(DAMAGED, 1, 2, 1, -2), entry(LOST, 1, 9)]
+ENTRIES = [entry(GOOD, 1, 2, 1, -4), entry(DAMAGED, 1, 2, 1, -2), entry(ELSEWHERE, 1, 9)]
 TWO_AND_THREE = (head(b"url", b"mime") + box(b"pdat", b"abcd")
                  + box(b"pseg", pshd(3, 5, 99, 1), ploc(1, 1, ENTRIES)) + open_segment(16, 8))
 

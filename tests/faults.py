@@ -1,7 +1,7 @@
-"""Makes files that reading must refuse with one given number, 2 to 25."""
+"""Makes files that reading must refuse with one given number, 2 to 25 but 21, which no file meets."""
 
 from boxes import box, full, lost_segment, open_segment, pfhd, sized, sized_large, surl
-from foreign import DAMAGED, GOOD, LIMIT, LOST, foreign_plan, skipped_box, text
+from foreign import DAMAGED, ELSEWHERE, GOOD, LIMIT, LOST, foreign_plan, skipped_box, text
 from plan import Entry, Other, Segment, Whole
 
 FREE = box(b"free")
@@ -216,7 +216,7 @@ def cut_the_rest(rng, segment):
     segment.more_count = 1
     short = segment.length_size - 1
     segment.tail = rng.choice([
-        bytes([LOST]) + bytes(short), bytes([GOOD]) + bytes(short + 2), bytes([DAMAGED])])
+        bytes([LOST]) + bytes(short), bytes([ELSEWHERE]) + bytes(short), bytes([GOOD]) + bytes(short + 2), bytes([DAMAGED])])
 
 
 def width_over_8(rng, plan):
@@ -229,19 +229,12 @@ def data_reference(rng, plan):
     rng.choice(plan.segments()).reference = rng.choice([1, 256, nonzero(rng, 16)])
 
 
-def add_raw_entry(segment, raw):
-    segment.more_count = 1
-    segment.tail = raw
-
-
 def reserved_bit(rng, plan):
-    flag_byte = rng.choice([0, LOST, GOOD, DAMAGED]) | rng.choice([1, 0x20, nonzero(rng, 6)])
-    raw = bytes([flag_byte]) + rng.randbytes(rng.randint(0, 3))
-    add_raw_entry(rng.choice(plan.segments()), raw)
-
-
-def neither(rng, plan):
-    add_raw_entry(rng.choice(plan.segments()), b"\0" + rng.randbytes(rng.randint(0, 3)))
+    """One more entry with a reserved bit, beside the bits of any state."""
+    segment = rng.choice(plan.segments())
+    flag_byte = rng.choice([ELSEWHERE, LOST, GOOD, DAMAGED]) | rng.choice([1, 0x20, nonzero(rng, 6)])
+    segment.more_count = 1
+    segment.tail = bytes([flag_byte]) + rng.randbytes(rng.randint(0, 3))
 
 
 def too_many_chunks(rng, plan):
@@ -259,7 +252,7 @@ def source_over_limit(rng, plan):
         segment.offset = rng.choice([LIMIT + 1, LIMIT + 1, 2 ** 63, 2 ** 64 - 1])
     else:
         size = rng.choice([LIMIT + 1 - segment.end(), LIMIT + 1, 2 ** 64 - 1])
-        flag_byte = rng.choice([LOST, GOOD])
+        flag_byte = rng.choice([LOST, GOOD, ELSEWHERE])
         segment.entries.append(Entry(flag_byte, size, wild=rng.getrandbits(64)))
 
 
@@ -331,7 +324,6 @@ FAULTS = {
     18: width_over_8,
     19: data_reference,
     20: reserved_bit,
-    21: neither,
     22: too_many_chunks,
     23: source_over_limit,
     24: may_not_lie_there,

@@ -4,7 +4,7 @@ from boxes import box, ftyp, pfhd, surl
 from plan import Data, Entry, Other, Plan, Segment, Whole
 
 LIMIT = 4_294_967_295
-LOST, DAMAGED, GOOD = 0x80, 0xC0, 0x40
+LOST, DAMAGED, GOOD, ELSEWHERE = 0x80, 0xC0, 0x40, 0x00
 NOT_KNOWN = [b"free", b"skip", b"uuid", b"uuid", b"ptle", b"fidx", b"mdat", b"dref"]
 OUT_OF_PLACE = {
     "file": [b"pfhd", b"surl", b"pshd", b"ploc"],
@@ -82,6 +82,11 @@ def entry_of_boxes(rng, wholes):
     return Entry(GOOD, end - first, whole, first)
 
 
+def absent(rng):
+    """The flag byte of a chunk that is not present."""
+    return rng.choice([LOST, ELSEWHERE])
+
+
 def foreign_entry(rng, datas, room, wholes=()):
     """A chunk of at most `room` positions."""
     if wholes and rng.random() < 0.4:
@@ -90,10 +95,10 @@ def foreign_entry(rng, datas, room, wholes=()):
             return entry
     few = rng.randint(1, 9)
     size = min(room, rng.choice([0, 1, 2, few, few, rng.randint(0, 15)]))
-    flag_byte = rng.choice([GOOD, GOOD, GOOD, GOOD, DAMAGED, LOST])
+    flag_byte = rng.choice([GOOD, GOOD, GOOD, GOOD, DAMAGED, LOST, ELSEWHERE])
     holding = [data for data in datas if len(data.body) >= size]
-    if flag_byte == LOST or size > 0 and not holding:
-        return Entry(LOST, size)
+    if flag_byte in (LOST, ELSEWHERE) or size > 0 and not holding:
+        return Entry(absent(rng), size)
     if size == 0:
         return Entry(flag_byte, 0, wild=rng.getrandbits(64))
     data = rng.choice(holding)
@@ -103,7 +108,7 @@ def foreign_entry(rng, datas, room, wholes=()):
 def foreign_entries(rng, datas, span, wholes=()):
     """The chunks of one segment, at most `span` positions."""
     if rng.random() < 0.05:
-        return [Entry(rng.choice([GOOD, DAMAGED, LOST]), 0, wild=rng.getrandbits(64))
+        return [Entry(rng.choice([GOOD, DAMAGED, LOST, ELSEWHERE]), 0, wild=rng.getrandbits(64))
                 for _ in range(rng.randint(1, 3))]
     entries = []
     for _ in range(rng.choice([0, 1, 1, 2, 3, 3, 4, 5])):
@@ -138,9 +143,9 @@ def dress(rng, segment):
 
 
 def stretch(rng, segments, span):
-    """Lets a lost chunk reach the end of a source of any size."""
+    """Lets a chunk that is not present reach the end of a source of any size."""
     segment = rng.choice(segments)
-    segment.entries.append(Entry(LOST, span - segment.end()))
+    segment.entries.append(Entry(absent(rng), span - segment.end()))
     rng.shuffle(segment.entries)
 
 
@@ -148,7 +153,7 @@ def close(rng, segments, span):
     """Flags a segment that ends where the source does, and others that agree."""
     closing = rng.choice(segments)
     if closing.is_open():
-        closing.entries.append(Entry(LOST, rng.randint(0, min(span, 9))))
+        closing.entries.append(Entry(absent(rng), rng.randint(0, min(span, 9))))
     closing.offset = span - (closing.end() - closing.offset)
     for segment in segments:
         agrees = segment.is_open() or segment.end() == span
@@ -186,7 +191,7 @@ def overstep(rng, plan):
     """Puts the end of a segment just past the limit, or flags one too many."""
     segment = rng.choice(plan.segments())
     if rng.random() < 0.5:
-        segment.entries.append(Entry(LOST, LIMIT + rng.choice([1, 1, 2, 300]) - segment.end()))
+        segment.entries.append(Entry(absent(rng), LIMIT + rng.choice([1, 1, 2, 300]) - segment.end()))
     else:
         segment.flags |= 1
 

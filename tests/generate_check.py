@@ -51,6 +51,7 @@ def check_foreign(files):
     check_size_forms(files)
     check_skipped(files)
     check_states(files)
+    check_elsewhere(files)
     check_mixed(files)
 
 
@@ -90,7 +91,7 @@ def check_states(files):
         met["overlap"] += any(max(one[0], two[0]) <= min(one[-1], two[-1])
                               for one in good for two in good if one and two and one is not two)
         met["out of order"] += [row[1] for row in segments] != sorted(row[1] for row in segments)
-        met["empty present"] += any(chunk[3] == 0 and chunk[4] > 0 for chunk in chunks)
+        met["empty present"] += any(chunk[3] == 0 and chunk[4] in (1, 2) for chunk in chunks)
         met["limit"] += model.length(file)[1] == 4_294_967_295
         pdats = [(place, end) for place, end, _ in boxes_in(file, 0, len(file))
                  if file[place + 4:place + 8] == b"pdat"]
@@ -98,6 +99,28 @@ def check_states(files):
             len({chunk[0] for chunk in held if place < chunk[5] < end}) > 1 for place, end in pdats)
     for name, count in met.items():
         expect(f"{name} met", count > 0)
+
+
+def overlap(one, two):
+    """Whether two chunk rows cover a position both."""
+    return max(one[2], two[2]) < min(one[2] + one[3], two[2] + two[3])
+
+
+def check_elsewhere(files):
+    """Chunks held elsewhere: many, empty ones, at the end of what is described, and beside good ones of the same positions, before and behind."""
+    met = {"held elsewhere": 0, "empty": 0, "to the end": 0, "good behind": 0, "good before": 0}
+    for file in files:
+        described, chunks = model.length(file)[1], model.read(file)[2]
+        elsewhere = [chunk for chunk in chunks if chunk[4] == 3]
+        beside = [(one, two) for one in elsewhere for two in chunks if two[4] == 2 and overlap(one, two)]
+        met["held elsewhere"] += any(chunk[3] > 0 for chunk in elsewhere)
+        met["empty"] += any(chunk[3] == 0 for chunk in elsewhere)
+        met["to the end"] += {chunk[4] for chunk in chunks if chunk[3] > 0 and chunk[2] + chunk[3] == described} == {3}
+        met["good behind"] += any(two[0] > one[0] for one, two in beside)
+        met["good before"] += any(two[0] < one[0] for one, two in beside)
+    for name, count in met.items():
+        expect(f"a chunk held elsewhere, {name}", count > 0)
+    expect("a third of the files has a chunk held elsewhere", met["held elsewhere"] / len(files) > 0.33)
 
 
 def outside_runs(file):
@@ -182,7 +205,7 @@ def check_meaning(file):
 # Faulty and spoiled files.
 
 def check_faulty(rng, runs):
-    for number in range(2, 26):
+    for number in sorted(generate.FAULTS):
         for _ in range(runs):
             file = generate.faulty_file(rng, number)
             expect(f"faulty file for {number}", model.read(file), ("refused", number))
@@ -190,6 +213,17 @@ def check_faulty(rng, runs):
                    b"refused\t%d\n" % number)
             expect(f"parts of a file for {number}",
                    [model.url(file), model.mime(file), model.serve(file, 0)], 3 * [(0, 0)])
+
+
+def check_reserved(rng, runs):
+    """A reserved bit stands beside the bits of every state."""
+    met, told = set(), model.state_of
+    model.state_of = lambda flag_byte: met.add(flag_byte) or told(flag_byte)
+    for _ in range(runs):
+        expect("a reserved bit", model.read(generate.faulty_file(rng, 20)), ("refused", 20))
+    model.state_of = told
+    for bits in (0x00, 0x40, 0x80, 0xC0):
+        expect(f"reserved bits beside {bits:#04x}", len({flag_byte for flag_byte in met if flag_byte & 0xC0 == bits and flag_byte != bits}) > 5)
 
 
 def check_faulty_vendors(rng, runs):
@@ -256,6 +290,19 @@ def check_all_additions(rng, files):
     print(f"additions taken: {100 * taken:.1f} %")
 
 
+def check_additions_elsewhere(rng, files):
+    """Chunks held elsewhere are taken, alone and beside each other state, inside and outside; a list that is refused has any state above theirs."""
+    met, above = set(), set()
+    for file in files:
+        given = generate.addition(rng, file)
+        states = given["chunk_list"][1::2]
+        if 3 in states and model.append(**given)[0][0] == "length":
+            met |= {(given["outside"], state) for state in states if state != 3} or {"alone"}
+        above |= {state for state in generate.faulty_addition(rng, file, 31)["chunk_list"][1::2] if state > 3}
+    expect("additions held elsewhere", met, {"alone"} | {(outside, state) for outside in (False, True) for state in (0, 1, 2)})
+    expect("states above 3", {4, 5, 255, 256, 259, 2 ** 64 - 1} < above)
+
+
 def check_additions_outside(rng, files):
     """Additions with the argument are taken with good chunks, of one box and of several, beside damaged ones and without, and with no good one in any file."""
     met = set()
@@ -294,10 +341,12 @@ def main(seed):
         if model.length(file)[1] < 80:
             check_meaning(file)
     check_faulty(rng, 30)
+    check_reserved(rng, 150)
     check_faulty_vendors(rng, 1500)
     check_spoiled(rng, files)
     check_additions(rng, good[:40] + 10 * [head()] + 10 * [head(brand=b"pmff")])
     check_all_additions(rng, good[:1200])
+    check_additions_elsewhere(rng, good[:1200])
     check_additions_outside(rng, good[:1200])
     check_beginnings(rng, 100)
     return close()

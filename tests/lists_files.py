@@ -1,7 +1,7 @@
 """Makes records on the paper's files, on open and empty ones, on chunks of size 0, many small ranges, long parts, and the limits."""
 
 from boxes import box, entry, head, lost_segment, open_segment, ploc, pshd
-from foreign import DAMAGED, GOOD, LIMIT, LOST
+from foreign import DAMAGED, ELSEWHERE, GOOD, LIMIT, LOST
 from lists_record import assembled, file_of, listed, refused
 from plan import Data, Entry, Other, Segment, Whole
 
@@ -32,7 +32,7 @@ def open_and_closed():
     yield listed("empty", "described length 0, open", file_of((0, "")), [], [])
     yield listed("empty", "described length 0, open and last", file_of((0, "", LAST), (0, "")), [], [])
     yield listed("empty", "described length 0, closed", file_of((0, "lost 0", LAST)), [], [])
-    yield listed("empty", "described length 0, chunks of each state", file_of((0, "good 0, damaged 0, lost 0, good 0")), [], [])
+    yield listed("empty", "described length 0, chunks of each state", file_of((0, "good 0, damaged 0, lost 0, elsewhere 0, good 0")), [], [])
 
 
 def of_size_0():
@@ -44,6 +44,21 @@ def of_size_0():
     yield listed("size 0", "only, at 5", file_of((5, "good 0, damaged 0")), [], [(0, 5)])
     nowhere = box(b"pseg", pshd(3), ploc(1, 1, [entry(GOOD, 1, 0, 1, 127), entry(DAMAGED, 1, 0, 1, -128), entry(LOST, 1, 4)]))
     yield listed("size 0", "at no place", head() + nowhere, [], [(0, 7)])
+
+
+def held_elsewhere():
+    yield listed("elsewhere", "held elsewhere, alone", file_of((4, "elsewhere 6")), [], [(0, 10)])
+    yield listed("elsewhere", "held elsewhere, alone and last", file_of((4, "elsewhere 6", LAST)), [], [(0, 10)])
+    yield listed("elsewhere", "held elsewhere, between good ones", file_of((0, "good 2, elsewhere 3, good 2", LAST)), [(0, 2), (5, 2)], [(2, 3)])
+    yield listed("elsewhere", "held elsewhere, beside each state", file_of((1, "elsewhere 2, lost 2, elsewhere 1, damaged 2, elsewhere 3, good 2, elsewhere 4")), [(11, 2)], [(0, 11), (13, 4)])
+    yield listed("elsewhere", "held elsewhere, empty ones between good ones", file_of((0, "good 2, elsewhere 0, good 2, elsewhere 0")), [(0, 4)], [])
+    yield listed("elsewhere", "held elsewhere, it reaches furthest", file_of((0, "good 4"), (2, "elsewhere 9")), [(0, 4)], [(4, 7)])
+    yield listed("elsewhere", "held elsewhere, good in its middle, behind", file_of((0, "elsewhere 12", LAST), (4, "good 3")), [(4, 3)], [(0, 4), (7, 5)])
+    yield listed("elsewhere", "held elsewhere, the same, turned", file_of((4, "good 3"), (0, "elsewhere 12", LAST)), [(4, 3)], [(0, 4), (7, 5)])
+    yield listed("elsewhere", "held elsewhere, beside an open segment", file_of((3, "elsewhere 4"), (20, "")), [], [(0, 20)])
+    yield refused("elsewhere", 25, "held elsewhere, past the known size", file_of((0, "good 4", LAST), (2, "elsewhere 3")))
+    many = box(b"pseg", pshd(0), ploc(1, 8, [entry(ELSEWHERE, 1, 2) for _ in range(1024)]))
+    yield listed("elsewhere", "held elsewhere, 1024 of them", head() + many, [], [(0, 2048)], positions=[0, 1, 1024, 2047, 2048])
 
 
 def of_boxes():
@@ -117,9 +132,10 @@ def limits():
     yield listed("limits", "the last position of all", file_of((LIMIT - 1, "good 1", LAST)), [(LIMIT - 1, 1)], [(0, LIMIT - 1)])
     yield listed("limits", "the first and the last", file_of((LIMIT - 3, "good 3", LAST), (0, "good 2")),
                  [(0, 2), (LIMIT - 3, 3)], [(2, LIMIT - 5)])
+    yield listed("limits", "all held elsewhere, to 4294967295", head() + lost_segment(0, [LIMIT], flags=LAST, flag_byte=ELSEWHERE), [], [(0, LIMIT)])
     yield listed("limits", "an empty chunk at 4294967295", file_of((LIMIT, "good 0", LAST)), [], [(0, LIMIT)])
 
 
 def records():
-    for made in (of_the_paper, open_and_closed, of_size_0, many_pairs, many_segments, long_parts, places, of_boxes, limits):
+    for made in (of_the_paper, open_and_closed, of_size_0, many_pairs, many_segments, long_parts, places, held_elsewhere, of_boxes, limits):
         yield from made()

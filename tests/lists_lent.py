@@ -13,7 +13,7 @@ SEED = 230014
 TENTH = file_of((0, "good 4, lost 6", LAST), (2, "good 5"))
 TENTH_LISTS = [(0, 7)], [(7, 3)]
 # Four segments and nine chunks, 28 and 54 numbers; three ranges and two, 6 and 4.
-FOUR = file_of((0, "good 2, lost 3, good 2"), (7, "damaged 2, good 1, lost 0, lost 1", LAST), (9, "good 2"), (4, "good 1"))
+FOUR = file_of((0, "good 2, elsewhere 3, good 2"), (7, "damaged 2, good 1, lost 0, lost 1", LAST), (9, "good 2"), (4, "good 1"))
 FOUR_LISTS = [(0, 2), (4, 3), (9, 2)], [(2, 2), (7, 2)]
 
 

@@ -36,7 +36,7 @@ def overlapping():
 
 def repaired():
     """A range of 4 that is not good between two that are, and a later good chunk over any part of it and of its neighbours."""
-    for state in ("damaged", "lost"):
+    for state in ("damaged", "lost", "elsewhere"):
         first = (0, f"good 4, {state} 4, good 4", LAST)
         yield listed("repaired", f"{state}, no repair", file_of(first), [(0, 4), (8, 4)], [(4, 4)])
         for start in (2, 4, 5, 7, 8):
@@ -65,7 +65,9 @@ def repaired_again():
     yield listed("repaired", "all damaged, then good", file_of(whole, (0, "good 12")), [(0, 12)], [])
     yield listed("repaired", "good, then all damaged", file_of((0, "good 12", LAST), (0, "damaged 12")), [(0, 12)], [])
     yield listed("repaired", "good, then good again", file_of((0, "good 12", LAST), (0, "good 12")), [(0, 12)], [])
-    yield listed("repaired", "good, then lost", file_of((3, "good 5"), (0, "lost 12", LAST)), [(3, 5)], [(0, 3), (8, 4)])
+    for state in ("lost", "elsewhere"):
+        yield listed("repaired", f"good, then {state}", file_of((3, "good 5"), (0, f"{state} 12", LAST)), [(3, 5)], [(0, 3), (8, 4)])
+        yield listed("repaired", f"{state}, then good", file_of((0, f"{state} 12", LAST), (3, "good 5")), [(3, 5)], [(0, 3), (8, 4)])
     thrice = file_of(whole, (4, "good 4"), (2, "good 8"), (0, "good 12"))
     yield listed("repaired", "repaired three times, each over the last", thrice, [(0, 12)], [])
     yield listed("repaired", "repaired by chunks", file_of(whole, (1, "good 2, lost 2, good 2, damaged 2, good 2")),
@@ -77,7 +79,7 @@ def repaired_again():
 def touching():
     for words in ("good 3, good 3, good 3", "good 9", "good 0, good 3, good 0, good 6, lost 0", "good 1, good 8"):
         yield listed("touching", words, file_of((0, words)), [(0, 9)], [])
-    for words in ("lost 3, damaged 3, lost 3", "damaged 9", "lost 1, lost 8"):
+    for words in ("lost 3, damaged 3, lost 3", "damaged 9", "lost 1, lost 8", "elsewhere 9", "lost 3, elsewhere 3, damaged 3", "elsewhere 4, elsewhere 5"):
         yield listed("touching", words, file_of((0, words)), [], [(0, 9)])
     yield listed("touching", "missing at both sides of a segment's end", file_of((0, "good 2, lost 3"), (5, "damaged 3, good 1")),
                  [(0, 2), (8, 1)], [(2, 6)])

@@ -3,14 +3,15 @@
 from collections import namedtuple
 
 from boxes import ftyp, pfhd, surl
-from foreign import DAMAGED, GOOD, LOST
+from foreign import DAMAGED, ELSEWHERE, GOOD, LOST
 from plan import Data, Entry, Plan, Segment
 
 # `wanted` is the number of the refusal, the pair of lists, or None where only the model says. A room of None is one to spare, and positions of None
 # are those that `lists.py` chooses.
 Record = namedtuple("Record", "kind name wanted file rooms positions", defaults=((None, None, None, None), None))
 
-STATES = {"good": GOOD, "damaged": DAMAGED, "lost": LOST}
+STATES = {"good": GOOD, "damaged": DAMAGED, "lost": LOST, "elsewhere": ELSEWHERE}
+PRESENT = ("good", "damaged")
 
 
 def listed(kind, name, file, had, missing, rooms=(None, None, None, None), positions=None):
@@ -29,14 +30,14 @@ def chunks(words):
 def segment(number, offset, words, flags):
     """A pdat that holds all that is present, each byte its own, and the segment."""
     given = chunks(words)
-    kept = sum(size for state, size in given if state != "lost")
+    kept = sum(size for state, size in given if state in PRESENT)
     data = Data(bytes((61 * number + 7 * at + 1) % 256 for at in range(kept)))
     entries, at = [], 0
     for state, size in given:
-        entries.append(Entry(LOST, size) if state == "lost" else Entry(STATES[state], size, data, at))
-        at += 0 if state == "lost" else size
+        entries.append(Entry(STATES[state], size, data if state in PRESENT else None, at))
+        at += size if state in PRESENT else 0
     made = Segment(offset, entries, flags)
-    return [data, made] if any(state != "lost" for state, size in given) else [made]
+    return [data, made] if any(state in PRESENT for state, size in given) else [made]
 
 
 def assembled(items, brand=b"paff"):

@@ -14,6 +14,7 @@ import lists
 import model
 from boxes import box
 from corpus import ROOT, TO_SPARE, command, line
+from faults import FAULTS
 from foreign import DAMAGED, GOOD, LOST
 from lists_record import assembled
 from plan import Data, Entry, Other, Segment
@@ -145,7 +146,7 @@ def checked(made):
     names = Counter(record.name for record in made)
     assert max(names.values()) == 1, names.most_common(3)
     numbers = Counter(number_of(record) for record in made)
-    assert set(numbers) == {0, 27, BUFFER_TOO_SHORT} | set(range(2, 26)), sorted(numbers)
+    assert set(numbers) == {0, 27, BUFFER_TOO_SHORT} | set(FAULTS), sorted(numbers)
     return numbers
 
 

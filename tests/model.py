@@ -71,6 +71,16 @@ Of request 2, mixed files:
 31. In which order is the data of chunks that go outside given?  In chunk order
     among the others, as before; "in chunk order, after the `pdat`" is said of
     how append stores it.
+
+Of request 4, chunks held elsewhere:
+
+32. What has a chunk of state 3 in its entry, and what place has its row?  No
+    offset, which stands "where present", and place 0, "0 if not present".
+33. Does it count as a chunk and reach to its end?  Yes, as a lost one does:
+    "it covers its positions".  A position that only such chunks cover is
+    missing, since it "supplies none".
+34. What is asked of its entry?  17 for the flag byte, 20, 17 for the rest and
+    23; never 24, which is of a "present chunk".
 """
 
 from collections import namedtuple
@@ -121,7 +131,6 @@ PLOC_FAULT = 17
 WIDTH_OVER_8 = 18
 DATA_REFERENCE = 19
 RESERVED_BIT = 20
-NEITHER_CORRUPTED_NOR_PRESENT = 21
 TOO_MANY_CHUNKS = 22
 SOURCE_OVER_LIMIT = 23
 MAY_NOT_LIE_THERE = 24
@@ -141,7 +150,8 @@ LAST_SEGMENT = 0x000001
 CORRUPTED = 0x80
 PRESENT = 0x40
 RESERVED = 0x3F
-LOST, DAMAGED, GOOD = 0, 1, 2
+LOST, DAMAGED, GOOD, ELSEWHERE = 0, 1, 2, 3
+FLAG_BYTES = {LOST: CORRUPTED, DAMAGED: CORRUPTED | PRESENT, GOOD: PRESENT, ELSEWHERE: 0}
 SEGMENT_ROW_LENGTH = 7
 CHUNK_ROW_LENGTH = 6
 RANGE_LENGTH = 2
@@ -348,8 +358,12 @@ def read_ploc_head(file, ploc):
 
 def state_of(flag_byte):
     refuse_if(flag_byte & RESERVED, RESERVED_BIT)
-    refuse_if(flag_byte == 0, NEITHER_CORRUPTED_NOR_PRESENT)
-    return {CORRUPTED: LOST, CORRUPTED | PRESENT: DAMAGED, PRESENT: GOOD}[flag_byte]
+    return {known: state for state, known in FLAG_BYTES.items()}[flag_byte]
+
+
+def present(state):
+    """Whether the bytes of a chunk of this state are in the file."""
+    return state in (DAMAGED, GOOD)
 
 
 def in_one_pdat(boxes, place, size):
@@ -374,7 +388,7 @@ def read_entry(file, cursor, end, widths):
     length_size, offset_size = widths
     refuse_if(cursor == end, PLOC_FAULT)
     state = state_of(file[cursor])
-    if state == LOST:
+    if not present(state):
         offset_size = 0
     cursor += 1
     refuse_if(end - cursor < length_size + offset_size, PLOC_FAULT)
@@ -399,7 +413,7 @@ def read_segment(file, head, pseg, segment_number, chunks_so_far):
             file, cursor, ploc.end, (length_size, offset_size))
         refuse_if(start + size > LIMITS["source"], SOURCE_OVER_LIMIT)
         place = 0
-        if state != LOST and size > 0:
+        if present(state) and size > 0:
             place = pseg.place + offset
             refuse_if(not may_lie(head, state, place, size), MAY_NOT_LIE_THERE)
         chunks.append(Chunk(segment_number, index, start, size, state, place))
@@ -633,7 +647,7 @@ def pairs_of(chunk_list):
     refuse_if(len(chunk_list) % 2 != 0, CHUNK_LIST_FAULT)
     pairs = list(zip(chunk_list[0::2], chunk_list[1::2]))
     for size, state in pairs:
-        refuse_if(size == 0 or state not in (LOST, DAMAGED, GOOD), CHUNK_LIST_FAULT)
+        refuse_if(size == 0 or state not in FLAG_BYTES, CHUNK_LIST_FAULT)
     return pairs
 
 
@@ -644,7 +658,7 @@ def goes_outside(state, outside):
 
 def goes_inside(state, outside):
     """Whether it is stored in the pdat."""
-    return state != LOST and not goes_outside(state, outside)
+    return present(state) and not goes_outside(state, outside)
 
 
 def data_of(pairs, data, outside, goes):
@@ -653,7 +667,7 @@ def data_of(pairs, data, outside, goes):
     for size, state in pairs:
         if goes(state, outside):
             found.append(data[at:at + size])
-        at += size if state != LOST else 0
+        at += size if present(state) else 0
     return found
 
 
@@ -670,7 +684,7 @@ def check_outside(head, pairs, data, outside):
 
 
 def offsets_of(pairs, outside):
-    """For each chunk its offset from the pseg, None if lost; the pdat and then the chunks outside stand before it."""
+    """For each chunk its offset from the pseg, None if not present; the pdat and then the chunks outside stand before it."""
     outside_at = -sum(size for size, state in pairs if goes_outside(state, outside))
     inside_at = outside_at - sum(size for size, state in pairs if goes_inside(state, outside))
     offsets = []
@@ -730,7 +744,7 @@ def check_append(buffer, stated_length, source_offset, last, outside, chunk_list
     refuse_if(stated_length > len(buffer), STATED_LENGTH_OVER_BUFFER)
     head, segments, chunks = read_earlier(buffer[:stated_length])
     pairs = pairs_of(chunk_list)
-    kept = sum(size for size, state in pairs if state != LOST)
+    kept = sum(size for size, state in pairs if present(state))
     refuse_if(len(data) != kept, DATA_NOT_EQUAL_TO_SIZES)
     outside_count = check_outside(head, pairs, data, outside)
     end = stated_length + added_length(source_offset, pairs, len(data), outside)
@@ -764,8 +778,7 @@ def write_ploc(pairs, offsets):
     head += len(pairs).to_bytes(2, "big")
     entries = b""
     for (size, state), offset in zip(pairs, offsets):
-        flag_byte = {LOST: CORRUPTED, DAMAGED: CORRUPTED | PRESENT, GOOD: PRESENT}[state]
-        entries += bytes([flag_byte]) + size.to_bytes(length_size, "big")
+        entries += bytes([FLAG_BYTES[state]]) + size.to_bytes(length_size, "big")
         if offset is not None:
             entries += offset.to_bytes(offset_size, "big", signed=True)
     return write_box(b"ploc", head, entries)

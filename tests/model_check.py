@@ -160,10 +160,12 @@ def check_entry_order():
             ("19 before 22", ploc(0, 0, [], count=1025, reference=1), 19),
             ("22 before 17", ploc(0, 0, [], count=1025), 22),
             ("17 for the flag byte", ploc(1, 0, [], count=1), 17),
-            ("20 before 21", ploc(1, 0, [b"\x01"]), 20),
+            ("20 before 17, neither bit", ploc(1, 0, [b"\x01"]), 20),
             ("20 before 17", ploc(1, 0, [b"\x81"]), 20),
-            ("21 before 17", ploc(1, 0, [b"\x00"]), 21),
             ("17 for the rest", ploc(8, 0, [b"\x80" + b"\xff" * 7]), 17),
+            ("17 for the rest, held elsewhere", ploc(1, 0, [b"\x00"]), 17),
+            ("17 before 23, held elsewhere", ploc(8, 0, [b"\x00" + b"\xff" * 7]), 17),
+            ("23, held elsewhere", ploc(8, 8, [b"\x00" + b"\xff" * 8]), 23),
             ("23 before 24", ploc(8, 1, [b"\x40" + b"\xff" * 9]), 23),
             ("24 before left over", ploc(1, 1, [entry(0x40, 1, 1, 1, 0), b"\0"], count=1), 24),
             ("left over", ploc(1, 1, [entry(0x80, 1, 1), b"\0"], count=1), 17),
@@ -209,7 +211,10 @@ def check_append_order():
             ("own refusal", (file, 54, 0, 0, False, False, [1], b""), 5),
             ("31 odd", (file, 55, 0, 0, False, False, [1], b"x"), 31),
             ("31 size 0", (file, 55, 0, 0, False, False, [0, 0], b"x"), 31),
-            ("31 state 3", (file, 55, 0, 0, False, False, [1, 3], b"x"), 31),
+            ("31 state 4", (file, 55, 0, 0, False, False, [1, 4], b"x"), 31),
+            ("31 size 0, held elsewhere", (file, 55, 0, 0, False, False, [0, 3], b""), 31),
+            ("31 state 4 behind state 3", (file, 55, 0, 0, False, False, [1, 3, 1, 4], b""), 31),
+            ("32, held elsewhere", (file, 55, 0, 0, False, False, [1, 3], b"x"), 32),
             ("32", (file, 55, LIMIT + 1, 0, False, False, [1, 0], b"x"), 32),
             ("32, open", (file, 55, 0, 0, False, False, [], b"x"), 32),
             ("22 before 23", (file, 55, LIMIT + 1, 0, False, False, 1025 * [1, 0], b""), 22),
@@ -446,6 +451,72 @@ def check_6_outside():
     expect("6 before 13", model.append(mixed + 64 * open_segment(0) + bytes(6_000), 55 + 64 * 49, 0, 0, False, True, [4800, 2], 600 * free)[0], refused(6))
 
 
+# Chunks held elsewhere.
+
+def check_flag_bytes():
+    """Each flag byte: its state where no reserved bit is set, and else 20; none is refused for its two other bits."""
+    states = {0x00: 3, 0x40: 2, 0x80: 0, 0xC0: 1}
+    for flag_byte in range(256):
+        located = ploc(1, 1, [bytes([flag_byte, 5]) + (b"\xfb" if flag_byte & 0x40 else b"")])
+        answer = model.read(segment_of(located, b"abcde"))
+        expect(f"flag byte {flag_byte:#04x}", answer if answer[0] == "refused" else answer[2][0][4], states.get(flag_byte, refused(20)))
+
+
+def check_elsewhere_read():
+    """By hand: what a chunk held elsewhere covers, and that it supplies nothing, whatever stands beside it."""
+    data = b"abcdef"
+    entries = [entry(0x40, 1, 2, 1, -6), entry(0x00, 1, 5), entry(0xC0, 1, 4, 1, -4), entry(0x00, 1, 0), entry(0x80, 1, 1)]
+    file = segment_of(ploc(1, 1, entries), data, 3, 1)
+    place = place_of_pseg(data)
+    expect("rows of each state", model.read(file)[2],
+           [(0, 0, 3, 2, 2, place - 6), (0, 1, 5, 5, 3, 0), (0, 2, 10, 4, 1, place - 4), (0, 3, 14, 0, 3, 0), (0, 4, 14, 1, 0, 0)])
+    expect("length of each state", model.length(file), ("length", 15, True))
+    expect("lists of each state", model.lists(file), ("lists", [(3, 2)], [(0, 3), (5, 10)], 2, 13))
+    expect("map of each state", model.map_text(file), b"source\t15\tclosed\nmiss\t0\t3\nhave\t3\t2\nmiss\t5\t10\ntotal\t2\t13\n")
+    expect("asked of each state", [model.ask(file, p) for p in (2, 4, 5, 9, 14, 15)],
+           [("missing", 1), ("served", 1), ("missing", 10), ("missing", 6), ("missing", 1), ("beyond",)])
+    expect("not served", [model.serve(file, p) for p in (5, 9)], 2 * [(0, 0)])
+    alone = head() + lost_segment(4, [6], flag_byte=0)
+    expect("alone", (model.length(alone), model.lists(alone)), (("length", 10, False), ("lists", [], [(0, 10)], 0, 10)))
+    closed = head() + lost_segment(4, [6], flags=1, flag_byte=0)
+    expect("the last segment", model.length(closed), ("length", 10, True))
+    expect("an end above it", model.length(closed + lost_segment(10, [1], flag_byte=0)), refused(25))
+    for name, two in [("before", alone + lost_segment(5, [2])), ("behind", head() + lost_segment(5, [2]) + alone[55:])]:
+        expect(f"lost {name} it", model.lists(two), ("lists", [], [(0, 10)], 0, 10))
+    expect("as many as a file takes", len(model.read(head() + lost_segment(0, 1024 * [1], flag_byte=0))[2]), 1024)
+    expect("one more", model.read(head() + lost_segment(0, 1025 * [1], flag_byte=0)), refused(22))
+    expect("to the limit", model.length(head() + lost_segment(1, [LIMIT - 1], flag_byte=0)), ("length", LIMIT, False))
+    expect("past the limit", model.length(head() + lost_segment(1, [LIMIT], flag_byte=0)), refused(23))
+    for offset_size in range(9):
+        located = ploc(2, offset_size, [entry(0x00, 2, 300), entry(0x00, 2, 7)])
+        expect(f"no offset of {offset_size}", model.read(segment_of(located, b""))[2], [(0, 0, 0, 300, 3, 0), (0, 1, 300, 7, 3, 0)])
+    expect("an offset left over", model.read(segment_of(ploc(1, 1, [entry(0x00, 1, 5, 1, -5)]), b"abcde")), refused(17))
+
+
+def check_elsewhere_written():
+    """By hand: what append writes of a chunk held elsewhere, which has no data and stands between the others as it is named."""
+    entries = [entry(0x00, 2, 300), entry(0x40, 2, 2, 1, -5), entry(0x00, 2, 1), entry(0xC0, 2, 3, 1, -3), entry(0x80, 2, 9), entry(0x00, 2, 7)]
+    wanted = begun() + box(b"pdat", b"abcde") + box(b"pseg", pshd(4, 1, 6), ploc(2, 1, entries))
+    expect("each state", appended(begun(), 4, [300, 3, 2, 2, 1, 3, 3, 1, 9, 0, 7, 3], b"abcde", True, 6), wanted)
+    alone = begun() + box(b"pseg", pshd(4), ploc(1, 0, [entry(0x00, 1, 6)]))
+    expect("alone", appended(begun(), 4, [6, 3], b""), alone)
+    for brand in (PAFF, PMFF):
+        expect(f"alone, asked outside of {brand}", appended(begun(brand=brand), 4, [6, 3], b"", outside=True), begun(brand=brand) + alone[55:])
+    entries = [entry(0x00, 1, 6), entry(0x40, 1, 18, 1, -18), entry(0x00, 1, 9)]
+    wanted = begun(brand=PMFF) + MOOF + box(b"pseg", pshd(0), ploc(1, 1, entries))
+    expect("beside a box outside", appended(begun(brand=PMFF), 0, [6, 3, 18, 2, 9, 3], MOOF, outside=True), wanted)
+    served = appended(appended(begun(), 0, [4, 2], b"abcd"), 0, [9, 3], b"", last=True)
+    expect("over what is served", model.map_text(served), b"source\t9\tclosed\nhave\t0\t4\nmiss\t4\t5\ntotal\t4\t5\n")
+    mended = appended(served, 3, [6, 2], b"DEFGHI")
+    place, length = model.serve(mended, 4)
+    expect("good behind it", (model.lists(mended), mended[place:place + length]), (("lists", [(0, 9)], [], 9, 0), b"EFGHI"))
+    for name, given, number in [
+            ("22", (begun(), 55, 0, 0, False, False, 1025 * [1, 3], b""), 22), ("23", (begun(), 55, 1, 0, False, False, [LIMIT, 3], b""), 23),
+            ("25", (served, len(served), 9, 0, False, False, [1, 3], b""), 25), ("33", (begun(), 55, 0, 0, False, False, [6, 3], b""), 33),
+            ("35 of the good one", (begun(), 55, 0, 0, False, True, [6, 3, 18, 2], MOOF), 35)]:
+        expect(f"held elsewhere, {name}", model.append(*given), (refused(number), given[0]))
+
+
 # The writer against the reader, over random runs.
 
 def random_chunks(rng, room, outside):
@@ -453,8 +524,8 @@ def random_chunks(rng, room, outside):
     chunk_list, data = [], b""
     for _ in range(rng.choice([0, 1, 1, 2, 3, 5])):
         size = rng.choice([1, 2, 7, rng.randint(1, 40), rng.randint(1, 400)])
-        state = rng.randint(0, 2)
-        content = rng.randbytes(size if state else 0)
+        state = rng.randint(0, 3)
+        content = rng.randbytes(size if state in (1, 2) else 0)
         if outside and state == 2:
             content = b"".join(box(rng.choice([b"moof", b"mdat"]), rng.randbytes(rng.randint(0, 99))) for _ in range(rng.randint(1, 3)))
             size = len(content)
@@ -467,7 +538,7 @@ def random_chunks(rng, room, outside):
 
 def chunk_bytes(file, rows):
     """The bytes of the present chunks, in order."""
-    return b"".join(file[row[5]:row[5] + row[3]] for row in rows if row[4] != 0)
+    return b"".join(file[row[5]:row[5] + row[3]] for row in rows if row[4] in (1, 2))
 
 
 def check_one_append(rng, file, mixed):
@@ -493,7 +564,7 @@ def check_one_append(rng, file, mixed):
     expect("sizes and states", [number for row in added for number in row[3:5]], chunk_list)
     expect("bytes", chunk_bytes(new, added), data)
     expect("no byte but the data's and two headers'", answer[1] - len(file) - len(data) - len(new[segment_rows[-1][0]:]),
-           8 if any(state and not (outside and state == 2) for state in chunk_list[1::2]) else 0)
+           8 if any(state == 1 or state == 2 and not outside for state in chunk_list[1::2]) else 0)
     exact = model.append(new[:len(file)] + bytes(len(new) - len(file)), *given)
     expect("exact room", exact, (answer, new))
     short = file + bytes(len(new) - len(file) - 1)
@@ -558,5 +629,8 @@ if __name__ == "__main__":
     check_mixed_writer()
     check_35()
     check_6_outside()
+    check_flag_bytes()
+    check_elsewhere_read()
+    check_elsewhere_written()
     check_random_runs(random.Random(1), 300)
     raise SystemExit(close())

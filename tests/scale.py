@@ -23,12 +23,13 @@ import scale_files
 import scale_largest
 import scale_reading
 import scale_writing
+from faults import FAULTS
 from scale_stream import Shown, Stream
 
 # So many cases have to meet each of these.
 LONG_ENOUGH = 10_000
-REFUSALS = set(range(1, 27)) | set(range(30, 36))
-IN_TEXTS = {"map": set(range(1, 26)) | {27}, "boxes": set(range(1, 7)) | {27}}
+REFUSALS = {1, 26} | set(FAULTS) | set(range(30, 36))
+IN_TEXTS = {"map": {1, 27} | set(FAULTS), "boxes": set(range(1, 7)) | {27}}
 AT_ONCE = 1 << 20
 
 

@@ -3,6 +3,7 @@
 import additions
 import generate
 import model
+import writes_elsewhere
 import writes_limits
 import writes_mixed
 import writes_random
@@ -104,7 +105,7 @@ def large_append(rng, file):
     """An append of a few chunks, some of them large."""
     numbers = []
     for _ in range(rng.randint(1, 3)):
-        numbers += [rng.choice(LARGE), rng.choice([0, 1, 2, 2])]
+        numbers += [rng.choice(LARGE), rng.choice([0, 1, 2, 2, 3])]
     outside = additions.is_mixed(file) and rng.random() < 0.5
     data = additions.data_for(rng, numbers, outside)
     return Append(len(file), rng.choice([0, 7, 2 ** 31]), rng.getrandbits(64), rng.getrandbits(1), outside, tuple(numbers), len(numbers), data)
@@ -144,7 +145,7 @@ def run_of_corpus(stream, run):
 
 
 def corpus_runs(stream):
-    for run in [*writes_limits.runs(), *writes_refusals.runs(), *writes_mixed.runs()]:
+    for run in [*writes_limits.runs(), *writes_refusals.runs(), *writes_mixed.runs(), *writes_elsewhere.runs()]:
         run_of_corpus(stream, run)
 
 

@@ -16,12 +16,14 @@ import os
 from collections import Counter
 
 import model
+import writes_elsewhere
 import writes_limits
 import writes_mixed
 import writes_random
 import writes_refusals
 from corpus import ROOT, command, line
 from additions import BRANDS
+from faults import FAULTS
 from sums import sum_of
 from writes_run import Append, Begin, length_after, performed
 
@@ -29,11 +31,11 @@ CRATE = os.path.join(ROOT, "crates", "writing_run")
 MOST_BYTES = 500_000
 SHORT = 96
 OF_BEGIN = {33, 34}
-OF_APPEND = set(range(2, 26)) - {12} | {30, 31, 32, 33, 35}
+OF_APPEND = set(FAULTS) - {12} | {30, 31, 32, 33, 35}
 
 
 def runs():
-    return [run for part in (writes_refusals, writes_limits, writes_mixed, writes_random) for run in part.runs()]
+    return [run for part in (writes_refusals, writes_limits, writes_mixed, writes_elsewhere, writes_random) for run in part.runs()]
 
 
 # Their bytes.

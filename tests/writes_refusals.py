@@ -85,22 +85,25 @@ def own_refusals():
 
 def lists_refused():
     for name, numbers in [("one number", [4]), ("three numbers", [4, 2, 1]), ("size 0, good", [0, 2]), ("size 0, damaged", [0, 1]),
-                          ("size 0, lost", [0, 0]), ("size 0 at last", [4, 2, 0, 2]), ("size 0 at first", [0, 0, 4, 2]), ("state 3", [4, 3]),
-                          ("state 3 at last", [4, 2, 1, 3]), ("state 3 at first", [1, 3, 4, 2]), ("state 4", [4, 4]), ("state 255", [4, 255]),
-                          ("state 256", [4, 256]), ("state 258", [4, 258]), ("state 2^32", [4, 2 ** 32]), ("state 2^32 + 2", [4, 2 ** 32 + 2]),
-                          ("state 2^63 + 2", [4, 2 ** 63 + 2]), ("the largest state", [4, TOP - 1]), ("the largest size, state 3", [TOP - 1, 3])]:
+                          ("size 0, lost", [0, 0]), ("size 0, held elsewhere", [0, 3]), ("size 0 at last", [4, 2, 0, 2]), ("size 0 at first", [0, 0, 4, 2]), ("state 4", [4, 4]),
+                          ("state 4 at last", [4, 2, 1, 4]), ("state 4 at first", [1, 4, 4, 2]), ("state 5", [4, 5]), ("state 7", [4, 7]), ("state 255", [4, 255]),
+                          ("state 256", [4, 256]), ("state 258", [4, 258]), ("state 259", [4, 259]), ("state 2^32", [4, 2 ** 32]), ("state 2^32 + 2", [4, 2 ** 32 + 2]),
+                          ("state 2^32 + 3", [4, 2 ** 32 + 3]), ("state 2^63 + 2", [4, 2 ** 63 + 2]), ("state 2^63 + 3", [4, 2 ** 63 + 3]), ("the largest state", [4, TOP - 1]),
+                          ("the largest size, state 4", [TOP - 1, 4]), ("state 4 behind state 3", [4, 2, 1, 3, 1, 4])]:
         yield begun("31", name, [given_list(0, numbers, data_of(4)), FOUR_GOOD], [31, 0])
     yield begun("31", "31 before 32 and 33", [given_list(0, [4, 2, 7])], [31], lent=60)
     yield begun("31", "31 before 22", [given_list(0, [1, 0], count=2051), given_list(0, [1, 0], count=131_073)], [31, 31])
     yield begun("31", "31 before 23", [given_list(TOP - 1, [0, 0])], [31])
-    yield begun("31", "31 before 25", [add(0, "lost 4", LAST), given_list(4, [1, 3])], [0, 31])
-    mixed = [1, 0] * 900 + [1, 3] + [1, 0] * 9
-    yield begun("31", "state 3 behind 900 pairs", [given_list(0, mixed)], [31])
+    yield begun("31", "31 before 25", [add(0, "lost 4", LAST), given_list(4, [1, 4])], [0, 31])
+    mixed = [1, 0, 1, 3] * 450 + [1, 4] + [1, 0] * 9
+    yield begun("31", "state 4 behind 900 pairs", [given_list(0, mixed)], [31])
 
 
 def data_refused():
     whole = [("nothing for four", [4, 2], 0), ("one too few", [4, 2], 3), ("one too many", [4, 2], 5), ("damaged, one too few", [4, 1], 3),
              ("damaged, none", [4, 1], 0), ("lost, as many", [4, 0], 4), ("lost, one", [4, 0], 1), ("no chunk, one", [], 1),
+             ("held elsewhere, as many", [4, 3], 4), ("held elsewhere, one", [4, 3], 1), ("two and one held elsewhere", [4, 2, 9, 3, 3, 1], 16),
+             ("held elsewhere, one for a good one of four", [1, 3, 4, 2], 1),
              ("two, the first alone", [4, 2, 3, 1], 4), ("two, the second alone", [4, 2, 3, 1], 3), ("two and a lost one", [4, 2, 9, 0, 3, 1], 16)]
     wrapped = [("the largest size", [TOP - 1, 2], 0), ("twice 2^63", [2 ** 63, 2] * 2, 0), ("twice 2^63 and 3", [2 ** 63, 2, 3, 2, 2 ** 63, 1], 3),
                ("the largest size and 5", [TOP - 1, 2, 5, 1], 4), ("5 and the largest size", [5, 2, TOP - 1, 2], 4),
@@ -108,7 +111,8 @@ def data_refused():
                ("twice the largest, and 6", [TOP - 1, 2] * 2 + [6, 2], 4)]
     for name, numbers, size in whole + wrapped:
         yield begun("32", name, [given_list(0, numbers, data_of(size)), FOUR_GOOD], [32, 0])
-    yield begun("32", "right, though lost sizes wrap", [given_list(0, [4, 2, TOP - 1, 0, 1, 0], data_of(4))], [23])
+    for state in (0, 3):
+        yield begun("32", f"right, though sizes of state {state} wrap", [given_list(0, [4, 2, TOP - 1, state, 1, state], data_of(4))], [23])
     yield begun("32", "32 before 22", [given_list(0, [1, 2], data_of(1024), count=2050)], [32])
     yield begun("32", "32 before 23 and 33", [given_list(TOP - 1, [4, 2], b"")], [32], lent=60)
     yield begun("32", "32 before 25", [add(0, "lost 4", LAST), given_list(4, [1, 2], b"")], [0, 32])
@@ -118,7 +122,8 @@ def data_refused():
 
 def rooms():
     for name, call in [("an open segment", add(9, "")), ("a lost chunk", add(0, "lost 300")), ("a good chunk", FOUR_GOOD),
-                       ("all three states", add(5, "good 4, lost 6, damaged 3", LAST)), ("300 bytes", add(0, "good 300"))]:
+                       ("a chunk held elsewhere", add(0, "elsewhere 300")), ("all four states", add(5, "good 4, lost 6, elsewhere 7, damaged 3", LAST)),
+                       ("300 bytes", add(0, "good 300"))]:
         exact = run("33", f"{name}, exactly", [begin(), call], [0, 0], spare=0)
         yield exact
         for short in (1, 2, 12):

@@ -16,7 +16,8 @@ Run = namedtuple("Run", "kind name wanted lent file calls")
 LARGEST = 65_535
 TO_SPARE = 9
 LAST = 1
-STATES = {"lost": 0, "damaged": 1, "good": 2}
+STATES = {"lost": 0, "damaged": 1, "good": 2, "elsewhere": 3}
+PRESENT = (1, 2)
 
 
 # The calls.
@@ -31,12 +32,12 @@ def given_list(offset, numbers, data=b"", flags=0, repair=0, stated=None, count=
 
 
 def outside(offset, *chunks, flags=0, repair=0):
-    """An append whose good chunks go outside: bytes are good, a pair is damaged bytes or a lost size."""
+    """An append whose good chunks go outside: bytes are good, a pair is damaged bytes or the size of a chunk that is not present."""
     numbers, data = [], b""
     for chunk in chunks:
         state, content = (STATES["good"], chunk) if isinstance(chunk, bytes) else (STATES[chunk[0]], chunk[1])
-        numbers += [content if state == 0 else len(content), state]
-        data += b"" if state == 0 else content
+        numbers += [len(content) if state in PRESENT else content, state]
+        data += content if state in PRESENT else b""
     return given_list(offset, numbers, data, flags, repair, outside=True)
 
 
@@ -55,7 +56,7 @@ def data_of(size):
 def add(offset, words, flags=0, repair=0, stated=None):
     """An append of chunks in words, as "good 4, lost 6", with the data that they need."""
     pairs = [(size, STATES[word]) for word, size in chunks(words)]
-    kept = sum(size for size, state in pairs if state != 0)
+    kept = sum(size for size, state in pairs if state in PRESENT)
     return given_list(offset, [number for pair in pairs for number in pair], data_of(kept), flags, repair, stated)
 
 

@@ -4,7 +4,7 @@ use mathlib.Core.Bool.{Bool, true, false, not, _&&_, and-true, and-false}
 use mathlib.Core.List.{List, [], _∷_, _++_, map, append-assoc, append-nil}
 use mathlib.Core.Path.{_≡_, refl, sym, ap, _∙_}
 use native.Mathlib.Omega.{arith}
-use borrow.Author.Tests.{eq-eqb, ne-eqb}
+use borrow.Author.Tests.{le-leb, lt-leb, eq-eqb, ne-eqb}
 use lib.Dec.{eqb}
 use lib.ListN.{length, take, drop, getD, length-append, length-take, length-drop, take-append-drop}
 use lib.Seq.{take-suc}
@@ -133,17 +133,13 @@ module _ (right : Bool) (size state : ℕ) where
   right-empty none = sym (rw (eq-eqb size 0 none) (and-false right))
 
   module _ (some : size ≡ 0 → ⊥) where
-    pub right-lost : state ≡ 0 → right ≡ (right && (not (eqb size 0) && isState state))
+    pub right-known : state ≤ 3 → right ≡ (right && (not (eqb size 0) && isState state))
     unfolding isState
-    right-lost lost = sym (rw (ne-eqb size 0 some, lost) (and-true right))
+    right-known known = sym (rw (ne-eqb size 0 some, le-leb state 3 known) (and-true right))
 
-    pub right-present : present state ≡ true → right ≡ (right && (not (eqb size 0) && isState state))
-    unfolding isState present
-    right-present here = sym (rw (ne-eqb size 0 some, here) (and-true right))
-
-    pub right-other : (state ≡ 0 → ⊥) → present state ≡ false → false ≡ (right && (not (eqb size 0) && isState state))
-    unfolding isState present
-    right-other kept absent = sym (rw (ne-eqb size 0 some, absent, ne-eqb state 0 kept) (and-false right))
+    pub right-other : 3 < state → false ≡ (right && (not (eqb size 0) && isState state))
+    unfolding isState
+    right-other above = sym (rw (ne-eqb size 0 some, lt-leb state 3 above) (and-false right))
 
 -- with one more
 module _ (is : List Item) (i : Item) where

@@ -1,5 +1,5 @@
 // The chunk list of an addition, counted in one pass.
-use fields::state::LOST;
+use fields::state::ELSEWHERE;
 use fields::state::present;
 ghost use Prim.Native.Nat.{_+_, _-_, _<_, _≤_, _^_, min, max};
 ghost use mathlib.Core.Bool.{not, _&&_};
@@ -42,10 +42,7 @@ fn right_with(right: bool, size: u64, state: u64) -> bool
     if size == 0 {
         return false;
     }
-    if state == LOST {
-        return right;
-    }
-    if present(state) { right } else { false }
+    if state <= ELSEWHERE { right } else { false }
 }
 
 impl Counts {

@@ -1,5 +1,4 @@
 // The states of chunks, and the flag byte that tells them.
-use partial::refusals::NO_STATE;
 use partial::refusals::RESERVED_BIT;
 ghost use mathlib.Core.Path.{_≡_};
 ghost use Rattle.partial.specs.Entries.{stateOf};
@@ -12,6 +11,8 @@ pub const GOOD: u64 = 2;
 pub const DAMAGED: u64 = 1;
 // Corrupted, and not present.
 pub const LOST: u64 = 0;
+// Neither: its data is held elsewhere. No state is above it.
+pub const ELSEWHERE: u64 = 3;
 
 // What a flag byte says: the number of a state, or that of a refusal.
 pub enum StateRead {
@@ -27,7 +28,7 @@ pub fn state_of(flags: u8) -> StateRead
         0x40 => StateRead::Given(GOOD),
         0xc0 => StateRead::Given(DAMAGED),
         0x80 => StateRead::Given(LOST),
-        0x00 => StateRead::Refused(NO_STATE),
+        0x00 => StateRead::Given(ELSEWHERE),
         0x01..=0x3f | 0x41..=0x7f | 0x81..=0xbf | 0xc1..=0xff => {
             StateRead::Refused(RESERVED_BIT)
         }

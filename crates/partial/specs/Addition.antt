@@ -52,7 +52,7 @@ items [] = []
 items (size ∷ []) = []
 items (size ∷ state ∷ rest) = record { size = size; state = state } ∷ items rest
 
--- 31: pairs of size and state, no size 0, no other state
+-- 31: pairs of size and state, no size 0, no state above 3
 unfoldable pub listRight : List ℕ → Bool
 listRight list = eqb (length list % 2) 0 && allOf (λ i. not (eqb (i .size) 0) && isState (i .state)) (items list)
 

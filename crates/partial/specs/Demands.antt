@@ -2,7 +2,7 @@
 -- sentence that it states. That nothing is required of a call's arguments and that every call ends is in the contracts themselves:
 -- no public call has a `requires`, and a function is proved only if it returns.
 use Prim.Native.Nat.{ℕ, _+_, _-_, _^_, _≤_, _<_}
-use mathlib.Core.Bool.{Bool, true, false, not}
+use mathlib.Core.Bool.{Bool, true, false, not, _||_}
 use mathlib.Core.List.{List, [], _∷_, _++_, map, List·Memᴰ}
 use mathlib.Core.Logic.{_↔_, _⊎_}
 use mathlib.Core.Option.{some}
@@ -38,6 +38,10 @@ use Rattle.partial.specs.Carried.{carried, orElse}
 abbrev oneOf : List ℕ → ℕ → Bool
 oneOf numbers n = someOf (eqb n) numbers
 
+-- the numbers of a file's stages, but for 12: of 1 to 25 all but that one and 21
+abbrev pub ofStages : ℕ → Bool
+ofStages n = within 1 11 n || (within 13 8 n || within 22 4 n)
+
 -- a refused addition changes nothing
 abbrev NothingChanges : ℕ → Type 0
 NothingChanges limit =
@@ -45,17 +49,30 @@ NothingChanges limit =
     → appended limit buffer n a ≡ refused k
     → append limit (lent buffer n) a ≡ lent buffer n
 
+-- a number that no call answers, and that no line of a text tells: those of the map are the reader's, those of the box list the framing's
+pub record Never (limit n : ℕ) : Type 0 where
+  pub read : (f a b : List ℕ) → tabled limit f a b ≡ refused n → ⊥
+  pub ask : (f a b : List ℕ) (p : ℕ) → asked (tabled limit f a b) p ≡ refused n → ⊥
+  pub list : (f a b h m : List ℕ) → listed limit f a b h m ≡ refused n → ⊥
+  pub begin : (buffer : List ℕ) (brand : Brand) (u m : List ℕ) → begun buffer brand u m ≡ refused n → ⊥
+  pub append : (buffer : List ℕ) (size : ℕ) (a : Addition) → appended limit buffer size a ≡ refused n → ⊥
+  pub text : (text buffer : List ℕ) → textWritten text buffer ≡ refused n → ⊥
+  pub mapped : (input : List ℕ) → reading limit input ≡ refused n → ⊥
+  pub boxes : (input : List ℕ) → boxesIn File input 0 (length input) ≡ refused n → ⊥
+
 -- demand 1: any bytes get either their tables or one numbered refusal; after a refusal all lent memory holds what it held
 pub record Demand1 (limit : ℕ) : Type 0 where
   -- one numbered refusal, of those that the paper has for the call
-  pub readNumbers : (f a b : List ℕ) (n : ℕ) → tabled limit f a b ≡ refused n → T (within 1 26 n)
-  pub listNumbers : (f a b h m : List ℕ) (n : ℕ) → listed limit f a b h m ≡ refused n → T (within 1 26 n)
+  pub readNumbers : (f a b : List ℕ) (n : ℕ) → tabled limit f a b ≡ refused n → T (ofStages n || oneOf (12 ∷ 26 ∷ []) n)
+  pub listNumbers : (f a b h m : List ℕ) (n : ℕ) → listed limit f a b h m ≡ refused n → T (ofStages n || oneOf (12 ∷ 26 ∷ []) n)
   pub beginNumbers : (buffer : List ℕ) (brand : Brand) (u m : List ℕ) (n : ℕ) → begun buffer brand u m ≡ refused n → T (oneOf (34 ∷ 1 ∷ 33 ∷ []) n)
   pub appendNumbers :
       (buffer : List ℕ) (size : ℕ) (a : Addition) (n : ℕ)
       → appended limit buffer size a ≡ refused n
-      → (T (within 1 25 n) × (n ≡ 12 → ⊥)) ⊎ T (oneOf (30 ∷ 31 ∷ 32 ∷ 33 ∷ 35 ∷ []) n)
+      → T (ofStages n || oneOf (30 ∷ 31 ∷ 32 ∷ 33 ∷ 35 ∷ []) n)
   pub textNumbers : (text buffer : List ℕ) (n : ℕ) → textWritten text buffer ≡ refused n → n ≡ 33
+  -- document 02, [4]: none of them is 21
+  pub no21 : Never limit 21
   -- asking answers that number too, and the two texts are empty
   pub askNumbers : (f a b : List ℕ) (p n : ℕ) → tabled limit f a b ≡ refused n → asked (tabled limit f a b) p ≡ refused n
   pub textsEmpty : (which : List ℕ → Box → Part) (f : List ℕ) (n : ℕ) → reading limit f ≡ refused n → bytesIn f (textOf which limit f) ≡ []

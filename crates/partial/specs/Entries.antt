@@ -1,4 +1,4 @@
--- Document 01, the `ploc` paragraph and refusals 17 to 24: the entries of a `ploc`, and the chunks that they tell of.
+-- Document 01, the `ploc` paragraph and refusals 17 to 24, with document 02, [4]: the entries of a `ploc`, and the chunks that they tell of.
 use Prim.Native.Nat.{ℕ, zero, suc, _+_, _-_, _/_, _%_}
 use mathlib.Core.Bool.{Bool, true, false, _&&_, _||_}
 use mathlib.Core.List.{List, [], _∷_}
@@ -12,7 +12,7 @@ use Rattle.boxes.specs.Kinds.{pdat, is}
 use Rattle.numerals.specs.declared.numbers.Offset.{Offset}
 use Rattle.numerals.specs.declared.numbers.Offset.the-variants.{Ahead, Back}
 use Rattle.partial.specs.Sequences.{someOf}
-use Rattle.partial.specs.Segments.{Chunk, good, damaged, lost, present, hasPlace}
+use Rattle.partial.specs.Segments.{Chunk, good, damaged, lost, elsewhere, present, hasPlace}
 use Rattle.partial.specs.Heading.{Heading}
 use Rattle.partial.specs.Mixed.{wholeBoxes}
 
@@ -41,17 +41,17 @@ plocHead f b = do
       })
 
 -- the state of a chunk by its bits corrupted and present
-unfoldable pub state : Bool → Bool → Answer ℕ
-state false true = given good
-state true true = given damaged
-state true false = given lost
-state false false = refused 21
+unfoldable pub state : Bool → Bool → ℕ
+state false true = good
+state true true = damaged
+state true false = lost
+state false false = elsewhere
 
 -- bit corrupted, bit present, six zero bits
 unfoldable pub stateOf : ℕ → Answer ℕ
 stateOf flagByte = do
   _ ← hold 20 (eqb (flagByte % 64) 0)
-  state (eqb (flagByte / 128) 1) (eqb (flagByte / 64 % 2) 1)
+  given (state (eqb (flagByte / 128) 1) (eqb (flagByte / 64 % 2) 1))
 
 -- what an entry says, and the place after it
 pub record Entry : Type 0 where

@@ -396,12 +396,52 @@ outsideWrong =
       paper = map pos (35 ∷ 35 ∷ 35 ∷ 32 ∷ 118 ∷ []);
     }
 
+-- document 02, [4]: a chunk neither corrupted nor present is of state 3 and has no offset; a reserved bit beside it is 20
+abbrev elsewhereRead : Example
+elsewhereRead =
+    let of : ℕ → List ℤ = λ flags.
+    says
+    (oneChunk
+    (0x00 ∷ 0x00 ∷ 0x00 ∷ 0x13 ∷ 0x70 ∷ 0x6c ∷ 0x6f ∷ 0x63 ∷ 0x00 ∷ 0x00 ∷ 0x00 ∷ 0x00 ∷ 0x11 ∷ 0x00 ∷ 0x00 ∷ 0x00 ∷ 0x01 ∷ flags ∷ 0x05 ∷ [])) in
+    record { defined = of 0x00 ++ of 0x01; paper = map pos (1 ∷ 3 ∷ 5 ∷ 0 ∷ 0 ∷ 20 ∷ []) }
+
+-- "it covers its positions and supplies none": of a segment at 2 with one such chunk of 7, nine are described and missing
+abbrev elsewhereMissing : Example
+elsewhereMissing = record { defined = says (lengthIn (begunBytes ++ foreign 0 2 0x00 7 [])); paper = map pos (9 ∷ 0 ∷ 0 ∷ 9 ∷ []) }
+
+-- what is added for good 4, elsewhere 5, damaged 3: the `pdat`, and the `pseg` with its `pshd` and `ploc`
+abbrev elsewhereBytes : List ℕ
+elsewhereBytes =
+    0x00 ∷ 0x00 ∷ 0x00 ∷ 0x0f ∷ 0x70 ∷ 0x64 ∷ 0x61 ∷ 0x74 ∷ 11 ∷ 12 ∷ 13 ∷ 14 ∷ 61 ∷ 62 ∷ 63 ∷
+    0x00 ∷ 0x00 ∷ 0x00 ∷ 0x39 ∷ 0x70 ∷ 0x73 ∷ 0x65 ∷ 0x67 ∷
+    0x00 ∷ 0x00 ∷ 0x00 ∷ 0x18 ∷ 0x70 ∷ 0x73 ∷ 0x68 ∷ 0x64 ∷ 0x00 ∷ 0x00 ∷ 0x00 ∷ 0x00 ∷
+    0x00 ∷ 0x00 ∷ 0x00 ∷ 0x00 ∷ 0x00 ∷ 0x00 ∷ 0x00 ∷ 0x00 ∷ 0x00 ∷ 0x00 ∷ 0x00 ∷ 0x00 ∷
+    0x00 ∷ 0x00 ∷ 0x00 ∷ 0x19 ∷ 0x70 ∷ 0x6c ∷ 0x6f ∷ 0x63 ∷ 0x00 ∷ 0x00 ∷ 0x00 ∷ 0x00 ∷ 0x11 ∷ 0x00 ∷ 0x00 ∷ 0x00 ∷ 0x03 ∷
+    0x40 ∷ 0x04 ∷ 0xf9 ∷ 0x00 ∷ 0x05 ∷ 0xc0 ∷ 0x03 ∷ 0xfd ∷ []
+
+-- "The writer accepts state 3 and stores no data for it"; what is missing then is (4, 8)
+abbrev elsewhereStored : Example
+elsewhereStored =
+    let f = grownBy begunBytes (segmentAt 0 false (4 ∷ 2 ∷ 5 ∷ 3 ∷ 3 ∷ 1 ∷ []) (11 ∷ 12 ∷ 13 ∷ 14 ∷ 61 ∷ 62 ∷ 63 ∷ [])) in
+    record { defined = map pos f ++ says (missingIn f); paper = map pos (begunBytes ++ (elsewhereBytes ++ (4 ∷ 8 ∷ []))) }
+
+-- "31 for states above 3"; data for state 3 is 32; without any there is no `pdat`: 55 bytes and a `pseg` of 51
+abbrev elsewhereWrong : Example
+elsewhereWrong =
+    record {
+      defined =
+          answerOf begunBytes (5 ∷ 4 ∷ []) []
+          ++ (answerOf begunBytes (5 ∷ 3 ∷ []) (1 ∷ 2 ∷ 3 ∷ 4 ∷ 5 ∷ []) ++ answerOf begunBytes (5 ∷ 3 ∷ []) []);
+      paper = map pos (31 ∷ 32 ∷ 106 ∷ []);
+    }
+
 unfoldable pub table : List Example
 table =
     P1 ∷ P2 ∷ P3 ∷ P4 ∷ P5 ∷ P6 ∷ P7 ∷ P8 ∷ P9 ∷ P10 ∷ P11 ∷ P12 ∷
     map10 ∷ map11 ∷ rowsFit ∷ rowsShort ∷ ahead ∷ overHeader ∷ damagedBytes ∷ openLast ∷ otherFlags ∷
     vendorForms ∷ largeVendorForms ∷ boxes3 ∷
-    begunMixed ∷ wholeServed ∷ notWhole ∷ byBrand ∷ storedOutside ∷ outsideWrong ∷ []
+    begunMixed ∷ wholeServed ∷ notWhole ∷ byBrand ∷ storedOutside ∷ outsideWrong ∷
+    elsewhereRead ∷ elsewhereMissing ∷ elsewhereStored ∷ elsewhereWrong ∷ []
 
 -- at every row the definitions say what the paper says
 abbrev pub AsThePaperSays : Type 0

@@ -1,11 +1,14 @@
--- Document 01, "Meaning": what a segment and a chunk are once they are read.
+-- Document 01, "Meaning", and document 02, [4]: what a segment and a chunk are once they are read.
 use Prim.Native.Nat.{ℕ, _+_, _%_}
 use mathlib.Core.Bool.{Bool, true, false, _&&_, _||_}
 use mathlib.Core.List.{List, [], _∷_, _++_, map}
-use lib.Dec.{ltb, eqb}
+use lib.Dec.{leb, ltb, eqb}
 use Rattle.partial.specs.Sequences.{sum}
 
--- the states: 2 good, 1 damaged but kept, 0 lost
+-- the states: 3 held elsewhere, 2 good, 1 damaged but kept, 0 lost
+abbrev pub elsewhere : ℕ
+elsewhere = 3
+
 abbrev pub good : ℕ
 good = 2
 
@@ -15,8 +18,9 @@ damaged = 1
 abbrev pub lost : ℕ
 lost = 0
 
+-- there is no state above 3
 unfoldable pub isState : ℕ → Bool
-isState n = eqb n good || eqb n damaged || eqb n lost
+isState n = leb n elsewhere
 
 -- the states of the bit present: good, and damaged but kept
 unfoldable pub present : ℕ → Bool

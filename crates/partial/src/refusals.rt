@@ -30,8 +30,6 @@ pub const WIDTH_WRONG: u64 = 18;
 pub const DATA_ELSEWHERE: u64 = 19;
 // A reserved bit of an entry is set.
 pub const RESERVED_BIT: u64 = 20;
-// A chunk is neither corrupted nor present.
-pub const NO_STATE: u64 = 21;
 // There are over 1,024 chunks so far.
 pub const TOO_MANY_CHUNKS: u64 = 22;
 // A source offset or chunk end is over its limit.

@@ -1,13 +1,13 @@
 -- Demand 1: every refusal has a number that the paper has for the call, and after it all lent memory holds what it held.
-use Prim.Native.Nat.{ℕ, zero, suc, _+_, _/_, _%_, _≤_}
-use mathlib.Core.Bool.{Bool, true, false, _&&_, true≢false}
+use Prim.Native.Nat.{ℕ, zero, suc, _+_, _/_, _%_}
+use mathlib.Core.Bool.{Bool, true, false, _&&_, _||_, true≢false}
 use mathlib.Core.List.{List, [], _∷_, _++_}
 use mathlib.Core.Logic.{_⊎_, inl, inr, ⊎-elim}
 use mathlib.Core.Option.{Option, none, some}
-use mathlib.Core.Path.{_≡_, refl, sym, _∙_}
+use mathlib.Core.Path.{_≡_, refl, sym, ap, _∙_}
 use native.Mathlib.Omega.{arith}
 use native.Mathlib.Decide.{decLe}
-use lib.Dec.{T, leb, ltb, eqb, lit≤}
+use lib.Dec.{T, leb, ltb, eqb}
 use lib.ListN.{length, getD, take, drop-of-length-le}
 use Rattle.boxes.specs.Answer.{Answer, refused, given, _>>=_, hold}
 use Rattle.numerals.specs.Numbers.{number}
@@ -22,7 +22,7 @@ use Rattle.partial.specs.Limits.{fileLimit, segmentLimit, chunkLimit}
 use Rattle.partial.specs.Sequences.{someOf, within}
 use Rattle.partial.specs.Segments.{Segment, present, chunksOf, endOf, hasPlace}
 use Rattle.partial.specs.Heading.{Heading, heading, ftypRight, brandRight, pfilRight, pfhdRight, surlRight, fileBoxes, judged, Part}
-use Rattle.partial.specs.Entries.{Ploc, plocHead, state, stateOf, Entry, entry, mayLie, offsetPlace, placeOf, chunksFrom, chunkStep}
+use Rattle.partial.specs.Entries.{Ploc, plocHead, stateOf, Entry, entry, mayLie, offsetPlace, placeOf, chunksFrom, chunkStep}
 use Rattle.partial.specs.Entries.{Cursor}
 use Rattle.partial.specs.Meaning.{agree, knownSize}
 use Rattle.partial.specs.Reading.{pshdFields, pshdRight, segment, segmentsFrom, segments, reading, admitted, earlierSegments}
@@ -33,59 +33,52 @@ use Rattle.partial.specs.Begin.{beginning, isText, begun}
 use Rattle.partial.specs.Addition.{Addition, listRight, dataRight, outsideRight}
 use Rattle.partial.specs.Append.{addedBoxes, newSegment, added, appended, admission, psegPlace}
 use Rattle.partial.specs.Runs.{lent, sizeAfter, append}
-use Rattle.partial.specs.Demands.{Demand1, Takes}
-use Rattle.partial.proofs.Meaning.SequenceLaws.{passes, inside, within-true, which}
+use Rattle.partial.specs.Demands.{ofStages, Never, Demand1, Takes}
+use Rattle.partial.proofs.Meaning.SequenceLaws.{inside, which}
 
 -- stages 1 to 11 and 13 to 25, by a kind that has their numbers
-module _ (P : ℕ → Type 0) (early : (n : ℕ) → T (within 1 11 n) → P n) (late : (n : ℕ) → T (within 13 13 n) → P n) where
+module _ (P : ℕ → Type 0) (known : (n : ℕ) → T (ofStages n) → P n) where
   boxes-only : (c : Container) (s : List ℕ) (start end : ℕ) → Only P (boxesIn c s start end)
   boxes-only c s start end n e =
       let (low, high) = boxes-numbers c s start end n e in
-      early n (rw (inside 1 11 n (omega arith) (omega arith)) tt)
+      known n (rw (inside 1 11 n (omega arith) (omega arith)) tt)
 
   heading-only : (f : List ℕ) → Only P (heading f)
   unfolding heading fileBoxes judged within
   heading-only f =
       only-then P (fileBoxes f) _
-      (only-held P 1 (leb (length f) fileLimit) _ (early 1 tt) (boxes-only File f 0 (length f)))
+      (only-held P 1 (leb (length f) fileLimit) _ (known 1 tt) (boxes-only File f 0 (length f)))
       (λ boxes.
-      only-held P 7 (ftypRight boxes) _ (early 7 tt)
-      (only-held P 8 (brandRight f boxes) _ (early 8 tt)
-      (only-held P 9 (pfilRight boxes) _ (early 9 tt)
+      only-held P 7 (ftypRight boxes) _ (known 7 tt)
+      (only-held P 8 (brandRight f boxes) _ (known 8 tt)
+      (only-held P 9 (pfilRight boxes) _ (known 9 tt)
       (only-then P (boxesIn Pfil f (boxAt 1 boxes .body) (boxAt 1 boxes .end)) _ (boxes-only Pfil f (boxAt 1 boxes .body) (boxAt 1 boxes .end))
       (λ inner.
-      only-held P 10 (pfhdRight f inner) _ (early 10 tt)
-      (only-held P 11 (surlRight f inner) _ (early 11 tt) (only-given P _)))))))
+      only-held P 10 (pfhdRight f inner) _ (known 10 tt)
+      (only-held P 11 (surlRight f inner) _ (known 11 tt) (only-given P _)))))))
 
   ploc-only : (f : List ℕ) (b : Box) → Only P (plocHead f b)
   unfolding plocHead within
   ploc-only f b =
-      only-held P 17 (leb (b .body + 9) (b .end) && eqb (number f (b .body) 4) 0) _ (late 17 tt)
-      (only-held P 18 (leb (number f (b .body + 4) 1 / 16) 8 && leb (number f (b .body + 4) 1 % 16) 8) _ (late 18 tt)
-      (only-held P 19 (eqb (number f (b .body + 5) 2) 0) _ (late 19 tt) (only-given P _)))
-
-  state-only : (c p : Bool) → Only P (state c p)
-  unfolding state within
-  state-only false true = only-given P _
-  state-only true true = only-given P _
-  state-only true false = only-given P _
-  state-only false false = only-refused P 21 (late 21 tt)
+      only-held P 17 (leb (b .body + 9) (b .end) && eqb (number f (b .body) 4) 0) _ (known 17 tt)
+      (only-held P 18 (leb (number f (b .body + 4) 1 / 16) 8 && leb (number f (b .body + 4) 1 % 16) 8) _ (known 18 tt)
+      (only-held P 19 (eqb (number f (b .body + 5) 2) 0) _ (known 19 tt) (only-given P _)))
 
   entry-only : (f : List ℕ) (l : Ploc) (at : ℕ) → Only P (entry f l at)
   unfolding entry stateOf within
   entry-only f l at =
-      only-held P 17 (ltb at (l .end)) _ (late 17 tt)
+      only-held P 17 (ltb at (l .end)) _ (known 17 tt)
       (only-then P (stateOf (getD f at 0)) _
-      (only-held P 20 (eqb (getD f at 0 % 64) 0) _ (late 20 tt) (state-only (eqb (getD f at 0 / 128) 1) (eqb (getD f at 0 / 64 % 2) 1)))
+      (only-held P 20 (eqb (getD f at 0 % 64) 0) _ (known 20 tt) (only-given P _))
       (λ s.
       let width : ℕ = elim (present s) [ true ↦ l .offsetSize | false ↦ 0 ] in
-      only-held P 17 (leb (at + 1 + l .lengthSize + width) (l .end)) _ (late 17 tt) (only-given P _)))
+      only-held P 17 (leb (at + 1 + l .lengthSize + width) (l .end)) _ (known 17 tt) (only-given P _)))
 
   lying-only : (h : Heading) (e : Entry) (to : Option ℕ)
       → Only P {A = ℕ} (elim to [ none ↦ refused 24 | some place ↦ hold 24 (mayLie h (e .state) place (e .size)) >>= λ _. given place ])
   unfolding within
-  lying-only h e none = only-refused P 24 (late 24 tt)
-  lying-only h e (some place) = only-held P 24 (mayLie h (e .state) place (e .size)) _ (late 24 tt) (only-given P place)
+  lying-only h e none = only-refused P 24 (known 24 tt)
+  lying-only h e (some place) = only-held P 24 (mayLie h (e .state) place (e .size)) _ (known 24 tt) (only-given P place)
 
   place-only : (h : Heading) (from : ℕ) (e : Entry) → Only P (placeOf h from e)
   unfolding placeOf
@@ -96,12 +89,12 @@ module _ (P : ℕ → Type 0) (early : (n : ℕ) → T (within 1 11 n) → P n) 
   step-only limit f h from l c =
       only-then P (entry f l (c .at)) _ (entry-only f l (c .at))
       (λ e.
-      only-held P 23 (leb (c .start + e .size) limit) _ (late 23 tt)
+      only-held P 23 (leb (c .start + e .size) limit) _ (known 23 tt)
       (only-then P (placeOf h from e) _ (place-only h from e) (λ place. only-given P _)))
 
   chunks-only : (limit : ℕ) (f : List ℕ) (h : Heading) (from : ℕ) (l : Ploc) (n : ℕ) (c : Cursor) → Only P (chunksFrom limit f h from l n c)
   unfolding chunksFrom within
-  chunks-only limit f h from l zero c = only-held P 17 (eqb (c .at) (l .end)) _ (late 17 tt) (only-given P _)
+  chunks-only limit f h from l zero c = only-held P 17 (eqb (c .at) (l .end)) _ (known 17 tt) (only-given P _)
   chunks-only limit f h from l (suc n) c =
       only-then P (chunkStep limit f h from l c) _ (step-only limit f h from l c)
       (λ met. only-then P (chunksFrom limit f h from l n (met .1)) _ (chunks-only limit f h from l n (met .1)) (λ rest. only-given P _))
@@ -112,13 +105,13 @@ module _ (P : ℕ → Type 0) (early : (n : ℕ) → T (within 1 11 n) → P n) 
       only-then P (boxesIn Pseg f (b .body) (b .end)) _ (boxes-only Pseg f (b .body) (b .end))
       (λ inner.
       let offset = pshdFields f (firstOf pshd inner) .sourceOffset in
-      only-held P 14 (pshdRight f inner) _ (late 14 tt)
-      (only-held P 15 (right Pseg ploc inner) _ (late 15 tt)
-      (only-held P 16 (eqb (length (those surl inner)) 0) _ (late 16 tt)
+      only-held P 14 (pshdRight f inner) _ (known 14 tt)
+      (only-held P 15 (right Pseg ploc inner) _ (known 15 tt)
+      (only-held P 16 (eqb (length (those surl inner)) 0) _ (known 16 tt)
       (only-then P (plocHead f (firstOf ploc inner)) _ (ploc-only f (firstOf ploc inner))
       (λ l.
-      only-held P 22 (leb (length (chunksOf before) + l .count) chunkLimit) _ (late 22 tt)
-      (only-held P 23 (leb offset limit) _ (late 23 tt)
+      only-held P 22 (leb (length (chunksOf before) + l .count) chunkLimit) _ (known 22 tt)
+      (only-held P 23 (leb offset limit) _ (known 23 tt)
       (only-then P (chunksFrom limit f h (b .at) l (l .count) (record { at = l .first; start = offset })) _
       (chunks-only limit f h (b .at) l (l .count) (record { at = l .first; start = offset }))
       (λ chunks. only-given P _))))))))
@@ -133,29 +126,12 @@ module _ (P : ℕ → Type 0) (early : (n : ℕ) → T (within 1 11 n) → P n) 
   segments-only : (limit : ℕ) (f : List ℕ) (h : Heading) → Only P (segments limit f h)
   unfolding segments within
   segments-only limit f h =
-      only-held P 13 (leb (length (those pseg (h .boxes))) segmentLimit) _ (late 13 tt)
+      only-held P 13 (leb (length (those pseg (h .boxes))) segmentLimit) _ (known 13 tt)
       (only-then P (segmentsFrom limit f h [] (those pseg (h .boxes))) _ (segments-from-only limit f h [] (those pseg (h .boxes)))
-      (λ ss. only-held P 25 (agree ss) _ (late 25 tt) (only-given P ss)))
+      (λ ss. only-held P 25 (agree ss) _ (known 25 tt) (only-given P ss)))
 
--- the numbers of each call
-within-more : (a b c d n : ℕ) → c ≤ a → a + b ≤ c + d → T (within a b n) → T (within c d n)
-within-more a b c d n from to t =
-    let (low, high) = within-true a b n (passes _ t) in
-    rw (inside c d n (omega arith) (omega arith)) tt
-
--- those of a file, but for 12
 abbrev OfFile : ℕ → Type 0
-OfFile n = T (within 1 25 n) × (n ≡ 12 → ⊥)
-
-early-file : (n : ℕ) → T (within 1 11 n) → OfFile n
-early-file n t =
-    let (low, high) = within-true 1 11 n (passes _ t) in
-    (within-more 1 11 1 25 n (lit≤ tt) (lit≤ tt) t, λ e. omega arith)
-
-late-file : (n : ℕ) → T (within 13 13 n) → OfFile n
-late-file n t =
-    let (low, high) = within-true 13 13 n (passes _ t) in
-    (within-more 13 13 1 25 n (lit≤ tt) (lit≤ tt) t, λ e. omega arith)
+OfFile n = T (ofStages n)
 
 -- append takes an acceptable file, or one whose only refusal is 12
 module _ (limit : ℕ) (f : List ℕ) where
@@ -186,75 +162,78 @@ module _ (limit : ℕ) (f : List ℕ) where
   earlier-only : Only OfFile (earlierSegments limit f)
   unfolding earlierSegments
   earlier-only =
-      only-then OfFile (heading f) _ (heading-only OfFile early-file late-file f) (λ h. segments-only OfFile early-file late-file limit f h)
+      only-then OfFile (heading f) _ (heading-only OfFile (λ n t. t) f) (λ h. segments-only OfFile (λ n t. t) limit f h)
 
   pub takes : Takes limit f
+  unfolding within
   takes =
       record {
         acceptable = λ ss e. ⊎-elim (λ same. sym same ∙ e) (λ t. absurd (not-both (sym (t .0) ∙ e))) twelve-apart;
-        onlyTwelve = λ e. ⊎-elim (λ same. absurd (earlier-only 12 (sym same ∙ e) .1 refl)) (λ t. t .1) twelve-apart;
+        onlyTwelve = λ e. ⊎-elim (λ same. absurd (earlier-only 12 (sym same ∙ e))) (λ t. t .1) twelve-apart;
         itsOwn = λ k e other. ⊎-elim (λ same. sym same ∙ e) (λ t. absurd (other (refused-same (sym e ∙ t .0)))) twelve-apart;
       }
 
+-- the numbers of each call
+beside : (b c : Bool) → T b → T (b || c)
+beside true c t = tt
+
 module _ (limit : ℕ) where
   abbrev OfReading : ℕ → Type 0
-  OfReading n = T (within 1 26 n)
+  OfReading n = T (ofStages n || someOf (eqb n) (12 ∷ 26 ∷ []))
 
-  early-read : (n : ℕ) → T (within 1 11 n) → OfReading n
-  early-read n = within-more 1 11 1 26 n (lit≤ tt) (lit≤ tt)
+  known-read : (n : ℕ) → T (ofStages n) → OfReading n
+  known-read n = beside (ofStages n) (someOf (eqb n) (12 ∷ 26 ∷ []))
 
-  late-read : (n : ℕ) → T (within 13 13 n) → OfReading n
-  late-read n = within-more 13 13 1 26 n (lit≤ tt) (lit≤ tt)
+  reading-only : (f : List ℕ) → Only OfReading (reading limit f)
+  unfolding reading within someOf
+  reading-only f =
+      only-then OfReading (heading f) _ (heading-only OfReading known-read f)
+      (λ h. only-held OfReading 12 (right File pseg (h .boxes)) _ tt (segments-only OfReading known-read limit f h))
 
   tabled-only : (f a b : List ℕ) → Only OfReading (tabled limit f a b)
-  unfolding tabled reading within
+  unfolding tabled within someOf
   tabled-only f a b =
-      only-then OfReading (reading limit f) _
-      (only-then OfReading (heading f) _ (heading-only OfReading early-read late-read f)
-      (λ h. only-held OfReading 12 (right File pseg (h .boxes)) _ tt (segments-only OfReading early-read late-read limit f h)))
+      only-then OfReading (reading limit f) _ (reading-only f)
       (λ ss. only-held OfReading 26 (fits (segmentRows ss) a && fits (chunkRows ss) b) _ tt (only-given OfReading ss))
 
   listed-only : (f a b h m : List ℕ) → Only OfReading (listed limit f a b h m)
-  unfolding listed within
+  unfolding listed within someOf
   listed-only f a b h m =
       only-then OfReading (tabled limit f a b) _ (tabled-only f a b)
       (λ ss. only-held OfReading 26 (fits (hadRows ss) h && fits (missingRows ss) m) _ tt (only-given OfReading ss))
 
   abbrev OfAddition : ℕ → Type 0
-  OfAddition n = OfFile n ⊎ T (someOf (eqb n) (30 ∷ 31 ∷ 32 ∷ 33 ∷ 35 ∷ []))
+  OfAddition n = T (ofStages n || someOf (eqb n) (30 ∷ 31 ∷ 32 ∷ 33 ∷ 35 ∷ []))
 
-  early-added : (n : ℕ) → T (within 1 11 n) → OfAddition n
-  early-added n t = inl (early-file n t)
-
-  late-added : (n : ℕ) → T (within 13 13 n) → OfAddition n
-  late-added n t = inl (late-file n t)
+  known-added : (n : ℕ) → T (ofStages n) → OfAddition n
+  known-added n = beside (ofStages n) (someOf (eqb n) (30 ∷ 31 ∷ 32 ∷ 33 ∷ 35 ∷ []))
 
   admission-only : (h : Heading) (ss : List Segment) (n : ℕ) (a : Addition) → Only OfAddition (admission limit h ss n a)
-  unfolding admission admitted within
+  unfolding admission admitted within someOf
   admission-only h ss n a =
       let new = newSegment (psegPlace n a) a in
-      only-held OfAddition 1 (leb (n + length (added a)) fileLimit) _ (early-added 1 tt)
-      (only-held OfAddition 6 (leb (length (h .boxes) + addedBoxes a) boxLimit) _ (early-added 6 tt)
-      (only-held OfAddition 13 (leb (length ss + 1) segmentLimit) _ (late-added 13 tt)
-      (only-held OfAddition 22 (leb (length (chunksOf ss) + length (new .chunks)) chunkLimit) _ (late-added 22 tt)
-      (only-held OfAddition 23 (leb (endOf new) limit) _ (late-added 23 tt)
-      (only-held OfAddition 25 (agree (ss ++ (new ∷ []))) _ (late-added 25 tt) (only-given OfAddition _))))))
+      only-held OfAddition 1 (leb (n + length (added a)) fileLimit) _ tt
+      (only-held OfAddition 6 (leb (length (h .boxes) + addedBoxes a) boxLimit) _ tt
+      (only-held OfAddition 13 (leb (length ss + 1) segmentLimit) _ tt
+      (only-held OfAddition 22 (leb (length (chunksOf ss) + length (new .chunks)) chunkLimit) _ tt
+      (only-held OfAddition 23 (leb (endOf new) limit) _ tt
+      (only-held OfAddition 25 (agree (ss ++ (new ∷ []))) _ tt (only-given OfAddition _))))))
 
   appended-only : (buffer : List ℕ) (n : ℕ) (a : Addition) → Only OfAddition (appended limit buffer n a)
-  unfolding appended someOf
+  unfolding appended within someOf
   appended-only buffer n a =
       let f = take n buffer in
       let size = n + length (added a) in
-      only-held OfAddition 30 (leb n (length buffer)) _ (inr tt)
-      (only-then OfAddition (heading f) _ (heading-only OfAddition early-added late-added f)
+      only-held OfAddition 30 (leb n (length buffer)) _ tt
+      (only-then OfAddition (heading f) _ (heading-only OfAddition known-added f)
       (λ h.
-      only-then OfAddition (segments limit f h) _ (segments-only OfAddition early-added late-added limit f h)
+      only-then OfAddition (segments limit f h) _ (segments-only OfAddition known-added limit f h)
       (λ ss.
-      only-held OfAddition 31 (listRight (a .list)) _ (inr tt)
-      (only-held OfAddition 32 (dataRight a) _ (inr tt)
-      (only-held OfAddition 35 (outsideRight h a) _ (inr tt)
+      only-held OfAddition 31 (listRight (a .list)) _ tt
+      (only-held OfAddition 32 (dataRight a) _ tt
+      (only-held OfAddition 35 (outsideRight h a) _ tt
       (only-then OfAddition (admission limit h ss n a) _ (admission-only h ss n a)
-      (λ _. only-held OfAddition 33 (leb size (length buffer)) _ (inr tt) (only-given OfAddition size))))))))
+      (λ _. only-held OfAddition 33 (leb size (length buffer)) _ tt (only-given OfAddition size))))))))
 
 abbrev OfBegin : ℕ → Type 0
 OfBegin n = T (someOf (eqb n) (34 ∷ 1 ∷ 33 ∷ []))
@@ -288,6 +267,27 @@ append-kept : (limit : ℕ) (buffer : List ℕ) (n : ℕ) (a : Addition) (k : �
 unfolding append after sizeAfter
 append-kept limit buffer n a k e = rw e
 
+-- no call answers 21
+module _ (limit : ℕ) where
+  ask-told : (r : Answer (List Segment)) (p n : ℕ) → asked r p ≡ refused n → r ≡ refused n
+  unfolding asked
+  ask-told (refused m) p n e = ap (λ k. refused k) (refused-same e)
+  ask-told (given ss) p n e = absurd (not-both (sym e))
+
+  never-21 : Never limit 21
+  unfolding within someOf
+  never-21 =
+      record {
+        read = λ f a b e. tabled-only limit f a b 21 e;
+        ask = λ f a b p e. tabled-only limit f a b 21 (ask-told (tabled limit f a b) p 21 e);
+        list = λ f a b h m e. listed-only limit f a b h m 21 e;
+        begin = λ buffer brand u m e. begun-only buffer brand u m 21 e;
+        append = λ buffer size a e. appended-only limit buffer size a 21 e;
+        text = λ text buffer e. omega (arith, text-only text buffer 21 e);
+        mapped = λ input e. reading-only limit input 21 e;
+        boxes = λ input e. boxes-only OfFile (λ n t. t) File input 0 (length input) 21 e;
+      }
+
 pub demand1 : (limit : ℕ) → Demand1 limit
 demand1 limit =
     record {
@@ -296,6 +296,7 @@ demand1 limit =
       beginNumbers = begun-only;
       appendNumbers = appended-only limit;
       textNumbers = text-only;
+      no21 = never-21 limit;
       askNumbers = λ f a b. ask-refused (tabled limit f a b);
       textsEmpty = text-empty limit;
       tablesKept = λ rows f a b. memory-kept rows (tabled limit f a b);

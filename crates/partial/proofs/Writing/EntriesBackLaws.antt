@@ -1,5 +1,5 @@
 -- Entries as we write them read back: wherever their bytes stand, the chunks that they tell of are those of the placed items.
-use Prim.Native.Nat.{ℕ, _+_, _≤_}
+use Prim.Native.Nat.{ℕ, zero, suc, _+_, _≤_}
 use mathlib.Core.Bool.{Bool, true, false}
 use mathlib.Core.List.{List, [], _∷_, _++_, map}
 use mathlib.Core.Logic.{inl, inr}
@@ -8,8 +8,8 @@ use mathlib.Core.Path.{_≡_, refl, sym, ap, _∙_}
 use native.Mathlib.Decide.{decLe}
 use native.Mathlib.Nat.{add-zero, add-assoc}
 use native.Mathlib.Omega.{arith}
-use borrow.Author.Tests.{le-leb, lt-leb, lt-ltb, eq-eqb, eqb-true}
-use lib.Dec.{leb, eqb}
+use borrow.Author.Tests.{le-leb, lt-leb, lt-ltb, eq-eqb, leb-true}
+use lib.Dec.{leb}
 use lib.ListN.{length, length-append}
 use Rattle.boxes.specs.Answer.{given, _>>=_, hold}
 use Rattle.numerals.specs.Numbers.{number, bytesOf, signed, twosComplement, holds, holdsOffset}
@@ -20,30 +20,21 @@ use Rattle.numerals.proofs.NumberLaws.{length-bytesOf, number-none}
 use Rattle.numerals.proofs.OffsetLaws.{signed-twosComplement, twosComplement-below, signed-none}
 use Rattle.numerals.proofs.WidthLaws.{holds-below}
 use Rattle.partial.specs.Sequences.{allOf, sum}
-use Rattle.partial.specs.Segments.{good, damaged, lost, isState, present, corrupted, hasPlace}
+use Rattle.partial.specs.Segments.{isState, present, corrupted, hasPlace}
 use Rattle.partial.specs.Heading.{Heading}
 use Rattle.partial.specs.Entries.{Ploc, Entry, state, stateOf, entry, mayLie, offsetPlace, placeOf, chunksFrom, chunkStep, Cursor}
 use Rattle.partial.specs.Append.{flagByte, entryBytes, newChunks, Placed}
 use Rattle.partial.proofs.Meaning.SequenceLaws.{which, both, Each}
 use Rattle.partial.proofs.Writing.StandsLaws.{Stands, stands-head, stands-tail, stands-left, stands-right, stands-number}
 
--- a state is one of the three
-by-state : (P : ℕ → Type 0) (s : ℕ) → isState s ≡ true → P good → P damaged → P lost → P s
-unfolding isState
-by-state P s h is-good is-damaged is-lost =
-    elim (which (eqb s good)) [
-      | inl e ↦ rw (eqb-true s good e) is-good
-      | inr e ↦
-          elim (which (eqb s damaged)) [
-            | inl d ↦ rw (eqb-true s damaged d) is-damaged
-            | inr d ↦ rw (eqb-true s lost (rw (e, d) at h)) is-lost
-          ]
-    ]
-
 -- the flag byte says the state
 state-back : (s : ℕ) → isState s ≡ true → stateOf (flagByte s) ≡ given s
-unfolding stateOf flagByte present corrupted state
-state-back s h = by-state (λ n. stateOf (flagByte n) ≡ given n) s h refl refl refl
+unfolding stateOf flagByte present corrupted state isState
+state-back zero h = refl
+state-back (suc zero) h = refl
+state-back (suc (suc zero)) h = refl
+state-back (suc (suc (suc zero))) h = refl
+state-back (suc (suc (suc (suc n)))) h = absurd (omega (arith, leb-true (suc (suc (suc (suc n)))) 3 h))
 
 -- an offset that is written where a bit is set
 module _ (o : ℕ) (z : Offset) where

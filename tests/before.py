@@ -1,0 +1,60 @@
+"""Says of a call whether a request changed its answer: by the model as it is, and by the model with the rule that held before the request."""
+
+import struct
+from unittest.mock import patch
+
+import model
+import vendors
+
+# The model's own reading, without what it may remember of a file.
+READ = model.read_earlier
+STATE_OF = model.state_of
+# What a chunk neither corrupted nor present was refused with before request 4.
+NEITHER_BIT = 21
+
+
+def number_of(file):
+    """The number that a file is refused with; 0 where append takes it."""
+    return model.attempt(READ, file)[0]
+
+
+def refused_with(call, old, before, numbers):
+    """Whether the call's file was refused with one of these numbers, which the old answer tells, and is not any more. A map has its number in its text."""
+    told = call.name == "map" or old == before
+    return told and before in numbers and number_of(call.file) != before
+
+
+def by_vendors(call, old):
+    """Request 1: a uuid without room for its user type."""
+    return vendors.refused_for_its_size(call.file)
+
+
+def by_mixed_files(call, old):
+    """Request 2: a file with the brand of mixed files, refused with 8 or 24."""
+    with patch.object(model, "PMFF", None):
+        before = number_of(call.file)
+    return refused_with(call, old, before, {model.NEITHER_BRAND, model.MAY_NOT_LIE_THERE})
+
+
+def state_or_neither(flag_byte):
+    state = STATE_OF(flag_byte)
+    model.refuse_if(state == model.ELSEWHERE, NEITHER_BIT)
+    return state
+
+
+def wants_elsewhere(packed_list):
+    """Whether a chunk list is right and has a chunk held elsewhere."""
+    chunk_list = struct.unpack("<%dQ" % (len(packed_list) // 8), packed_list)
+    return len(chunk_list) % 2 == 0 and 0 not in chunk_list[0::2] and max(chunk_list[1::2], default=0) == model.ELSEWHERE
+
+
+def by_elsewhere(call, old):
+    """Request 4: a file with a chunk held elsewhere, refused with 21, or such a chunk in the list of an append, refused with 31."""
+    with patch.object(model, "state_of", state_or_neither):
+        before = number_of(call.file)
+    if call.name == "append" and before == 0 and old == model.CHUNK_LIST_FAULT:
+        return wants_elsewhere(call.packed_list)
+    return refused_with(call, old, before, {NEITHER_BIT})
+
+
+CHANGES = {1: by_vendors, 2: by_mixed_files, 4: by_elsewhere}
