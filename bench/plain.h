@@ -43,7 +43,7 @@ enum refusal {
 
 enum { MOST_BOXES = 512 };
 
-#define MOST_POSITION UINT32_MAX
+#define MOST_POSITION UINT64_C(1099511627775)
 #define SIZE_UNKNOWN UINT64_MAX
 
 /* The box types that the base knows. */
@@ -70,9 +70,9 @@ enum { LAST_SEGMENT = 1 };
 enum { CORRUPTED = 0x80, PRESENT = 0x40, RESERVED = 0x3f };
 enum { LOST = 0, DAMAGED = 1, GOOD = 2, ELSEWHERE = 3 };
 
-/* A place counts bytes of the partial file, a position bytes of the source; neither stands for the other. The limits let both fit 32 bits. */
+/* A place counts bytes of the partial file, a position bytes of the source; neither stands for the other. The limits let a place fit 32 bits, and a position 40. */
 typedef uint32_t file_place;
-typedef uint32_t source_position;
+typedef uint64_t source_position;
 
 /* A part of the partial file. */
 struct part {
@@ -91,7 +91,7 @@ struct segment {
 
 struct chunk {
     source_position start;
-    uint32_t size;
+    uint64_t size;
     file_place place; /* 0 if not present or empty */
     uint16_t index;
     uint8_t segment;

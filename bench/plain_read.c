@@ -321,7 +321,7 @@ static enum refusal read_entries(struct partial *partial, uint32_t number, struc
             if (!may_lie(partial, state_of(flags), place, size))
                 return MAY_NOT_LIE_THERE;
         }
-        *chunk++ = (struct chunk){(source_position)start, (uint32_t)size, (file_place)place, (uint16_t)index, (uint8_t)number, state_of(flags)};
+        *chunk++ = (struct chunk){start, size, (file_place)place, (uint16_t)index, (uint8_t)number, state_of(flags)};
         at += rest;
         start += size;
     }

@@ -57,7 +57,7 @@ static struct answer look_up(const struct partial *partial, uint64_t p)
         return (struct answer){VRAZHUPA_NOT_BELOW, 0, 0};
     for (uint32_t i = 0; i < partial->chunk_count; i++) {
         const struct chunk *chunk = &partial->chunk[i];
-        uint64_t end = (uint64_t)chunk->start + chunk->size;
+        uint64_t end = chunk->start + chunk->size;
         if (chunk->state != GOOD || end <= p || chunk->size == 0)
             continue;
         if (chunk->start <= p)

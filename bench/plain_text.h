@@ -6,12 +6,13 @@
 
 #include <string.h>
 
-static inline size_t digits(uint32_t number)
+/* How many digits a place or a position has, thirteen at most. */
+static inline size_t digits(uint64_t number)
 {
-    static const uint32_t powers[9] = {10, 100, 1000, 10000, 100000, 1000000, 10000000, 100000000, 1000000000};
+    static const uint64_t powers[12] = {10, 100, 1000, 10000, 100000, 1000000, 10000000, 100000000, 1000000000, 10000000000, 100000000000, 1000000000000};
     size_t count = 1;
 
-    for (int i = 0; i < 9; i++)
+    for (int i = 0; i < 12; i++)
         count += number >= powers[i];
     return count;
 }
@@ -23,7 +24,7 @@ static inline uint8_t *put_text(uint8_t *at, const char *text, size_t length)
 }
 
 /* Writes a number, two digits at a time from its end, and the byte that closes its field. */
-static inline uint8_t *put_number(uint8_t *at, uint32_t number, char closing)
+static inline uint8_t *put_number(uint8_t *at, uint64_t number, char closing)
 {
     static const char pairs[] = "00010203040506070809101112131415161718192021222324252627282930313233343536373839404142434445464748"
                                 "4950515253545556575859606162636465666768697071727374757677787980818283848586878889909192939495969798"

@@ -23,11 +23,12 @@ FROM_C = {"memcpy", "memset"}
 
 def taken_by(line):
     """What a line takes off the stack. Of many pages each is taken in a loop, up to a mark in r11 that lies below by all of them: the mark is made once, and the
-    line of the loop takes the page that the mark counts too many."""
+    line of the loop takes the page that the mark counts too many. Of less than a page r11 is no mark."""
     taken = TAKES.search(line)
     if not taken:
         return 0
-    return int(taken[1], 16) - (PAGE if taken[2] == "r11" else 0)
+    size = int(taken[1], 16)
+    return size if taken[2] == "rsp" else max(0, size - PAGE)
 
 
 def functions(archive):

@@ -3,9 +3,9 @@
 import model
 from boxes import box, entry, open_segment, ploc, pshd
 from faults import faulty_file
+from foreign import LIMIT, WIDE
 from spoiling import spoil
 
-LIMIT = 4_294_967_295
 FREE = box(b"free")
 BOXES = 512
 SEGMENTS = 64
@@ -46,7 +46,7 @@ def added_length(source_offset, chunk_list, data, outside=False):
     while present and len(data) > 2 ** (8 * offset_size - 1):
         offset_size += 1
     stored = len(data) + (8 if any_inside(chunk_list, outside) else 0)
-    pshd_length = 24 if source_offset < 2 ** 32 else 28
+    pshd_length = 24 if source_offset < WIDE else 28
     ploc_length = 17 + len(chunk_sizes) * (1 + length_size) + present * offset_size
     return stored + 8 + pshd_length + ploc_length
 
@@ -102,7 +102,7 @@ def random_chunk_list(rng, room, outside):
         if rng.random() < 0.02:
             size = rng.choice([128, 129, 255, 256, 300])
         if rng.random() < 0.02:
-            size, state = rng.choice([256, 65_535, 65_536, 2 ** 24, room]), absent(rng)
+            size, state = rng.choice([256, 65_535, 65_536, 2 ** 24, WIDE - 1, WIDE, WIDE + rng.randint(0, WIDE), room]), absent(rng)
         if 0 < size <= room:
             room -= size
             chunk_list += [size, state]
@@ -117,11 +117,16 @@ def last_flag(rng, file, source_offset, chunk_list):
     return fits and rng.random() < 0.3
 
 
+def far(rng):
+    """How far an addition may reach that does not stay near the front: to the limit, or near the first offset of the 64-bit form."""
+    return rng.choice([LIMIT, LIMIT, WIDE - 1, WIDE, WIDE + rng.randint(-20, 60), rng.randint(WIDE, LIMIT)])
+
+
 def acceptable(rng, file):
     """Arguments that append takes, where it takes the file; the buffer is set later."""
     end, closed = described(file)
     limit = end if closed else LIMIT
-    reach = limit if rng.random() < 0.1 else min(limit, 60)
+    reach = min(limit, far(rng) if rng.random() < 0.15 else 60)
     outside = rng.random() < (0.6 if is_mixed(file) else 0.1)
     chunk_list = random_chunk_list(rng, limit, outside)
     if outside and not is_mixed(file):
@@ -257,7 +262,7 @@ def overstep_limit(rng, given):
         set_chunks(rng, given, given["chunk_list"] + [rng.randint(1, 9), absent(rng)])
         given["source_offset"] = max(0, LIMIT + 1 - sizes(given["chunk_list"]))
     else:
-        size = rng.choice([LIMIT + 1, 2 ** 40, 2 ** 64 - 1])
+        size = rng.choice([LIMIT + 1, 2 ** 48, 2 ** 64 - 1])
         set_chunks(rng, given, given["chunk_list"] + [size, absent(rng)])
 
 

@@ -11,6 +11,8 @@ READ = model.read_earlier
 STATE_OF = model.state_of
 # What a chunk neither corrupted nor present was refused with before request 4.
 NEITHER_BIT = 21
+# The highest source position or end before request 5.
+HIGHEST_BEFORE = 4_294_967_295
 
 
 def number_of(file):
@@ -42,9 +44,12 @@ def state_or_neither(flag_byte):
     return state
 
 
-def wants_elsewhere(packed_list):
+def numbers_in(packed):
+    return struct.unpack("<%dQ" % (len(packed) // 8), packed)
+
+
+def wants_elsewhere(chunk_list):
     """Whether a chunk list is right and has a chunk held elsewhere."""
-    chunk_list = struct.unpack("<%dQ" % (len(packed_list) // 8), packed_list)
     return len(chunk_list) % 2 == 0 and 0 not in chunk_list[0::2] and max(chunk_list[1::2], default=0) == model.ELSEWHERE
 
 
@@ -53,8 +58,22 @@ def by_elsewhere(call, old):
     with patch.object(model, "state_of", state_or_neither):
         before = number_of(call.file)
     if call.name == "append" and before == 0 and old == model.CHUNK_LIST_FAULT:
-        return wants_elsewhere(call.packed_list)
+        return wants_elsewhere(numbers_in(call.packed_list))
     return refused_with(call, old, before, {NEITHER_BIT})
 
 
-CHANGES = {1: by_vendors, 2: by_mixed_files, 4: by_elsewhere}
+def end_of(call):
+    """Where the chunks of an append would end in the source."""
+    return call.numbers[1] + sum(numbers_in(call.packed_list)[0::2])
+
+
+def by_longer_recordings(call, old):
+    """Request 5: a file with a source offset or end over the limit before, or an append to one, refused with 23."""
+    with patch.dict(model.LIMITS, source=HIGHEST_BEFORE):
+        before = number_of(call.file)
+    if call.name == "append" and before == 0 and old == model.SOURCE_OVER_LIMIT:
+        return end_of(call) > HIGHEST_BEFORE
+    return refused_with(call, old, before, {model.SOURCE_OVER_LIMIT})
+
+
+CHANGES = {1: by_vendors, 2: by_mixed_files, 4: by_elsewhere, 5: by_longer_recordings}

@@ -29,9 +29,9 @@ from scale_stream import BEFORE, END, FILE, LIST, TOO_LARGE, Stream
 SINCE_MIXED = {"begin": "begin-mixed", "append": "append-outside"}
 SHOWN = 10
 
-# A call that both made: its number in the stream, the model's answer, the file that it was about, None where that is too large to be kept, and the chunk list of an append,
-# eight bytes a number.
-Made = namedtuple("Made", "case name answer file packed_list")
+# A call that both made: its number in the stream, the model's answer, the file that it was about, None where that is too large to be kept, its numbers, and the chunk list of
+# an append, eight bytes a number.
+Made = namedtuple("Made", "case name answer file numbers packed_list")
 
 
 class Driver:
@@ -71,7 +71,7 @@ class Both(Stream):
     def send(self, name, refusal, numbers, record):
         asked = SINCE_MIXED[name] if name in SINCE_MIXED and numbers[-1] else name
         if asked in self.shared:
-            self.made.append(Made(self.cases, name, refusal, self.file_of(name, numbers), self.held.get(LIST)))
+            self.made.append(Made(self.cases, name, refusal, self.file_of(name, numbers), numbers, self.held.get(LIST)))
             self.write(record)
         else:
             self.left_out[asked] += 1

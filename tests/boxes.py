@@ -41,7 +41,14 @@ def head(url=b"u", mime=b"", brand=b"paff"):
     return ftyp([brand], brand) + box(b"pfil", pfhd(), surl(url, mime))
 
 
-def pshd(offset, flags=0, repair_time=0, version=0, large=False):
+def version_for(offset):
+    """The version of a pshd that holds an offset: 0 where 32 bits do."""
+    return 0 if offset < 2 ** 32 else 1
+
+
+def pshd(offset, flags=0, repair_time=0, version=None, large=False):
+    """A pshd of a version, or of that which the offset needs."""
+    version = version_for(offset) if version is None else version
     width = 4 if version == 0 else 8
     return box(b"pshd", full(version, flags), offset.to_bytes(width, "big"),
                repair_time.to_bytes(8, "big"), large=large)
@@ -61,12 +68,14 @@ def entry(flag_byte, length_size, size, offset_size=0, offset=None):
     return bytes([flag_byte]) + size.to_bytes(length_size, "big") + field
 
 
-def lost_segment(offset, sizes, flags=0, version=0, width=4, flag_byte=0x80):
-    """A pseg of chunks that are not present: lost, or by another flag byte held elsewhere."""
+def lost_segment(offset, sizes, flags=0, version=None, width=None, flag_byte=0x80):
+    """A pseg of chunks that are not present: lost, or by another flag byte held elsewhere. Their sizes have four bytes, or more where they need them."""
+    if width is None:
+        width = max([4] + [(size.bit_length() + 7) // 8 for size in sizes])
     entries = [entry(flag_byte, width, size) for size in sizes]
     return box(b"pseg", pshd(offset, flags, version=version), ploc(width, 0, entries))
 
 
-def open_segment(offset, flags=0, version=0):
+def open_segment(offset, flags=0, version=None):
     """The shortest pseg there is: one chunk of unknown size."""
     return box(b"pseg", pshd(offset, flags, version=version), ploc(0, 0, []))

@@ -9,6 +9,7 @@ from boxes import box, head, lost_segment, open_segment, sized, sized_large
 from command_run import claim, claim_held, claim_missing, damaged, elsewhere, good, lost
 from command_wanted import appended, claim_boxes, claim_get, claim_map, claim_rows, film_of, number_of
 from corpus import ROOT
+from foreign import LIMIT, WIDE
 
 SEED = 23_001_140
 FOREIGN, SPOILED, CUT = 60, 50, 40
@@ -49,7 +50,8 @@ def missing(command):
     command.put("film", file)
     for first, length, position in [
             (0, 5, 4), (3, 2, 4), (4, 1, 4), (5, 5, 5), (6, 1, 6), (7, 3, 7), (8, 3, 10), (10, 1, 10), (10, TOP, 10), (19, 1, 19), (24, 1, 24),
-            (25, 1, 25), (26, 9, 26), (0, TOP, 4), (8, TOP, 10), (8, TOP - 8, 10), (2 ** 32, 1, 2 ** 32), (TOP, 1, TOP), (TOP, TOP, TOP)]:
+            (25, 1, 25), (26, 9, 26), (0, TOP, 4), (8, TOP, 10), (8, TOP - 8, 10), (2 ** 32, 1, 2 ** 32), (LIMIT, 1, LIMIT), (2 ** 40, 9, 2 ** 40),
+            (TOP, 1, TOP), (TOP, TOP, TOP)]:
         claim_missing(f"get {first} {length}", command.run("get", "film", str(first), str(length)), position)
     for first in (0, 4, 6, 25, 26, TOP):
         claim(f"no byte from {first}", command.run("get", "film", str(first), "0"), 0)
@@ -86,7 +88,7 @@ def states(command):
     for first, length, position in [(5, 1, 5), (9, 2, 9), (3, 3, 5), (14, 1, 14), (2, 3, 2)]:
         claim_missing(f"get {first} {length} of each state", command.run("get", "film", str(first), str(length)), position)
     claim("the good one of each state", command.run("get", "film", "3", "2"), 0, b"ab")
-    for name, file in [("foreign", head() + lost_segment(4, [6, 0, 2], flag_byte=0)), ("to the limit", film_of((0, [elsewhere(4_294_967_295)], True))),
+    for name, file in [("foreign", head() + lost_segment(4, [6, 0, 2], flag_byte=0)), ("to the limit", film_of((0, [elsewhere(LIMIT)], True))),
                        ("1,024 of them", film_of((0, [elsewhere(3)] * 1_024))), ("good over it", film_of((0, [elsewhere(9)]), (2, [good(b"cde")]))),
                        ("over a good one", film_of((2, [good(b"cde")]), (0, [elsewhere(9)], True)))]:
         claim_all(f"held elsewhere, {name}", command, file, [(0, 1), (2, 3), (2, 4), (4, 1)])
@@ -160,15 +162,16 @@ def limits(command):
     """The longest tables and map, and files over 65,536 bytes, which the map program refuses."""
     pairs = [chunk for at in range(512) for chunk in (good(bytes([at % 256])), lost(1))]
     claim_all("1,024 ranges", command, film_of((0, pairs)), [(0, 1), (1_022, 1), (0, 2), (1_023, 1)])
-    wide = [chunk for at in range(512) for chunk in (good(bytes([at % 256])), lost(6_000_000))]
-    claim_all("1,025 ranges in long lines", command, film_of((1_000_000_000, wide, True)), [(1_000_000_000, 1), (1_006_000_001, 2)])
+    wide = [chunk for at in range(512) for chunk in (good(bytes([at % 256])), lost(1_000_000_000))]
+    claim_all("1,025 ranges in long lines", command, film_of((500_000_000_000, wide, True)), [(500_000_000_000, 1), (501_000_000_001, 2)])
     claim_all("1,024 chunks in 64 segments", command, film_of(*[(at, pairs[:16], False) for at in range(64)]), [(0, 3), (0, 79)])
     twos = [good(bytes([at % 256, at // 256])) for at in range(1_024)]
     claim_all("1,024 good chunks", command, film_of((0, twos)), [(0, 2_048), (1_023, 700), (2_047, 2)])
-    claim_all("64 open segments", command, head() + 64 * open_segment(4_294_967_295, 1), [(4_294_967_295, 1), (4_294_967_294, 1)])
+    claim_all("64 open segments", command, head() + 32 * open_segment(WIDE - 1, 1) + 32 * open_segment(LIMIT, 1), [(LIMIT, 1), (LIMIT - 1, 1), (WIDE, 1)])
     claim_all("512 boxes", command, head() + open_segment(0) + 509 * box(b"free"), [(0, 0)])
-    limit = 4_294_967_295
-    claim_all("a film at its limit", command, film_of((limit - 3, [good(b"end")], True)), [(limit - 3, 3), (limit - 1, 2), (limit - 2, 1)])
+    for end in (WIDE - 1, WIDE, WIDE + 1, LIMIT):
+        claim_all(f"a film that ends at {end}", command, film_of((end - 3, [good(b"end")], True)), [(end - 3, 3), (end - 1, 2), (end - 2, 1)])
+    claim_all("a film past its limit", command, head() + open_segment(LIMIT + 1), [(0, 1)])
     rng = random.Random(SEED + 1)
     long = film_of((0, [good(rng.randbytes(100_000)), lost(9), good(rng.randbytes(66_000))]), (99_000, [good(rng.randbytes(1_100))]))
     claim_all("a film of 167,000 bytes", command, long, [(0, 100_018), (0, 100_000), (100_009, 66_000), (100_009, 65_536), (98_999, 1_010), (0, 1)])

@@ -2,9 +2,10 @@
 
 import os
 
-from command_run import claim, claim_held, claim_refused, good, in_form, lost
+from command_run import claim, claim_held, claim_missing, claim_refused, good, in_form, lost
 from command_wanted import film_of
 from expecting import expect
+from foreign import LIMIT
 
 FILM = film_of((0, [good(b"abcd"), lost(6)], True))
 NO_NUMBERS = ["", "-1", "+1", " 1", "1 ", "1\n", "0x1", "1e3", "1.0", "1,000", "one", "--last", "\u0661", "18446744073709551616",
@@ -64,6 +65,10 @@ def numbers(command):
         claim_usage(command, "append", "film", "--offset", "4", "--elsewhere", text)
         claim_usage(command, "append", "film", "--offset", "4", "--lost", "1", "--time", text)
     claim("zeros in front of a number", command.run("get", "film", 30 * "0" + "1", "02"), 0, b"bc")
+    for text in ("4294967295", "4294967296", "1099511627775", "1099511627776", "18446744073709551615"):
+        claim_missing(f"a number of {len(text)} digits", command.run("get", "film", text, "1"), int(text))
+        claim_refused(f"an offset of {len(text)} digits", command.run("append", "film", "--offset", text, "--lost", "1"), 25 if int(text) < LIMIT else 23)
+        claim_refused(f"a size of {len(text)} digits", command.run("append", "film", "--offset", "0", "--lost", text), 25 if int(text) <= LIMIT else 23)
     claim("only zeros", command.run("get", "film", 30 * "0", "00"), 0)
 
 

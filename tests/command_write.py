@@ -6,14 +6,14 @@ import random
 import additions
 import generate
 from boxes import box, head, lost_segment, open_segment
-from command_run import KEPT, Chunk, claim, claim_held, claim_refused, damaged, elsewhere, good, lost
+from command_run import KEPT, Chunk, claim, claim_held, claim_missing, claim_refused, damaged, elsewhere, good, lost
 from command_wanted import appended, begun, claim_boxes, claim_map, claim_rows, film_of
 from expecting import expect
+from foreign import LIMIT, WIDE
 from model import PMFF
 
 SEED = 23_001_141
 RUNS = 40
-LIMIT = 4_294_967_295
 TOP = 2 ** 64 - 1
 KINDS = ["lost", "damaged", "good", "elsewhere"]
 MOOF, MDAT = box(b"moof", b"0123456789"), box(b"mdat", b"abcd", large=True)
@@ -96,6 +96,28 @@ def appends(command):
     for number, chunks in enumerate([[good(b"abcd"), lost(6)], [good(b"zzzzz"), damaged(b"q")], [lost(10)], [good(b"0123456789")]]):
         file = claim_append(f"append {number} of one film", command, file, 0, chunks, number == 3)
     claim("what was served first stays", command.run("get", "film", "0", "10"), 0, b"abcdz56789")
+
+
+def appends_far(command):
+    """By hand: a segment at the last offset of 32 bits, and one at the first of 64, whose header is four bytes longer; mapped and got across both, and to the limit."""
+    by_hand = bytes.fromhex("0000000a 70646174 6162 00000034 70736567 00000018 70736864 00000000 ffffffff 0000000000000000 00000014 706c6f63 00000000 11 0000 0001 4002fe"
+                            "0000000a 70646174 6364 00000038 70736567 0000001c 70736864 01000001 0000000100000000 0000000000000000 00000014 706c6f63 00000000 11 0000 0001 4002fe")
+    found = claim_append("at 2^32 - 1", command, begun(b"u"), WIDE - 1, [good(b"ab")])
+    found = claim_append("at 2^32", command, found, WIDE, [good(b"cd")], True)
+    expect("both sides of 2^32 by hand", found, begun(b"u") + by_hand)
+    claim("the map across 2^32", command.run("map", "film"), 0, b"source\t4294967298\tclosed\nmiss\t0\t4294967295\nhave\t4294967295\t3\ntotal\t3\t4294967295\n")
+    claim("get across 2^32", command.run("get", "film", "4294967295", "3"), 0, b"abd")
+    claim("get from 2^32", command.run("get", "film", "4294967296", "2"), 0, b"bd")
+    claim_missing("get before 2^32", command.run("get", "film", "4294967294", "4"), WIDE - 2)
+    claim_missing("get behind the end", command.run("get", "film", "4294967296", "3"), WIDE + 2)
+    claim_rows("a film across 2^32", command, "film", found)
+    found = claim_append("to the limit", command, begun(b"u"), 1, [lost(LIMIT - 9), elsewhere(5), good(b"end")], True)
+    claim("the map to the limit", command.run("map", "film"), 0,
+          b"source\t1099511627775\tclosed\nmiss\t0\t1099511627772\nhave\t1099511627772\t3\ntotal\t3\t1099511627772\n")
+    claim("get at the limit", command.run("get", "film", "1099511627774", "1"), 0, b"d")
+    claim_missing("get at the limit and one", command.run("get", "film", "1099511627774", "2"), LIMIT)
+    for offset, chunks in [(2 * WIDE, [good(b"a")]), (WIDE - 4, [lost(8)]), (0, [lost(WIDE)]), (0, [elsewhere(WIDE - 1), damaged(b"x")]), (LIMIT - 1, [good(b"z")]), (LIMIT - 4, [lost(4)])]:
+        claim_append(f"{chunks} at {offset}", command, begun(b"u"), offset, chunks)
 
 
 def appends_elsewhere(command):
@@ -277,6 +299,6 @@ def random_runs(command):
 
 
 def check(command):
-    for part in (beginnings, brands, appends, appends_elsewhere, appends_outside, words_in_any_order, data_anywhere, files_refused, lists_refused, outside_refused, counts_refused,
+    for part in (beginnings, brands, appends, appends_far, appends_elsewhere, appends_outside, words_in_any_order, data_anywhere, files_refused, lists_refused, outside_refused, counts_refused,
                  sizes_refused, random_runs, beginnings_in_the_way):
         part(command)

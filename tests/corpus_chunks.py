@@ -48,7 +48,7 @@ def length_widths():
         yield taken(f"size 8 in {width} bytes", behind(PDAT, 8, -8, width, 1))
         most = 256 ** width - 1
         file = head() + lost_segment(0, [most], width=width)
-        yield taken(f"largest size in {width} bytes", file) if width <= 4 else refused(23, f"largest size in {width} bytes", file)
+        yield taken(f"largest size in {width} bytes", file) if width <= 5 else refused(23, f"largest size in {width} bytes", file)
         yield taken(f"both fields of {width} bytes", behind(PDAT, 5, -7, width, width))
     yield taken("sizes of no byte", head() + lost_segment(4, 3 * [0], width=0))
     yield taken("good, size and offset of no byte", behind(PDAT, 0, 0, 0, 0))

@@ -13,8 +13,8 @@ def of_entries(*entries, widths=(1, 1), count=None, flags=0):
     return head() + box(b"pdat", DATA) + box(b"pseg", pshd(7, flags), ploc(*widths, list(entries), count=count))
 
 
-def elsewhere_segment(offset, sizes, flags=0, version=0, width=4):
-    return lost_segment(offset, sizes, flags, version, width, ELSEWHERE)
+def elsewhere_segment(offset, sizes, flags=0, width=None):
+    return lost_segment(offset, sizes, flags, width=width, flag_byte=ELSEWHERE)
 
 
 # Entries.
@@ -26,7 +26,7 @@ def widths():
         yield taken(f"5 held elsewhere where offsets have {width} bytes", of_entries(entry(ELSEWHERE, 1, 5), entry(GOOD, 1, 1, width, -8), widths=(1, width)))
         most = 256 ** width - 1
         file = of_entries(entry(ELSEWHERE, width, most), widths=(width, 8))
-        yield taken(f"the largest size in {width} bytes held elsewhere", file) if width < 4 else refused(23, f"the largest size in {width} bytes held elsewhere", file)
+        yield taken(f"the largest size in {width} bytes held elsewhere", file) if width < 5 else refused(23, f"the largest size in {width} bytes held elsewhere", file)
     yield taken("held elsewhere, a size of no byte", of_entries(3 * bytes([ELSEWHERE]), widths=(0, 0), count=3))
     yield taken("held elsewhere, a size of no byte beside offsets", of_entries(bytes([ELSEWHERE]), entry(GOOD, 0, 0, 1, 9), widths=(0, 1)))
 
@@ -50,11 +50,11 @@ def limits():
     yield taken("1024 held elsewhere", head() + elsewhere_segment(0, 1024 * [1], width=1))
     yield refused(22, "1025 held elsewhere", head() + elsewhere_segment(0, 1025 * [1], width=1))
     yield refused(22, "1024 lost, one held elsewhere", head() + lost_segment(0, 1024 * [1], width=1) + elsewhere_segment(0, [1]))
-    yield taken("held elsewhere to 4294967295", head() + elsewhere_segment(0, [LIMIT]))
-    yield taken("held elsewhere to 4294967295 in two", head() + elsewhere_segment(5, [LIMIT - 6, 1], flags=1))
-    yield taken("an empty one held elsewhere at 4294967295", head() + elsewhere_segment(LIMIT, [0]))
-    for offset, sizes in [(0, [LIMIT + 1]), (1, [LIMIT]), (LIMIT, [1]), (5, [LIMIT - 6, 2]), (7, [2 ** 40 - 1])]:
-        yield refused(23, f"held elsewhere over the limit from {offset} of {len(sizes)}", head() + elsewhere_segment(offset, sizes, width=5))
+    yield taken("held elsewhere to the limit", head() + elsewhere_segment(0, [LIMIT]))
+    yield taken("held elsewhere to the limit in two", head() + elsewhere_segment(5, [LIMIT - 6, 1], flags=1))
+    yield taken("an empty one held elsewhere at the limit", head() + elsewhere_segment(LIMIT, [0]))
+    for offset, sizes in [(0, [LIMIT + 1]), (1, [LIMIT]), (LIMIT, [1]), (5, [LIMIT - 6, 2])]:
+        yield refused(23, f"held elsewhere over the limit from {offset} of {len(sizes)}", head() + elsewhere_segment(offset, sizes, width=6))
     for offset, size in [(1, 2 ** 64 - 1), (LIMIT, 2 ** 64 - LIMIT)]:
         yield refused(23, f"{size} held elsewhere from {offset}", head() + elsewhere_segment(offset, [size], width=8))
 

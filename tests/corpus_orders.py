@@ -126,17 +126,17 @@ def two_segments():
 ENTRIES = [
     (20, "reserved bit", b"\x41"),
     (20, "reserved bit beside neither", b"\x01"),
-    (23, "end over its limit", entry(GOOD, 4, LIMIT, 1, -8)),
-    (23, "end over its limit, held elsewhere", entry(ELSEWHERE, 4, LIMIT)),
-    (24, "in no pdat", entry(GOOD, 4, 1, 1, 0)),
+    (23, "end over its limit", entry(GOOD, 5, LIMIT, 1, -8)),
+    (23, "end over its limit, held elsewhere", entry(ELSEWHERE, 5, LIMIT)),
+    (24, "in no pdat", entry(GOOD, 5, 1, 1, 0)),
 ]
 
 
 def two_entries():
-    for state, front in [("good", entry(GOOD, 4, 8, 1, -8)), ("elsewhere", entry(ELSEWHERE, 4, 8))]:
+    for state, front in [("good", entry(GOOD, 5, 8, 1, -8)), ("elsewhere", entry(ELSEWHERE, 5, 8))]:
         for number, name, made in ENTRIES:
             for _, other, behind in ENTRIES + [(17, "cut short", b"")]:
-                located = ploc(4, 1, [front, made.ljust(6, b"\0"), behind])
+                located = ploc(5, 1, [front, made.ljust(7, b"\0"), behind])
                 file = head() + box(b"pdat", b"abcdefgh") + box(b"pseg", pshd(0), located)
                 yield refused(number, f"first entry {state}; second, {name}; third, {other}", file)
 

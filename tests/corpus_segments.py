@@ -1,7 +1,7 @@
 """Makes records on the parts of a pseg: pshd, ploc, its entries, and the limits of chunks and of the source."""
 
 from boxes import box, entry, ftyp, full, head, lost_segment, open_segment, pfhd, ploc, pshd, surl
-from foreign import DAMAGED, ELSEWHERE, GOOD, LIMIT, LOST
+from foreign import DAMAGED, ELSEWHERE, GOOD, LIMIT, LOST, WIDE
 from plan import Data, Entry, Plan, Segment
 from record import refused, taken
 
@@ -105,21 +105,41 @@ def chunk_counts():
 
 
 def source_limits():
-    yield taken("end 4294967295", head() + lost_segment(0, [LIMIT]))
-    yield taken("end 4294967295 of two chunks", head() + lost_segment(5, [LIMIT - 6, 1], flags=1))
-    yield taken("end 4294967295 of an empty chunk", head() + lost_segment(LIMIT, [0]))
-    yield taken("open at 4294967295", head() + open_segment(LIMIT))
-    yield taken("open at 4294967295 in 64 bits", head() + open_segment(LIMIT, version=1))
-    for offset, sizes in [(0, [LIMIT + 1]), (1, [LIMIT]), (LIMIT, [1]), (5, [LIMIT - 6, 2]), (0, [0, LIMIT, 0, 1])]:
-        yield refused(23, f"end 4294967296 from {offset} of {len(sizes)}", head() + lost_segment(offset, sizes, width=5))
-    for offset in (LIMIT + 1, 2 ** 32 + 5, 2 ** 63, 2 ** 64 - 1):
-        yield refused(23, f"open at {offset}", head() + open_segment(offset, version=1))
-    yield refused(23, "an empty chunk at 4294967296", head() + lost_segment(LIMIT + 1, [0], version=1))
-    for offset, size in [(1, 2 ** 64 - 1), (LIMIT, 2 ** 64 - LIMIT), (LIMIT, 2 ** 64 - LIMIT + 5), (0, 2 ** 63), (7, 2 ** 32)]:
+    """Ends and offsets at the limit, one past it and far past it."""
+    yield taken(f"end {LIMIT}", head() + lost_segment(0, [LIMIT]))
+    yield taken(f"end {LIMIT} of two chunks", head() + lost_segment(5, [LIMIT - 6, 1], flags=1))
+    yield taken(f"end {LIMIT} of an empty chunk", head() + lost_segment(LIMIT, [0]))
+    for version in (1, 2, 255):
+        yield taken(f"open at {LIMIT}, version {version}", head() + open_segment(LIMIT, version=version))
+        yield refused(23, f"open at {LIMIT + 1}, version {version}", head() + open_segment(LIMIT + 1, version=version))
+    for offset, sizes in [(0, [LIMIT + 1]), (1, [LIMIT]), (LIMIT, [1]), (5, [LIMIT - 6, 2]), (0, [0, LIMIT, 0, 1]), (WIDE, [LIMIT - WIDE, 1])]:
+        yield refused(23, f"end {LIMIT + 1} from {offset} of {len(sizes)}", head() + lost_segment(offset, sizes, width=6))
+    for offset in (2 ** 40 + 5, 2 ** 48, 2 ** 63, 2 ** 64 - 1):
+        yield refused(23, f"open at {offset}", head() + open_segment(offset))
+    yield refused(23, f"an empty chunk at {LIMIT + 1}", head() + lost_segment(LIMIT + 1, [0]))
+    for offset, size in [(1, 2 ** 64 - 1), (LIMIT, 2 ** 64 - LIMIT), (LIMIT, 2 ** 64 - LIMIT + 5), (0, 2 ** 63), (7, 2 ** 40), (7, 2 ** 56), (WIDE, 2 ** 64 - WIDE)]:
         yield refused(23, f"size {size} from {offset}", head() + lost_segment(offset, [size], width=8))
     yield refused(23, "two sizes of 9223372036854775808", head() + lost_segment(0, 2 * [2 ** 63], width=8))
 
 
+def far_offsets():
+    """Offsets and sizes on both sides of 2^32, in both forms of pshd."""
+    for offset in (WIDE - 2, WIDE - 1, WIDE, WIDE + 1, 2 ** 33, LIMIT - 1):
+        for version in (0, 1, 255) if offset < WIDE else (1, 255):
+            yield taken(f"open at {offset}, version {version}", head() + open_segment(offset, version=version))
+            yield taken(f"lost and held elsewhere at {offset}, version {version}", head() + lost_segment(offset, [1], 1, version) + lost_segment(offset, [0, 1], 0, version, flag_byte=0))
+    for size in (WIDE - 1, WIDE, WIDE + 1, LIMIT - WIDE):
+        for width in (4, 5, 8) if size < WIDE else (5, 8):
+            yield taken(f"size {size} in {width} bytes", head() + lost_segment(3, [size, 5], width=width))
+    yield taken("many chunks across 2^32", head() + lost_segment(WIDE - 9, 6 * [3, 0, 1], flags=1))
+    for offset in (WIDE - 6, WIDE - 3, WIDE, LIMIT - 6):
+        for version in (0, 1) if offset < WIDE else (1,):
+            yield taken(f"6 good from {offset}, version {version}", of_parts(pshd(offset, 1, version=version), ploc(1, 1, [entry(GOOD, 1, 6, 1, -6)])))
+    yield refused(23, "6 good past the limit", of_parts(pshd(LIMIT - 5), ploc(1, 1, [entry(GOOD, 1, 6, 1, -6)])))
+    yield refused(25, "open at 2^32 above a size of 2^32 - 1", head() + lost_segment(0, [WIDE - 1], flags=1) + open_segment(WIDE))
+    yield refused(25, "sizes that differ by 2^32", head() + lost_segment(7, [3], flags=1) + lost_segment(7, [WIDE + 3], flags=1))
+
+
 def records():
-    for made in (files_of_pshd, files_of_parts, files_of_ploc, files_of_entries, chunk_counts, source_limits):
+    for made in (files_of_pshd, files_of_parts, files_of_ploc, files_of_entries, chunk_counts, source_limits, far_offsets):
         yield from made()

@@ -3,7 +3,9 @@
 from boxes import box, ftyp, pfhd, surl
 from plan import Data, Entry, Other, Plan, Segment, Whole
 
-LIMIT = 4_294_967_295
+LIMIT = 1_099_511_627_775
+# The first source offset that takes a `pshd` of the 64-bit form.
+WIDE = 4_294_967_296
 LOST, DAMAGED, GOOD, ELSEWHERE = 0x80, 0xC0, 0x40, 0x00
 NOT_KNOWN = [b"free", b"skip", b"uuid", b"uuid", b"ptle", b"fidx", b"mdat", b"dref"]
 OUT_OF_PLACE = {
@@ -161,10 +163,16 @@ def close(rng, segments, span):
             segment.flags |= 1
 
 
+def huge_span(rng):
+    """The length of a source near its limit, near the first offset of the 64-bit form, or anywhere."""
+    near = [LIMIT, LIMIT - 1, LIMIT - rng.randint(0, 9), WIDE + rng.randint(-2, 2), WIDE + rng.randint(-9, 9), WIDE + rng.randint(0, WIDE)]
+    return rng.choice([*near, rng.randint(1000, WIDE), rng.randint(1000, LIMIT)])
+
+
 def foreign_plan(rng, huge=False, mixed=None):
     """The plan of an acceptable file; one in three is mixed where nothing is said."""
     mixed = rng.random() < 0.33 if mixed is None else mixed
-    span = rng.choice([LIMIT, LIMIT - 1, rng.randint(1000, LIMIT)]) if huge else rng.randint(0, 60)
+    span = huge_span(rng) if huge else rng.randint(0, 60)
     datas = [foreign_data(rng) for _ in range(rng.choice([0, 1, 1, 1, 2, 2, 3]))]
     wholes = [foreign_whole(rng) for _ in range(rng.choice([0, 1, 1, 2]))] if mixed else []
     segments = [foreign_segment(rng, datas, span, wholes) for _ in range(rng.choice([1, 2, 2, 2, 3, 4]))]

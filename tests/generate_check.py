@@ -9,6 +9,7 @@ import model
 from additions import top_level_count
 from boxes import head
 from expecting import close, expect
+from foreign import LIMIT, WIDE
 from spoiling import boxes_in
 from vendors import containers, faulty_vendors, refused_for_its_size
 
@@ -51,6 +52,7 @@ def check_foreign(files):
     check_size_forms(files)
     check_skipped(files)
     check_states(files)
+    check_far(files)
     check_elsewhere(files)
     check_mixed(files)
 
@@ -92,11 +94,29 @@ def check_states(files):
                               for one in good for two in good if one and two and one is not two)
         met["out of order"] += [row[1] for row in segments] != sorted(row[1] for row in segments)
         met["empty present"] += any(chunk[3] == 0 and chunk[4] in (1, 2) for chunk in chunks)
-        met["limit"] += model.length(file)[1] == 4_294_967_295
+        met["limit"] += model.length(file)[1] == LIMIT
         pdats = [(place, end) for place, end, _ in boxes_in(file, 0, len(file))
                  if file[place + 4:place + 8] == b"pdat"]
         met["shared pdat"] += any(
             len({chunk[0] for chunk in held if place < chunk[5] < end}) > 1 for place, end in pdats)
+    for name, count in met.items():
+        expect(f"{name} met", count > 0)
+
+
+def check_far(files):
+    """Source offsets on both sides of the first that takes the 64-bit form of pshd, chunks across it, larger than it and behind it, and ends near the limit."""
+    met = {f"an offset just below, form {form}": 0 for form in (0, 1)} | {"an offset just above": 0, "far above": 0, "across": 0, "larger": 0, "good behind": 0, "near the limit": 0}
+    for file in files:
+        segments, chunks = model.read(file)[1:]
+        for row in segments:
+            below = f"an offset just below, form {min(1, file[row[5]])}"
+            met[below] += WIDE - 9 <= row[1] < WIDE
+            met["an offset just above"] += WIDE <= row[1] <= WIDE + 9
+            met["far above"] += row[1] > 2 * WIDE
+        met["across"] += any(chunk[2] < WIDE < chunk[2] + chunk[3] for chunk in chunks)
+        met["larger"] += any(chunk[3] > WIDE for chunk in chunks)
+        met["good behind"] += any(chunk[4] == 2 and chunk[2] >= WIDE and chunk[3] > 0 for chunk in chunks)
+        met["near the limit"] += LIMIT - 9 <= model.length(file)[1] < LIMIT
     for name, count in met.items():
         expect(f"{name} met", count > 0)
 
@@ -290,6 +310,18 @@ def check_all_additions(rng, files):
     print(f"additions taken: {100 * taken:.1f} %")
 
 
+def check_additions_far(rng, files):
+    """Additions on both sides of the first source offset of the 64-bit form, and at the limit, are taken."""
+    met = set()
+    for file in files:
+        given = generate.addition(rng, file)
+        offset, end = given["source_offset"], given["source_offset"] + sum(given["chunk_list"][0::2])
+        if model.append(**given)[0][0] == "length":
+            met |= {word for word, holds in [("below", WIDE - 20 <= offset < WIDE), ("above", WIDE <= offset < WIDE + 60), ("across", offset < WIDE < end),
+                                             ("far", offset > 2 * WIDE), ("at the limit", end == LIMIT)] if holds}
+    expect("additions far from the front", met, {"below", "above", "across", "far", "at the limit"})
+
+
 def check_additions_elsewhere(rng, files):
     """Chunks held elsewhere are taken, alone and beside each other state, inside and outside; a list that is refused has any state above theirs."""
     met, above = set(), set()
@@ -346,6 +378,7 @@ def main(seed):
     check_spoiled(rng, files)
     check_additions(rng, good[:40] + 10 * [head()] + 10 * [head(brand=b"pmff")])
     check_all_additions(rng, good[:1200])
+    check_additions_far(rng, good)
     check_additions_elsewhere(rng, good[:1200])
     check_additions_outside(rng, good[:1200])
     check_beginnings(rng, 100)

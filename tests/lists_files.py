@@ -1,7 +1,7 @@
 """Makes records on the paper's files, on open and empty ones, on chunks of size 0, many small ranges, long parts, and the limits."""
 
 from boxes import box, entry, head, lost_segment, open_segment, ploc, pshd
-from foreign import DAMAGED, ELSEWHERE, GOOD, LIMIT, LOST
+from foreign import DAMAGED, ELSEWHERE, GOOD, LIMIT, LOST, WIDE
 from lists_record import assembled, file_of, listed, refused
 from plan import Data, Entry, Other, Segment, Whole
 
@@ -127,15 +127,28 @@ def places():
 
 
 def limits():
-    yield listed("limits", "all lost, to 4294967295", head() + lost_segment(0, [LIMIT], flags=LAST), [], [(0, LIMIT)])
-    yield listed("limits", "open at 4294967295", head() + open_segment(LIMIT), [], [(0, LIMIT)])
+    yield listed("limits", f"all lost, to {LIMIT}", head() + lost_segment(0, [LIMIT], flags=LAST), [], [(0, LIMIT)])
+    yield listed("limits", f"open at {LIMIT}", head() + open_segment(LIMIT), [], [(0, LIMIT)])
     yield listed("limits", "the last position of all", file_of((LIMIT - 1, "good 1", LAST)), [(LIMIT - 1, 1)], [(0, LIMIT - 1)])
     yield listed("limits", "the first and the last", file_of((LIMIT - 3, "good 3", LAST), (0, "good 2")),
                  [(0, 2), (LIMIT - 3, 3)], [(2, LIMIT - 5)])
-    yield listed("limits", "all held elsewhere, to 4294967295", head() + lost_segment(0, [LIMIT], flags=LAST, flag_byte=ELSEWHERE), [], [(0, LIMIT)])
-    yield listed("limits", "an empty chunk at 4294967295", file_of((LIMIT, "good 0", LAST)), [], [(0, LIMIT)])
+    yield listed("limits", f"all held elsewhere, to {LIMIT}", head() + lost_segment(0, [LIMIT], flags=LAST, flag_byte=ELSEWHERE), [], [(0, LIMIT)])
+    yield listed("limits", f"an empty chunk at {LIMIT}", file_of((LIMIT, "good 0", LAST)), [], [(0, LIMIT)])
+    yield refused("limits", 23, "the first position past all", file_of((LIMIT, "good 1", LAST)))
+
+
+def far():
+    """Ranges on both sides of 2^32 and across it, and a gap that is longer than it."""
+    for name, first in [("below", WIDE - 6), ("to", WIDE - 4), ("across", WIDE - 2), ("from", WIDE), ("behind", WIDE + 3)]:
+        yield listed("far", f"good 4, {name} 2^32", file_of((first, "good 4", LAST)), [(first, 4)], [(0, first)])
+    yield listed("far", "two that touch at 2^32", file_of((WIDE, "good 3", LAST), (WIDE - 3, "good 3")), [(WIDE - 3, 6)], [(0, WIDE - 3)])
+    yield listed("far", "the same places 2^32 apart", file_of((2, "good 3"), (WIDE + 2, "good 3, lost 2")), [(2, 3), (WIDE + 2, 3)], [(0, 2), (5, WIDE - 3), (WIDE + 5, 2)])
+    yield listed("far", "a repair across 2^32", file_of((WIDE - 4, "good 2, lost 4, good 2", LAST), (WIDE - 3, "good 5")), [(WIDE - 4, 8)], [(0, WIDE - 4)])
+    yield listed("far", "a gap longer than 2^32", file_of((1, f"good 2, lost {2 * WIDE}, good 2", LAST)), [(1, 2), (2 * WIDE + 3, 2)], [(0, 1), (3, 2 * WIDE)])
+    yield listed("far", "held elsewhere across 2^32", file_of((WIDE - 4, "elsewhere 8"), (WIDE - 1, "good 2")), [(WIDE - 1, 2)], [(0, WIDE - 1), (WIDE + 1, 3)])
+    yield listed("far", "open behind 2^32", file_of((WIDE + 9, ""), (WIDE - 1, "good 1")), [(WIDE - 1, 1)], [(0, WIDE - 1), (WIDE, 9)])
 
 
 def records():
-    for made in (of_the_paper, open_and_closed, of_size_0, many_pairs, many_segments, long_parts, places, held_elsewhere, of_boxes, limits):
+    for made in (of_the_paper, open_and_closed, of_size_0, many_pairs, many_segments, long_parts, places, held_elsewhere, of_boxes, limits, far):
         yield from made()

@@ -81,6 +81,13 @@ Of request 4, chunks held elsewhere:
     missing, since it "supplies none".
 34. What is asked of its entry?  17 for the flag byte, 20, 17 for the rest and
     23; never 24, which is of a "present chunk".
+
+Of request 5, longer recordings:
+
+35. Which limit rises?  That on "a source offset or chunk end" alone, so that
+    the last byte of a source stands at 1,099,511,627,774 at most.
+36. Which form has the `pshd` of a source offset that 32 bits do not hold?  That
+    of version 1, by reading 18, and no other segment has it.
 """
 
 from collections import namedtuple
@@ -92,7 +99,7 @@ LIMITS = {
     "boxes in one container": 512,
     "segments": 64,
     "chunks": 1_024,
-    "source": 4_294_967_295,
+    "source": 1_099_511_627_775,
     "program input": 65_536,
 }
 

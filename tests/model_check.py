@@ -8,7 +8,8 @@ from boxes import box, entry, ftyp, full, head, lost_segment, open_segment, pfhd
 from expecting import close, expect
 from model import PAFF, PMFF
 
-LIMIT = 4_294_967_295
+LIMIT = 1_099_511_627_775
+WIDE = 4_294_967_296
 P1 = bytes.fromhex("00 00 00 14 70 6c 6f 63 00 00 00 00 11 00 00 00 01 40 05 fb")
 P2 = bytes.fromhex("00 00 00 14 70 6c 6f 63 00 00 00 00 20 00 00 00 01 80 01 2c")
 
@@ -106,8 +107,7 @@ def check_limits():
                model.read(head() + lost_segment(offset, sizes)), refused(23))
     expect("offset at the limit", model.length(head() + open_segment(LIMIT)),
            ("length", LIMIT, False))
-    expect("offset past the limit",
-           model.read(head() + open_segment(LIMIT + 1, version=1)), refused(23))
+    expect("offset past the limit", model.read(head() + open_segment(LIMIT + 1)), refused(23))
     expect("64 segments", len(model.read(head() + 64 * open_segment(0))[1]), 64)
     expect("65 segments", model.read(head() + 65 * open_segment(0)), refused(13))
     expect("1,024 chunks", len(model.read(head() + lost_segment(0, 1024 * [1]))[2]), 1024)
@@ -517,6 +517,43 @@ def check_elsewhere_written():
         expect(f"held elsewhere, {name}", model.append(*given), (refused(number), given[0]))
 
 
+# Longer recordings.
+
+def check_far_read():
+    """Offsets and ends on both sides of 2^32, in both forms of pshd, and at the limit."""
+    for offset in (WIDE - 1, WIDE, WIDE + 1, 2 ** 39, LIMIT - 1, LIMIT):
+        for version in (0, 1, 255) if offset < WIDE else (1, 255):
+            expect(f"open at {offset}, version {version}", model.length(head() + open_segment(offset, version=version)), ("length", offset, False))
+    for offset, sizes in [(WIDE - 3, [2, 1]), (WIDE - 3, [2, 2]), (0, [WIDE]), (1, [WIDE - 1, 1]), (WIDE, [LIMIT - WIDE]), (LIMIT - 7, [3, 0, 4]), (0, [LIMIT]), (LIMIT, [0])]:
+        end = offset + sum(sizes)
+        file = head() + lost_segment(offset, sizes, flags=1)
+        expect(f"{sizes} from {offset}", (model.length(file), model.lists(file)), (("length", end, True), ("lists", [], [(0, end)], 0, end)))
+        past = model.read(head() + lost_segment(offset, [*sizes, LIMIT + 1 - end]))
+        expect(f"{sizes} from {offset}, and one past the limit", past, refused(23))
+    served = segment_of(ploc(1, 1, [entry(0x40, 1, 6, 1, -6)]), b"abcdef", WIDE - 2, 1)
+    expect("served across 2^32", [model.serve(served, WIDE - 2 + at) for at in range(7)], [(len(head()) + 8 + at, 6 - at) for at in range(6)] + [(0, 0)])
+    expect("the map across 2^32", model.map_text(served), b"source\t4294967300\tclosed\nmiss\t0\t4294967294\nhave\t4294967294\t6\ntotal\t6\t4294967294\n")
+    last = segment_of(ploc(1, 1, [entry(0x40, 1, 1, 1, -1)]), b"z", LIMIT - 1, 1)
+    expect("the last position of all", model.lists(last), ("lists", [(LIMIT - 1, 1)], [(0, LIMIT - 1)], 1, LIMIT - 1))
+
+
+def check_far_written():
+    """By hand: version 0 up to 2^32 - 1, version 1 from 2^32 on, whatever the end; and sizes wider than 32 bits."""
+    for offset, front in [(WIDE - 1, "00000018 70736864 00000000 ffffffff"), (WIDE, "0000001c 70736864 01000000 0000000100000000"), (LIMIT, "0000001c 70736864 01000000 000000ffffffffff")]:
+        expect(f"open at {offset}", appended(begun(), offset, [], b"")[63:-25].hex(), front.replace(" ", ""))
+    crossing = begun() + box(b"pdat", b"abc") + box(b"pseg", pshd(WIDE - 2, 1), ploc(1, 1, [entry(0x40, 1, 3, 1, -3)]))
+    expect("across 2^32", appended(begun(), WIDE - 2, [3, 2], b"abc", last=True), crossing)
+    behind = begun() + box(b"pdat", b"abc") + box(b"pseg", pshd(WIDE, 1, 7, 1), ploc(1, 1, [entry(0x40, 1, 3, 1, -3)]))
+    expect("at 2^32", appended(begun(), WIDE, [3, 2], b"abc", True, 7), behind)
+    for size, width in [(WIDE - 1, 4), (WIDE, 5), (LIMIT, 5)]:
+        wanted = begun() + box(b"pseg", pshd(0), ploc(width, 0, [entry(0x80, width, size)]))
+        expect(f"a lost chunk of {size}", appended(begun(), 0, [size, 0], b""), wanted)
+    for offset, size in [(WIDE, LIMIT - WIDE), (LIMIT - 1, 1), (0, LIMIT)]:
+        buffer = begun() + bytes(99)
+        expect(f"to the limit from {offset}", model.append(buffer, 55, offset, 0, False, False, [size, 3], b"")[0][0], "length")
+        expect(f"one past the limit from {offset}", model.append(buffer, 55, offset, 0, False, False, [size + 1, 3], b"")[0], refused(23))
+
+
 # The writer against the reader, over random runs.
 
 def random_chunks(rng, room, outside):
@@ -544,8 +581,8 @@ def chunk_bytes(file, rows):
 def check_one_append(rng, file, mixed):
     """Appends a random segment; gives the file after it."""
     described, closed = model.length(file)[1:] if model.read(file)[0] == "read" else (0, False)
-    limit = described if closed else rng.choice([500, LIMIT])
-    offset = rng.choice([0, rng.randint(0, min(limit, 99)), rng.randint(0, limit)])
+    limit = described if closed else rng.choice([500, WIDE + 20, LIMIT])
+    offset = rng.choice([0, rng.randint(0, min(limit, 99)), rng.randint(0, limit), max(0, limit - rng.randint(0, 40))])
     outside = mixed and rng.random() < 0.6
     chunk_list, data = random_chunks(rng, limit - offset, outside)
     last = not closed and offset + sum(chunk_list[0::2]) >= described and rng.random() < 0.3
@@ -632,5 +669,7 @@ if __name__ == "__main__":
     check_flag_bytes()
     check_elsewhere_read()
     check_elsewhere_written()
+    check_far_read()
+    check_far_written()
     check_random_runs(random.Random(1), 300)
     raise SystemExit(close())

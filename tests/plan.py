@@ -1,6 +1,6 @@
 """Holds the plan of a file, whose places are not known yet, and assembles it."""
 
-from boxes import box, full
+from boxes import box, full, pshd
 
 
 class Data:
@@ -123,9 +123,7 @@ class Segment:
     def pshd(self):
         if self.pshd_body is not None:
             return box(b"pshd", self.pshd_body, large=self.pshd_large)
-        offset = self.offset.to_bytes(4 if self.version == 0 else 8, "big")
-        return box(b"pshd", full(self.version, self.flags), offset,
-                   self.repair_time.to_bytes(8, "big"), large=self.pshd_large)
+        return pshd(self.offset, self.flags, self.repair_time, self.version or None, self.pshd_large)
 
     def ploc(self, pseg_place, places):
         if self.ploc_body is not None:

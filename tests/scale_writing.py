@@ -108,7 +108,7 @@ def large_append(rng, file):
         numbers += [rng.choice(LARGE), rng.choice([0, 1, 2, 2, 3])]
     outside = additions.is_mixed(file) and rng.random() < 0.5
     data = additions.data_for(rng, numbers, outside)
-    return Append(len(file), rng.choice([0, 7, 2 ** 31]), rng.getrandbits(64), rng.getrandbits(1), outside, tuple(numbers), len(numbers), data)
+    return Append(len(file), rng.choice([0, 7, 2 ** 31, 2 ** 32 - 1, 2 ** 32, 2 ** 39]), rng.getrandbits(64), rng.getrandbits(1), outside, tuple(numbers), len(numbers), data)
 
 
 def first_file(stream, rng):

@@ -17,7 +17,7 @@ def written():
             ("beside a damaged one", "damaged 2, elsewhere 6"), ("beside a lost one", "lost 4, elsewhere 6, lost 5"), ("beside all", "elsewhere 1, good 4, elsewhere 2, damaged 3, lost 5, elsewhere 6, good 1"),
             ("40 between good ones", ", ".join(["good 3", "elsewhere 9"] * 40))]:
         yield begun("elsewhere", name, [add(3, words, LAST, repair=TOP - 1)], [0])
-    for size in (1, 255, 256, 65_535, 65_536, 2 ** 24 - 1, 2 ** 24, LIMIT):
+    for size in (1, 255, 256, 65_535, 65_536, 2 ** 24 - 1, 2 ** 24, 2 ** 32 - 1, 2 ** 32, LIMIT):
         yield begun("elsewhere", f"of size {size}", [given_list(0, [size, 3])], [0])
     yield begun("elsewhere", "the widest size beside the widest offset", [add(0, "good 129, elsewhere 65536, damaged 2, elsewhere 1")], [0])
     yield begun("elsewhere", "no offset beside a large one", [add(0, "good 200"), add(200, "elsewhere 4"), add(204, "good 128")], [0, 0, 0])
@@ -40,7 +40,7 @@ def counted():
     full = head() + 509 * box(b"free")
     yield run("6", "one held elsewhere to 512 boxes", [add(0, "elsewhere 1"), one], [0, 6], file=full, spare=99)
     yield run("6", "one held elsewhere and a good one to 513 boxes", [add(0, "elsewhere 1, good 1")], [6], file=full, spare=99)
-    for name, offset, numbers in [("one over", LIMIT, [1, 3]), ("one over by the second", LIMIT - 3, [3, 3, 1, 3]), ("from 0, one over", 0, [2 ** 32, 3]), ("wraps", 1, [TOP - 1, 3]),
+    for name, offset, numbers in [("one over", LIMIT, [1, 3]), ("one over by the second", LIMIT - 3, [3, 3, 1, 3]), ("from 0, one over", 0, [LIMIT + 1, 3]), ("wraps", 1, [TOP - 1, 3]),
                                   ("twice 2^63", 0, [2 ** 63, 3, 2 ** 63, 3])]:
         yield begun("23", f"held elsewhere, {name}", [given_list(offset, numbers), one], [23, 0])
     yield begun("23", "held elsewhere to the limit", [add(1, f"elsewhere {LIMIT - 1}", LAST)], [0])

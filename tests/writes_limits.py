@@ -1,9 +1,9 @@
 """Makes runs on what append writes and where its limits lie: widths, flags, open segments, boxes, segments, chunks, the source and its size."""
 
 from boxes import box, head, lost_segment, open_segment
-from foreign import LIMIT
+from foreign import LIMIT, WIDE
 from writes_refusals import begun
-from writes_run import LAST, add, data_of, given_list, run
+from writes_run import LAST, add, begin, data_of, given_list, run
 
 FREE = box(b"free")
 TOP = 2 ** 64
@@ -23,11 +23,12 @@ def offset_widths():
 
 
 def length_widths():
-    for size in (1, 255, 256, 65_535, 65_536, 2 ** 24 - 1, 2 ** 24, LIMIT):
+    for size in (1, 255, 256, 65_535, 65_536, 2 ** 24 - 1, 2 ** 24, WIDE - 1, WIDE, LIMIT):
         yield begun("widths", f"a lost chunk of {size}", [given_list(0, [size, 0], repair=size)], [0])
     yield begun("widths", "sizes of each width", [add(0, "lost 16777216, good 1, lost 65536, damaged 2, lost 256, lost 1", LAST)], [0])
     yield begun("widths", "the widest at last", [add(0, "good 3, lost 256"), add(259, "damaged 3, good 2, lost 65536")], [0, 0])
-    for size in (2 ** 32, 2 ** 40, 2 ** 48, 2 ** 56, TOP - 1):
+    yield begun("widths", "a size of five bytes beside an offset of two", [add(0, f"good 129, lost {WIDE}, damaged 1", LAST)], [0])
+    for size in (LIMIT + 1, 2 ** 48, 2 ** 56, TOP - 1):
         yield begun("widths", f"wider than a source, {size}", [given_list(0, [size, 0])], [23])
     for repair in (0, 1, 2 ** 32, 2 ** 63, TOP - 1):
         yield begun("widths", f"repaired at {repair}", [add(3, "good 2", repair=repair)], [0])
@@ -93,26 +94,41 @@ def chunks():
 def source_limit():
     for name, call in [("open at the limit", add(LIMIT, "")), ("open and last at the limit", add(LIMIT, "", LAST)),
                        ("good to the limit", add(LIMIT - 5, "good 5", LAST)), ("lost to the limit", add(1, f"lost {LIMIT - 1}")),
-                       ("in two to the limit", add(LIMIT - 2 ** 24 - 3, "good 3, lost 16777216"))]:
+                       ("in two to the limit", add(LIMIT - 2 ** 24 - 3, "good 3, lost 16777216")), ("lost from 2^32 to the limit", add(WIDE, f"lost {LIMIT - WIDE}"))]:
         yield begun("23", f"{name}, taken", [call], [0])
-    for offset in (2 ** 32, 2 ** 32 + 1, 2 ** 33, 2 ** 63, TOP - 1):
+    for offset in (LIMIT + 1, LIMIT + 2, 2 ** 48, 2 ** 63, TOP - 1):
         yield begun("23", f"open at {offset}", [add(offset, "")], [23], spare=99)
         yield begun("23", f"good at {offset}", [add(offset, "good 4", LAST)], [23], spare=99)
     for name, offset, numbers in [("one over by a lost chunk", LIMIT, [1, 0]), ("one over by the second", LIMIT - 3, [3, 0, 1, 0]),
-                                  ("one over by the first", LIMIT - 3, [4, 0, 1, 0]), ("from 0, one over", 0, [2 ** 32, 0]),
+                                  ("one over by the first", LIMIT - 3, [4, 0, 1, 0]), ("from 0, one over", 0, [LIMIT + 1, 0]),
                                   ("from 1, one over", 1, [LIMIT, 0]), ("wraps from 1", 1, [TOP - 1, 0]), ("wraps from the largest", TOP - 1, [1, 0]),
                                   ("twice 2^63", 0, [2 ** 63, 0, 2 ** 63, 0]), ("twice 2^63 and 7", 0, [7, 0, 2 ** 63, 0, 2 ** 63, 0]),
-                                  ("the largest, and 8", 0, [TOP - 1, 0, 8, 0]), ("twice 2^31", 0, [2 ** 31, 0, 2 ** 31, 0])]:
+                                  ("the largest, and 8", 0, [TOP - 1, 0, 8, 0]), ("twice 2^39", 0, [2 ** 39, 0, 2 ** 39, 0]),
+                                  ("2^64 over 2^32", WIDE, [TOP - WIDE, 0])]:
         yield begun("23", name, [given_list(offset, numbers), add(0, "good 4")], [23, 0])
     yield begun("23", "one over by a good chunk", [add(LIMIT - 4, "good 5")], [23], spare=99)
-    yield begun("23", "23 before 25", [add(0, "lost 4", LAST), add(2 ** 32, ""), add(2 ** 32, "lost 1", LAST)], [0, 23, 23], spare=99)
+    yield begun("23", "23 before 25", [add(0, "lost 4", LAST), add(LIMIT + 1, ""), add(LIMIT + 1, "lost 1", LAST), add(LIMIT, "")], [0, 23, 23, 25], spare=99)
+
+
+def far_offsets():
+    """Both forms of pshd: the 64-bit one exactly where 32 bits do not hold the source offset, whatever the end is."""
+    for offset in (WIDE - 2, WIDE - 1, WIDE, WIDE + 1, 2 ** 39, LIMIT - 4):
+        yield begun("far", f"open at {offset}", [add(offset, "", repair=TOP - 1)], [0], spare=0)
+        yield begun("far", f"each state at {offset}", [add(offset, "good 1, lost 1, damaged 1, elsewhere 1", LAST)], [0], spare=0)
+        exact = run("far", f"good at {offset}, exactly", [begin(), add(offset, "good 4")], [0, 0], spare=0)
+        yield exact
+        yield begun("far", f"good at {offset}, one byte short", [add(offset, "good 4"), add(0, "")], [33, 0], lent=exact.lent - 1)
+    across = [add(WIDE - 3, "good 6"), add(WIDE, "lost 9"), add(WIDE - 1, "damaged 2"), add(WIDE + 3, "good 4, elsewhere 2", LAST), add(WIDE + 10, "")]
+    yield begun("far", "a film across 2^32", across, [0, 0, 0, 0, 25], spare=99)
+    yield begun("far", "sizes on both sides of 2^32", [add(0, f"lost {WIDE - 1}"), add(0, f"lost {WIDE}"), add(0, f"elsewhere {WIDE + 1}, good 2", LAST)], [0, 0, 0])
+    yield begun("far", "many sizes that make 2^40", [given_list(0, [2 ** 30, 0], count=2048), given_list(0, [2 ** 30, 0], count=2046)], [23, 0], spare=99)
 
 
 def source_size():
     closed = add(0, "good 4, lost 6", LAST)
     for name, call in [("another size below", add(0, "lost 9", LAST)), ("another size above", add(0, "lost 11", LAST)),
                        ("an end above", add(7, "good 4")), ("an open offset above", add(11, "")), ("an open last one above", add(11, "", LAST)),
-                       ("far above", add(LIMIT, "")), ("a size of one", add(0, "good 1", LAST))]:
+                       ("far above", add(LIMIT, "")), ("2^32 above", add(WIDE + 10, "")), ("a size 2^32 above", add(WIDE, "lost 10", LAST)), ("a size of one", add(0, "good 1", LAST))]:
         yield begun("25", f"of a closed file, {name}", [closed, call, add(7, "good 3")], [0, 25, 0], spare=99)
     for name, call in [("the same size", add(3, "lost 7", LAST)), ("an end at it", add(9, "good 1")), ("an open offset at it", add(10, "")),
                        ("an open last one at it", add(10, "", LAST)), ("an open last one below", add(4, "", LAST))]:
@@ -125,5 +141,5 @@ def source_size():
 
 
 def runs():
-    for part in (offset_widths, length_widths, flags, open_segments, boxes, segments, chunks, source_limit, source_size):
+    for part in (offset_widths, length_widths, flags, open_segments, boxes, segments, chunks, source_limit, far_offsets, source_size):
         yield from part()

@@ -132,7 +132,7 @@ def rooms():
         yield begun("33", f"{name}, no byte", [call], [33], lent=55)
     yield begun("33", "the longer refused, the shorter taken", [add(0, "good 60"), FOUR_GOOD], [33, 0], lent=125)
     yield begun("33", "25 before 33", [add(0, "lost 4", LAST), add(4, "lost 1")], [0, 25], spare=0)
-    yield begun("33", "23 before 33", [add(2 ** 32, "")], [23], lent=55)
+    yield begun("33", "23 before 33", [add(2 ** 40, "")], [23], lent=55)
     yield run("33", "13 before 33", [add(0, "")], [13], file=head() + 64 * open_segment(0), spare=0)
     yield run("33", "6 before 33", [add(0, "")], [6], file=head() + 510 * box(b"free"), spare=0)
 

@@ -6,5 +6,6 @@ pub mod LimitLaws
 pub mod PartLaws
 pub mod BoxListLaws
 pub mod PrintedLaws
+pub mod RaisedLaws
 pub mod ReadingLaws
 pub mod RefusalLaws

@@ -12,6 +12,7 @@ pub mod GrownLaws
 pub mod NewSegmentLaws
 pub mod OutsideLaws
 pub mod PlacedLaws
+pub mod RaisedWriterLaws
 pub mod ReadsBackLaws
 pub mod ReasonLaws
 pub mod RepairTimeLaws

@@ -21,10 +21,10 @@ use Rattle.partial.specs.Meaning.{describedLength, isClosed, served}
 use Rattle.partial.specs.Reading.{reading}
 use Rattle.partial.specs.Memory.{after}
 use Rattle.partial.specs.Tables.{missingRows, tabled, summary, segmentRows, chunkRows, bytesIn, servedPart}
-use Rattle.partial.specs.Map.{ascii, mapText, refusedLine}
+use Rattle.partial.specs.Map.{ascii, sourceLine, mapText, refusedLine}
 use Rattle.partial.specs.BoxList.{boxesText}
 use Rattle.partial.specs.Addition.{Addition}
-use Rattle.partial.specs.Append.{added, appended}
+use Rattle.partial.specs.Append.{pshdBody, added, appended}
 use Rattle.partial.specs.Runs.{lent, fileIn, begin, append}
 use Rattle.partial.specs.Lesson.{begunBytes, firstBytes, secondBytes}
 
@@ -220,16 +220,23 @@ rowsShort =
       paper = map pos (26 ∷ (replicate 31 9 ++ (26 ∷ replicate 31 9)));
     }
 
--- a `pseg` as another writer makes it: flags, a source offset, and one chunk of one byte's size, with what follows that
-abbrev foreign : ℕ → ℕ → ℕ → ℕ → List ℕ → List ℕ
-foreign flags start state size rest =
+-- the body of a `pshd` in its two forms, with flags and a source offset: version 0 with 32 bits for it, and version 1 with 64
+abbrev version0 : ℕ → ℕ → List ℕ
+version0 flags start = 0 ∷ (bytesOf 3 flags ++ (bytesOf 4 start ++ bytesOf 8 0))
+
+abbrev version1 : ℕ → ℕ → List ℕ
+version1 flags start = 1 ∷ (bytesOf 3 flags ++ (bytesOf 8 start ++ bytesOf 8 0))
+
+-- a `pseg` as another writer makes it: the body of its `pshd`, and one chunk of one byte's size, with what follows that
+abbrev foreign : List ℕ → ℕ → ℕ → List ℕ → List ℕ
+foreign header state size rest =
     boxed (pseg .code)
-    (boxed (pshd .code) (bytesOf 4 flags ++ (bytesOf 4 start ++ bytesOf 8 0))
+    (boxed (pshd .code) header
     ++ boxed (ploc .code) (bytesOf 4 0 ++ (0x11 ∷ (bytesOf 2 0 ++ (bytesOf 2 1 ++ (state ∷ size ∷ rest))))))
 
 -- a file with one such segment at 2, whose chunk of 2 is good, and data behind it
 abbrev dataBehind : ℕ → List ℕ
-dataBehind offset = begunBytes ++ (foreign 0 2 0x40 2 (offset ∷ []) ++ boxed (pdat .code) (31 ∷ 32 ∷ []))
+dataBehind offset = begunBytes ++ (foreign (version0 0 2) 0x40 2 (offset ∷ []) ++ boxed (pdat .code) (31 ∷ 32 ∷ []))
 
 -- an offset ahead is counted from the first byte of `pseg`, not from its body: the box has 52 bytes, and the header of `pdat` 8
 abbrev ahead : Example
@@ -260,7 +267,8 @@ abbrev otherFlags : Example
 otherFlags =
     record {
       defined =
-          says (lengthIn (begunBytes ++ foreign 0xffffff 0 0x80 7 [])) ++ says (lengthIn (begunBytes ++ foreign 0xfffffe 0 0x80 7 []));
+          says (lengthIn (begunBytes ++ foreign (version0 0xffffff 0) 0x80 7 []))
+          ++ says (lengthIn (begunBytes ++ foreign (version0 0xfffffe 0) 0x80 7 []));
       paper = pos 7 ∷ pos 1 ∷ pos 0 ∷ pos 7 ∷ pos 7 ∷ pos 0 ∷ pos 0 ∷ pos 7 ∷ [];
     }
 
@@ -322,7 +330,7 @@ mdat = 0x00 ∷ 0x00 ∷ 0x00 ∷ 0x0b ∷ 0x6d ∷ 0x64 ∷ 0x61 ∷ 0x74 ∷ 5
 abbrev servedOf : List ℕ → List ℕ → ℕ → ℕ → ℕ → List ℤ
 servedOf brands boxes flags size back =
     let start = boxed (ftyp .code) (bytesOf 4 0 ++ (bytesOf 4 0 ++ brands)) ++ drop 20 begunBytes in
-    let f = start ++ (boxes ++ foreign 0 0 flags size ((256 - back) ∷ [])) in
+    let f = start ++ (boxes ++ foreign (version0 0 0) flags size ((256 - back) ∷ [])) in
     says (reading sourceLimit f >>= λ ss. given (map pos (bytesIn f (servedPart (given ss) 0))))
 
 -- "A good chunk may then also lie in the file outside `pdat`, if it is exactly one or several neighbouring whole top-level boxes": `moof`, `mdat`, both
@@ -378,10 +386,12 @@ storedOutside =
     let f = grownBy mixedBytes (segmentWith true 0 false (8 ∷ 2 ∷ 3 ∷ 1 ∷ 16 ∷ 2 ∷ []) (free ++ (61 ∷ 62 ∷ 63 ∷ mdat16))) in
     record { defined = map pos f ++ says (missingIn f); paper = map pos (mixedBytes ++ (outsideBytes ++ (8 ∷ 3 ∷ []))) }
 
--- what append answers to a file, at 0, of chunks whose good ones are to go outside
+-- what append answers to a file; and to one, at 0, of chunks whose good ones are to go outside
+abbrev answerTo : List ℕ → Addition → List ℤ
+answerTo f a = says (appended sourceLimit (f ++ spare) (length f) a >>= λ size. given (pos size ∷ []))
+
 abbrev answerOf : List ℕ → List ℕ → List ℕ → List ℤ
-answerOf f list bytes =
-    says (appended sourceLimit (f ++ spare) (length f) (segmentWith true 0 false list bytes) >>= λ size. given (pos size ∷ []))
+answerOf f list bytes = answerTo f (segmentWith true 0 false list bytes)
 
 -- "35, after 32, for a good chunk to go outside that isn't whole allowed boxes or whose file isn't `pmff`": a box and a byte, a `pdat`, a `paff` file; a byte
 -- too many is 32. With no good chunk there is nothing to go outside: 55 bytes, a `pdat` of 11 and a `pseg` of 52
@@ -407,7 +417,7 @@ elsewhereRead =
 
 -- "it covers its positions and supplies none": of a segment at 2 with one such chunk of 7, nine are described and missing
 abbrev elsewhereMissing : Example
-elsewhereMissing = record { defined = says (lengthIn (begunBytes ++ foreign 0 2 0x00 7 [])); paper = map pos (9 ∷ 0 ∷ 0 ∷ 9 ∷ []) }
+elsewhereMissing = record { defined = says (lengthIn (begunBytes ++ foreign (version0 0 2) 0x00 7 [])); paper = map pos (9 ∷ 0 ∷ 0 ∷ 9 ∷ []) }
 
 -- what is added for good 4, elsewhere 5, damaged 3: the `pdat`, and the `pseg` with its `pshd` and `ploc`
 abbrev elsewhereBytes : List ℕ
@@ -435,13 +445,68 @@ elsewhereWrong =
       paper = map pos (31 ∷ 32 ∷ 106 ∷ []);
     }
 
+-- document 02, [5]: the first line of the map of a file whose one segment, with that `pshd`, has a lost chunk of that size
+abbrev sourceOf : List ℕ → ℕ → List ℤ
+sourceOf header size =
+    says (reading sourceLimit (begunBytes ++ foreign header 0x80 size []) >>= λ ss. given (map pos (sourceLine ss)))
+
+-- "Raise the highest source position and end to 1,099,511,627,775": an end and an offset there are read, and one more is 23
+abbrev highestRead : Example
+highestRead =
+    let of : ℕ → ℕ → List ℤ = λ start. sourceOf (version1 0 start) in
+    record {
+      defined = of 1_099_511_627_770 5 ++ (of 1_099_511_627_775 0 ++ (of 1_099_511_627_770 6 ++ of 1_099_511_627_776 0));
+      paper = map pos (ascii "source\t1099511627775\topen\nsource\t1099511627775\topen\n" ++ (23 ∷ 23 ∷ []));
+    }
+
+-- and so are additions, of a lost chunk and open: to 55 bytes comes a `pseg` of 55, or of 53 where it is open
+abbrev highestAdded : Example
+highestAdded =
+    let of : ℕ → List ℕ → List ℤ = λ offset list. answerTo begunBytes (segmentAt offset false list []) in
+    record {
+      defined =
+          of 1_099_511_627_770 (5 ∷ 0 ∷ [])
+          ++ (of 1_099_511_627_775 [] ++ (of 1_099_511_627_770 (6 ∷ 0 ∷ []) ++ of 1_099_511_627_776 []));
+      paper = map pos (110 ∷ 108 ∷ 23 ∷ 23 ∷ []);
+    }
+
+-- 5.1.4.2: the highest offset of 32 bits in both forms, and the next in 64 bits
+abbrev bothForms : Example
+bothForms =
+    record {
+      defined = sourceOf (version0 1 4_294_967_295) 0 ++ (sourceOf (version1 1 4_294_967_295) 0 ++ sourceOf (version1 1 4_294_967_296) 0);
+      paper = map pos (ascii "source\t4294967295\tclosed\nsource\t4294967295\tclosed\nsource\t4294967296\tclosed\n");
+    }
+
+-- the writer's form: version 0 for the one, version 1 for the other
+abbrev writersForm : Example
+writersForm =
+    record {
+      defined = map pos (pshdBody (segmentAt 4_294_967_295 true [] []) ++ pshdBody (segmentAt 4_294_967_296 true [] []));
+      paper =
+          map pos
+          (0x00 ∷ 0x00 ∷ 0x00 ∷ 0x01 ∷ 0xff ∷ 0xff ∷ 0xff ∷ 0xff ∷ 0x00 ∷ 0x00 ∷ 0x00 ∷ 0x00 ∷ 0x00 ∷ 0x00 ∷ 0x00 ∷ 0x00 ∷
+          0x01 ∷ 0x00 ∷ 0x00 ∷ 0x01 ∷ 0x00 ∷ 0x00 ∷ 0x00 ∷ 0x01 ∷ 0x00 ∷ 0x00 ∷ 0x00 ∷ 0x00 ∷
+          0x00 ∷ 0x00 ∷ 0x00 ∷ 0x00 ∷ 0x00 ∷ 0x00 ∷ 0x00 ∷ 0x00 ∷ []);
+    }
+
+-- a byte past 4 GiB is served
+abbrev servedFar : Example
+servedFar =
+    let f = grownBy begunBytes (segmentAt 4_294_967_296 false (2 ∷ 2 ∷ []) (81 ∷ 82 ∷ [])) in
+    record {
+      defined = says (reading sourceLimit f >>= λ ss. given (pos (Option·getD (served f ss 4_294_967_297) 0) ∷ []));
+      paper = pos 82 ∷ [];
+    }
+
 unfoldable pub table : List Example
 table =
     P1 ∷ P2 ∷ P3 ∷ P4 ∷ P5 ∷ P6 ∷ P7 ∷ P8 ∷ P9 ∷ P10 ∷ P11 ∷ P12 ∷
     map10 ∷ map11 ∷ rowsFit ∷ rowsShort ∷ ahead ∷ overHeader ∷ damagedBytes ∷ openLast ∷ otherFlags ∷
     vendorForms ∷ largeVendorForms ∷ boxes3 ∷
     begunMixed ∷ wholeServed ∷ notWhole ∷ byBrand ∷ storedOutside ∷ outsideWrong ∷
-    elsewhereRead ∷ elsewhereMissing ∷ elsewhereStored ∷ elsewhereWrong ∷ []
+    elsewhereRead ∷ elsewhereMissing ∷ elsewhereStored ∷ elsewhereWrong ∷
+    highestRead ∷ highestAdded ∷ bothForms ∷ writersForm ∷ servedFar ∷ []
 
 -- at every row the definitions say what the paper says
 abbrev pub AsThePaperSays : Type 0

@@ -21,3 +21,4 @@ pub mod Answers
 pub mod Lesson
 pub mod Examples
 pub mod Demands
+pub mod Raised

@@ -7,6 +7,6 @@ pub const SEGMENT_LIMIT: u64 = 64;
 // The most chunks of a file.
 pub const CHUNK_LIMIT: u64 = 1_024;
 // The highest source position or end.
-pub const SOURCE_LIMIT: u64 = 4_294_967_295;
+pub const SOURCE_LIMIT: u64 = 1_099_511_627_775;
 // The most bytes that the map program takes.
 pub const PROGRAM_LIMIT: u64 = 65_536;

@@ -2,6 +2,7 @@
 use Prim.Native.Nat.{ℕ, _+_, _*_, _/_, _%_, _^_, _≤_, _<_}
 use mathlib.Core.Bool.{Bool, true, false}
 use mathlib.Core.List.{List, [], _∷_, _++_, map}
+use mathlib.Core.Logic.{inl, inr}
 use mathlib.Core.Path.{_≡_, refl}
 use native.Mathlib.Omega.{arith}
 use borrow.Author.Tests.{le-leb}
@@ -18,6 +19,7 @@ use Rattle.partial.specs.Reading.{offsetWidth, pshdFields}
 use Rattle.partial.specs.Begin.{versionAndFlags}
 use Rattle.partial.specs.Addition.{Addition, flagsFor}
 use Rattle.partial.specs.Append.{lengthSize, offsetSize, entryBytes, plocBody, versionFor, pshdBody, Placed}
+use Rattle.partial.proofs.Meaning.SequenceLaws.{which}
 use Rattle.partial.proofs.Writing.StandsLaws.{Stands, stands-byte, stands-tail, stands-left, stands-right, stands-number}
 
 -- ---- `pshd`
@@ -25,11 +27,11 @@ use Rattle.partial.proofs.Writing.StandsLaws.{Stands, stands-byte, stan
 -- the writer's version has room for the offset
 version-holds : (offset : ℕ) → offset < 2 ^ 64 → offset < 256 ^ offsetWidth (versionFor offset)
 unfolding versionFor offsetWidth
-version-holds offset h = go (holds 4 offset) refl
-  where
-    go : (t : Bool) → holds 4 offset ≡ t → offset < 256 ^ offsetWidth (elim t [ true ↦ 0 | false ↦ 1 ])
-    go true e = holds-below 4 offset e
-    go false e = h
+version-holds offset h =
+    elim (which (holds 4 offset)) [
+      | inl e ↦ rw (versionFor, e) (omega (arith, holds-below 4 offset e))
+      | inr e ↦ rw (versionFor, e) (omega arith)
+    ]
 
 flags-hold : (last : Bool) → flagsFor last < 256 ^ 3
 flags-hold true = lit< tt

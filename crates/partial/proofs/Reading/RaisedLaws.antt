@@ -1,0 +1,145 @@
+-- A file read under a source limit and under a higher one: the same answer, or 23 under the lower.
+use Prim.Native.Nat.{ℕ, zero, suc, _+_, _≤_}
+use mathlib.Core.Bool.{false}
+use mathlib.Core.List.{List, [], _∷_, _++_}
+use mathlib.Core.Logic.{_⊎_, inl, inr, ⊎-elim}
+use mathlib.Core.Path.{_≡_, refl, sym, _∙_}
+use native.Mathlib.Omega.{arith}
+use borrow.Author.Tests.{leb-true, le-leb}
+use lib.Dec.{leb, eqb}
+use lib.ListN.{length}
+use Rattle.boxes.specs.Answer.{Answer, refused, given, _>>=_, hold}
+use Rattle.boxes.specs.Framing.{Box, boxesIn}
+use Rattle.boxes.specs.Kinds.{pseg, pshd, ploc, surl, right, those, firstOf}
+use Rattle.boxes.specs.declared.kinds.Container.the-variants.{File, Pseg}
+use Rattle.boxes.proofs.AnswerLaws.{not-both}
+use Rattle.partial.specs.Limits.{segmentLimit, chunkLimit}
+use Rattle.partial.specs.Segments.{Segment, chunksOf}
+use Rattle.partial.specs.Heading.{Heading, heading, Part}
+use Rattle.partial.specs.Entries.{Ploc, Cursor, plocHead, entry, chunkStep, chunksFrom}
+use Rattle.partial.specs.Reading.{pshdFields, pshdRight, segment, segmentsFrom, segments, reading}
+use Rattle.partial.specs.Tables.{tabled, listed, asked, textOf}
+use Rattle.partial.specs.Map.{refusedLine, mapText}
+use Rattle.partial.specs.Raised.{Kept}
+use Rattle.partial.proofs.Meaning.SequenceLaws.{which}
+use Rattle.partial.proofs.Reading.PrintedLaws.{printed}
+
+-- the same, or the first was 23
+abbrev pub Same : {A : Type 0} → Answer A → Answer A → Type 0
+Same low high = (high ≡ low) ⊎ (low ≡ refused 23)
+
+-- so what was accepted is accepted with the same
+pub kept : {A : Type 0} (low high : Answer A) → Same low high → Kept low high
+kept low high same = record { accepted = λ a e. ⊎-elim (λ s. s ∙ e) (λ was. absurd (not-both (sym was ∙ e))) same; elseWas23 = same }
+
+-- what follows the same is the same, where that is so of each value that was given
+pub same-then : {A B : Type 0} (x y : Answer A) (f g : A → Answer B) → Same x y → ((a : A) → Same (f a) (g a)) → Same (x >>= f) (y >>= g)
+same-then (refused n) y f g (inl e) rest = inl (rw e)
+same-then (given a) y f g (inl e) rest = rw e (rest a)
+same-then x y f g (inr e) rest = inr (rw e)
+
+pub same-after : {A B : Type 0} (x : Answer A) (f g : A → Answer B) → ((a : A) → Same (f a) (g a)) → Same (x >>= f) (x >>= g)
+same-after x f g rest = same-then x x f g (inl refl) rest
+
+module _ (low high : ℕ) (raised : low ≤ high) where
+  -- the test of 23: what passes it under the lower limit passes it under the higher
+  pub same-held : {A : Type 0} (n : ℕ) (f g : Unit {0} → Answer A) → Same (f tt) (g tt) → Same (hold 23 (leb n low) >>= f) (hold 23 (leb n high) >>= g)
+  same-held n f g rest =
+      elim (which (leb n low)) [
+        | inl passes ↦ rw (passes, le-leb n high (omega (arith, leb-true n low passes))) rest
+        | inr fails ↦ inr (rw fails)
+      ]
+
+  module _ (f : List ℕ) (h : Heading) where
+    step-same : (from : ℕ) (l : Ploc) (c : Cursor) → Same (chunkStep low f h from l c) (chunkStep high f h from l c)
+    unfolding chunkStep
+    step-same from l c = same-after (entry f l (c .at)) _ _ (λ e. same-held (c .start + e .size) _ _ (inl refl))
+
+    chunks-same : (from : ℕ) (l : Ploc) (n : ℕ) (c : Cursor) → Same (chunksFrom low f h from l n c) (chunksFrom high f h from l n c)
+    unfolding chunksFrom
+    chunks-same from l zero c = inl refl
+    chunks-same from l (suc n) c =
+        same-then (chunkStep low f h from l c) (chunkStep high f h from l c) _ _ (step-same from l c)
+        (λ met. same-then (chunksFrom low f h from l n (met .1)) (chunksFrom high f h from l n (met .1)) _ _ (chunks-same from l n (met .1)) (λ rest. inl refl))
+
+    segment-same : (before : List Segment) (b : Box) → Same (segment low f h before b) (segment high f h before b)
+    unfolding segment
+    segment-same before b =
+        same-after (boxesIn Pseg f (b .body) (b .end)) _ _
+        (λ inner.
+        let offset = pshdFields f (firstOf pshd inner) .sourceOffset in
+        same-after (hold 14 (pshdRight f inner)) _ _
+        (λ _.
+        same-after (hold 15 (right Pseg ploc inner)) _ _
+        (λ _.
+        same-after (hold 16 (eqb (length (those surl inner)) 0)) _ _
+        (λ _.
+        same-after (plocHead f (firstOf ploc inner)) _ _
+        (λ l.
+        same-after (hold 22 (leb (length (chunksOf before) + l .count) chunkLimit)) _ _
+        (λ _.
+        let first : Cursor = record { at = l .first; start = offset } in
+        same-held offset _ _
+        (same-then (chunksFrom low f h (b .at) l (l .count) first) (chunksFrom high f h (b .at) l (l .count) first) _ _
+        (chunks-same (b .at) l (l .count) first)
+        (λ chunks. inl refl))))))))
+
+    segments-from-same : (before : List Segment) (bs : List Box) → Same (segmentsFrom low f h before bs) (segmentsFrom high f h before bs)
+    unfolding segmentsFrom
+    segments-from-same before [] = inl refl
+    segments-from-same before (b ∷ bs) =
+        same-then (segment low f h before b) (segment high f h before b) _ _ (segment-same before b)
+        (λ s. segments-from-same (before ++ (s ∷ [])) bs)
+
+    pub segments-same : Same (segments low f h) (segments high f h)
+    unfolding segments
+    segments-same =
+        let psegs = those pseg (h .boxes) in
+        same-after (hold 13 (leb (length psegs) segmentLimit)) _ _
+        (λ _. same-then (segmentsFrom low f h [] psegs) (segmentsFrom high f h [] psegs) _ _ (segments-from-same [] psegs) (λ ss. inl refl))
+
+  pub reading-same : (f : List ℕ) → Same (reading low f) (reading high f)
+  unfolding reading
+  reading-same f = same-after (heading f) _ _ (λ h. same-after (hold 12 (right File pseg (h .boxes))) _ _ (λ _. segments-same f h))
+
+  pub tabled-same : (f a b : List ℕ) → Same (tabled low f a b) (tabled high f a b)
+  unfolding tabled
+  tabled-same f a b = same-then (reading low f) (reading high f) _ _ (reading-same f) (λ ss. inl refl)
+
+  pub listed-same : (f a b h m : List ℕ) → Same (listed low f a b h m) (listed high f a b h m)
+  unfolding listed
+  listed-same f a b h m = same-then (tabled low f a b) (tabled high f a b) _ _ (tabled-same f a b) (λ ss. inl refl)
+
+  pub asked-same : (f a b : List ℕ) (p : ℕ) → Same (asked (tabled low f a b) p) (asked (tabled high f a b) p)
+  unfolding asked
+  asked-same f a b p = same-then (tabled low f a b) (tabled high f a b) _ _ (tabled-same f a b) (λ ss. inl refl)
+
+  -- of a file that was accepted
+  pub texts-same : (text : List ℕ → Box → Part) (f : List ℕ) (ss : List Segment) → reading low f ≡ given ss → textOf text high f ≡ textOf text low f
+  unfolding textOf
+  texts-same text f ss e = rw (textOf, e, kept _ _ (reading-same f) .accepted ss e)
+
+  -- an over-long input has one map, and any other its map by what is read
+  map-over : (most : ℕ) (input : List ℕ) → leb (length input) most ≡ false → mapText high most input ≡ mapText low most input
+  unfolding mapText
+  map-over most input over = rw (mapText, over)
+
+  map-by : (most : ℕ) (input : List ℕ) → reading high input ≡ reading low input → mapText high most input ≡ mapText low most input
+  unfolding mapText
+  map-by most input e = elim (which (leb (length input) most)) [ inl takes ↦ rw (mapText, takes, e) | inr over ↦ map-over most input over ]
+
+  pub maps-accepted : (most : ℕ) (input : List ℕ) (ss : List Segment) → reading low input ≡ given ss → mapText high most input ≡ mapText low most input
+  maps-accepted most input ss e = map-by most input (kept _ _ (reading-same input) .accepted ss e ∙ sym e)
+
+  abbrev MapSame : ℕ → List ℕ → Type 0
+  MapSame most input = (mapText high most input ≡ mapText low most input) ⊎ (mapText low most input ≡ refusedLine 23)
+
+  map-was : (most : ℕ) (input : List ℕ) → reading low input ≡ refused 23 → MapSame most input
+  map-was most input was =
+      elim (which (leb (length input) most)) [
+        | inl takes ↦ inr (printed low most input .refusal 23 (leb-true (length input) most takes) was)
+        | inr over ↦ inl (map-over most input over)
+      ]
+
+  pub maps-same : (most : ℕ) (input : List ℕ) → MapSame most input
+  maps-same most input = ⊎-elim (λ same. inl (map-by most input same)) (map-was most input) (reading-same input)

@@ -1,0 +1,74 @@
+-- What a higher source limit leaves as it was: an addition has the same answer and the same bytes, or had 23; and with the laws of reading all
+-- that is stated.
+use Prim.Native.Nat.{ℕ, _+_, _≤_}
+use mathlib.Core.List.{List}
+use mathlib.Core.Logic.{inl}
+use mathlib.Core.Path.{_≡_, refl, sym, ap, _∙_}
+use lib.Dec.{leb}
+use lib.ListN.{length, take}
+use Rattle.boxes.specs.Answer.{given, hold}
+use Rattle.boxes.specs.Framing.{boxLimit}
+use Rattle.partial.specs.Limits.{fileLimit, segmentLimit, chunkLimit}
+use Rattle.partial.specs.Segments.{Segment, chunksOf, endOf}
+use Rattle.partial.specs.Heading.{Heading, heading}
+use Rattle.partial.specs.Reading.{segments, admitted}
+use Rattle.partial.specs.Tables.{servedPart}
+use Rattle.partial.specs.Addition.{Addition, listRight, dataRight, outsideRight}
+use Rattle.partial.specs.Append.{addedBoxes, added, psegPlace, newSegment, admission, appended}
+use Rattle.partial.specs.Runs.{lent, append}
+use Rattle.partial.specs.Raised.{Raised}
+use Rattle.partial.proofs.Reading.RaisedLaws.{Same, kept, same-then, same-after, same-held, segments-same, reading-same, tabled-same, listed-same}
+use Rattle.partial.proofs.Reading.RaisedLaws.{asked-same, texts-same, maps-accepted, maps-same}
+
+module _ (low high : ℕ) (raised : low ≤ high) where
+  admitted-same : (before : List Segment) (s : Segment) → Same (admitted low before s) (admitted high before s)
+  unfolding admitted
+  admitted-same before s =
+      same-after (hold 13 (leb (length before + 1) segmentLimit)) _ _
+      (λ _.
+      same-after (hold 22 (leb (length (chunksOf before) + length (s .chunks)) chunkLimit)) _ _
+      (λ _. same-held low high raised (endOf s) _ _ (inl refl)))
+
+  admission-same : (h : Heading) (ss : List Segment) (n : ℕ) (a : Addition) → Same (admission low h ss n a) (admission high h ss n a)
+  unfolding admission
+  admission-same h ss n a =
+      same-after (hold 1 (leb (n + length (added a)) fileLimit)) _ _
+      (λ _.
+      same-after (hold 6 (leb (length (h .boxes) + addedBoxes a) boxLimit)) _ _
+      (λ _. admitted-same ss (newSegment (psegPlace n a) a)))
+
+  appended-same : (buffer : List ℕ) (n : ℕ) (a : Addition) → Same (appended low buffer n a) (appended high buffer n a)
+  unfolding appended
+  appended-same buffer n a =
+      let f = take n buffer in
+      same-after (hold 30 (leb n (length buffer))) _ _
+      (λ _.
+      same-after (heading f) _ _
+      (λ h.
+      same-then (segments low f h) (segments high f h) _ _ (segments-same low high raised f h)
+      (λ ss.
+      same-after (hold 31 (listRight (a .list))) _ _
+      (λ _.
+      same-after (hold 32 (dataRight a)) _ _
+      (λ _.
+      same-after (hold 35 (outsideRight h a)) _ _
+      (λ _. same-then (admission low h ss n a) (admission high h ss n a) _ _ (admission-same h ss n a) (λ _. inl refl)))))))
+
+  bytes-same : (buffer : List ℕ) (n : ℕ) (a : Addition) (size : ℕ) → appended low buffer n a ≡ given size → append high (lent buffer n) a ≡ append low (lent buffer n) a
+  unfolding append
+  bytes-same buffer n a size e = rw (e, kept _ _ (appended-same buffer n a) .accepted size e)
+
+  pub raised-limit : Raised low high
+  raised-limit =
+      record {
+        reads = λ f. kept _ _ (reading-same low high raised f);
+        tables = λ f a b. kept _ _ (tabled-same low high raised f a b);
+        lists = λ f a b h m. kept _ _ (listed-same low high raised f a b h m);
+        asks = λ f a b p. kept _ _ (asked-same low high raised f a b p);
+        serves = λ f a b p ss e. ap (λ r. servedPart r p) (kept _ _ (tabled-same low high raised f a b) .accepted ss e ∙ sym e);
+        texts = texts-same low high raised;
+        maps = maps-accepted low high raised;
+        mapElseWas23 = maps-same low high raised;
+        appends = λ buffer n a. kept _ _ (appended-same buffer n a);
+        bytes = bytes-same;
+      }

@@ -1,0 +1,55 @@
+-- Document 02, [5]: "Prove that old files keep their maps and that the writer gives the same bytes for every segment accepted before", of any
+-- two source limits of which the one is not below the other.
+use Prim.Native.Nat.{ℕ}
+use mathlib.Core.List.{List}
+use mathlib.Core.Logic.{_⊎_}
+use mathlib.Core.Path.{_≡_}
+use Rattle.boxes.specs.Answer.{Answer, refused, given}
+use Rattle.boxes.specs.Framing.{Box}
+use Rattle.partial.specs.Segments.{Segment}
+use Rattle.partial.specs.Heading.{Part}
+use Rattle.partial.specs.Reading.{reading}
+use Rattle.partial.specs.Tables.{tabled, listed, servedPart, asked, textOf}
+use Rattle.partial.specs.Map.{refusedLine, mapText}
+use Rattle.partial.specs.Addition.{Addition}
+use Rattle.partial.specs.Append.{appended}
+use Rattle.partial.specs.Runs.{lent, append}
+
+-- an answer under the lower limit, and the answer under the higher one
+pub record Kept {A : Type 0} (low high : Answer A) : Type 0 where
+  -- what was given is given
+  pub accepted : (a : A) → low ≡ given a → high ≡ given a
+  -- what is not the same was 23
+  pub elseWas23 : (high ≡ low) ⊎ (low ≡ refused 23)
+
+-- what a source limit leaves as it was under a lower one
+pub record Raised (low high : ℕ) : Type 0 where
+  -- an accepted file has the same segments, and so the same rows in the tables and in the lists
+  pub reads : (f : List ℕ) → Kept (reading low f) (reading high f)
+  pub tables : (f a b : List ℕ) → Kept (tabled low f a b) (tabled high f a b)
+  pub lists : (f a b h m : List ℕ) → Kept (listed low f a b h m) (listed high f a b h m)
+  -- asking of a position has the same answer
+  pub asks : (f a b : List ℕ) (p : ℕ) → Kept (asked (tabled low f a b) p) (asked (tabled high f a b) p)
+  -- serving hands back the same part of an accepted file, and its URL and MIME text are the same parts
+  pub serves :
+      (f a b : List ℕ) (p : ℕ) (ss : List Segment)
+      → tabled low f a b ≡ given ss
+      → servedPart (tabled high f a b) p ≡ servedPart (tabled low f a b) p
+  pub texts :
+      (which : List ℕ → Box → Part) (f : List ℕ) (ss : List Segment)
+      → reading low f ≡ given ss
+      → textOf which high f ≡ textOf which low f
+  -- "old files keep their maps", whatever the most is that the program takes; of any input, a map that is not the same was the line of 23
+  pub maps :
+      (most : ℕ) (input : List ℕ) (ss : List Segment)
+      → reading low input ≡ given ss
+      → mapText high most input ≡ mapText low most input
+  pub mapElseWas23 :
+      (most : ℕ) (input : List ℕ)
+      → (mapText high most input ≡ mapText low most input) ⊎ (mapText low most input ≡ refusedLine 23)
+  -- an addition that was accepted has the same answer, and "the writer gives the same bytes": the buffer and the length of the file in it
+  pub appends : (buffer : List ℕ) (n : ℕ) (a : Addition) → Kept (appended low buffer n a) (appended high buffer n a)
+  pub bytes :
+      (buffer : List ℕ) (n : ℕ) (a : Addition) (size : ℕ)
+      → appended low buffer n a ≡ given size
+      → append high (lent buffer n) a ≡ append low (lent buffer n) a
