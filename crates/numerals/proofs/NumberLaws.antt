@@ -86,6 +86,24 @@ ones-shifted w h =
     ∙ suc-ones (8 * w)
     ∙ power-two w
 
+-- two numbers that stand one behind the other are one number of both widths
+pub number-joined : (s : List ℕ) (at w v : ℕ) → number s at (w + v) ≡ number s at w * 256 ^ v + number s (at + w) v
+unfolding number
+number-joined s at w zero = rw (add-zero w) (omega arith)
+number-joined s at w (suc v) = rw (add-suc, number-joined s at w v, pow-suc 256 v, add-assoc) (omega arith)
+
+-- what is left of a number when its last v bytes are shifted out is the number of the bytes before them
+pub number-shifted : (s : List ℕ) (at w v : ℕ) → ((k : ℕ) → getD s k 0 < 256) → number s at (w + v) / 2 ^ (8 * v) ≡ number s at w
+number-shifted s at w v bytes =
+    rw (power-two v, number-joined s at w v) (digits-div (number s at w) (number-below s (at + w) v bytes))
+
+-- so a number of w bytes is what is left of eight
+pub number-front : (s : List ℕ) (at w : ℕ) → ((k : ℕ) → getD s k 0 < 256) → w ≤ 8 → number s at 8 / 2 ^ (64 - 8 * w) ≡ number s at w
+number-front s at w bytes h =
+    let all : w + (8 - w) ≡ 8 = omega arith in
+    let bits : 8 * (8 - w) ≡ 64 - 8 * w = omega arith in
+    rw (all, bits) at (number-shifted s at w (8 - w) bytes)
+
 -- ---- writing
 
 -- w bytes are w bytes

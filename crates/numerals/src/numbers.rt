@@ -3,6 +3,7 @@ use crate::place::Place;
 ghost use Prim.Native.Nat.{ℕ, _+_, _-_, _^_, _≤_, _<_, min};
 ghost use mathlib.Core.Bool.{true};
 ghost use mathlib.Core.Path.{_≡_};
+ghost use lib.Dec.{leb};
 ghost use lib.ListN.{length, getD};
 ghost use Rattle.numerals.specs.Numbers.{number, bytesOf, signed, twosComplement, holds, holdsOffset, leastWidth};
 ghost use Rattle.numerals.specs.Stored.{stored, Stores};
@@ -32,11 +33,11 @@ fn byte_after(s: &[u8], at: Place, i: usize) -> u8
     if i < s.len() - from { s[from + i] } else { 0 }
 }
 
-// The number of that width at a place, worked out straight from the bytes. Those past the end count as 0.
-pub fn unsigned(s: &[u8], at: Place, width: usize) -> u64
-    ensures { λ r. ⌜ r ≡ number (now (s .entry)) (at .0) (min width 8) ⌝ }
+// The number of w bytes at a place, byte by byte. Those past the end count as 0.
+fn by_bytes(s: &[u8], at: Place, w: usize) -> u64
+    requires { ⌜ w ≤ 8 ⌝ }
+    ensures { λ r. ⌜ r ≡ number (now (s .entry)) (at .0) w ⌝ }
 {
-    let w = within(width);
     let mut n: u64 = 0;
     let mut i = 0;
     while i < w {
@@ -44,6 +45,46 @@ pub fn unsigned(s: &[u8], at: Place, width: usize) -> u64
         i += 1;
     }
     n
+}
+
+// Whether eight bytes stand from one on.
+fn eight_stand(s: &[u8], from: usize) -> bool
+    ensures { λ r. ⌜ r ≡ leb (from + 8) (length (now (s .entry))) ⌝ }
+{
+    if s.len() < 8 {
+        return false;
+    }
+    from <= s.len() - 8
+}
+
+// The number of the eight bytes from one on. None of them is tested, so that the compiler makes one load of the loop.
+fn eight(s: &[u8], from: usize) -> u64
+    requires { ⌜ from + 8 ≤ length (now s) ⌝ }
+    ensures { λ r. ⌜ r ≡ number (now (s .entry)) from 8 ⌝ }
+{
+    let mut n: u64 = 0;
+    let mut i = 0;
+    while i < 8 {
+        n = n * 256 + s[from + i] as u64;
+        i += 1;
+    }
+    n
+}
+
+// The number of that width at a place, worked out straight from the bytes: where eight stand there, it is what is left of these when the ones behind
+// it are shifted out. Bytes past the end count as 0.
+pub fn unsigned(s: &[u8], at: Place, width: usize) -> u64
+    ensures { λ r. ⌜ r ≡ number (now (s .entry)) (at .0) (min width 8) ⌝ }
+{
+    let w = within(width);
+    if w == 0 {
+        return 0;
+    }
+    let from = at.0 as usize;
+    if eight_stand(s, from) {
+        return eight(s, from) >> (64 - 8 * w);
+    }
+    by_bytes(s, at, w)
 }
 
 // The largest number of w bytes: one more would not fit where w is 8.

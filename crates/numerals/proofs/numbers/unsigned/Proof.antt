@@ -1,71 +1,56 @@
--- `numerals::numbers::unsigned` meets its contract. The loop's invariant: the number of the bytes passed, which is below that power of 256.
-use Prim.Native.Nat.{_-_, _^_, _≤_, _<_}
-use mathlib.Core.Path.{_≡_}
+-- `numerals::numbers::unsigned` meets its contract: what is left of eight bytes is the number of the first of them.
+use mathlib.Core.Path.{sym, _∙_}
 use borrow.Author.Needs.{needs}
+use borrow.Author.Tests.{leb-true}
 use native.Mathlib.Omega.{arith}
-use mir.Syntax.{w8}
-use mir.Val.{Fits}
-use Rattle.numerals.specs.Numbers.{number}
-use Rattle.numerals.proofs.NumberLaws.{number-more, more-below, room}
+use Rattle.numerals.proofs.NumberLaws.{number-none, number-front}
 use Rattle.numerals.proofs.numbers.unsigned.Statement.{statement}
 use Rattle.numerals.proofs.numbers.unsigned.Tie as tie
 
-abbrev Inv-loop : tie.InvT-loop
-Inv-loop s at width w n₀ i₀ n i = (i ≤ w) × (n ≡ number s (at .0) i) × (n < 256 ^ i)
-
-abbrev μ-loop : tie.MeasureT-loop
-μ-loop s at width w n₀ i₀ n i = w - i
-
-within-requires : tie.Need-within-requires Inv-loop μ-loop
+within-requires : tie.Need-within-requires
 within-requires c κs = search needs
 
-loop-holds : tie.Need-loop-holds Inv-loop μ-loop
-unfolding number
-loop-holds c = search needs
+returns : tie.Need-returns
+returns c = rw (← c .before .within .ensures, c .if1 .taken) (sym (number-none _ _))
 
-mul-n : tie.Need-mul-n Inv-loop μ-loop
-mul-n c = omega (arith, c .before .before .within .ensures, room _ 0 _ (c .before .loop .inv .2) (omega arith) (omega (arith, c .before .before .within .ensures)))
+eight-stand-requires : tie.Need-eight-stand-requires
+eight-stand-requires c κs = search needs
 
-byte-after-requires : tie.Need-byte-after-requires Inv-loop μ-loop
-byte-after-requires c κs = search needs
+eight-requires : tie.Need-eight-requires
+eight-requires c κs = leb-true _ _ (sym (c .before .eight-stand .ensures) ∙ c .if2 .taken)
 
-cast-n : tie.Need-cast-n Inv-loop μ-loop
-cast-n c = search needs
+mul-result : tie.Need-mul-result
+mul-result c = search needs
 
-add-n : tie.Need-add-n Inv-loop μ-loop
-add-n c =
-    let byte : Fits w8 (c .byte-after .result) = search needs in
-    record { fits = room _ _ _ (c .before .before .loop .inv .2) (byte .fits) (omega (arith, c .before .before .before .within .ensures)) }
+sub-result : tie.Need-sub-result
+sub-result c = search needs
 
-add-i : tie.Need-add-i Inv-loop μ-loop
-add-i c = omega (arith, c .before .before .before .within .ensures)
+shr-result : tie.Need-shr-result
+shr-result c = search needs
 
-loop-less : tie.Need-loop-less Inv-loop μ-loop
-loop-less c = search needs
+returns-2 : tie.Need-returns-2
+returns-2 c =
+    let asked = c .before .before .before .before in
+    rw (c .eight .ensures, ← asked .within .ensures)
+    (number-front _ _ _ (λ k. omega (arith, asked .before .shared-slice-known .given k)) (omega (arith, asked .within .ensures)))
 
-loop-again : tie.Need-loop-again Inv-loop μ-loop
-loop-again c =
-    let byte : Fits w8 (c .byte-after .result) = search needs in
-    (search needs, rw (number-more, ← c .byte-after .ensures, ← c .before .before .loop .inv .1), more-below _ _ _ (c .before .before .loop .inv .2) (byte .fits))
+by-bytes-requires : tie.Need-by-bytes-requires
+by-bytes-requires c κs = search needs
 
-returns : tie.Need-returns Inv-loop μ-loop
-returns c =
-    let all : c .before .loop .i ≡ c .before .before .within .result = omega arith in
-    rw (← c .before .before .within .ensures, ← all) (c .before .loop .inv .1)
+returns-3 : tie.Need-returns-3
+returns-3 c = rw (← c .before .before .before .before .within .ensures) (c .by-bytes .ensures)
 
 pub unsigned-spec : {M : Type 1} → statement M
 unsigned-spec =
     tie.close
     (tie.spec
-    Inv-loop
-    μ-loop
     within-requires
-    loop-holds
-    mul-n
-    byte-after-requires
-    cast-n
-    add-n
-    add-i
-    loop-less
-    loop-again
-    returns)
+    returns
+    eight-stand-requires
+    eight-requires
+    mul-result
+    sub-result
+    shr-result
+    returns-2
+    by-bytes-requires
+    returns-3)
