@@ -55,11 +55,18 @@ static void list_film(const struct calls *program, const struct asking *a)
     program->list(a->film, a->length, ALL(segments), ALL(chunks), ALL(had), ALL(missing), told);
 }
 
+static uint8_t text[MAP_ROOM];
+
 static void map_film(const struct calls *program, const struct asking *a)
 {
-    static uint8_t text[MAP_ROOM];
     uint64_t told[1];
     program->map(a->film, a->length, UINT64_MAX, text, sizeof text, told);
+}
+
+static void missmap_film(const struct calls *program, const struct asking *a)
+{
+    uint64_t told[1];
+    program->missmap(a->film, a->length, UINT64_MAX, text, sizeof text, told);
 }
 
 static void ask_once(int program, void *given)
@@ -126,6 +133,8 @@ static void compare_calls(const char *folder)
     compare_on(folder, "overlapping", "list", list_film, 0);
     compare_on(folder, "in_order", "list", list_film, 0);
     compare_on(folder, "in_order", "map", map_film, 0);
+    compare_on(folder, "in_order", "missmap", missmap_film, 0);
+    compare_on(folder, "damaged", "map", map_film, 0);
 }
 
 static void compare_growth(const char *folder)

@@ -10,6 +10,7 @@ struct calls {
     __typeof__(&vrazhupa_ask) ask;
     __typeof__(&vrazhupa_list) list;
     __typeof__(&vrazhupa_map) map;
+    __typeof__(&vrazhupa_missmap) missmap;
     __typeof__(&vrazhupa_begin) begin;
     __typeof__(&vrazhupa_append) append;
 };

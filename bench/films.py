@@ -7,12 +7,12 @@ sys.path.insert(0, os.path.join(os.path.dirname(os.path.abspath(__file__)), os.p
 
 from boxes import box, entry, head, ploc, pshd  # noqa: E402
 
-GOOD, LOST = 0x40, 0x80
+GOOD, DAMAGED, LOST = 0x40, 0xC0, 0x80
 
 
 def pseg(place, offset, chunks, widths, last=False):
-    """A segment at a place of the file; a chunk is its size and its place, None where it is lost."""
-    entries = [entry(LOST, widths[0], size) if at is None else entry(GOOD, widths[0], size, widths[1], at - place) for size, at in chunks]
+    """A segment at a place of the file; a chunk is its flag byte, its size and its place, None where it has none."""
+    entries = [entry(flags, widths[0], size, *[] if at is None else [widths[1], at - place]) for flags, size, at in chunks]
     return box(b"pseg", pshd(offset, 1 if last else 0), ploc(*widths, entries))
 
 
@@ -22,29 +22,30 @@ def as_written(segments, size):
     for offset, count in segments:
         data = box(b"pdat", bytes(count * size))
         first = len(file) + 8
-        chunks = [(size, first + size * i) for i in range(count)]
+        chunks = [(GOOD, size, first + size * i) for i in range(count)]
         file += data
         file += pseg(len(file), offset, chunks, (4, 4), (offset, count) == segments[-1])
     return file
 
 
-def data_first(bodies, size, segments, widths=(8, 8), last=True):
-    """So many data boxes, then the segments; a segment is its source offset and, for each of its chunks of a size, the number of its data box."""
+def data_first(bodies, size, segments, widths=(8, 8), last=True, damaged=()):
+    """So many data boxes, then the segments; a segment is its source offset and, for each of its chunks of a size, the number of its data box, None where it is lost. The chunks
+    of damaged boxes are."""
     file = head(b"http://films.example/lesson", b"video/mp4")
     places = []
     for _ in range(bodies):
         places.append(len(file) + 8)
         file += box(b"pdat", bytes(size))
     for number, (offset, among) in enumerate(segments):
-        chunks = [(size, None if body is None else places[body]) for body in among]
+        chunks = [(LOST, size, None) if body is None else (DAMAGED if body in damaged else GOOD, size, places[body]) for body in among]
         file += pseg(len(file), offset, chunks, widths, last and number == len(segments) - 1)
     return file
 
 
-def sixteens(bodies, body_of, size=64):
+def sixteens(bodies, body_of, size=64, damaged=()):
     """64 segments of 16 chunks in order in the source."""
     numbers = [[body_of(16 * s + i) for i in range(16)] for s in range(64)]
-    return data_first(bodies, size, [(16 * s * size, among) for s, among in enumerate(numbers)])
+    return data_first(bodies, size, [(16 * s * size, among) for s, among in enumerate(numbers)], damaged=damaged)
 
 
 def films():
@@ -57,6 +58,7 @@ def films():
     yield "refused", far[:-8] + (1 << 40).to_bytes(8, "big")
     yield "overlapping", as_written([(37 * s, 16) for s in range(64)], 100)
     yield "in_order", sixteens(1, lambda i: None if i % 2 else 0)
+    yield "damaged", sixteens(2, lambda i: (0, 1, None, 1)[i % 4], damaged={1})
     for chunks in (16, 64, 256, 1024):
         yield "chunks_%d" % chunks, data_first(1, 64, [(0, [None if i % 2 else 0 for i in range(chunks)])])
     for boxes in (8, 64, 512):

@@ -121,13 +121,17 @@ struct range {
     source_position first, end;
 };
 
-/* The ranges that a file has: maximal, ascending; and the totals. */
-struct had {
+/* Ranges, maximal and ascending, and behind the last one a range beyond every position. */
+struct ranges {
     uint32_t count;
-    uint32_t missing_count;
-    uint64_t received;
-    struct range range[VRAZHUPA_CHUNKS];
+    struct range range[VRAZHUPA_CHUNKS + 1];
 };
+
+static inline void close_ranges(struct ranges *ranges, uint32_t count)
+{
+    ranges->count = count;
+    ranges->range[count] = (struct range){(source_position)-1, (source_position)-1};
+}
 
 /* Reads a file; ACCEPTED or its refusal, 1 to 25. */
 enum refusal plain_read(const uint8_t *file, size_t file_length, struct partial *partial);
@@ -136,8 +140,8 @@ enum refusal plain_read(const uint8_t *file, size_t file_length, struct partial 
 bool plain_tables_hold(const struct partial *partial, size_t segments_length, size_t chunks_length);
 void plain_fill_tables(const struct partial *partial, uint64_t *segments, uint64_t *chunks);
 
-/* Finds the ranges that an accepted file has. */
-void plain_find_had(const struct partial *partial, struct had *had);
+/* Finds what the chunks of a state cover. */
+void plain_find_covered(const struct partial *partial, uint8_t state, struct ranges *ranges);
 
 static inline uint32_t load32(const uint8_t *at)
 {

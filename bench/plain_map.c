@@ -1,63 +1,110 @@
-/* Writes the map of a file, or the line of its refusal, as text into a lent buffer. */
+/* Writes both maps of a file, the one that names damage and the one that does not, or the line of its refusal, as text into a lent buffer. */
 #include "plain.h"
 #include "plain_text.h"
 
-/* A `have`, `miss` or `total` line: a word with its tab, and two numbers. */
-static uint8_t *put_line(uint8_t *at, const char *word, size_t word_length, uint64_t first, uint64_t second)
+/* What a position is: had, missing where a damaged chunk covers it, or missing otherwise. Where damage is not named no position is held. */
+enum name { HAD, HELD, OTHERWISE, NAMES };
+
+/* What a map says; the damaged ranges are none where damage is not named. */
+struct map {
+    bool named, closed;
+    uint64_t described;
+    struct ranges good, damaged;
+};
+
+/* A walk over the ranges of a map: the position where the next one begins, and the first good and the first damaged range that end behind it. */
+struct walk {
+    source_position position, end;
+    const struct range *good, *damaged;
+};
+
+static struct walk walk_over(const struct map *map)
 {
-    at = put_text(at, word, word_length);
-    at = put_number(at, first, '\t');
-    return put_number(at, second, '\n');
+    return (struct walk){0, map->described, map->good.range, map->damaged.range};
 }
 
-/* The length of a `have` or `miss` line. */
-static size_t line_length(uint64_t first, uint64_t length)
+static source_position smaller(source_position a, source_position b)
 {
-    return sizeof "have\t\t\n" - 1 + digits(first) + digits(length);
+    return a < b ? a : b;
 }
 
-/* A bound on the length of the map: its lines are no longer than these, and a number has thirteen digits at most. */
-static size_t map_bound(const struct had *had)
+/* Finds the range that begins at the position of a walk, which is not at its end, and steps over it. */
+static enum name next_range(struct walk *walk, struct range *range)
 {
-    size_t number = 13;
+    source_position position = walk->position, up_to = smaller(walk->good->first, walk->end);
+    enum name name = OTHERWISE;
 
-    return sizeof "source\t\tclosed\n" + number + (had->count + had->missing_count) * (sizeof "have\t\t\n" + 2 * number) + sizeof "total\t\t\n" + 2 * number;
-}
-
-static size_t map_length(const struct had *had, uint64_t described, bool closed)
-{
-    size_t length = sizeof "source\t\t\n" - 1 + digits(described) + (closed ? 6 : 4);
-    source_position position = 0;
-
-    for (uint32_t i = 0; i < had->count; i++) {
-        struct range range = had->range[i];
-        if (range.first > position)
-            length += line_length(position, range.first - position);
-        length += line_length(range.first, range.end - range.first);
-        position = range.end;
+    while (walk->damaged->end <= position)
+        walk->damaged++;
+    if (walk->good->first == position) {
+        name = HAD;
+        up_to = walk->good++->end;
+    } else if (walk->damaged->first <= position) {
+        name = HELD;
+        up_to = smaller(up_to, walk->damaged->end);
+    } else {
+        up_to = smaller(up_to, walk->damaged->first);
     }
-    if (position < described)
-        length += line_length(position, described - position);
-    return length + sizeof "total\t\t\n" - 1 + digits(had->received) + digits(described - had->received);
+    *range = (struct range){position, up_to};
+    walk->position = up_to;
+    return name;
 }
 
-static uint8_t *put_map(uint8_t *at, const struct had *had, uint64_t described, bool closed)
+/* A bound on the length of the text: its lines are no longer than these, and a number has thirteen digits at most. Every range of good or damaged chunks makes two more at most. */
+static size_t map_bound(const struct map *map)
 {
-    source_position position = 0;
+    size_t number = 13, ranges = 2 * ((size_t)map->good.count + map->damaged.count) + 1;
+
+    return sizeof "source\t\tclosed\n" + number + ranges * (sizeof "have\t\t\n" + 2 * number) + sizeof "total\t\t\t\n" + 3 * number;
+}
+
+/* The length of the last line. */
+static size_t total_length(const struct map *map, const uint64_t totals[NAMES])
+{
+    size_t held = map->named ? sizeof "\t" - 1 + digits(totals[HELD]) : 0;
+
+    return sizeof "total\t\t\n" - 1 + digits(totals[HAD]) + held + digits(totals[OTHERWISE]);
+}
+
+static size_t map_length(const struct map *map)
+{
+    size_t length = sizeof "source\t\t\n" - 1 + digits(map->described) + (map->closed ? 6 : 4);
+    uint64_t totals[NAMES] = {0};
+    struct range range;
+
+    for (struct walk walk = walk_over(map); walk.position < walk.end;) {
+        totals[next_range(&walk, &range)] += range.end - range.first;
+        length += sizeof "have\t\t\n" - 1 + digits(range.first) + digits(range.end - range.first);
+    }
+    return length + total_length(map, totals);
+}
+
+static uint8_t *put_total(uint8_t *at, const struct map *map, const uint64_t totals[NAMES])
+{
+    at = put_text(at, "total\t", 6);
+    at = put_number(at, totals[HAD], '\t');
+    if (map->named)
+        at = put_number(at, totals[HELD], '\t');
+    return put_number(at, totals[OTHERWISE], '\n');
+}
+
+static uint8_t *put_map(uint8_t *at, const struct map *map)
+{
+    const char *words[NAMES] = {"have\t", "held\t", map->named ? "lost\t" : "miss\t"};
+    uint64_t totals[NAMES] = {0};
+    struct range range;
 
     at = put_text(at, "source\t", 7);
-    at = put_number(at, described, '\t');
-    at = closed ? put_text(at, "closed\n", 7) : put_text(at, "open\n", 5);
-    for (uint32_t i = 0; i < had->count; i++) {
-        struct range range = had->range[i];
-        if (range.first > position)
-            at = put_line(at, "miss\t", 5, position, range.first - position);
-        at = put_line(at, "have\t", 5, range.first, range.end - range.first);
-        position = range.end;
+    at = put_number(at, map->described, '\t');
+    at = map->closed ? put_text(at, "closed\n", 7) : put_text(at, "open\n", 5);
+    for (struct walk walk = walk_over(map); walk.position < walk.end;) {
+        enum name name = next_range(&walk, &range);
+        at = put_text(at, words[name], 5);
+        at = put_number(at, range.first, '\t');
+        at = put_number(at, range.end - range.first, '\n');
+        totals[name] += range.end - range.first;
     }
-    if (position < described)
-        at = put_line(at, "miss\t", 5, position, described - position);
-    return put_line(at, "total\t", 6, had->received, described - had->received);
+    return put_total(at, map, totals);
 }
 
 static enum refusal write_refusal(enum refusal refusal, uint8_t *buffer, size_t buffer_length, uint64_t told[1])
@@ -68,21 +115,40 @@ static enum refusal write_refusal(enum refusal refusal, uint8_t *buffer, size_t 
     return ACCEPTED;
 }
 
-uint64_t vrazhupa_map(const uint8_t *file, size_t file_length, uint64_t most, uint8_t *buffer, size_t buffer_length, uint64_t told[1])
+/* The map of an accepted file. */
+static void find_map(const struct partial *partial, bool named, struct map *map)
+{
+    map->named = named;
+    map->closed = partial->size != SIZE_UNKNOWN;
+    map->described = partial->described;
+    plain_find_covered(partial, GOOD, &map->good);
+    if (named)
+        plain_find_covered(partial, DAMAGED, &map->damaged);
+    else
+        close_ranges(&map->damaged, 0);
+}
+
+static uint64_t write_map(const uint8_t *file, size_t file_length, uint64_t most, bool named, uint8_t *buffer, size_t buffer_length, uint64_t told[1])
 {
     struct partial partial;
-    struct had had;
-    uint64_t described;
-    bool closed;
+    struct map map;
     enum refusal refusal = file_length > most ? INPUT_OVER_LIMIT : plain_read(file, file_length, &partial);
 
     if (refusal != ACCEPTED)
         return write_refusal(refusal, buffer, buffer_length, told);
-    described = partial.described;
-    closed = partial.size != SIZE_UNKNOWN;
-    plain_find_had(&partial, &had);
-    if (buffer_length < map_bound(&had) && buffer_length < map_length(&had, described, closed))
+    find_map(&partial, named, &map);
+    if (buffer_length < map_bound(&map) && buffer_length < map_length(&map))
         return BUFFER_TOO_SHORT;
-    told[0] = (uint64_t)(put_map(buffer, &had, described, closed) - buffer);
+    told[0] = (uint64_t)(put_map(buffer, &map) - buffer);
     return ACCEPTED;
+}
+
+uint64_t vrazhupa_map(const uint8_t *file, size_t file_length, uint64_t most, uint8_t *buffer, size_t buffer_length, uint64_t told[1])
+{
+    return write_map(file, file_length, most, true, buffer, buffer_length, told);
+}
+
+uint64_t vrazhupa_missmap(const uint8_t *file, size_t file_length, uint64_t most, uint8_t *buffer, size_t buffer_length, uint64_t told[1])
+{
+    return write_map(file, file_length, most, false, buffer, buffer_length, told);
 }

@@ -125,6 +125,8 @@ int main(int count, char **words)
     const char *command = words[1];
     if (strcmp(command, "map") == 0 && count == 3) {
         show_map(words[2]);
+    } else if (strcmp(command, "map") == 0 && count == 4 && strcmp(words[2], "--missing") == 0) {
+        show_missing_map(words[3]);
     } else if (strcmp(command, "boxes") == 0 && count == 3) {
         show_boxes(words[2]);
     } else if (strcmp(command, "rows") == 0 && count == 3) {

@@ -19,7 +19,7 @@ static void say_word(const char *word)
     }
 }
 
-static const char usage[] = "usage: paff map FILE\n"
+static const char usage[] = "usage: paff map [--missing] FILE\n"
                             "       paff boxes FILE\n"
                             "       paff rows FILE\n"
                             "       paff get FILE FIRST LENGTH\n"

@@ -1,4 +1,4 @@
-/* What is shown of a partial file: its map, its boxes, its tables, its bytes. */
+/* What is shown of a partial file: its map, with or without names for what is missing, its boxes, its tables, its bytes. */
 #include "show.h"
 
 #include "files.h"
@@ -9,8 +9,8 @@
 #include <stdbool.h>
 #include <stdio.h>
 
-/* More than the lines of the two lists and of the source and the totals take; a line of each of 512 boxes, of 72 bytes at most, takes less. */
-enum { LONGEST_LINE = 64, TEXT_ROOM = (2 * VRAZHUPA_RANGES + 2) * LONGEST_LINE };
+/* A range of a map begins at 0 or where a chunk begins or ends, and two lines tell of the source and the totals; a line of each of 512 boxes, of 72 bytes at most, takes less. */
+enum { LONGEST_LINE = 64, TEXT_ROOM = (2 * VRAZHUPA_CHUNKS + 3) * LONGEST_LINE };
 
 static uint64_t segments[VRAZHUPA_SEGMENTS * VRAZHUPA_SEGMENT_ROW];
 static uint64_t chunks[VRAZHUPA_CHUNKS * VRAZHUPA_CHUNK_ROW];
@@ -51,6 +51,11 @@ static _Noreturn void show_text(const char *name, __typeof__(&vrazhupa_map) call
 void show_map(const char *name)
 {
     show_text(name, vrazhupa_map);
+}
+
+void show_missing_map(const char *name)
+{
+    show_text(name, vrazhupa_missmap);
 }
 
 void show_boxes(const char *name)

@@ -5,7 +5,8 @@
    Each call answers 0, or the number of its refusal (README.md, "Refusals"), and leaves its values in `told`. After a refusal all lent memory, `told`
    too, holds what it held. Nothing is required of the bytes and numbers that a call is given; a pointer may be anything where its length is 0. Memory that a call
    writes to may not overlap other memory that it is given. Nothing is kept between calls, and two threads may call at once, each with memory of its own
-   to write to. No call allocates, blocks or fails in another way. `vrazhupa_list` and `vrazhupa_map` need about 54 KiB of stack, the others under 6 KiB. */
+   to write to. No call allocates, blocks or fails in another way. `vrazhupa_list` needs about 54 KiB of stack,
+   `vrazhupa_map` and `vrazhupa_missmap` about 70 KiB, the others under 6 KiB. */
 #ifndef VRAZHUPA_H
 #define VRAZHUPA_H
 
@@ -59,9 +60,11 @@ uint64_t vrazhupa_ask(const uint8_t *file, size_t file_length, uint64_t *segment
 uint64_t vrazhupa_list(const uint8_t *file, size_t file_length, uint64_t *segments, size_t segments_length, uint64_t *chunks, size_t chunks_length,
                        uint64_t *had, size_t had_length, uint64_t *missing, size_t missing_length, uint64_t told[4]);
 
-/* Writes the map of a file into the buffer as the map program prints it, the line of a refusal too: that of 27 where the file has more than `most` bytes, which
-   are 65,536 for the map program. told: how many bytes. Refuses with 33 where the buffer is too short. */
+/* Write the map of a file into the buffer as the programs `map` and `missmap` print it, the line of a refusal too: that of 27 where the file has more than `most`
+   bytes, which are 65,536 for the programs. The first names what is missing: held where some damaged chunk covers it, lost where none does; the second calls
+   both missing. told: how many bytes. Refuse with 33 where the buffer is too short. */
 uint64_t vrazhupa_map(const uint8_t *file, size_t file_length, uint64_t most, uint8_t *buffer, size_t buffer_length, uint64_t told[1]);
+uint64_t vrazhupa_missmap(const uint8_t *file, size_t file_length, uint64_t most, uint8_t *buffer, size_t buffer_length, uint64_t told[1]);
 
 /* Writes the list of the top-level boxes of a file into the buffer as the program `boxlist` prints it: of each its place, its size and its type, and of a `uuid` box
    its user type, and after the first fault of their framing, 2 to 6, the line of that refusal. That line is the whole text where the file has more than `most` bytes,

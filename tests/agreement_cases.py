@@ -152,6 +152,10 @@ def map_case(name, file, source):
     return Case(name, "mapOfInput %s" % octets(file), list(model.map_text(file)), number_of(model.read(file)), source)
 
 
+def missmap_case(name, file, source):
+    return Case(name, "missmapOfInput %s" % octets(file), list(model.missmap_text(file)), number_of(model.read(file)), source)
+
+
 def boxes_case(name, file, source):
     return Case(name, "boxesOfInput %s" % octets(file), list(model.boxes_text(file)), 0, source)
 
@@ -167,6 +171,7 @@ def file_cases(rng, name, file):
         cases.append(tables_case(rng, name + "-tables", file, source))
     if answer[0] == "refused" or answer[1] <= LISTED:
         cases.append(map_case(name + "-map", file, source))
+        cases.append(missmap_case(name + "-missmap", file, source))
         cases.append(lists_case(rng, name + "-lists", file, source))
     if answer[0] == "length" and answer[1] <= LISTED:
         cases.append(mapped_case(rng, name + "-mapped", file, source))
@@ -174,12 +179,13 @@ def file_cases(rng, name, file):
 
 
 def mapped_case(rng, name, file, source):
-    """Demand 2 in an accepted file: four facts, then three for each position."""
-    numbers, described = [1, 1, 1, 1], model.length(file)[1]
-    points = [p for p in positions(rng, file) if p < described]
+    """Demand 2 in an accepted file: eight facts, then five for each position."""
+    reading, numbers = model.accept(file), 8 * [1]
+    points = [p for p in positions(rng, file) if p < reading.described]
     for p in points:
         supplied = flag(model.ask(file, p)[0] == "served")
-        numbers += [supplied, supplied, 1 - supplied]
+        word = model.name_of(reading, p)
+        numbers += [supplied, supplied, 1 - supplied, flag(word == "held"), flag(word == "lost")]
     return Case(name, "mappedOf %s (%s)" % (octets(file), listing(points)), numbers, 0, source)
 
 

@@ -29,9 +29,10 @@ use Rattle.partial.specs.Reading.{reading, earlierSegments}
 use Rattle.partial.specs.Meaning.{Reply, servedFor, missingFor, notBelow, describedLength, supplied, served}
 use Rattle.partial.specs.Ranges.{hadList, missingList, total}
 use Rattle.partial.specs.Ranges.{among, apart, inRow, rangesOf}
+use Rattle.partial.specs.Naming.{namedRanges, heldList, lostList}
 use Rattle.partial.specs.Memory.{after, written}
 use Rattle.partial.specs.Tables.{segmentRows, chunkRows, hadRows, missingRows, tabled, listed, summary, totals, bytesIn, servedPart, asked, textOf}
-use Rattle.partial.specs.Map.{mapText}
+use Rattle.partial.specs.Map.{mapText, missmapText}
 use Rattle.partial.specs.BoxList.{boxesText}
 use Rattle.partial.specs.declared.brand.Brand.{Brand}
 use Rattle.partial.specs.Begin.{beginning, begun}
@@ -156,9 +157,11 @@ inLists ss (p ∷ ps) =
     flag (supplied ss p)
     ∷ flag (among p (hadList ss))
     ∷ flag (among p (missingList ss))
+    ∷ flag (among p (heldList ss))
+    ∷ flag (among p (lostList ss))
     ∷ inLists ss ps
 
--- demand 2 in an accepted file: the lists are apart and merge, the totals make up the length, and positions are in their lists
+-- demand 2 in an accepted file: the lists are apart and merge, the totals make up the length, held and lost those of what is missing, and positions are in their lists
 unfoldable pub mappedOf : List ℕ → List ℕ → List ℕ
 unfolding flag inLists computing
 mappedOf f ps =
@@ -167,8 +170,12 @@ mappedOf f ps =
     | given ss ↦
         flag (apart 0 (hadList ss))
         ∷ flag (apart 0 (missingList ss))
+        ∷ flag (apart 0 (heldList ss))
+        ∷ flag (apart 0 (lostList ss))
         ∷ flag (inRow 0 (describedLength ss) (rangesOf ss))
+        ∷ flag (inRow 0 (describedLength ss) (namedRanges ss))
         ∷ flag (eqb (total (hadList ss) + total (missingList ss)) (describedLength ss))
+        ∷ flag (eqb (total (heldList ss) + total (lostList ss)) (total (missingList ss)))
         ∷ inLists ss ps
     ]
 
@@ -185,6 +192,10 @@ unfoldable pub mapOfInput : List ℕ → List ℕ
 unfolding computing
 mapOfInput input = mapText sourceLimit programLimit input
 
+unfoldable pub missmapOfInput : List ℕ → List ℕ
+unfolding computing
+missmapOfInput input = missmapText sourceLimit programLimit input
+
 unfoldable pub boxesOfInput : List ℕ → List ℕ
 unfolding computing
 boxesOfInput input = boxesText programLimit input
@@ -192,7 +203,7 @@ boxesOfInput input = boxesText programLimit input
 
 BATCH_USES = """use Rattle.numerals.specs.Numbers.{bytesOf}
 use Rattle.partial.specs.declared.brand.Brand.the-variants.{Paff, Pmff}
-use Rattle.computed.specs.Computed.{readOf, tablesOf, listsOf, begunOf, appendedOf, demandsOf, mappedOf, againOf, mapOfInput, boxesOfInput}
+use Rattle.computed.specs.Computed.{readOf, tablesOf, listsOf, begunOf, appendedOf, demandsOf, mappedOf, againOf, mapOfInput, missmapOfInput, boxesOfInput}
 """
 
 # A file of more than 1,073,741,824 bytes and an input of more than 65,536 are not written out: only their length is looked at.
@@ -201,9 +212,10 @@ TOO_LONG = """-- Refusals 1 and 27: no byte of such a file is read.
 use lib.Dec.{leb}
 use Rattle.boxes.specs.Answer.{Answer, refused}
 use Rattle.partial.specs.Limits.{fileLimit, programLimit, sourceLimit}
+use Rattle.partial.specs.Segments.{Segment}
 use Rattle.partial.specs.Heading.{heading, fileBoxes}
 use Rattle.partial.specs.Reading.{reading}
-use Rattle.partial.specs.Map.{mapText, refusedLine}
+use Rattle.partial.specs.Map.{mapOf, missmapOf, textFor, mapText, missmapText, refusedLine}
 
 long-file : (f : List ℕ) → leb (length f) fileLimit ≡ false → reading sourceLimit f ≡ refused 1
 unfolding reading heading fileBoxes
@@ -215,15 +227,20 @@ zeros-file n h = long-file (replicate n 0) (rw length-replicate h)
 file-too-long : reading sourceLimit (replicate 1_073_741_825 0) ≡ refused 1
 file-too-long = zeros-file 1_073_741_825 refl
 
-long-input : (f : List ℕ) → leb (length f) programLimit ≡ false → mapText sourceLimit programLimit f ≡ refusedLine 27
-unfolding mapText
-long-input f h = rw (h, mapText)
+long-input : (of : List Segment → List ℕ) (f : List ℕ) → leb (length f) programLimit ≡ false → textFor of sourceLimit programLimit f ≡ refusedLine 27
+unfolding textFor
+long-input of f h = rw (textFor, h)
 
-zeros-input : (n : ℕ) → leb n programLimit ≡ false → mapText sourceLimit programLimit (replicate n 0) ≡ refusedLine 27
-zeros-input n h = long-input (replicate n 0) (rw length-replicate h)
+zeros-input : (of : List Segment → List ℕ) (n : ℕ) → leb n programLimit ≡ false → textFor of sourceLimit programLimit (replicate n 0) ≡ refusedLine 27
+zeros-input of n h = long-input of (replicate n 0) (rw length-replicate h)
 
 input-too-long : mapText sourceLimit programLimit (replicate 65_537 0) ≡ refusedLine 27
-input-too-long = zeros-input 65_537 refl
+unfolding mapText
+input-too-long = zeros-input mapOf 65_537 refl
+
+input-too-long-without-names : missmapText sourceLimit programLimit (replicate 65_537 0) ≡ refusedLine 27
+unfolding missmapText
+input-too-long-without-names = zeros-input missmapOf 65_537 refl
 """
 
 

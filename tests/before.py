@@ -22,7 +22,7 @@ def number_of(file):
 
 def refused_with(call, old, before, numbers):
     """Whether the call's file was refused with one of these numbers, which the old answer tells, and is not any more. A map has its number in its text."""
-    told = call.name == "map" or old == before
+    told = call.name in ("map", "missmap") or old == before
     return told and before in numbers and number_of(call.file) != before
 
 
@@ -76,4 +76,11 @@ def by_longer_recordings(call, old):
     return refused_with(call, old, before, {model.SOURCE_OVER_LIMIT})
 
 
-CHANGES = {1: by_vendors, 2: by_mixed_files, 4: by_elsewhere, 5: by_longer_recordings}
+def by_names(call, old):
+    """Request 6: the map of an accepted file. Its total line has one number more, so that its text is longer, and is another wherever the old one was written."""
+    return call.name == "map" and old == 0 and len(call.file) <= call.numbers[0] and model.attempt(model.accept, call.file)[0] == 0
+
+
+# Of each request that changes answers, whether it may change that of a call from the old one; and those that change it exactly then.
+CHANGES = {1: by_vendors, 2: by_mixed_files, 4: by_elsewhere, 5: by_longer_recordings, 6: by_names}
+EXACT = {6}

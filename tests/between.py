@@ -3,10 +3,11 @@
 usage: python3 tests/between.py [--cases N] [--seed S] [--request R] --old WORDS --new WORDS
 
 WORDS, in quotes, are how each driver is run; both are made of tests/scale/*.c, as tests/scale.py says. They are sent the cases that tests/scale.py makes with that
-seed, without the calls that only one of them has, or cannot be asked. Of each call its answer and a sum of each lent memory, with what lies around it, are compared.
-Differences are counted by old answer, new answer and call. With --request R one is expected where the model says of the call that this request changes its
-answer, from the old one if the model can tell that (tests/before.py), and the new answer is the model's; without, none is. The status is 1 where one is not expected;
-`tests/scale.py --seed S --show CASE` shows a case.
+seed, without the calls that only one of them has, or cannot be asked; the map that does not name damage is the map of one from before request 6. Of each call its
+answer and a sum of each lent memory, with what lies around it, are compared. Differences are counted by old answer, new answer and call. With --request R one is
+expected where the model says of the call that this request changes its answer, from the old one if the model can tell that (tests/before.py), and the new answer is
+the model's; without, none is. The status is 1 where one is not expected, or where the model says exactly when answers change and one that is expected does not
+come; `tests/scale.py --seed S --show CASE` shows a case.
 
 A driver for an implementation from before request 2 is built with that one's header and -DBEFORE_MIXED.
 """
@@ -21,17 +22,20 @@ import tempfile
 from collections import Counter, defaultdict, namedtuple
 
 import remembering
-from before import CHANGES
+from before import CHANGES, EXACT
 from scale import AT_ONCE, send
-from scale_stream import BEFORE, END, FILE, LIST, TOO_LARGE, Stream
+from scale_stream import BEFORE, END, FILE, FORMS, LIST, TOO_LARGE, Stream
 
-# What begin and append were not asked before request 2.
+# What begin and append were not asked before request 2, and what was the map before request 6.
 SINCE_MIXED = {"begin": "begin-mixed", "append": "append-outside"}
+FORMERLY = {"missmap": "map"}
 SHOWN = 10
+# How two answers stand to what is expected of them.
+EXPECTED, NOT_EXPECTED, MISSED = "expected", "NOT EXPECTED", "EXPECTED TO DIFFER"
 
-# A call that both made: its number in the stream, the model's answer, the file that it was about, None where that is too large to be kept, its numbers, and the chunk list of
-# an append, eight bytes a number.
-Made = namedtuple("Made", "case name answer file numbers packed_list")
+# A call that both made: its number in the stream, the model's answer, the file that it was about, None where that is too large to be kept, the chunk list of an append,
+# eight bytes a number, and its own numbers.
+Made = namedtuple("Made", "case name answer file packed_list numbers")
 
 
 class Driver:
@@ -41,6 +45,10 @@ class Driver:
         self.calls = set(subprocess.run([*words, "calls"], stdout=subprocess.PIPE, check=True).stdout.decode().split())
         self.report = tempfile.TemporaryFile()
         self.process = subprocess.Popen([*words, "report"], stdin=subprocess.PIPE, stdout=self.report, bufsize=AT_ONCE)
+
+    def name_of(self, asked):
+        """The name by which it has a call, None where it has none."""
+        return next((name for name in (asked, FORMERLY.get(asked)) if name in self.calls), None)
 
     def lines(self, count):
         """What it reported, once it has ended well with so many calls."""
@@ -60,7 +68,7 @@ class Both(Stream):
     def __init__(self, rng, drivers):
         super().__init__(rng, self.write_to_both)
         self.drivers = drivers
-        self.shared = set.intersection(*[driver.calls for driver in drivers])
+        self.named = any("missmap" in driver.calls for driver in drivers)
         self.made = []
         self.left_out = Counter()
 
@@ -70,11 +78,14 @@ class Both(Stream):
 
     def send(self, name, refusal, numbers, record):
         asked = SINCE_MIXED[name] if name in SINCE_MIXED and numbers[-1] else name
-        if asked in self.shared:
-            self.made.append(Made(self.cases, name, refusal, self.file_of(name, numbers), numbers, self.held.get(LIST)))
-            self.write(record)
-        else:
+        known = [driver.name_of(asked) for driver in self.drivers]
+        if None in known or asked == "map" and not self.named:
             self.left_out[asked] += 1
+            return
+        self.made.append(Made(self.cases, name, refusal, self.file_of(name, numbers), self.held.get(LIST), numbers))
+        for driver, called in zip(self.drivers, known):
+            kind = record[:1] if called == asked else bytes([FORMS[called].kind])
+            driver.process.stdin.write(kind + record[1:])
 
     def file_of(self, name, numbers):
         content = {"begin": b"", "append": self.held.get(BEFORE)}.get(name, self.held.get(FILE))
@@ -86,16 +97,25 @@ class Both(Stream):
         self.write(bytes([END]) + len(self.made).to_bytes(8, "little"))
 
 
-def differences(made, old, new, changes):
-    """How many there are of each call, by answers and whether they are expected, and the first that are not."""
+def compared(call, before, after, request):
+    """Both answers, and how they stand to what is expected of them, None where they do not differ and need not."""
+    old, new = [int(line.split()[0]) for line in (before, after)]
+    if before == after and request not in EXACT:
+        return old, new, None
+    expected = request in CHANGES and new == call.answer and call.file is not None and CHANGES[request](call, old)
+    if before == after:
+        return old, new, MISSED if expected else None
+    return old, new, EXPECTED if expected else NOT_EXPECTED
+
+
+def differences(made, old, new, request):
+    """How many there are of each call, by answers and how they stand to what is expected, and the first that are wrong."""
     found, shown = defaultdict(Counter), []
     for call, before, after in zip(made, old, new):
-        if before == after:
-            continue
-        old_answer, new_answer = [int(line.split()[0]) for line in (before, after)]
-        expected = new_answer == call.answer and call.file is not None and changes(call, old_answer)
-        found[old_answer, new_answer, expected][call.name] += 1
-        if not expected and len(shown) < SHOWN:
+        answers = compared(call, before, after, request)
+        if answers[2] is not None:
+            found[answers][call.name] += 1
+        if answers[2] in (NOT_EXPECTED, MISSED) and len(shown) < SHOWN:
             shown.append(f"case {call.case}, {call.name}: {before}, then {after}")
     return found, shown
 
@@ -107,15 +127,16 @@ def listed(counts):
 def say(stream, found, shown):
     print(f"{len(stream.made)} calls compared: {listed(Counter(call.name for call in stream.made))}")
     if stream.left_out:
-        print(f"{stream.left_out.total()} calls left out, which only one has: {listed(stream.left_out)}")
-    for (old, new, expected), calls in sorted(found.items()):
-        bytes_only = " with other bytes" if old == new else ""
-        print(f"  {old} -> {new}{bytes_only}, {'expected' if expected else 'NOT EXPECTED'}: {listed(calls)}")
+        print(f"{stream.left_out.total()} calls left out, which not both have: {listed(stream.left_out)}")
+    counts = Counter()
+    for (old, new, how), calls in sorted(found.items()):
+        bytes_only = " with other bytes" if old == new and how != MISSED else ""
+        print(f"  {old} -> {new}{bytes_only}, {how}: {listed(calls)}")
+        counts[how] += calls.total()
     for line in shown:
         print(line)
-    unexpected = sum(calls.total() for (old, new, expected), calls in found.items() if not expected)
-    print(f"{sum(calls.total() for calls in found.values())} differ, {unexpected} of them not expected")
-    return 1 if unexpected else 0
+    print(f"{counts[EXPECTED] + counts[NOT_EXPECTED]} differ, {counts[NOT_EXPECTED]} of them not expected; {counts[MISSED]} do not differ and are expected to")
+    return 1 if counts[NOT_EXPECTED] or counts[MISSED] else 0
 
 
 def main():
@@ -132,7 +153,7 @@ def main():
     with contextlib.suppress(BrokenPipeError):
         send(stream, given.cases)
     old, new = [driver.lines(len(stream.made)) for driver in drivers]
-    return say(stream, *differences(stream.made, old, new, CHANGES.get(given.request, lambda *call: False)))
+    return say(stream, *differences(stream.made, old, new, given.request))
 
 
 if __name__ == "__main__":

@@ -71,8 +71,9 @@ def tail(command, name="film"):
 
 def reading(command):
     answer = ended(measured(command, "map", "film"))
-    claim("map of 1 GiB", answer, 0, b"source\t%d\topen\nhave\t0\t%d\ntotal\t%d\t0\n" % (SIZE, SIZE, SIZE))
+    claim("map of 1 GiB", answer, 0, b"source\t%d\topen\nhave\t0\t%d\ntotal\t%d\t0\t0\n" % (SIZE, SIZE, SIZE))
     claim_measure("map of 1 GiB", command)
+    claim("map --missing of 1 GiB", command.run("map", "--missing", "film"), 0, b"source\t%d\topen\nhave\t0\t%d\ntotal\t%d\t0\n" % (SIZE, SIZE, SIZE))
     boxes = b"0\t20\tftyp\n20\t35\tpfil\n55\t%d\tpdat\n%d\t%d\tpseg\n" % (8 + SIZE, 63 + SIZE, SEGMENT)
     claim("boxes of 1 GiB", ended(measured(command, "boxes", "film")), 0, boxes)
     claim_measure("boxes of 1 GiB", command)
@@ -116,14 +117,14 @@ def adding(command):
         expect(f"the film after {size}", tail(command), (LIMIT - SPARE + len(added), added))
     claim("append to the limit", command.append("film", SIZE + 3, [good(b"q" * room)]), 0)
     expect("the film at the limit", (tail(command)[0], tail(command)[1].count(b"q")), (LIMIT, room))
-    claim("map at the limit", command.run("map", "film"), 0, b"source\t%d\topen\nhave\t0\t%d\ntotal\t%d\t0\n" % (3 * (SIZE + 3 + room,)))
+    claim("map at the limit", command.run("map", "film"), 0, b"source\t%d\topen\nhave\t0\t%d\ntotal\t%d\t0\t0\n" % (3 * (SIZE + 3 + room,)))
     claim_refused("append beyond the limit", command.append("film", 0, [lost(1)]), 1)
     expect("the zeros of the film take no room", os.stat(command.path("film")).st_blocks * 512 < 4 * BLOCK)
 
 
 def over_the_limit(command):
     os.truncate(command.path("film"), LIMIT + 1)
-    for words in [("map", "film"), ("boxes", "film"), ("rows", "film"), ("get", "film", "0", "1"), ("append", "film", "--offset", "0", "--lost", "1")]:
+    for words in [("map", "film"), ("map", "--missing", "film"), ("boxes", "film"), ("rows", "film"), ("get", "film", "0", "1"), ("append", "film", "--offset", "0", "--lost", "1")]:
         claim_refused(f"{words[0]} of a file over the limit", command.run(*words), 1)
     expect("the length of that file", os.path.getsize(command.path("film")), LIMIT + 1)
     command.put("far", b"")

@@ -15,9 +15,9 @@ SEED = 23_001_140
 FOREIGN, SPOILED, CUT = 60, 50, 40
 TOP = 2 ** 64 - 1
 
-# The sample, of which the manual page prints the map: bytes 11 to 14 came for 0 to 3 and 21 to 25 for 2 to 6, so 22 and 23 are not served.
-SAMPLE = os.path.join(ROOT, "samples", "lesson.paff")
-SAMPLE_MAP = b"source\t10\tclosed\nhave\t0\t7\nmiss\t7\t3\ntotal\t7\t3\n"
+# The first sample, of which the manual page prints the map: bytes 11 to 14 came for 0 to 3 and 21 to 25 for 2 to 6, so 22 and 23 are not served.
+SAMPLE_MAP = b"source\t10\tclosed\nhave\t0\t7\nlost\t7\t3\ntotal\t7\t0\t3\n"
+SAMPLE_MISSMAP = b"source\t10\tclosed\nhave\t0\t7\nmiss\t7\t3\ntotal\t7\t3\n"
 SAMPLE_BOXES = b"0\t20\tftyp\n20\t35\tpfil\n55\t12\tpdat\n67\t54\tpseg\n121\t13\tpdat\n134\t52\tpseg\n"
 SEGMENT_HEADING = b"segment\tplace\toffset\tflags\ttime\tchunks\theader\tlength\n"
 CHUNK_HEADING = b"segment\tindex\tstart\tsize\tstate\tplace\n"
@@ -25,12 +25,23 @@ SAMPLE_ROWS = (b"url\ta\nmime\t\n" + SEGMENT_HEADING + b"0\t67\t0\t1\t0\t2\t83\t
                + CHUNK_HEADING + b"0\t0\t0\t4\tgood\t63\n0\t1\t4\t6\tlost\t0\n1\t0\t2\t5\tgood\t129\n")
 SAMPLE_BYTES = bytes([11, 12, 13, 14, 23, 24, 25])
 
+# The second, of which it prints both maps. Served are 11 to 16 for 0 to 5, 41 to 43 for 9 to 11 and 22 to 24 for 17 to 19; damaged are 17 to 21 for 6 to 10, 31 to 34 for 4 to 7
+# and 51 and 52 for 13 and 14.
+DAMAGED_MAP = (b"source\t20\tclosed\nhave\t0\t6\nheld\t6\t3\nhave\t9\t3\nlost\t12\t1\nheld\t13\t2\nlost\t15\t2\nhave\t17\t3\n"
+               b"total\t12\t5\t3\n")
+DAMAGED_MISSMAP = b"source\t20\tclosed\nhave\t0\t6\nmiss\t6\t3\nhave\t9\t3\nmiss\t12\t5\nhave\t17\t3\ntotal\t12\t8\n"
+
+
+def put_sample(command, name):
+    with open(os.path.join(ROOT, "samples", name), "rb") as file:
+        command.put(name, file.read())
+
 
 def clerk(command):
     """The example of the manual page, to its end."""
-    with open(SAMPLE, "rb") as file:
-        command.put("lesson.paff", file.read())
+    put_sample(command, "lesson.paff")
     claim("the sample's map", command.run("map", "lesson.paff"), 0, SAMPLE_MAP)
+    claim("the sample's map without names", command.run("map", "--missing", "lesson.paff"), 0, SAMPLE_MISSMAP)
     claim("the sample's boxes", command.run("boxes", "lesson.paff"), 0, SAMPLE_BOXES)
     claim("the sample's rows", command.run("rows", "lesson.paff"), 0, SAMPLE_ROWS)
     for first in range(8):
@@ -40,8 +51,27 @@ def clerk(command):
     claim_missing("the sample, to its end", command.run("get", "lesson.paff", "0", "10"), 7)
     command.put("piece", b"xyz")
     claim("append of what the clerk fetched", command.run("append", "lesson.paff", "--offset", "7", "--good", "piece"), 0)
-    claim("the map after that", command.run("map", "lesson.paff"), 0, b"source\t10\tclosed\nhave\t0\t10\ntotal\t10\t0\n")
+    claim("the map after that", command.run("map", "lesson.paff"), 0, b"source\t10\tclosed\nhave\t0\t10\ntotal\t10\t0\t0\n")
+    claim("the map without names after that", command.run("map", "--missing", "lesson.paff"), 0, b"source\t10\tclosed\nhave\t0\t10\ntotal\t10\t0\n")
     claim("the film after that", command.run("get", "lesson.paff", "0", "10"), 0, SAMPLE_BYTES + b"xyz")
+
+
+def fitter(command):
+    """The example with damage, which is then mended bit by bit."""
+    put_sample(command, "damaged.paff")
+    claim("the map of the damaged sample", command.run("map", "damaged.paff"), 0, DAMAGED_MAP)
+    claim("its map without names", command.run("map", "--missing", "damaged.paff"), 0, DAMAGED_MISSMAP)
+    for first, length, content in [(0, 6, bytes(range(11, 17))), (9, 3, bytes([41, 42, 43])), (17, 3, bytes([22, 23, 24]))]:
+        claim(f"the damaged sample from {first}", command.run("get", "damaged.paff", str(first), str(length)), 0, content)
+    for position in (6, 8, 12, 13, 14, 15, 16):
+        claim_missing(f"the damaged sample at {position}", command.run("get", "damaged.paff", str(position), "1"), position)
+    for offset, kind, size, ranges in [
+            (6, "good", 3, "have 0 12, lost 12 1, held 13 2, lost 15 2, have 17 3, total 15 2 3"), (12, "damaged", 1, "have 0 12, held 12 3, lost 15 2, have 17 3, total 15 3 2"),
+            (16, "damaged", 4, "have 0 12, held 12 3, lost 15 1, held 16 1, have 17 3, total 15 4 1"), (12, "good", 5, "have 0 20, total 20 0 0")]:
+        command.put("piece", bytes(size))
+        claim(f"{kind} at {offset}", command.run("append", "damaged.paff", "--offset", str(offset), "--" + kind, "piece"), 0)
+        wanted = b"source\t20\tclosed\n" + ranges.replace(", ", "\n").replace(" ", "\t").encode("ascii") + b"\n"
+        claim(f"the map with {kind} at {offset}", command.run("map", "damaged.paff"), 0, wanted)
 
 
 def missing(command):
@@ -84,7 +114,9 @@ def states(command):
     command.put("film", film)
     rows = CHUNK_HEADING + b"0\t0\t3\t2\tgood\t63\n0\t1\t5\t5\telsewhere\t0\n0\t2\t10\t4\tdamaged\t65\n0\t3\t14\t1\tlost\t0\n"
     claim("rows of each state", command.run("rows", "film"), 0, b"url\tu\nmime\t\n" + SEGMENT_HEADING + b"0\t69\t3\t1\t0\t4\t85\t16\n" + rows)
-    claim("the map of each state", command.run("map", "film"), 0, b"source\t15\tclosed\nmiss\t0\t3\nhave\t3\t2\nmiss\t5\t10\ntotal\t2\t13\n")
+    claim("the map of each state", command.run("map", "film"), 0,
+          b"source\t15\tclosed\nlost\t0\t3\nhave\t3\t2\nlost\t5\t5\nheld\t10\t4\nlost\t14\t1\ntotal\t2\t4\t9\n")
+    claim("the map of each state without names", command.run("map", "--missing", "film"), 0, b"source\t15\tclosed\nmiss\t0\t3\nhave\t3\t2\nmiss\t5\t10\ntotal\t2\t13\n")
     for first, length, position in [(5, 1, 5), (9, 2, 9), (3, 3, 5), (14, 1, 14), (2, 3, 2)]:
         claim_missing(f"get {first} {length} of each state", command.run("get", "film", str(first), str(length)), position)
     claim("the good one of each state", command.run("get", "film", "3", "2"), 0, b"ab")
@@ -103,7 +135,7 @@ def vendors(command):
     listed = b"121\t24\tuuid\t00112233445566778899aabbccddeeff\n145\t37\tuuid\t000102030405060708090a0b0c0d0e0f\n182\t9\t\\xa9\\x0a\\~\n"
     command.put("film", film + between)
     claim("boxes of two vendors", command.run("boxes", "film"), 0, front + listed)
-    claim("the map beside them", command.run("map", "film"), 0, b"source\t10\topen\nhave\t0\t4\nmiss\t4\t6\ntotal\t4\t6\n")
+    claim("the map beside them", command.run("map", "film"), 0, b"source\t10\topen\nhave\t0\t4\nlost\t4\t6\ntotal\t4\t0\t6\n")
     for tail, number in [
             (b"\0", 2), (sized(0) + between, 3), (sized(23, b"uuid") + one, 4), (sized(20, b"uuid") + one[:12], 4), (sized_large(31, b"uuid") + one, 4),
             (sized(24, b"uuid") + one[:15], 5), (sized_large(32, b"uuid"), 5), (506 * box(b"free"), 6)]:
@@ -118,9 +150,10 @@ def vendors(command):
 def names(command):
     """A file is read whatever its name is."""
     file = film_of((0, [good(b"abcd"), lost(6)]))
-    for name in ["--last", "-", "a film", "film\n", b"\xff\\\x1b", "n" * 255, "./film", os.path.join(command.folder, "film")]:
+    for name in ["--last", "--missing", "-", "a film", "film\n", b"\xff\\\x1b", "n" * 255, "./film", os.path.join(command.folder, "film")]:
         command.put(name, file)
-        claim(f"map of {name!r}", command.run("map", name), 0, b"source\t10\topen\nhave\t0\t4\nmiss\t4\t6\ntotal\t4\t6\n")
+        claim(f"map of {name!r}", command.run("map", name), 0, b"source\t10\topen\nhave\t0\t4\nlost\t4\t6\ntotal\t4\t0\t6\n")
+        claim(f"map --missing of {name!r}", command.run("map", "--missing", name), 0, b"source\t10\topen\nhave\t0\t4\nmiss\t4\t6\ntotal\t4\t6\n")
         claim(f"get of {name!r}", command.run("get", name, "1", "3"), 0, b"bcd")
         claim_missing(f"get too much of {name!r}", command.run("get", name, "1", "4"), 4)
 
@@ -179,6 +212,8 @@ def limits(command):
     claim_all("65,536 bytes of a film", command, long[:65_536], [(0, 1)])
     taken = appended(film_of((0, [lost(3)]), (0, [damaged(b"abc")])), 1, [good(b"x")])[1]
     claim_all("lost, damaged, and then good", command, taken, [(0, 3), (1, 1), (2, 1)])
+    turns = [damaged(b"d") if at % 2 else lost(1) for at in range(1_024)]
+    claim_all("1,024 chunks that are lost and damaged in turn, at the limit", command, film_of((LIMIT - 1_024, turns)), [(LIMIT - 1_024, 2)])
 
 
 def some_files():
@@ -199,5 +234,5 @@ def generated(command):
 
 
 def check(command):
-    for part in (clerk, missing, texts, states, vendors, names, refusals, limits, generated):
+    for part in (clerk, fitter, missing, texts, states, vendors, names, refusals, limits, generated):
         part(command)

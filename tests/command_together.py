@@ -5,7 +5,7 @@ import os
 import time
 
 from command_run import claim, claim_held, ended, good, lost, wait_until
-from command_wanted import appended, begun, boxes_text, film_of, map_text
+from command_wanted import appended, begun, boxes_text, film_of, map_text, missmap_text
 from expecting import expect
 
 ROUNDS = 6
@@ -80,7 +80,8 @@ def refused_append_waits(command):
 def readers_wait(command):
     grown = appended(FILM, 4, [good(b"xyz")])[1]
     for words, wanted in [
-            (("map", "film"), map_text(grown)), (("boxes", "film"), boxes_text(grown)), (("get", "film", "0", "7"), b"abcdxyz"), (("rows", "film"), None)]:
+            (("map", "film"), map_text(grown)), (("map", "--missing", "film"), missmap_text(grown)), (("boxes", "film"), boxes_text(grown)), (("get", "film", "0", "7"), b"abcdxyz"),
+            (("rows", "film"), None)]:
         command.put("film", FILM)
         lock = Locked(command, fcntl.LOCK_EX)
         answer = claim_waits(" ".join(words), command, command.start(*words), lock, grown)
@@ -93,7 +94,7 @@ def readers_go_on(command):
     """Readers do not wait for readers."""
     command.put("film", FILM)
     lock = Locked(command, fcntl.LOCK_SH)
-    for words in [("map", "film"), ("boxes", "film"), ("rows", "film"), ("get", "film", "0", "4")]:
+    for words in [("map", "film"), ("map", "--missing", "film"), ("boxes", "film"), ("rows", "film"), ("get", "film", "0", "4")]:
         process = command.start(*words)
         expect(f"{words} beside a reader", wait_until(lambda: process.poll() is not None))
         process.kill()

@@ -10,8 +10,8 @@ from foreign import LIMIT
 FILM = film_of((0, [good(b"abcd"), lost(6)], True))
 NO_NUMBERS = ["", "-1", "+1", " 1", "1 ", "1\n", "0x1", "1e3", "1.0", "1,000", "one", "--last", "\u0661", "18446744073709551616",
               "18446744073709551617", "36893488147419103232", "99999999999999999999", "184467440737095516150", "1" + 60 * "0"]
-FEW_OR_MANY_WORDS = ["", "map", "map film other", "boxes", "boxes film other", "rows", "rows film other", "get", "get film", "get film 0", "get film 0 1 2", "begin",
-                     "begin new", "begin new u m x", "begin --brand", "begin --brand pmff", "begin --brand pmff new", "begin --brand pmff new u m x", "append", "append film"]
+FEW_OR_MANY_WORDS = ["", "map", "map film other", "map film --missing", "map --missing film other", "map --missing --missing film", "map --miss film", "boxes", "boxes film other",
+                     "boxes --missing film", "rows", "rows film other", "rows --missing film", "get", "get film", "get film 0", "get film 0 1 2", "begin", "begin new", "begin new u m x", "begin --brand", "begin --brand pmff", "begin --brand pmff new", "begin --brand pmff new u m x", "append", "append film"]
 NO_COMMANDS = ["show film", "Map film", "maps film", "ma film", "box film", "boxlist film", "film", "film map", "-map film", "--map film", "append-film"]
 OPTIONS = [
     "--offset", "--offset 0", "--lost 1", "--good piece", "--last --lost 1", "--offset 0 --last", "--offset 0 --time 4", "--time 4 --lost 1",
@@ -37,7 +37,7 @@ def words(command):
         claim_usage(command, *text.split())
     claim_usage(command, "")
     answer = command.run()
-    named = all(word in answer.err for word in (b"usage: ", b"map", b"boxes", b"rows", b"get", b"begin", b"append"))
+    named = all(word in answer.err for word in (b"usage: ", b"map", b"--missing", b"boxes", b"rows", b"get", b"begin", b"append"))
     expect("usage names each subcommand", named and in_form(answer.err) or answer.err)
     named = all(word in answer.err for word in (b"--good DATA", b"--damaged DATA", b"--lost SIZE", b"--elsewhere SIZE"))
     expect("usage names each chunk", named or answer.err)
@@ -82,7 +82,7 @@ def claim_failed(name, command, *given):
 
 
 def reading_words(film):
-    return [("map", film), ("boxes", film), ("rows", film), ("get", film, "0", "1"), ("get", film, "0", "0"), ("append", film, "--offset", "0", "--lost", "1")]
+    return [("map", film), ("map", "--missing", film), ("boxes", film), ("rows", film), ("get", film, "0", "1"), ("get", film, "0", "0"), ("append", film, "--offset", "0", "--lost", "1")]
 
 
 def absent(command):

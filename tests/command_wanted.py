@@ -20,6 +20,10 @@ def map_text(file):
     return model.map_text(file, most=len(file))
 
 
+def missmap_text(file):
+    return model.missmap_text(file, most=len(file))
+
+
 def boxes_text(file):
     return model.boxes_text(file, most=len(file))
 
@@ -87,7 +91,10 @@ def film_of(*additions, url=b"u", mime=b"", brand=model.PAFF):
 # Claims of what reads a file.
 
 def claim_map(name, command, film, file):
-    claim(f"map of {name}", command.run("map", film), 1 if number_of(file) else 0, map_text(file))
+    """Both maps."""
+    status = 1 if number_of(file) else 0
+    claim(f"map of {name}", command.run("map", film), status, map_text(file))
+    claim(f"map --missing of {name}", command.run("map", "--missing", film), status, missmap_text(file))
 
 
 def claim_boxes(name, command, film, file):

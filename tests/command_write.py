@@ -105,7 +105,7 @@ def appends_far(command):
     found = claim_append("at 2^32 - 1", command, begun(b"u"), WIDE - 1, [good(b"ab")])
     found = claim_append("at 2^32", command, found, WIDE, [good(b"cd")], True)
     expect("both sides of 2^32 by hand", found, begun(b"u") + by_hand)
-    claim("the map across 2^32", command.run("map", "film"), 0, b"source\t4294967298\tclosed\nmiss\t0\t4294967295\nhave\t4294967295\t3\ntotal\t3\t4294967295\n")
+    claim("the map across 2^32", command.run("map", "film"), 0, b"source\t4294967298\tclosed\nlost\t0\t4294967295\nhave\t4294967295\t3\ntotal\t3\t0\t4294967295\n")
     claim("get across 2^32", command.run("get", "film", "4294967295", "3"), 0, b"abd")
     claim("get from 2^32", command.run("get", "film", "4294967296", "2"), 0, b"bd")
     claim_missing("get before 2^32", command.run("get", "film", "4294967294", "4"), WIDE - 2)
@@ -113,7 +113,7 @@ def appends_far(command):
     claim_rows("a film across 2^32", command, "film", found)
     found = claim_append("to the limit", command, begun(b"u"), 1, [lost(LIMIT - 9), elsewhere(5), good(b"end")], True)
     claim("the map to the limit", command.run("map", "film"), 0,
-          b"source\t1099511627775\tclosed\nmiss\t0\t1099511627772\nhave\t1099511627772\t3\ntotal\t3\t1099511627772\n")
+          b"source\t1099511627775\tclosed\nlost\t0\t1099511627772\nhave\t1099511627772\t3\ntotal\t3\t0\t1099511627772\n")
     claim("get at the limit", command.run("get", "film", "1099511627774", "1"), 0, b"d")
     claim_missing("get at the limit and one", command.run("get", "film", "1099511627774", "2"), LIMIT)
     for offset, chunks in [(2 * WIDE, [good(b"a")]), (WIDE - 4, [lost(8)]), (0, [lost(WIDE)]), (0, [elsewhere(WIDE - 1), damaged(b"x")]), (LIMIT - 1, [good(b"z")]), (LIMIT - 4, [lost(4)])]:
@@ -127,11 +127,12 @@ def appends_elsewhere(command):
     chunks = [elsewhere(300), good(b"ab"), elsewhere(1), damaged(b"cde")]
     found = claim_append("held elsewhere", command, begun(b"u"), 4, chunks, True, 6)
     expect("held elsewhere by hand", found, begun(b"u") + by_hand)
-    claim("the map of what is held elsewhere", command.run("map", "film"), 0, b"source\t310\tclosed\nmiss\t0\t304\nhave\t304\t2\nmiss\t306\t4\ntotal\t2\t308\n")
+    claim("the map of what is held elsewhere", command.run("map", "film"), 0,
+          b"source\t310\tclosed\nlost\t0\t304\nhave\t304\t2\nlost\t306\t1\nheld\t307\t3\ntotal\t2\t3\t305\n")
     claim_rows("what is held elsewhere", command, "film", found)
     found = claim_append("what was held elsewhere, come back", command, found, 0, [good(bytes(range(250))), elsewhere(9), good(b"x" * 51)])
     found = claim_append("held elsewhere over it", command, found, 0, [elsewhere(310)], True)
-    claim("the map of what came back", command.run("map", "film"), 0, b"source\t310\tclosed\nhave\t0\t250\nmiss\t250\t9\nhave\t259\t51\ntotal\t301\t9\n")
+    claim("the map of what came back", command.run("map", "film"), 0, b"source\t310\tclosed\nhave\t0\t250\nlost\t250\t9\nhave\t259\t51\ntotal\t301\t0\t9\n")
     claim("what came back", command.run("get", "film", "259", "51"), 0, b"x" * 45 + b"ab" + b"x" * 4)
     mixed = begun(b"u", brand=PMFF)
     claim_append("held elsewhere beside boxes outside", command, mixed, 0, [elsewhere(3), good(MOOF), elsewhere(4), damaged(b"xyz"), good(MDAT)], outside=True)
@@ -146,7 +147,7 @@ def appends_outside(command):
         "0000003c 70736567 00000018 70736864 00000001 00000002 0000000000000000 0000001c 706c6f63 00000000 11 0000 0004 4012da c003d7 8007 4014ec")
     found = claim_append("boxes outside", command, mixed, 2, [good(MOOF), damaged(b"xyz"), lost(7), good(MDAT)], True, outside=True)
     expect("boxes outside by hand", found, mixed + by_hand)
-    claim("the map of a mixed film", command.run("map", "film"), 0, b"source\t50\tclosed\nmiss\t0\t2\nhave\t2\t18\nmiss\t20\t10\nhave\t30\t20\ntotal\t38\t12\n")
+    claim("the map of a mixed film", command.run("map", "film"), 0, b"source\t50\tclosed\nlost\t0\t2\nhave\t2\t18\nheld\t20\t3\nlost\t23\t7\nhave\t30\t20\ntotal\t38\t3\t9\n")
     claim("a box served", command.run("get", "film", "2", "18"), 0, MOOF)
     claim("a part of a box served", command.run("get", "film", "34", "16"), 0, MDAT[4:])
     boxes = b"0\t20\tftyp\n20\t35\tpfil\n55\t11\tpdat\n66\t18\tmoof\n84\t20\tmdat\n104\t60\tpseg\n"

@@ -28,8 +28,9 @@ paff() {
 # OFFSET ARGUMENT...: appends a segment, at which nothing is printed.
 append() { paff append "$file" --offset "$@"; same "what append prints at $1" "" "$(cat "$folder/said")"; }
 
-# FIELD...: the text of a map, three fields to a line.
+# FIELD...: lines of a map, three fields to a line; TOTAL...: its last line.
 map_of() { printf '%s\t%s\t%s\n' "$@"; }
+total_of() { printf total; printf '\t%s' "$@"; echo; }
 
 # Asks nginx for the film with curl, its answer in the file `piece`, and prints the status of the answer.
 ask() { timeout 20 curl -q --silent --noproxy '*' --output "$folder/piece" --write-out '%{http_code}' "$@" "$url" || printf ', curl ended with %s' $?; }
@@ -75,16 +76,23 @@ receive() {
     append 1790000 --last --good "$(mixed 1790000 710000 1800000)" --damaged "$(wrong 2500000 300000)" --good "$(right 2800000 345740)" --lost 1
 }
 
-# The map after the night, by hand.
+# The map after the night, by hand, with names for what is missing and without.
 night_map() {
+    map_of source 3145741 closed lost 0 1000 have 1000 299000 lost 300000 1 have 300001 339999 held 640000 60000 have 700000 50000 held 750000 10000 \
+        lost 760000 440000 have 1200000 300000 held 1500000 1000 lost 1501000 9000 have 1510000 10000 lost 1520000 180000 have 1700000 800000 \
+        held 2500000 300000 have 2800000 345740 lost 3145740 1
+    total_of 2144739 371000 630002
+}
+night_missing() {
     map_of source 3145741 closed miss 0 1000 have 1000 299000 miss 300000 1 have 300001 339999 miss 640000 60000 have 700000 50000 miss 750000 450000 \
         have 1200000 300000 miss 1500000 10000 have 1510000 10000 miss 1520000 180000 have 1700000 800000 miss 2500000 300000 have 2800000 345740 \
-        miss 3145740 1 total 2144739 1001002
+        miss 3145740 1
+    total_of 2144739 1001002
 }
 
-# One round of the evening: fetches and appends each range that the map calls missing.
+# One round of the evening: fetches and appends each missing range, held and lost together, as each range that is ordered has its price.
 order() {
-    paff map "$file"; mv "$folder/said" "$folder/map"
+    paff map --missing "$file"; mv "$folder/said" "$folder/map"
     while read -r word first length; do
         [ "$word" = miss ] || continue
         same "the status for $length bytes at $first" 206 "$(ask --range "$first-$((first + length - 1))")"
@@ -99,11 +107,12 @@ make_film
 serve
 receive
 paff map "$file"; same "the map before the evening" "$(night_map)" "$(cat "$folder/said")"
+paff map --missing "$file"; same "what is missing before the evening" "$(night_missing)" "$(cat "$folder/said")"
 paff rows "$file"; same "the URL to order from" "$url" "$(sed -n 's/^url	//p' "$folder/said")"
 ranges=0 bytes=0
 for _ in 1 2 3; do order; done
 same "ranges and bytes fetched, each once" "8 1001002" "$ranges $bytes"
-paff map "$file"; same "the map after the evening" "$(map_of source $size closed have 0 $size total $size 0)" "$(cat "$folder/said")"
+paff map "$file"; same "the map after the evening" "$(map_of source $size closed have 0 $size; total_of $size 0 0)" "$(cat "$folder/said")"
 same "the status for the whole film" 200 "$(ask)"
 same "the checksum of the film as nginx serves it" "$(sum "$film")" "$(sum "$folder/piece")"
 paff get "$file" 0 $size; same "the checksum of the film as paff serves it" "$(sum "$folder/piece")" "$(sum "$folder/said")"

@@ -83,7 +83,7 @@ receive
 
 same "the boxes of the mixed file" "ftyp pfil pdat pseg moov moof mdat moof mdat moof mdat mfra pseg " "$(types "$file")"
 paff map "$file"
-same "the map" "$(printf '%s\t%s\t%s\n' source "$size" closed have 0 "$lost_at" miss "$lost_at" "$lost" have "$lost_end" $((size - lost_end)) total $((size - lost)) "$lost")" \
+same "the map" "$(printf '%s\t%s\t%s\n' source "$size" closed have 0 "$lost_at" lost "$lost_at" "$lost" have "$lost_end" $((size - lost_end)); printf 'total\t%s\t0\t%s\n' $((size - lost)) "$lost")" \
     "$(cat "$folder/said")"
 
 streams "$film" >"$folder/streams"
@@ -100,7 +100,7 @@ same "the pictures that came, those of the third second missing" "$(sed 21,30d "
 curl -q --silent --fail --range "$lost_at-$((lost_end - 1))" --output "$folder/piece" "file://$film"
 paff append "$file" --offset "$lost_at" --outside --good "$folder/piece"
 paff map "$file"
-same "the map after the repair" "$(printf '%s\t%s\t%s\n' source "$size" closed have 0 "$size" total "$size" 0)" "$(cat "$folder/said")"
+same "the map after the repair" "$(printf '%s\t%s\t%s\n' source "$size" closed have 0 "$size"; printf 'total\t%s\t0\t0\n' "$size")" "$(cat "$folder/said")"
 paff get "$file" 0 "$size"
 cmp "$film" "$folder/said"
 same "the streams after the repair" "$(cat "$folder/streams")" "$(streams "$file")"

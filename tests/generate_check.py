@@ -3,6 +3,8 @@
 import random
 import statistics
 import sys
+from collections import Counter
+from itertools import groupby
 
 import generate
 import model
@@ -52,6 +54,7 @@ def check_foreign(files):
     check_size_forms(files)
     check_skipped(files)
     check_states(files)
+    check_damage(files)
     check_far(files)
     check_elsewhere(files)
     check_mixed(files)
@@ -124,6 +127,33 @@ def check_far(files):
 def overlap(one, two):
     """Whether two chunk rows cover a position both."""
     return max(one[2], two[2]) < min(one[2] + one[3], two[2] + two[3])
+
+
+def check_damage(files):
+    """Damage is held and is under good chunks, in each order; beside lost ones and on their positions, in each order; and held ranges of one chunk, of several and of parts."""
+    met = Counter()
+    for file in files:
+        chunks = model.read(file)[2]
+        named = [one.split(b"\t") for one in model.map_text(file, len(file)).splitlines()[1:-1]]
+        words = [word.decode("ascii") for word, first, run in named]
+        met.update({f"{one} before {two}" for one, two in zip(words, words[1:])} | set(words))
+        held = {(int(first), int(run)) for word, first, run in named if word == b"held"}
+        damaged = [chunk for chunk in chunks if chunk[4] == 1]
+        met["held, a whole chunk"] += any((chunk[2], chunk[3]) in held for chunk in damaged)
+        met["held, two chunks"] += any(sum(first <= chunk[2] and chunk[2] + chunk[3] <= first + run and chunk[3] > 0 for chunk in damaged) > 1 for first, run in held)
+        met["held, a part of a chunk"] += any(chunk[2] < first or first + run < chunk[2] + chunk[3] for first, run in held for chunk in damaged if overlap(chunk, (0, 0, first, run)))
+        met["empty"] += any(chunk[3] == 0 for chunk in damaged)
+        for state, word in [(0, "lost"), (2, "good"), (3, "elsewhere")]:
+            beside = [(one, two) for one in damaged for two in chunks if two[4] == state and overlap(one, two)]
+            met[f"{word} behind"] += any(two[0] > one[0] for one, two in beside)
+            met[f"{word} in front"] += any(two[0] < one[0] for one, two in beside)
+    names = ["have", "held", "lost"]
+    wanted = [f"{one} before {two}" for one in names for two in names if one != two] + ["held, a whole chunk", "held, two chunks", "held, a part of a chunk", "empty"]
+    wanted += [f"{word} {where}" for word in ("lost", "good", "elsewhere") for where in ("behind", "in front")]
+    for name in wanted:
+        expect(f"damage, {name}", met[name] >= 10)
+    expect("no name twice in a row", not any(met[f"{name} before {name}"] for name in names))
+    expect("a fifth of the files has something held", met["held"] / len(files) > 0.2)
 
 
 def check_elsewhere(files):
@@ -215,11 +245,27 @@ def check_meaning(file):
         expect("list not touching", all(apart))
         expect("list never empty", all(run > 0 for first, run in found))
     expect("totals", answer[3:], (len(had), len(missing)))
+    check_maps(file, chunks, suppliers)
+
+
+def text_by_position(file, names, totals):
+    """A map of which the name of each position is known."""
     closed = "closed" if model.length(file)[2] else "open"
-    text = model.map_text(file).decode("ascii").split("\n")
-    expect("map", (text[0], text[-2], len(text)),
-           (f"source\t{described}\t{closed}", f"total\t{len(had)}\t{len(missing)}",
-            3 + len(answer[1]) + len(answer[2])))
+    text, first = f"source\t{len(names)}\t{closed}\n", 0
+    for name, run in groupby(names):
+        length = len(list(run))
+        text += f"{name}\t{first}\t{length}\n"
+        first += length
+    return (text + "\t".join(["total", *[str(names.count(name)) for name in totals]]) + "\n").encode("ascii")
+
+
+def check_maps(file, chunks, suppliers):
+    """Both maps against the name of each position."""
+    covered = {p for segment, index, start, size, state, place in chunks if state == 1 for p in range(start, start + size)}
+    names = ["have" if number is not None else "held" if p in covered else "lost" for p, number in enumerate(suppliers)]
+    expect("map", model.map_text(file), text_by_position(file, names, ["have", "held", "lost"]))
+    names = ["have" if name == "have" else "miss" for name in names]
+    expect("map without names", model.missmap_text(file), text_by_position(file, names, ["have", "miss"]))
 
 
 # Faulty and spoiled files.
@@ -229,8 +275,8 @@ def check_faulty(rng, runs):
         for _ in range(runs):
             file = generate.faulty_file(rng, number)
             expect(f"faulty file for {number}", model.read(file), ("refused", number))
-            expect(f"map of a file for {number}", model.map_text(file),
-                   b"refused\t%d\n" % number)
+            expect(f"maps of a file for {number}", [model.map_text(file), model.missmap_text(file)],
+                   2 * [b"refused\t%d\n" % number])
             expect(f"parts of a file for {number}",
                    [model.url(file), model.mime(file), model.serve(file, 0)], 3 * [(0, 0)])
 

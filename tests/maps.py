@@ -3,7 +3,8 @@
 usage: python3 tests/maps.py [--check]
 
 A record of `stdin` is three numbers, most significant byte first: the length of its name in two bytes, then the length of its file and that of the lent
-buffer in three bytes each. Then the name and the file. `stdout` is made of the model's answers alone.
+buffer in three bytes each. Then the name and the file. `stdout` is made of the model's answers alone: that of the map, and then that of the map which does not
+name damage, each in a buffer of so many bytes.
 """
 
 import os
@@ -11,6 +12,7 @@ from collections import Counter, namedtuple
 
 import corpus
 import lists
+import maps_damage
 import model
 from boxes import box
 from corpus import ROOT, TO_SPARE, command, line
@@ -20,14 +22,15 @@ from lists_record import assembled
 from plan import Data, Entry, Other, Segment
 
 CRATE = os.path.join(ROOT, "crates", "mapping_run")
-MOST_BYTES = 420_000
+MOST_BYTES = 520_000
 LARGEST_FILE = 65_537
 LARGEST_BUFFER = 65_600
 LAST = 1
 BUFFER_TOO_SHORT = 33
+TEXTS = (model.map_text, model.missmap_text)
 
-# A file with the lists that are stated of it, None where only the model says, and a file with a buffer of so many bytes.
-File = namedtuple("File", "kind name content stated")
+# A file with the lists and the ranges of its map that are stated of it, None where only the model says, and a file with a buffer of so many bytes.
+File = namedtuple("File", "kind name content stated named", defaults=(None, None))
 Record = namedtuple("Record", "name file room")
 
 
@@ -39,6 +42,14 @@ def of_lists():
         lent = record.kind == "lent"
         name = record.name.partition(" in ")[0] if lent else record.name
         yield File(record.kind, name, record.file, None if lent else record.wanted)
+
+
+def of_damage():
+    """Those whose maps are stated by name, and the sample that has each name."""
+    for name, content, words in maps_damage.files():
+        yield File("damage", name, content, named=words)
+    with open(os.path.join(ROOT, "samples", "damaged.paff"), "rb") as file:
+        yield File("paper", "samples/damaged.paff", file.read(), named="have 0 6, held 6 3, have 9 3, lost 12 1, held 13 2, lost 15 2, have 17 3")
 
 
 def refused_shortest():
@@ -73,7 +84,7 @@ def largest():
 def files():
     """All of them, each once."""
     made = {}
-    for file in [*of_lists(), *refused_shortest(), *largest()]:
+    for file in [*of_damage(), *of_lists(), *refused_shortest(), *largest()]:
         made.setdefault(file.content, file)
     return list(made.values())
 
@@ -81,11 +92,12 @@ def files():
 # Their buffers.
 
 def rooms(file, turn):
-    """An exact buffer for all files, and one of the others; all of them for the paper's."""
-    needed = len(model.map_text(file.content))
+    """For all files a buffer that is exact for the map, whose text is never the shorter one, and one of the others; all of them for the paper's."""
+    needed, without_names = [len(text_of(file.content)) for text_of in TEXTS]
     if file.kind == "largest":
         return [LARGEST_BUFFER if file.stated != 27 else needed]
-    others = [needed - 1, needed + 1, 0, needed + TO_SPARE]
+    others = [without_names, needed - 1, without_names - 1, needed + 1, 0, without_names + 1, needed + TO_SPARE]
+    others = [room for room in dict.fromkeys(others) if room != needed]
     if file.kind == "paper":
         return [needed, *others, LARGEST_BUFFER]
     return [needed, others[turn % len(others)]]
@@ -106,14 +118,17 @@ def encoded(record):
 
 # What the program is to write.
 
-def answers(record):
-    """The text where the buffer holds it; what lies behind it, or else all of the buffer, is as it was."""
-    text = model.map_text(record.file.content)
-    if len(text) > record.room:
-        front, rest = line("refused", BUFFER_TOO_SHORT), record.room
+def answer(text, room):
+    """A text where the buffer holds it; what lies behind it, or else all of the buffer, is as it was."""
+    if len(text) > room:
+        front, rest = line("refused", BUFFER_TOO_SHORT), room
     else:
-        front, rest = line("length", len(text)) + text.decode("ascii"), record.room - len(text)
-    return line("=", record.name) + front + line("kept", rest, "of", rest)
+        front, rest = line("length", len(text)) + text.decode("ascii"), room - len(text)
+    return front + line("kept", rest, "of", rest)
+
+
+def answers(record):
+    return line("=", record.name) + "".join(answer(text_of(record.file.content), record.room) for text_of in TEXTS)
 
 
 # The command.
@@ -130,22 +145,30 @@ def ranges_in(text, word):
 
 
 def stated_in(text):
-    """What a text says, in the form in which a file's lists are stated."""
+    """What a map without names says, in the form in which a file's lists are stated."""
     return refusal_in(text) or (ranges_in(text, b"have"), ranges_in(text, b"miss"))
 
 
-def number_of(record):
-    text = model.map_text(record.file.content)
-    return refusal_in(text) if len(text) <= record.room else BUFFER_TOO_SHORT
+def named_in(text):
+    """The ranges of a map in words."""
+    return ", ".join(one.replace("\t", " ") for one in text.decode("ascii").splitlines()[1:-1])
+
+
+def numbers_of(record):
+    """The number that each of the two calls answers with or has in its text."""
+    for text_of in TEXTS:
+        text = text_of(record.file.content)
+        yield refusal_in(text) if len(text) <= record.room else BUFFER_TOO_SHORT
 
 
 def checked(made):
-    """How many records have each number, 0 for a map; each text says what is stated, and no number is missing."""
+    """How many answers have each number, 0 for a map; each text says what is stated, and no number is missing."""
     for file in {record.file.name: record.file for record in made}.values():
-        assert file.stated in (None, stated_in(model.map_text(file.content))), file.name
+        assert file.stated in (None, stated_in(model.missmap_text(file.content))), file.name
+        assert file.named in (None, named_in(model.map_text(file.content))), file.name
     names = Counter(record.name for record in made)
     assert max(names.values()) == 1, names.most_common(3)
-    numbers = Counter(number_of(record) for record in made)
+    numbers = Counter(number for record in made for number in numbers_of(record))
     assert set(numbers) == {0, 27, BUFFER_TOO_SHORT} | set(FAULTS), sorted(numbers)
     return numbers
 

@@ -1,4 +1,4 @@
-"""Models the reader, the server, the lists, the map, the list of boxes and the writer of partial files.
+"""Models the reader, the server, the lists, both maps, the list of boxes and the writer of partial files.
 
 Written from the paper "What is to be made, with rules" in its order, from
 5.1.1 to 5.1.8 of ISO/IEC 23001-14 for the layout of fields, and from the change
@@ -88,6 +88,19 @@ Of request 5, longer recordings:
     the last byte of a source stands at 1,099,511,627,774 at most.
 36. Which form has the `pshd` of a source offset that 32 bits do not hold?  That
     of version 1, by reading 18, and no other segment has it.
+
+Of request 6, the map that names damage:
+
+37. A lost chunk and a damaged one on the same missing position?  Held, in
+    whichever order they stand: "that some damaged chunk covers".
+38. A position that only a chunk held elsewhere covers, or none at all?  Lost:
+    neither is damaged.
+39. Do held and lost neighbours make one range?  No, a range ends where the name
+    changes; each is as long as its name lasts, as the lists are.
+40. What does the total line have?  Three numbers, received, held and lost, also
+    where some are 0.
+41. Does a damaged chunk change what is received?  No, and neither does it change
+    the missing list: held and lost together are missing as before.
 """
 
 from collections import namedtuple
@@ -483,19 +496,24 @@ def check_room(needed, room):
 
 # Meaning.
 
-def supplier(reading, p):
-    """The first good chunk that covers a position, or None."""
+def first_covering(reading, state, p):
+    """The first chunk of a state that covers a position, or None."""
     for chunk in reading.chunks:
-        if chunk.state == GOOD and chunk.start <= p < chunk.start + chunk.size:
+        if chunk.state == state and chunk.start <= p < chunk.start + chunk.size:
             return chunk
     return None
 
 
-def edges(reading):
-    """The positions where the supplier may change, ascending, and both ends."""
+def supplier(reading, p):
+    """The first good chunk that covers a position, or None."""
+    return first_covering(reading, GOOD, p)
+
+
+def edges(reading, states=(GOOD,)):
+    """The positions where chunks of these states begin and end, ascending, and both ends of what is described."""
     found = {0, reading.described}
     for chunk in reading.chunks:
-        if chunk.state == GOOD:
+        if chunk.state in states:
             found.add(chunk.start)
             found.add(chunk.start + chunk.size)
     return sorted(found)
@@ -809,27 +827,60 @@ def append(buffer, stated_length, source_offset, repair_time, last, outside, chu
     return ("length", end), file + buffer[end:]
 
 
-# The map program.
+# The map program, and the one that does not name damage.
 
 def line(*fields):
     return "\t".join(str(field) for field in fields).encode("ascii") + b"\n"
 
 
-def map_text(data, most=LIMITS["program input"]):
-    """What the program writes for its standard input; the command that maps a file by its name has no such limit and states its length."""
+def name_of(reading, p):
+    """What the map calls a position: one that is missing is held if some damaged chunk covers it, wherever that one stands in the file."""
+    if supplier(reading, p) is not None:
+        return "have"
+    return "lost" if first_covering(reading, DAMAGED, p) is None else "held"
+
+
+def named_ranges(reading):
+    """The maximal ranges of positions with one name, ascending: name, first position, length."""
+    found = []
+    marks = edges(reading, (GOOD, DAMAGED))
+    for first, end in zip(marks, marks[1:]):
+        name = name_of(reading, first)
+        if found and found[-1][0] == name:
+            first = found.pop()[1]
+        found.append((name, first, end - first))
+    return found
+
+
+def both_lists(reading):
+    """Both lists merged, in the same form."""
+    merged = [("have", first, run) for first, run in ranges(reading, True)]
+    merged += [("miss", first, run) for first, run in ranges(reading, False)]
+    return sorted(merged, key=lambda one: one[1])
+
+
+def text_of_ranges(data, most, ranges_of, names):
+    """The source, its ranges, and the total of each name; or the refusal."""
     if len(data) > most:
         return line("refused", INPUT_OVER_LIMIT)
-    answer = lists(data)
-    if answer[0] == "refused":
-        return line("refused", answer[1])
-    had, missing, received_total, missing_total = answer[1:]
-    described, closed = length(data)[1:]
-    merged = [(first, "have", run) for first, run in had]
-    merged += [(first, "miss", run) for first, run in missing]
-    text = line("source", described, "closed" if closed else "open")
-    for first, word, run in sorted(merged):
-        text += line(word, first, run)
-    return text + line("total", received_total, missing_total)
+    number, reading = attempt(accept, data)
+    if number:
+        return line("refused", number)
+    found = ranges_of(reading)
+    text = line("source", reading.described, "closed" if reading.closed else "open")
+    for name, first, run in found:
+        text += line(name, first, run)
+    return text + line("total", *[sum(run for name, first, run in found if name == one) for one in names])
+
+
+def map_text(data, most=LIMITS["program input"]):
+    """What the program writes for its standard input; the command that maps a file by its name has no such limit and states its length."""
+    return text_of_ranges(data, most, named_ranges, ("have", "held", "lost"))
+
+
+def missmap_text(data, most=LIMITS["program input"]):
+    """What the program writes that does not name damage."""
+    return text_of_ranges(data, most, both_lists, ("have", "miss"))
 
 
 # The program that lists boxes.

@@ -42,6 +42,11 @@ def place_of_pseg(data):
     return len(head()) + (8 + len(data) if data else 0)
 
 
+def texts_of(file):
+    """The map, and the one that does not name damage."""
+    return [model.map_text(file), model.missmap_text(file)]
+
+
 # The paper's numbers.
 
 def check_p1_to_p7():
@@ -78,16 +83,35 @@ def check_p9_and_p10():
     expect("P10 4 to 6 from the second", p10[place:place + length], b"EFG")
     expect("P10 asked", [model.ask(p10, p) for p in (0, 4, 7, 9, 10)],
            [("served", 4), ("served", 3), ("missing", 3), ("missing", 1), ("beyond",)])
-    expect("P10 map", model.map_text(p10),
+    expect("P10 map", model.missmap_text(p10),
            b"source\t10\tclosed\nhave\t0\t7\nmiss\t7\t3\ntotal\t7\t3\n")
+    expect("P10 map with names", model.map_text(p10),
+           b"source\t10\tclosed\nhave\t0\t7\nlost\t7\t3\ntotal\t7\t0\t3\n")
 
 
-def check_sample():
-    """The sample of the repository is P10's file, with data that tell the two segments apart."""
+def sample(name):
+    path = os.path.join(os.path.dirname(os.path.abspath(__file__)), "..", "samples", name)
+    with open(path, "rb") as file:
+        return file.read()
+
+
+def check_lesson():
+    """The first sample of the repository is P10's file, with data that tell the two segments apart."""
     first = appended(begun(), 0, [4, 2, 6, 0], bytes([11, 12, 13, 14]), last=True)
-    sample = os.path.join(os.path.dirname(os.path.abspath(__file__)), "..", "samples", "lesson.paff")
-    with open(sample, "rb") as file:
-        expect("sample", file.read(), appended(first, 2, [5, 2], bytes([21, 22, 23, 24, 25])))
+    expect("lesson.paff", sample("lesson.paff"), appended(first, 2, [5, 2], bytes([21, 22, 23, 24, 25])))
+
+
+def check_damaged():
+    """The second one, by hand: chunks of each state, then damage over good bytes and beside them, good bytes over damage and lost ones, and damage over lost ones."""
+    first = [entry(0x40, 1, 6, 1, -14), entry(0xC0, 1, 5, 1, -8), entry(0x80, 1, 4), entry(0x00, 1, 2), entry(0x40, 1, 3, 1, -3)]
+    file = head(b"a") + box(b"pdat", bytes(range(11, 25))) + box(b"pseg", pshd(0, 1), ploc(1, 1, first))
+    for offset, flag_byte, size, data in [(4, 0xC0, 4, 31), (9, 0x40, 3, 41), (13, 0xC0, 2, 51)]:
+        file += box(b"pdat", bytes(range(data, data + size))) + box(b"pseg", pshd(offset), ploc(1, 1, [entry(flag_byte, 1, size, 1, -size)]))
+    expect("damaged.paff", sample("damaged.paff"), file)
+    written = appended(begun(), 0, [6, 2, 5, 1, 4, 0, 2, 3, 3, 2], bytes(range(11, 25)), last=True)
+    for offset, state, size, data in [(4, 1, 4, 31), (9, 2, 3, 41), (13, 1, 2, 51)]:
+        written = appended(written, offset, [size, state], bytes(range(data, data + size)))
+    expect("damaged.paff by append", written, file)
 
 
 def check_p11_and_p12():
@@ -96,7 +120,7 @@ def check_p11_and_p12():
     expect("P11 missing", model.lists(file), ("lists", [], [(0, 100)], 0, 100))
     expect("P11 appended", appended(head(), 100, [], b""), file)
     expect("P12", model.read(b""), refused(7))
-    expect("P12 map", model.map_text(b""), b"refused\t7\n")
+    expect("P12 maps", texts_of(b""), 2 * [b"refused\t7\n"])
 
 
 def check_limits():
@@ -114,8 +138,8 @@ def check_limits():
     expect("1,025 chunks", model.read(head() + lost_segment(0, 1025 * [1])), refused(22))
     expect("file over its limit", model.read(bytes(1_073_741_825)), refused(1))
     expect("file at its limit", model.read(bytes(1_073_741_824)), refused(3))
-    expect("input over its limit", model.map_text(bytes(65_537)), b"refused\t27\n")
-    expect("input at its limit", model.map_text(bytes(65_536)), b"refused\t3\n")
+    expect("input over its limit", texts_of(bytes(65_537)), 2 * [b"refused\t27\n"])
+    expect("input at its limit", texts_of(bytes(65_536)), 2 * [b"refused\t3\n"])
 
 
 def check_box_counts():
@@ -472,7 +496,9 @@ def check_elsewhere_read():
            [(0, 0, 3, 2, 2, place - 6), (0, 1, 5, 5, 3, 0), (0, 2, 10, 4, 1, place - 4), (0, 3, 14, 0, 3, 0), (0, 4, 14, 1, 0, 0)])
     expect("length of each state", model.length(file), ("length", 15, True))
     expect("lists of each state", model.lists(file), ("lists", [(3, 2)], [(0, 3), (5, 10)], 2, 13))
-    expect("map of each state", model.map_text(file), b"source\t15\tclosed\nmiss\t0\t3\nhave\t3\t2\nmiss\t5\t10\ntotal\t2\t13\n")
+    expect("maps of each state", texts_of(file),
+           [b"source\t15\tclosed\nlost\t0\t3\nhave\t3\t2\nlost\t5\t5\nheld\t10\t4\nlost\t14\t1\ntotal\t2\t4\t9\n",
+            b"source\t15\tclosed\nmiss\t0\t3\nhave\t3\t2\nmiss\t5\t10\ntotal\t2\t13\n"])
     expect("asked of each state", [model.ask(file, p) for p in (2, 4, 5, 9, 14, 15)],
            [("missing", 1), ("served", 1), ("missing", 10), ("missing", 6), ("missing", 1), ("beyond",)])
     expect("not served", [model.serve(file, p) for p in (5, 9)], 2 * [(0, 0)])
@@ -506,7 +532,8 @@ def check_elsewhere_written():
     wanted = begun(brand=PMFF) + MOOF + box(b"pseg", pshd(0), ploc(1, 1, entries))
     expect("beside a box outside", appended(begun(brand=PMFF), 0, [6, 3, 18, 2, 9, 3], MOOF, outside=True), wanted)
     served = appended(appended(begun(), 0, [4, 2], b"abcd"), 0, [9, 3], b"", last=True)
-    expect("over what is served", model.map_text(served), b"source\t9\tclosed\nhave\t0\t4\nmiss\t4\t5\ntotal\t4\t5\n")
+    expect("over what is served", texts_of(served),
+           [b"source\t9\tclosed\nhave\t0\t4\nlost\t4\t5\ntotal\t4\t0\t5\n", b"source\t9\tclosed\nhave\t0\t4\nmiss\t4\t5\ntotal\t4\t5\n"])
     mended = appended(served, 3, [6, 2], b"DEFGHI")
     place, length = model.serve(mended, 4)
     expect("good behind it", (model.lists(mended), mended[place:place + length]), (("lists", [(0, 9)], [], 9, 0), b"EFGHI"))
@@ -532,7 +559,7 @@ def check_far_read():
         expect(f"{sizes} from {offset}, and one past the limit", past, refused(23))
     served = segment_of(ploc(1, 1, [entry(0x40, 1, 6, 1, -6)]), b"abcdef", WIDE - 2, 1)
     expect("served across 2^32", [model.serve(served, WIDE - 2 + at) for at in range(7)], [(len(head()) + 8 + at, 6 - at) for at in range(6)] + [(0, 0)])
-    expect("the map across 2^32", model.map_text(served), b"source\t4294967300\tclosed\nmiss\t0\t4294967294\nhave\t4294967294\t6\ntotal\t6\t4294967294\n")
+    expect("the map across 2^32", model.map_text(served), b"source\t4294967300\tclosed\nlost\t0\t4294967294\nhave\t4294967294\t6\ntotal\t6\t0\t4294967294\n")
     last = segment_of(ploc(1, 1, [entry(0x40, 1, 1, 1, -1)]), b"z", LIMIT - 1, 1)
     expect("the last position of all", model.lists(last), ("lists", [(LIMIT - 1, 1)], [(0, LIMIT - 1)], 1, LIMIT - 1))
 
@@ -552,6 +579,45 @@ def check_far_written():
         buffer = begun() + bytes(99)
         expect(f"to the limit from {offset}", model.append(buffer, 55, offset, 0, False, False, [size, 3], b"")[0][0], "length")
         expect(f"one past the limit from {offset}", model.append(buffer, 55, offset, 0, False, False, [size + 1, 3], b"")[0], refused(23))
+
+
+# Damage by its name.
+
+def claim_maps(name, file, named, missing):
+    """Both maps, the lines of each in words."""
+    wanted = [words.replace(" ", "\t").replace(",\t", "\n").encode("ascii") + b"\n" for words in (named, missing)]
+    expect(f"maps of {name}", texts_of(file), wanted)
+
+
+def check_held_and_lost():
+    """By hand: what some damaged chunk covers is held, wherever that one stands; what is had stays so; neither other state is damaged."""
+    claim_maps("one damaged", appended(begun(), 2, [5, 1], b"abcde"), "source 7 open, lost 0 2, held 2 5, total 0 5 2", "source 7 open, miss 0 7, total 0 7")
+    claim_maps("an open segment", head() + open_segment(7), "source 7 open, lost 0 7, total 0 0 7", "source 7 open, miss 0 7, total 0 7")
+    claim_maps("no length", head() + open_segment(0), "source 0 open, total 0 0 0", "source 0 open, total 0 0")
+    claim_maps("all good", appended(begun(), 0, [5, 2], b"abcde", True), "source 5 closed, have 0 5, total 5 0 0", "source 5 closed, have 0 5, total 5 0")
+    damage, repair = (2, [5, 1], b"abcde"), (4, [2, 2], b"xy")
+    for state in (0, 3):
+        absent = (0, [9, state], b"", True)
+        for order in [(damage, repair, absent), (absent, repair, damage), (repair, absent, damage), (damage, absent, repair)]:
+            file = begun()
+            for addition in order:
+                file = appended(file, *addition)
+            claim_maps(f"state {state} in the order {order}", file, "source 9 closed, lost 0 2, held 2 2, have 4 2, held 6 1, lost 7 2, total 2 3 4",
+                       "source 9 closed, miss 0 4, have 4 2, miss 6 3, total 2 7")
+
+
+def check_ranges_of_names():
+    """By hand: a range goes as far as its name, over chunks and segments, and an empty chunk covers nothing."""
+    chunks = [2, 1, 3, 1, 1, 0, 2, 3, 4, 0, 1, 2]
+    file = appended(appended(begun(), 0, chunks, b"abcdex"), 13, [2, 1, 1, 0], b"yz", True)
+    claim_maps("neighbours", file, "source 16 closed, held 0 5, lost 5 7, have 12 1, held 13 2, lost 15 1, total 1 7 8", "source 16 closed, miss 0 12, have 12 1, miss 13 3, total 1 15")
+    file = appended(appended(appended(begun(), 3, [4, 1], b"abcd"), 0, [5, 1], b"efghi"), 6, [3, 1], b"jkl")
+    claim_maps("overlaps, turned", file, "source 9 open, held 0 9, total 0 9 0", "source 9 open, miss 0 9, total 0 9")
+    file = appended(appended(begun(), 0, [9, 2], b"abcdefghi"), 0, [20, 1], bytes(20))
+    claim_maps("damage under good and past it", file, "source 20 open, have 0 9, held 9 11, total 9 11 0", "source 20 open, have 0 9, miss 9 11, total 9 11")
+    empty = segment_of(ploc(1, 1, [entry(0x80, 1, 4), entry(0xC0, 1, 0, 1, 99), entry(0x80, 1, 4)]), b"")
+    claim_maps("an empty damaged chunk", empty, "source 8 open, lost 0 8, total 0 0 8", "source 8 open, miss 0 8, total 0 8")
+    expect("lists beside names", model.lists(file), ("lists", [(0, 9)], [(9, 11)], 9, 11))
 
 
 # The writer against the reader, over random runs.
@@ -646,7 +712,8 @@ if __name__ == "__main__":
     check_p1_to_p7()
     check_p8()
     check_p9_and_p10()
-    check_sample()
+    check_lesson()
+    check_damaged()
     check_p11_and_p12()
     check_limits()
     check_box_counts()
@@ -671,5 +738,7 @@ if __name__ == "__main__":
     check_elsewhere_written()
     check_far_read()
     check_far_written()
+    check_held_and_lost()
+    check_ranges_of_names()
     check_random_runs(random.Random(1), 300)
     raise SystemExit(close())

@@ -3,7 +3,7 @@
 import model
 
 # Functions of the model that are pure, with a file or a reading as their first argument.
-REMEMBERED = ["accept", "read_earlier", "edges", "supplier", "run_length", "ranges"]
+REMEMBERED = ["accept", "read_earlier", "edges", "supplier", "run_length", "ranges", "named_ranges"]
 
 
 def remembered(step):

@@ -29,7 +29,7 @@ from scale_stream import Shown, Stream
 # So many cases have to meet each of these.
 LONG_ENOUGH = 10_000
 REFUSALS = {1, 26} | set(FAULTS) | set(range(30, 36))
-IN_TEXTS = {"map": {1, 27} | set(FAULTS), "boxes": set(range(1, 7)) | {27}}
+IN_TEXTS = {"map": {1, 27} | set(FAULTS), "missmap": {1, 27} | set(FAULTS), "boxes": set(range(1, 7)) | {27}}
 AT_ONCE = 1 << 20
 
 

@@ -127,8 +127,8 @@ def noise(rng):
 
 
 def of_corpora():
-    """Every file that the corpora of reading and listing have, once."""
-    return sorted({record.file for record in [*corpus.records(), *lists.records()]})
+    """Every file that the corpora of reading and listing have, once, and those on damage that the corpus of the maps has."""
+    return sorted({record.file for record in [*corpus.records(), *lists.records()]} | {file.content for file in maps.of_damage()})
 
 
 def chooser(listed):

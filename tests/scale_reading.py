@@ -1,4 +1,4 @@
-"""Makes the cases of reading a file: its rows, texts, served positions, lists, map and boxes, with tables, lists and buffers of every awkward length."""
+"""Makes the cases of reading a file: its rows, texts, served positions, lists, maps and boxes, with tables, lists and buffers of every awkward length."""
 
 import model
 from maps import refusal_in
@@ -103,8 +103,9 @@ def text_cases(stream, name, text, most, rooms):
 
 
 def map_cases(stream, rng, file, most, count):
-    text = model.map_text(file, most)
-    text_cases(stream, "map", text, most, rng.sample(awkward(len(text)), count))
+    """Both maps."""
+    for name, text in [("map", model.map_text(file, most)), ("missmap", model.missmap_text(file, most))]:
+        text_cases(stream, name, text, most, rng.sample(awkward(len(text)), count))
 
 
 def boxes_cases(stream, rng, file, most, others):

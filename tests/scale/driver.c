@@ -14,8 +14,10 @@
 #include <string.h>
 #include <unistd.h>
 
-/* An implementation from before request 1 lacks this call. */
+/* An implementation from before request 1 lacks the first of these calls, and one from before request 6 both; so may its header. */
+extern __typeof__(vrazhupa_map) vrazhupa_missmap;
 #pragma weak vrazhupa_boxes
+#pragma weak vrazhupa_missmap
 
 /* An argument that came with request 2. */
 #ifdef BEFORE_MIXED
@@ -24,7 +26,7 @@
 #define SINCE_MIXED(number) (number) != 0,
 #endif
 
-enum { BLOCK, READ, URL, MIME, SERVE, ASK, LIST, MAP, BEGIN, APPEND, BOXES, KINDS, ZEROS = 254, END = 255 };
+enum { BLOCK, READ, URL, MIME, SERVE, ASK, LIST, MAP, BEGIN, APPEND, BOXES, MISSMAP, KINDS, ZEROS = 254, END = 255 };
 enum { ANSWERS = 64 };
 
 /* What a kind of call takes: its numbers, its memories with their width in bytes, and how many numbers it tells. */
@@ -51,6 +53,7 @@ static const struct shape shapes[KINDS] = {
     [BEGIN] = {"begin", {1, 3}, 1, {{"buffer", 1}, {"url", 1}, {"mime", 1}}},
     [APPEND] = {"append", {5, 3}, 1, {{"buffer", 1}, {"list", 8}, {"data", 1}}},
     [BOXES] = {"boxes", {1, 2}, 1, {{"file", 1}, {"buffer", 1}}},
+    [MISSMAP] = {"missmap", {1, 2}, 1, {{"file", 1}, {"buffer", 1}}},
 };
 
 static struct lent lent[MEMORIES];
@@ -81,6 +84,11 @@ static uint64_t call_on_tables(uint64_t p)
                          lent[4].length, numbers_of(&told));
 }
 
+static uint64_t call_for_text(__typeof__(&vrazhupa_map) call, uint64_t most)
+{
+    return call(lent[0].at, lent[0].length, most, lent[1].at, lent[1].length, numbers_of(&told));
+}
+
 static uint64_t make(const uint64_t *numbers)
 {
     switch (kind) {
@@ -89,14 +97,16 @@ static uint64_t make(const uint64_t *numbers)
     case MIME:
         return vrazhupa_mime(lent[0].at, lent[0].length, numbers_of(&told));
     case MAP:
-        return vrazhupa_map(lent[0].at, lent[0].length, numbers[0], lent[1].at, lent[1].length, numbers_of(&told));
+        return call_for_text(vrazhupa_map, numbers[0]);
     case BEGIN:
         return vrazhupa_begin(lent[0].at, lent[0].length, SINCE_MIXED(numbers[0]) lent[1].at, lent[1].length, lent[2].at, lent[2].length, numbers_of(&told));
     case APPEND:
         return vrazhupa_append(lent[0].at, lent[0].length, numbers[0], numbers[1], numbers[2], numbers[3] != 0, SINCE_MIXED(numbers[4]) numbers_of(&lent[1]),
                                lent[1].length, lent[2].at, lent[2].length, numbers_of(&told));
     case BOXES:
-        return vrazhupa_boxes(lent[0].at, lent[0].length, numbers[0], lent[1].at, lent[1].length, numbers_of(&told));
+        return call_for_text(vrazhupa_boxes, numbers[0]);
+    case MISSMAP:
+        return call_for_text(vrazhupa_missmap, numbers[0]);
     default:
         return call_on_tables(numbers[0]);
     }
@@ -157,7 +167,7 @@ static void run_case(void)
 
 static bool is_there(unsigned call)
 {
-    return call > BLOCK && call < KINDS && (call != BOXES || vrazhupa_boxes != NULL);
+    return call > BLOCK && call < KINDS && (call != BOXES || vrazhupa_boxes != NULL) && (call != MISSMAP || vrazhupa_missmap != NULL);
 }
 
 static int say_calls(void)

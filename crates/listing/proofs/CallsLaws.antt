@@ -13,7 +13,7 @@ use Rattle.partial.specs.Meaning.{supplies, supplied, describedLength}
 use Rattle.partial.specs.Memory.{fits, filled, after}
 use Rattle.partial.specs.Ranges.{had, missing, ranges, classOf, rangesOf, hadList, missingList}
 use Rattle.partial.specs.Reading.{reading}
-use Rattle.partial.specs.Segments.{Chunk, Segment}
+use Rattle.partial.specs.Segments.{Chunk, Segment, good}
 use Rattle.partial.specs.Sequences.{someOf}
 use Rattle.partial.specs.Tables.{tabled, listed, segmentRows, chunkRows, hadRows, missingRows, totals}
 use Rattle.partial.specs.declared.answers.Listed.{Listed}
@@ -51,7 +51,7 @@ known-by {f} a {t₀} rows room long =
 -- ---- the lists of a file
 
 -- the ordered spans of the file's rows
-pub spanned-by : {count described : ℕ} {ss : List Segment} {t₀ t t′ : List ℕ} {n : ℕ} → Known t₀ count described ss → SpansOf t₀ count described t n → Same n t t′
+pub spanned-by : {count described : ℕ} {ss : List Segment} {t₀ t t′ : List ℕ} {n : ℕ} → Known t₀ count described ss → SpansOf good t₀ count described t n → Same n t t′
     → Spanned ss t′ n described
 unfolding classBy classOf
 spanned-by {ss = ss} {t′ = t′} {n = n} k spans same =

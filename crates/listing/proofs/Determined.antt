@@ -19,9 +19,7 @@ use Rattle.gathering.proofs.RowLaws.{put-filled}
 use Rattle.spans.specs.Ranges.{classBy}
 use Rattle.spans.specs.Spans.{Ordered}
 use Rattle.spans.proofs.Determined.{OneMade}
-use Rattle.listing.specs.Calls.{Known, Spanned, Counted}
-use Rattle.listing.specs.declared.lists.Totals.{Totals as ListTotals}
-use Rattle.listing.proofs.calls.counted.Reads as counted
+use Rattle.listing.specs.Calls.{Known}
 use Rattle.listing.proofs.calls.file_spans.Reads as file-spans
 use Rattle.listing.proofs.calls.list.Reads as list
 use Rattle.listing.proofs.lists.put_lists.Reads as put-lists
@@ -64,18 +62,6 @@ file-spans-class : OneMade file-spans.Post
     (λ κs args ((ss, q) : List Segment × ℕ). Known (now (args .0)) (args .1 .0) (args .1 .1 .0 .0) ss × (q < args .1 .1 .0 .0))
     (λ κs args n after (ss, q). classBy (now (after .0)) n q)
 file-spans-class κs args (ss, q) (known, below) x y after after′ a b = a .1 ss known .class q below ∙ sym (b .1 ss known .class q below)
-
-one-counted : {ss : List Segment} {t t′ : ListTotals} → Counted ss t → Counted ss t′ → t ≡ t′
-one-counted p q =
-    let had = p .hadMany ∙ sym (q .hadMany) in
-    let missing = p .missingMany ∙ sym (q .missingMany) in
-    let received = p .received ∙ sym (q .received) in
-    let missed = p .missed ∙ sym (q .missed) in
-    λ i. record { had = had i; missing = missing i; received = received i; missed = missed i }
-
-counted-result : OneKnown counted.Post
-    (λ κs args (ss : List Segment). Ordered (now (args .0)) (args .1 .0) (args .1 .1 .0 .0) × Spanned ss (now (args .0)) (args .1 .0) (args .1 .1 .0 .0))
-counted-result κs args ss (ordered, spanned) x y after after′ p q = one-counted (p ordered ss spanned) (q ordered ss spanned)
 
 list-result : OneResult list.Post
 list-result κs args x y after after′ p q = listed-told x y (p .answer ∙ sym (q .answer))

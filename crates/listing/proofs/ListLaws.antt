@@ -22,7 +22,7 @@ use Rattle.listing.specs.declared.lists.Totals.{Totals}
 -- ---- one range more
 
 module _ (c : ℕ) (r : Stretch) where
-  last-in : r .class ≡ c → (rs : List Stretch) → ofClass c (rs ++ (r ∷ [])) ≡ ofClass c rs ++ (r ∷ [])
+  pub last-in : r .class ≡ c → (rs : List Stretch) → ofClass c (rs ++ (r ∷ [])) ≡ ofClass c rs ++ (r ∷ [])
   unfolding ofClass
   last-in same [] = rw (ofClass, eq-eqb (r .class) c same)
   last-in same (x ∷ rs) =
@@ -31,7 +31,7 @@ module _ (c : ℕ) (r : Stretch) where
         | inr other ↦ rw (ofClass, other) (last-in same rs)
       ]
 
-  last-out : (r .class ≡ c → ⊥) → (rs : List Stretch) → ofClass c (rs ++ (r ∷ [])) ≡ ofClass c rs
+  pub last-out : (r .class ≡ c → ⊥) → (rs : List Stretch) → ofClass c (rs ++ (r ∷ [])) ≡ ofClass c rs
   unfolding ofClass
   last-out differ [] = rw (ofClass, ne-eqb (r .class) c differ)
   last-out differ (x ∷ rs) =
@@ -50,7 +50,7 @@ unfolding rangeRows
 range-rows-last [] r = refl
 range-rows-last (x ∷ rs) r = ap (λ (xs : List ℕ). x .first ∷ x .length ∷ xs) (range-rows-last rs r)
 
-total-last : (rs : List Stretch) (r : Stretch) → total (rs ++ (r ∷ [])) ≡ total rs + r .length
+pub total-last : (rs : List Stretch) (r : Stretch) → total (rs ++ (r ∷ [])) ≡ total rs + r .length
 unfolding total sum
 total-last [] r = omega arith
 total-last (x ∷ rs) r = omega (arith, total-last rs r)

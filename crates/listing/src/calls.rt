@@ -30,7 +30,7 @@ pub fn file_spans(table: &mut [u64], count: u64, end: Position) -> usize
 }
 
 // What the lists will hold: they are put where there is no room for them, since nothing lent is touched before it is known that both lists have room.
-pub fn counted(spans: &[u64], n: usize, end: Position) -> Totals
+fn counted(spans: &[u64], n: usize, end: Position) -> Totals
     ensures { λ t. ⌜ (Ordered (now (spans .entry)) n (end .0) → (ss : List Segment) → Spanned ss (now (spans .entry)) n (end .0) → Counted ss t) ⌝ }
 {
     let mut no_had = [0; 1];

@@ -1,5 +1,5 @@
+pub mod CountLaws
 pub mod Determined
-pub mod LengthLaws
 pub mod LineLaws
-pub mod MapLaws
+pub mod OutlineLaws
 pub mod RangesLaws

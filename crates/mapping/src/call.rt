@@ -1,11 +1,15 @@
-// The map of a file as text.
+// The maps of a file as text.
+use crate::damage::ALL_SPANS;
+use crate::damage::file_damage;
 use crate::lines::put_source;
 use crate::lines::put_total;
+use crate::outline::Outline;
 use crate::ranges::put_ranges;
+use crate::totals::Totals;
+use crate::totals::counted;
+use gathering::gathered::Gathered;
 use listing::calls::ALL_ROWS;
-use listing::calls::counted;
 use listing::calls::file_spans;
-use listing::lists::Totals;
 use partial::answers::Written;
 use partial::position::Position;
 use partial::refusals::BUFFER_TOO_SHORT;
@@ -18,57 +22,77 @@ ghost use mathlib.Core.Bool.{true};
 ghost use mathlib.Core.List.{List};
 ghost use mathlib.Core.Path.{_≡_};
 ghost use Rattle.filling.specs.Rows.{Puts};
-ghost use Rattle.listing.specs.Calls.{Spanned, Counted};
-ghost use Rattle.partial.specs.Limits.{sourceLimit};
-ghost use Rattle.partial.specs.Map.{mapOf, mapText, refusedLine};
+ghost use Rattle.listing.specs.Calls.{Known};
+ghost use Rattle.partial.specs.Limits.{chunkLimit, sourceLimit};
+ghost use Rattle.partial.specs.Map.{textFor, mapText, missmapText, refusedLine};
 ghost use Rattle.partial.specs.Meaning.{isClosed};
 ghost use Rattle.partial.specs.Segments.{Segment};
-ghost use Rattle.spans.specs.Spans.{Ordered};
 ghost use Rattle.texts.specs.Writes.{Writes};
+ghost use Rattle.mapping.specs.Outline.{textOf, Drawn, Outlined, rangesIn};
+ghost use Rattle.mapping.specs.Totals.{Counts};
 
-// The bytes of two lines, one of each list, are no more than this.
-const TWO_LINES: u64 = 100;
+// The bytes of the line of a range are no more than this; those of the first line and the last together are no more than three times as many.
+const LINE: u64 = 50;
 
-// Whether a text surely fits: half of the room takes a line more than either list has ranges.
-fn surely_fits(room: u64, totals: Totals) -> bool
-    ensures { λ r. ⌜ (r ≡ true → 100 + 50 * (totals .had + totals .missing) ≤ room) ⌝ }
+// Whether a text with so many ranges surely fits.
+fn surely_fits(room: u64, ranges: u64) -> bool
+    ensures { λ r. ⌜ (r ≡ true → 150 + 50 * ranges ≤ room) ⌝ }
 {
-    let each = room / TWO_LINES;
-    totals.had < each && totals.missing < each
+    let lines = room / LINE;
+    2 < lines && ranges < lines - 2
 }
 
-// Puts the map of a file by so many ordered spans of it in a table, and by what its lists hold.
-fn put_spans(
-    buffer: &mut [u8],
-    table: &[u64],
-    n: usize,
-    end: Position,
-    closed: bool,
-    totals: Totals,
-) -> u64
-    requires { ⌜ (end .0 ≤ sourceLimit) × Ordered (now table) n (end .0) ⌝ }
-    ensures { λ r. ⌜ ((ss : List Segment) → Spanned ss (now (table .entry)) n (end .0) → closed ≡ isClosed ss → Counted ss totals → Puts (now (buffer .entry)) 0 (mapOf ss) (now (buffer .exit)) r × (r ≤ 100 + 50 * (totals .had + totals .missing))) ⌝ }
+// Puts the map of a file by the spans in both tables, and by what its ranges hold together.
+fn put_outline(buffer: &mut [u8], good: &[u64], damaged: &[u64], o: Outline, totals: Totals) -> u64
+    requires { ⌜ Drawn (now good) (now damaged) o × Counts (rangesIn (now good) (now damaged) o) totals ⌝ }
+    ensures { λ r. ⌜ ((ss : List Segment) → Outlined ss (now (good .entry)) (now (damaged .entry)) o → Puts (now (buffer .entry)) 0 (textOf (o .named) ss) (now (buffer .exit)) r) × (r ≤ 150 + 50 * totals .ranges) ⌝ }
 {
-    let first = put_source(buffer, end, closed);
-    let last = put_ranges(buffer, first, table, n, end);
-    put_total(buffer, last, totals)
+    let first = put_source(buffer, o.end, o.closed);
+    let last = put_ranges(buffer, first, good, damaged, o);
+    put_total(buffer, last, totals, o.named)
 }
 
 // Writes the map of a file by the same. Where it may not fit, it is first put where there is no room for it, to learn how long it is, since a buffer that is too
 // short is left as it was.
-fn write_spans(buffer: &mut [u8], table: &[u64], n: usize, end: Position, closed: bool) -> Written
-    requires { ⌜ (end .0 ≤ sourceLimit) × Ordered (now table) n (end .0) ⌝ }
-    ensures { λ r. ⌜ ((ss : List Segment) → Spanned ss (now (table .entry)) n (end .0) → closed ≡ isClosed ss → Writes (mapOf ss) (now (buffer .entry)) (now (buffer .exit)) r) ⌝ }
+fn write_outline(buffer: &mut [u8], good: &[u64], damaged: &[u64], o: Outline) -> Written
+    requires { ⌜ Drawn (now good) (now damaged) o ⌝ }
+    ensures { λ r. ⌜ ((ss : List Segment) → Outlined ss (now (good .entry)) (now (damaged .entry)) o → Writes (textOf (o .named) ss) (now (buffer .entry)) (now (buffer .exit)) r) ⌝ }
 {
-    let totals = counted(table, n, end);
-    if !surely_fits(buffer.len() as u64, totals) {
+    let totals = counted(good, damaged, o);
+    if !surely_fits(buffer.len() as u64, totals.ranges) {
         let mut no_room = [0; 1];
-        let size = put_spans(&mut no_room, table, n, end, closed, totals);
+        let size = put_outline(&mut no_room, good, damaged, o, totals);
         if (buffer.len() as u64) < size {
             return Written::Refused(BUFFER_TOO_SHORT);
         }
     }
-    Written::Length(put_spans(buffer, table, n, end, closed, totals))
+    Written::Length(put_outline(buffer, good, damaged, o, totals))
+}
+
+// Writes the map of an accepted file by the rows of its chunks and what was gathered of it. The spans of the damaged chunks are made first, since those of the
+// good ones take the place of the rows.
+fn write_rows(
+    buffer: &mut [u8],
+    rows: &mut [u64],
+    gathered: Gathered,
+    end: Position,
+    named: bool,
+) -> Written
+    requires { ⌜ (gathered .chunks ≤ chunkLimit) × (end .0 ≤ sourceLimit) ⌝ }
+    ensures { λ r. ⌜ ((ss : List Segment) → Known (now (rows .entry)) (gathered .chunks) (end .0) ss → gathered .sizes .known ≡ isClosed ss → Writes (textOf named ss) (now (buffer .entry)) (now (buffer .exit)) r) ⌝ }
+{
+    let mut damage = [0; ALL_SPANS];
+    let damaged = file_damage(rows, gathered.chunks, end, named, &mut damage);
+    let good = file_spans(rows, gathered.chunks, end);
+    let sizes = gathered.sizes;
+    let o = Outline {
+        good,
+        damaged,
+        end,
+        closed: sizes.known,
+        named,
+    };
+    write_outline(buffer, rows, &damage, o)
 }
 
 // Writes the line of a refusal. It is one piece, put whole or not at all, so that nothing has to be measured first.
@@ -82,23 +106,35 @@ fn write_refused(buffer: &mut [u8], n: u64) -> Written
     Written::Length(line)
 }
 
+// Writes the map of a file that names the missing positions, or the one that does not, or the line of its refusal.
+fn write_map(file: &[u8], most: u64, buffer: &mut [u8], named: bool) -> Written
+    ensures { λ r. ⌜ Writes (textFor (textOf named) sourceLimit most (now (file .entry))) (now (buffer .entry)) (now (buffer .exit)) r ⌝ }
+{
+    if most < file.len() as u64 {
+        return write_refused(buffer, INPUT_TOO_LONG);
+    }
+    let mut rows = [0; ALL_ROWS];
+    match judge_into(file, &mut rows) {
+        Judgement::Refused(n) => write_refused(buffer, n),
+        Judgement::Given(judged) => {
+            let gathered = judged.gathered;
+            let end = Position(gathered.sizes.described());
+            write_rows(buffer, &mut rows, gathered, end, named)
+        }
+    }
+}
+
 // Writes the map of a file, or the line of its refusal, 27 for a file of more bytes than the caller takes, and answers how long it is. Where the buffer is too
 // short for it, it is as it was.
 pub fn map(file: &[u8], most: u64, buffer: &mut [u8]) -> Written
     ensures { λ r. ⌜ Writes (mapText sourceLimit most (now (file .entry))) (now (buffer .entry)) (now (buffer .exit)) r ⌝ }
 {
-    if most < file.len() as u64 {
-        return write_refused(buffer, INPUT_TOO_LONG);
-    }
-    let mut spans = [0; ALL_ROWS];
-    match judge_into(file, &mut spans) {
-        Judgement::Refused(n) => write_refused(buffer, n),
-        Judgement::Given(judged) => {
-            let gathered = judged.gathered;
-            let sizes = gathered.sizes;
-            let end = Position(sizes.described());
-            let n = file_spans(&mut spans, gathered.chunks, end);
-            write_spans(buffer, &spans, n, end, sizes.known)
-        }
-    }
+    write_map(file, most, buffer, true)
+}
+
+// The same of the map that does not name the missing positions.
+pub fn missmap(file: &[u8], most: u64, buffer: &mut [u8]) -> Written
+    ensures { λ r. ⌜ Writes (missmapText sourceLimit most (now (file .entry))) (now (buffer .entry)) (now (buffer .exit)) r ⌝ }
+{
+    write_map(file, most, buffer, false)
 }

@@ -1,29 +1,34 @@
-// The lines of the ranges of both lists, ascending.
+// The lines of the ranges, ascending.
 use crate::lines::put_range;
+use crate::outline::Outline;
 use partial::position::Position;
-use spans::ranges::range_at;
+use spans::naming::Sweeps;
+use spans::naming::named_at;
 ghost use Prim.Native.Nat.{_+_, _*_, _≤_};
 ghost use lib.ListN.{length};
 ghost use Rattle.filling.specs.Rows.{Puts};
-ghost use Rattle.partial.specs.Limits.{sourceLimit};
 ghost use Rattle.partial.specs.Map.{rangeLines};
-ghost use Rattle.partial.specs.Ranges.{ranges};
-ghost use Rattle.spans.specs.Ranges.{classBy};
-ghost use Rattle.spans.specs.Spans.{Ordered};
+ghost use Rattle.mapping.specs.Outline.{Drawn, wordOf, rangesIn};
 
-// Puts a line for each range below an end, by so many ordered spans in a table.
-pub(crate) fn put_ranges(buffer: &mut [u8], at: u64, table: &[u64], n: usize, end: Position) -> u64
-    requires { ⌜ (at ≤ 50) × (end .0 ≤ sourceLimit) × Ordered (now table) n (end .0) ⌝ }
-    ensures { λ r. ⌜ Puts (now (buffer .entry)) at (rangeLines (ranges (classBy (now (table .entry)) n) (end .0) 0)) (now (buffer .exit)) r × (r ≤ 50 + 50 * end .0) × (r ≤ 50 + 50 * length (ranges (classBy (now (table .entry)) n) (end .0) 0)) ⌝ }
+// Puts a line for each range below the end, by the spans in both tables.
+pub(crate) fn put_ranges(
+    buffer: &mut [u8],
+    at: u64,
+    good: &[u64],
+    damaged: &[u64],
+    o: Outline,
+) -> u64
+    requires { ⌜ (at ≤ 50) × Drawn (now good) (now damaged) o ⌝ }
+    ensures { λ r. ⌜ Puts (now (buffer .entry)) at (rangeLines (wordOf (o .named)) (rangesIn (now (good .entry)) (now (damaged .entry)) o)) (now (buffer .exit)) r × (r ≤ 50 + 50 * o .end .0) × (r ≤ 50 + 50 * length (rangesIn (now (good .entry)) (now (damaged .entry)) o)) ⌝ }
 {
     let mut next = at;
-    let mut passed = 0;
+    let mut sweeps = Sweeps::start(o.good, o.damaged);
     let mut p = 0;
-    while p < end.0 {
-        let found = range_at(table, n, passed, Position(p), end);
+    while p < o.end.0 {
+        let found = named_at(good, damaged, sweeps, Position(p), o.end);
         let r = found.range;
-        next = put_range(buffer, next, Position(p), r);
-        passed = found.passed;
+        next = put_range(buffer, next, Position(p), r, o.named);
+        sweeps = found.sweeps;
         p += r.length;
     }
     next

@@ -10,6 +10,7 @@ use Rattle.partial.specs.Entries
 use Rattle.partial.specs.Meaning
 use Rattle.partial.specs.Reading
 use Rattle.partial.specs.Ranges
+use Rattle.partial.specs.Naming
 use Rattle.partial.specs.Memory
 use Rattle.partial.specs.Tables
 use Rattle.partial.specs.Map
@@ -47,7 +48,9 @@ unfolding
     Tables.segmentRow Tables.segmentRows Tables.chunkRow Tables.chunkRowsOf Tables.chunkRowsFrom Tables.chunkRows Tables.rangeRows
     Tables.hadRows Tables.missingRows Tables.tabled Tables.listed Tables.summary Tables.totals Tables.bytesIn Tables.nowhere
     Tables.servedPart Tables.asked Tables.textOf
-    Map.ascii Map.decimal Map.line Map.refusedLine Map.rangeLine Map.rangeLines Map.sourceLine Map.totalLine Map.mapOf Map.mapText
+    Naming.damagedAt Naming.namedClass Naming.namedRanges Naming.heldList Naming.lostList
+    Map.ascii Map.decimal Map.line Map.refusedLine Map.sourceLine Map.rangeLine Map.rangeLines Map.totalLine Map.mapWord Map.mapOf Map.missWord Map.missmapOf
+    Map.textFor Map.mapText Map.missmapText
     BoxList.hex BoxList.prints BoxList.shown BoxList.each BoxList.typeBytes BoxList.userBytes BoxList.boxLine BoxList.boxLines BoxList.boxesText
     Begin.brandCode Begin.beginning Begin.isText Begin.begun
     Addition.asks Addition.items Addition.listRight Addition.dataSize Addition.dataRight Addition.goesOut Addition.goesIn Addition.dataFor Addition.boxesFor

@@ -1,7 +1,10 @@
 -- The worked examples: the definitions say what the paper says.
+use Prim.Native.Nat.{ℕ}
+use mathlib.Core.List.{List}
 use mathlib.Core.Path.{_≡_, refl, _∙_}
 use native.Mathlib.Omega.{arith}
 use Rattle.partial.specs.Limits.{programLimit, sourceLimit}
+use Rattle.partial.specs.Segments.{Segment}
 use Rattle.partial.specs.Map.{refusedLine, ascii}
 use Rattle.partial.specs.Examples.{table, AsThePaperSays, AtTheProgramLimit}
 use Rattle.partial.proofs.Computing.{computing}
@@ -15,9 +18,9 @@ refused-27 : refusedLine 27 ≡ ascii "refused\t27\n"
 unfolding computing
 refused-27 = refl
 
-at-the-program-limit : AtTheProgramLimit
-at-the-program-limit =
+at-the-program-limit : (of : List Segment → List ℕ) → AtTheProgramLimit of
+at-the-program-limit of =
     record {
-      taken = λ input n long e. printed sourceLimit programLimit input .refusal n (omega arith) e;
-      over = λ input long. printed sourceLimit programLimit input .overLong (omega arith) ∙ refused-27;
+      taken = λ input n long e. printed of sourceLimit programLimit input .refusal n (omega arith) e;
+      over = λ input long. printed of sourceLimit programLimit input .overLong (omega arith) ∙ refused-27;
     }

@@ -1,9 +1,11 @@
 -- Laws of a list of segments: supply, the described length, the lists, serving and asking.
 pub mod AgreementLaws
+pub mod AlikeLaws
 pub mod DescribedLaws
 pub mod KnownLaws
 pub mod ListingLaws
 pub mod MappedLaws
+pub mod NamingLaws
 pub mod RangeLaws
 pub mod RunLaws
 pub mod SequenceLaws

@@ -2,7 +2,7 @@
 -- sentence that it states. That nothing is required of a call's arguments and that every call ends is in the contracts themselves:
 -- no public call has a `requires`, and a function is proved only if it returns.
 use Prim.Native.Nat.{ℕ, _+_, _-_, _^_, _≤_, _<_}
-use mathlib.Core.Bool.{Bool, true, false, not, _||_}
+use mathlib.Core.Bool.{Bool, true, false, not, _&&_, _||_}
 use mathlib.Core.List.{List, [], _∷_, _++_, map, List·Memᴰ}
 use mathlib.Core.Logic.{_↔_, _⊎_}
 use mathlib.Core.Option.{some}
@@ -15,17 +15,18 @@ use Rattle.boxes.specs.Kinds.{pdat, is, boxAt}
 use Rattle.boxes.specs.declared.kinds.Container.the-variants.{File}
 use Rattle.partial.specs.Limits.{fileLimit, segmentLimit, chunkLimit}
 use Rattle.partial.specs.Sequences.{someOf, sum, within}
-use Rattle.partial.specs.Segments.{Chunk, Segment, good, endOf, chunksOf}
+use Rattle.partial.specs.Segments.{Chunk, Segment, good, elsewhere, endOf, chunksOf}
 use Rattle.partial.specs.declared.brand.Brand.{Brand}
 use Rattle.partial.specs.Heading.{Part, Heading, heading}
 use Rattle.partial.specs.Mixed.{allowed}
-use Rattle.partial.specs.Meaning.{givesSize, describedLength, supplier, supplied, chunkNo, chunkFor, served, servedRun, missingRun}
+use Rattle.partial.specs.Meaning.{givesSize, describedLength, covers, supplier, supplied, chunkNo, chunkFor, served, servedRun, missingRun}
 use Rattle.partial.specs.Meaning.{reply, servedFor, missingFor, notBelow}
 use Rattle.partial.specs.Reading.{segments, reading, earlierSegments}
-use Rattle.partial.specs.Ranges.{rangesOf, hadList, missingList, total, among, apart, inRow}
+use Rattle.partial.specs.Ranges.{had, rangesOf, ofClass, hadList, missingList, total, among, apart, inRow}
+use Rattle.partial.specs.Naming.{damagedAt, namedRanges, heldList, lostList}
 use Rattle.partial.specs.Memory.{after, written, textWritten}
 use Rattle.partial.specs.Tables.{tabled, listed, totals, bytesIn, servedPart, asked, textOf}
-use Rattle.partial.specs.Map.{refusedLine, sourceLine, rangeLines, totalLine, mapText}
+use Rattle.partial.specs.Map.{refusedLine, textFor}
 use Rattle.partial.specs.BoxList.{each, boxLine, boxesText}
 use Rattle.partial.specs.Begin.{beginning, isText, begun}
 use Rattle.partial.specs.Addition.{Addition, items, listRight, dataRight, outsideRight, sayable}
@@ -110,6 +111,28 @@ pub record Listing (ss : List Segment) : Type 0 where
   pub missingTotal : totals ss .missingTotal ≡ total (missingList ss)
   pub together : total (hadList ss) + total (missingList ss) ≡ describedLength ss
 
+-- document 02, [6]: the missing positions of an accepted file's segments, by name
+pub record Naming (ss : List Segment) : Type 0 where
+  -- a missing position below the described length is in exactly one list: among the held exactly if some damaged chunk covers it, else among the lost
+  pub inHeld : (p : ℕ) → p < describedLength ss → among p (heldList ss) ≡ (not (supplied ss p) && damagedAt ss p)
+  pub inLost : (p : ℕ) → p < describedLength ss → among p (lostList ss) ≡ (not (supplied ss p) && not (damagedAt ss p))
+  -- both together are the missing list, and the ranges that are had are those of the had list
+  pub asMissing : (p : ℕ) → (among p (heldList ss) || among p (lostList ss)) ≡ among p (missingList ss)
+  pub asHad : ofClass had (namedRanges ss) ≡ hadList ss
+  -- each is maximal within its name, ascending, never empty; all merged, one range stands behind the other up to the described length
+  pub heldApart : T (apart 0 (heldList ss))
+  pub lostApart : T (apart 0 (lostList ss))
+  pub merged : T (inRow 0 (describedLength ss) (namedRanges ss))
+  -- the totals: held and lost are what is missing, and with what is received they are the described length
+  pub missingTotal : total (heldList ss) + total (lostList ss) ≡ total (missingList ss)
+  pub together : total (hadList ss) + total (heldList ss) + total (lostList ss) ≡ describedLength ss
+  -- a position that chunks held elsewhere alone cover is lost
+  pub elsewhereLost :
+      (p : ℕ)
+      → p < describedLength ss
+      → ((k : ℕ) → k < length (chunksOf ss) → covers p (chunkNo ss k) ≡ true → chunkNo ss k .state ≡ elsewhere)
+      → among p (lostList ss) ≡ true
+
 -- a chunk does not cover a position: the position lies before or behind it
 abbrev Beside : ℕ → Chunk → Type 0
 Beside p c = (p < c .start) ⊎ (c .start + c .size ≤ p)
@@ -168,28 +191,28 @@ pub record Missing (f : List ℕ) (ss : List Segment) (p : ℕ) : Type 0 where
 -- an accepted file: each source byte is served or listed missing
 pub record Mapped (f : List ℕ) (h : Heading) (ss : List Segment) : Type 0 where
   pub listing : Listing ss
+  pub naming : Naming ss
   pub serving : (p : ℕ) → T (supplied ss p) → Serving f h ss p
   pub missing : (p : ℕ) → p < describedLength ss → supplied ss p ≡ false → Missing f ss p
   pub beyond : (p : ℕ) → describedLength ss ≤ p → reply ss p ≡ notBelow
 
--- "The map program": what it prints for its input, whatever the most is that it takes, and what the call leaves that writes this into a lent
--- buffer
-pub record Printed (limit most : ℕ) (input : List ℕ) : Type 0 where
+-- "The map program": what a program prints for its input that prints that of an accepted file, whatever the most is that it takes, and what the call
+-- leaves that writes this into a lent buffer
+pub record Printed (of : List Segment → List ℕ) (limit most : ℕ) (input : List ℕ) : Type 0 where
   -- 27 precedes all others
-  pub overLong : most < length input → mapText limit most input ≡ refusedLine 27
-  -- the refusal line with the reader's number, else the lines of both lists, merged ascending, between those of source and total
-  pub refusal : (n : ℕ) → length input ≤ most → reading limit input ≡ refused n → mapText limit most input ≡ refusedLine n
-  pub lines :
-      (ss : List Segment)
-      → length input ≤ most
-      → reading limit input ≡ given ss
-      → mapText limit most input ≡ sourceLine ss ++ (rangeLines (rangesOf ss) ++ totalLine ss)
+  pub overLong : most < length input → textFor of limit most input ≡ refusedLine 27
+  -- the refusal line with the reader's number, else the lines of the file's map
+  pub refusal : (n : ℕ) → length input ≤ most → reading limit input ≡ refused n → textFor of limit most input ≡ refusedLine n
+  pub lines : (ss : List Segment) → length input ≤ most → reading limit input ≡ given ss → textFor of limit most input ≡ of ss
   -- the text's length where the buffer has room for it, else 33
   pub room :
       (buffer : List ℕ)
-      → length (mapText limit most input) ≤ length buffer
-      → textWritten (mapText limit most input) buffer ≡ given (length (mapText limit most input))
-  pub noRoom : (buffer : List ℕ) → length buffer < length (mapText limit most input) → textWritten (mapText limit most input) buffer ≡ refused 33
+      → length (textFor of limit most input) ≤ length buffer
+      → textWritten (textFor of limit most input) buffer ≡ given (length (textFor of limit most input))
+  pub noRoom :
+      (buffer : List ℕ)
+      → length buffer < length (textFor of limit most input)
+      → textWritten (textFor of limit most input) buffer ≡ refused 33
 
 -- document 02, [1]: what the program prints that lists the boxes of its input, whatever the most is that it takes
 pub record BoxesPrinted (most : ℕ) (input : List ℕ) : Type 0 where
@@ -219,7 +242,7 @@ pub record Demand2 (limit : ℕ) : Type 0 where
       (f a b : List ℕ) (p : ℕ)
       → (bytesIn f (servedPart (tabled limit f a b) p) ≡ [])
       ↔ (((n : ℕ) × (tabled limit f a b ≡ refused n)) ⊎ ((ss : List Segment) × (tabled limit f a b ≡ given ss) × (supplied ss p ≡ false)))
-  pub printed : (most : ℕ) (input : List ℕ) → Printed limit most input
+  pub printed : (of : List Segment → List ℕ) (most : ℕ) (input : List ℕ) → Printed of limit most input
   -- the segment reads back with its fields and chunks
   pub readsBack :
       (buffer : List ℕ) (n : ℕ) (a : Addition) (size : ℕ) (ss : List Segment)

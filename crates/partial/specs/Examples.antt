@@ -21,7 +21,8 @@ use Rattle.partial.specs.Meaning.{describedLength, isClosed, served}
 use Rattle.partial.specs.Reading.{reading}
 use Rattle.partial.specs.Memory.{after}
 use Rattle.partial.specs.Tables.{missingRows, tabled, summary, segmentRows, chunkRows, bytesIn, servedPart}
-use Rattle.partial.specs.Map.{ascii, sourceLine, mapText, refusedLine}
+use Rattle.partial.specs.Segments.{Segment}
+use Rattle.partial.specs.Map.{ascii, sourceLine, mapText, missmapText, textFor, refusedLine}
 use Rattle.partial.specs.BoxList.{boxesText}
 use Rattle.partial.specs.Addition.{Addition}
 use Rattle.partial.specs.Append.{pshdBody, added, appended}
@@ -169,19 +170,47 @@ P11 = record { defined = says (lengthIn (grownBy begunBytes (segmentAt 100 false
 abbrev P12 : Example
 P12 = record { defined = says (missingIn []); paper = pos 7 ∷ [] }
 
--- what P10's file prints in full, and what P11's prints by the same rules
+-- what P10's file prints in full, and what P11's prints by the same rules, where damage is not named
+abbrev missmap10 : Example
+missmap10 =
+    record {
+      defined = map pos (missmapText sourceLimit programLimit (begunBytes ++ (firstBytes ++ secondBytes)));
+      paper = map pos (ascii "source\t10\tclosed\nhave\t0\t7\nmiss\t7\t3\ntotal\t7\t3\n");
+    }
+
+abbrev missmap11 : Example
+missmap11 =
+    record {
+      defined = map pos (missmapText sourceLimit programLimit (begunBytes ++ added (segmentAt 100 false [] [])));
+      paper = map pos (ascii "source\t100\topen\nmiss\t0\t100\ntotal\t0\t100\n");
+    }
+
+-- document 02, [6]: "`held` for a missing position that some damaged chunk covers, and `lost` for the rest, in place of `miss`, with totals received, held, lost":
+-- P10's file has no damage; of good 4, damaged 3, elsewhere 2 and lost 1 three positions are held, two of them covered a second time as lost
 abbrev map10 : Example
 map10 =
     record {
       defined = map pos (mapText sourceLimit programLimit (begunBytes ++ (firstBytes ++ secondBytes)));
-      paper = map pos (ascii "source\t10\tclosed\nhave\t0\t7\nmiss\t7\t3\ntotal\t7\t3\n");
+      paper = map pos (ascii "source\t10\tclosed\nhave\t0\t7\nlost\t7\t3\ntotal\t7\t0\t3\n");
     }
 
-abbrev map11 : Example
-map11 =
+abbrev mapNamed : Example
+mapNamed =
+    let four = segmentAt 0 true (4 ∷ 2 ∷ 3 ∷ 1 ∷ 2 ∷ 3 ∷ 1 ∷ 0 ∷ []) (1 ∷ 2 ∷ 3 ∷ 4 ∷ 5 ∷ 6 ∷ 7 ∷ []) in
     record {
-      defined = map pos (mapText sourceLimit programLimit (begunBytes ++ added (segmentAt 100 false [] [])));
-      paper = map pos (ascii "source\t100\topen\nmiss\t0\t100\ntotal\t0\t100\n");
+      defined = map pos (mapText sourceLimit programLimit (begunBytes ++ (added (segmentAt 5 false (2 ∷ 0 ∷ []) []) ++ added four)));
+      paper = map pos (ascii "source\t10\tclosed\nhave\t0\t4\nheld\t4\t3\nlost\t7\t3\ntotal\t4\t3\t3\n");
+    }
+
+-- a damaged chunk under a good one is not held there
+abbrev mapUnder : Example
+mapUnder =
+    record {
+      defined =
+          map pos
+          (mapText sourceLimit programLimit
+          (begunBytes ++ (added (segmentAt 0 false (6 ∷ 1 ∷ []) (1 ∷ 2 ∷ 3 ∷ 4 ∷ 5 ∷ 6 ∷ [])) ++ added (segmentAt 2 false (2 ∷ 2 ∷ []) (7 ∷ 8 ∷ [])))));
+      paper = map pos (ascii "source\t6\topen\nheld\t0\t2\nhave\t2\t2\nheld\t4\t2\ntotal\t2\t4\t0\n");
     }
 
 -- the rows of P10's file, in tables of that many numbers, with the number of segments, of chunks, and what is left of a table
@@ -502,21 +531,22 @@ servedFar =
 unfoldable pub table : List Example
 table =
     P1 ∷ P2 ∷ P3 ∷ P4 ∷ P5 ∷ P6 ∷ P7 ∷ P8 ∷ P9 ∷ P10 ∷ P11 ∷ P12 ∷
-    map10 ∷ map11 ∷ rowsFit ∷ rowsShort ∷ ahead ∷ overHeader ∷ damagedBytes ∷ openLast ∷ otherFlags ∷
+    missmap10 ∷ missmap11 ∷ rowsFit ∷ rowsShort ∷ ahead ∷ overHeader ∷ damagedBytes ∷ openLast ∷ otherFlags ∷
     vendorForms ∷ largeVendorForms ∷ boxes3 ∷
     begunMixed ∷ wholeServed ∷ notWhole ∷ byBrand ∷ storedOutside ∷ outsideWrong ∷
     elsewhereRead ∷ elsewhereMissing ∷ elsewhereStored ∷ elsewhereWrong ∷
-    highestRead ∷ highestAdded ∷ bothForms ∷ writersForm ∷ servedFar ∷ []
+    highestRead ∷ highestAdded ∷ bothForms ∷ writersForm ∷ servedFar ∷
+    map10 ∷ mapNamed ∷ mapUnder ∷ []
 
 -- at every row the definitions say what the paper says
 abbrev pub AsThePaperSays : Type 0
 AsThePaperSays = map (λ e. e .defined) table ≡ map (λ e. e .paper) table
 
 -- "The map program takes at most 65,536 bytes": those are read, and one more is 27, whatever they are
-pub record AtTheProgramLimit : Type 0 where
+pub record AtTheProgramLimit (of : List Segment → List ℕ) : Type 0 where
   pub taken :
       (input : List ℕ) (n : ℕ)
       → length input ≡ 65_536
       → reading sourceLimit input ≡ refused n
-      → mapText sourceLimit programLimit input ≡ refusedLine n
-  pub over : (input : List ℕ) → length input ≡ 65_537 → mapText sourceLimit programLimit input ≡ ascii "refused\t27\n"
+      → textFor of sourceLimit programLimit input ≡ refusedLine n
+  pub over : (input : List ℕ) → length input ≡ 65_537 → textFor of sourceLimit programLimit input ≡ ascii "refused\t27\n"

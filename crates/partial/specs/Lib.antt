@@ -7,6 +7,7 @@ pub mod Entries
 pub mod Meaning
 pub mod Reading
 pub mod Ranges
+pub mod Naming
 pub mod Memory
 pub mod Tables
 pub mod Map

@@ -1,10 +1,10 @@
--- Document 01, "The map program": the bytes that it prints.
+-- Document 01, "The map program", and document 02, [6]: the bytes that the two map programs print.
 use Prim.Native.Nat.{ℕ, _^_}
 use Prim.Native.String as Str
 use Prim.Native.String.{String}
 use Prim.Native.Char.{code}
 use mathlib.Core.Bool.{true, false}
-use mathlib.Core.List.{List, [], _∷_, _++_}
+use mathlib.Core.List.{List, [], _∷_, _++_, map}
 use lib.ListN.{length}
 use lib.Dec.{leb, ltb, eqb}
 use Rattle.io.specs.Digits.{digits}
@@ -14,6 +14,7 @@ use Rattle.partial.specs.Segments.{Segment}
 use Rattle.partial.specs.Meaning.{describedLength, isClosed}
 use Rattle.partial.specs.Reading.{reading}
 use Rattle.partial.specs.Ranges.{Range, rangesOf, hadList, missingList, total, had}
+use Rattle.partial.specs.Naming.{held, namedRanges, heldList, lostList}
 
 -- the bytes of a word
 unfoldable pub ascii : String → List ℕ
@@ -33,32 +34,50 @@ line field (next ∷ rest) = field ++ (9 ∷ line next rest)
 unfoldable pub refusedLine : ℕ → List ℕ
 refusedLine n = line (ascii "refused") (decimal n ∷ [])
 
--- `have` or `miss`, first position, length
-unfoldable pub rangeLine : Range → List ℕ
-rangeLine r =
-    line (elim (eqb (r .class) had) [ true ↦ ascii "have" | false ↦ ascii "miss" ]) (decimal (r .first) ∷ decimal (r .length) ∷ [])
-
-unfoldable pub rangeLines : List Range → List ℕ
-rangeLines [] = []
-rangeLines (r ∷ rs) = rangeLine r ++ rangeLines rs
-
 -- `source`, described length, `closed` or `open`
 unfoldable pub sourceLine : List Segment → List ℕ
 sourceLine ss =
     line (ascii "source") (decimal (describedLength ss) ∷ elim (isClosed ss) [ true ↦ ascii "closed" | false ↦ ascii "open" ] ∷ [])
 
--- `total`, received, missing
-unfoldable pub totalLine : List Segment → List ℕ
-totalLine ss = line (ascii "total") (decimal (total (hadList ss)) ∷ decimal (total (missingList ss)) ∷ [])
+-- the word of a range's class, first position, length
+unfoldable pub rangeLine : (ℕ → List ℕ) → Range → List ℕ
+rangeLine word r = line (word (r .class)) (decimal (r .first) ∷ decimal (r .length) ∷ [])
 
--- the map of an accepted file, both lists merged ascending
+unfoldable pub rangeLines : (ℕ → List ℕ) → List Range → List ℕ
+rangeLines word [] = []
+rangeLines word (r ∷ rs) = rangeLine word r ++ rangeLines word rs
+
+-- `total` and the totals
+unfoldable pub totalLine : List (List Range) → List ℕ
+totalLine lists = line (ascii "total") (map (λ rs. decimal (total rs)) lists)
+
+-- document 02, [6]: `have`, `held` or `lost`
+unfoldable pub mapWord : ℕ → List ℕ
+mapWord class = elim (eqb class had) [ true ↦ ascii "have" | false ↦ elim (eqb class held) [ true ↦ ascii "held" | false ↦ ascii "lost" ] ]
+
+-- the map of an accepted file: the ranges of all three merged ascending; received, held, lost
 unfoldable pub mapOf : List Segment → List ℕ
-mapOf ss = sourceLine ss ++ (rangeLines (rangesOf ss) ++ totalLine ss)
+mapOf ss = sourceLine ss ++ (rangeLines mapWord (namedRanges ss) ++ totalLine (hadList ss ∷ heldList ss ∷ lostList ss ∷ []))
 
--- what a program prints that takes an input of at most so many bytes; 27 precedes all others
-unfoldable pub mapText : ℕ → ℕ → List ℕ → List ℕ
-mapText limit most input =
+-- `have` or `miss`
+unfoldable pub missWord : ℕ → List ℕ
+missWord class = elim (eqb class had) [ true ↦ ascii "have" | false ↦ ascii "miss" ]
+
+-- the map that does not name damage: both lists merged ascending; received, missing
+unfoldable pub missmapOf : List Segment → List ℕ
+missmapOf ss = sourceLine ss ++ (rangeLines missWord (rangesOf ss) ++ totalLine (hadList ss ∷ missingList ss ∷ []))
+
+-- what a program prints that takes an input of at most so many bytes, by what it prints of an accepted file; 27 precedes all others
+unfoldable pub textFor : (List Segment → List ℕ) → ℕ → ℕ → List ℕ → List ℕ
+textFor of limit most input =
     elim (leb (length input) most) [
-      | true ↦ elim (reading limit input) [ refused n ↦ refusedLine n | given ss ↦ mapOf ss ]
+      | true ↦ elim (reading limit input) [ refused n ↦ refusedLine n | given ss ↦ of ss ]
       | false ↦ refusedLine 27
     ]
+
+-- the text of the map program, and that of the other one
+unfoldable pub mapText : ℕ → ℕ → List ℕ → List ℕ
+mapText = textFor mapOf
+
+unfoldable pub missmapText : ℕ → ℕ → List ℕ → List ℕ
+missmapText = textFor missmapOf

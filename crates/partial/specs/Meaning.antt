@@ -37,9 +37,13 @@ agree ss =
 unfoldable pub covers : ℕ → Chunk → Bool
 covers p c = within (c .start) (c .size) p
 
+-- whether a chunk is of a state and covers a position
+abbrev pub coversAs : ℕ → ℕ → Chunk → Bool
+coversAs state p c = eqb (c .state) state && covers p c
+
 -- whether a chunk is good and covers a position
 abbrev pub supplies : ℕ → Chunk → Bool
-supplies p c = eqb (c .state) good && covers p c
+supplies = coversAs good
 
 -- the number of the first good chunk that covers a position; the number of all chunks where there is none
 unfoldable pub supplier : List Chunk → ℕ → ℕ

@@ -10,7 +10,7 @@ use Rattle.partial.specs.Segments.{Segment}
 use Rattle.partial.specs.Heading.{Part}
 use Rattle.partial.specs.Reading.{reading}
 use Rattle.partial.specs.Tables.{tabled, listed, servedPart, asked, textOf}
-use Rattle.partial.specs.Map.{refusedLine, mapText}
+use Rattle.partial.specs.Map.{refusedLine, textFor}
 use Rattle.partial.specs.Addition.{Addition}
 use Rattle.partial.specs.Append.{appended}
 use Rattle.partial.specs.Runs.{lent, append}
@@ -39,14 +39,15 @@ pub record Raised (low high : ℕ) : Type 0 where
       (which : List ℕ → Box → Part) (f : List ℕ) (ss : List Segment)
       → reading low f ≡ given ss
       → textOf which high f ≡ textOf which low f
-  -- "old files keep their maps", whatever the most is that the program takes; of any input, a map that is not the same was the line of 23
+  -- "old files keep their maps", whatever a program prints of an accepted file and the most is that it takes; of any input, a text that is not the same
+  -- was the line of 23
   pub maps :
-      (most : ℕ) (input : List ℕ) (ss : List Segment)
+      (of : List Segment → List ℕ) (most : ℕ) (input : List ℕ) (ss : List Segment)
       → reading low input ≡ given ss
-      → mapText high most input ≡ mapText low most input
+      → textFor of high most input ≡ textFor of low most input
   pub mapElseWas23 :
-      (most : ℕ) (input : List ℕ)
-      → (mapText high most input ≡ mapText low most input) ⊎ (mapText low most input ≡ refusedLine 23)
+      (of : List Segment → List ℕ) (most : ℕ) (input : List ℕ)
+      → (textFor of high most input ≡ textFor of low most input) ⊎ (textFor of low most input ≡ refusedLine 23)
   -- an addition that was accepted has the same answer, and "the writer gives the same bytes": the buffer and the length of the file in it
   pub appends : (buffer : List ℕ) (n : ℕ) (a : Addition) → Kept (appended low buffer n a) (appended high buffer n a)
   pub bytes :

@@ -1,7 +1,7 @@
--- Laws of the spans of chunks: what the rows so far have become, with one row more that has a span or has none.
+-- Laws of the spans of chunks: where the span of one ends, what a chunk more adds to them, and the rows that are left where the spans are written over them.
 use Prim.Native.Nat.{ℕ, _+_, _*_, _/_, _<_, _≤_}
 use mathlib.Core.Bool.{Bool, true, false, _||_, or-false, or-true}
-use mathlib.Core.List.{List, [], _∷_, _++_}
+use mathlib.Core.List.{List, [], _∷_}
 use mathlib.Core.Logic.{_⊎_, inl, inr}
 use mathlib.Core.Path.{_≡_, refl, sym, ap, subst, _∙_}
 use native.Mathlib.Decide.{decLe}
@@ -9,38 +9,38 @@ use native.Mathlib.Omega.{arith}
 use borrow.Author.Tests.{ltb-true}
 use lib.Dec.{ltb}
 use lib.ListN.{length, getD}
-use Rattle.partial.specs.Meaning.{supplies}
+use Rattle.partial.specs.Meaning.{coversAs}
 use Rattle.partial.specs.Segments.{Chunk, noChunk, good}
 use Rattle.partial.specs.Sequences.{someOf}
-use Rattle.partial.proofs.Meaning.RunLaws.{supplies-true, does-supply}
+use Rattle.partial.proofs.Meaning.RunLaws.{covers-true, does-cover}
 use Rattle.partial.proofs.Meaning.SequenceLaws.{which, some-append}
 use Rattle.serving.specs.Rows.{chunkIn, chunksFrom, chunksIn}
 use Rattle.serving.proofs.RowsLaws.{rows-last}
 use Rattle.spans.specs.Spans.{firstAt, endAt, coveredBy, Spans, Joined}
-use Rattle.spans.specs.Chunks.{SpanEnd, SpansOf}
-use Rattle.spans.proofs.SpanLaws.{same-truth, covered-at, covered-by}
+use Rattle.spans.specs.Chunks.{SpanEnd, Taken, SpansOf}
+use Rattle.spans.proofs.SpanLaws.{same-truth, covered-at, covered-by, no-spans}
 
 -- ---- where a span ends
 
-module _ (c : Chunk) (end : ℕ) where
-  -- of a chunk that supplies nothing below the end
-  pub span-none : (c .state ≡ good → c .start < end → ⊥) → SpanEnd c end (c .start)
+module _ (state : ℕ) (c : Chunk) (end : ℕ) where
+  -- of a chunk that covers nothing below the end in that state
+  pub span-none : (c .state ≡ state → c .start < end → ⊥) → SpanEnd state c end (c .start)
   span-none none =
       record {
         all = λ q from to. absurd (omega arith);
         only = λ q below e.
-            let (state, from, _) = supplies-true c q e in
-            absurd (none state (omega arith));
+            let (is, from, _) = covers-true c q state e in
+            absurd (none is (omega arith));
         most = λ some. absurd (omega arith);
       }
 
-  -- of a good one that starts below it
-  pub span-some : c .state ≡ good → c .start < end → {to : ℕ} → to ≤ end → to ≤ c .start + c .size → (to < end → c .start + c .size ≤ to) → SpanEnd c end to
-  span-some state below {to} most low high =
+  -- of one in that state that starts below it
+  pub span-some : c .state ≡ state → c .start < end → {to : ℕ} → to ≤ end → to ≤ c .start + c .size → (to < end → c .start + c .size ≤ to) → SpanEnd state c end to
+  span-some is below {to} most low high =
       record {
-        all = λ q from under. does-supply c q state from (omega arith);
+        all = λ q from under. does-cover c q state is from (omega arith);
         only = λ q less e.
-            let (_, _, under) = supplies-true c q e in
+            let (_, _, under) = covers-true c q state e in
             elim (decLe end to) [
               | yes full ↦ omega arith
               | no short ↦ omega (arith, high (omega arith))
@@ -48,29 +48,168 @@ module _ (c : Chunk) (end : ℕ) where
         most = λ some. most;
       }
 
+  -- only a chunk in that state has a span that is not empty
+  pub span-state : {to : ℕ} → SpanEnd state c end to → c .start < to → c .state ≡ state
+  span-state span some = covers-true c (c .start) state (span .all (c .start) (omega arith) some) .0
+
+-- ---- a chunk more
+
+-- one of two tests passes
+or-left : (a b : Bool) → a ≡ true → (a || b) ≡ true
+or-left a b e = rw e
+
+or-right : (a b : Bool) → b ≡ true → (a || b) ≡ true
+or-right a b e = rw (e, or-true)
+
+or-either : (a b : Bool) → (a || b) ≡ true → (a ≡ true) ⊎ (b ≡ true)
+or-either a b e =
+    elim (which a) [
+      | inl left ↦ inl left
+      | inr none ↦ inr (rw none at e)
+    ]
+
+module _ (state end : ℕ) (c : Chunk) (t : List ℕ) (n : ℕ) {to : ℕ} (span : SpanEnd state c end to) where
+  -- without a span
+  pub taken-none : to ≤ c .start → Taken state end c t n t n
+  taken-none none =
+      record {
+        long = refl;
+        many = omega arith;
+        behind = λ i from. refl;
+        spans = λ s. s;
+        covers = λ s q below.
+            same-truth _ _ (or-left (coveredBy t n q) (coversAs state q c))
+            (λ e.
+            elim (or-either (coveredBy t n q) (coversAs state q c) e) [
+              | inl before ↦ before
+              | inr last ↦
+                  let (_, from, _) = covers-true c q state last in
+                  absurd (omega (arith, span .only q below last))
+            ]);
+      }
+
+  -- with one, which is stored or makes the last longer
+  module _ {t′ : List ℕ} {n′ : ℕ} (some : c .start < to) (room : 2 * n + 2 ≤ length t) (j : Joined t n (c .start) to t′ n′) where
+    kept : (i : ℕ) → i < j .at → (firstAt t′ i ≡ firstAt t i) × (endAt t′ i ≡ endAt t i)
+    kept i less = (j .stored .before (2 * i) (omega arith), j .stored .before (2 * i + 1) (omega arith))
+
+    last-first : (i : ℕ) → i ≡ j .at → firstAt t′ i ≡ j .from
+    last-first i here = ap (λ (i : ℕ). firstAt t′ i) here ∙ j .stored .one
+
+    last-end : (i : ℕ) → i ≡ j .at → endAt t′ i ≡ to
+    last-end i here = ap (λ (i : ℕ). endAt t′ i) here ∙ j .stored .two
+
+    module _ (spans : Spans t n end) where
+      on : j .from ≤ c .start
+      on = j .on (spans .some (j .at))
+
+      new-spans : Spans t′ n′ end
+      new-spans =
+          record {
+            room = omega (arith, room, j .stored .long, j .many, j .low);
+            some = λ i less.
+                elim (decLe (j .at) i) [
+                  | yes last ↦
+                      let here : i ≡ j .at = omega (arith, j .many) in
+                      omega (arith, last-first i here, last-end i here, on)
+                  | no before ↦ omega (arith, kept i (omega arith), spans .some i (omega (arith, j .low)))
+                ];
+            most = λ i less.
+                elim (decLe (j .at) i) [
+                  | yes last ↦
+                      let here : i ≡ j .at = omega (arith, j .many) in
+                      omega (arith, last-end i here, span .most some)
+                  | no before ↦ omega (arith, kept i (omega arith), spans .most i (omega (arith, j .low)))
+                ];
+          }
+
+      module _ (q : ℕ) (below : q < end) where
+        abbrev either : Bool
+        either = coveredBy t n q || coversAs state q c
+
+        was : coveredBy t n q ≡ true → either ≡ true
+        was = or-left (coveredBy t n q) (coversAs state q c)
+
+        -- the positions of the last span
+        last-either : j .from ≤ q → q < to → either ≡ true
+        last-either from under =
+            elim (decLe (c .start) q) [
+              | yes new ↦ or-right (coveredBy t n q) (coversAs state q c) (span .all q new under)
+              | no old ↦ was (j .gap q from (omega arith))
+            ]
+
+        to-either : coveredBy t′ n′ q ≡ true → either ≡ true
+        to-either e =
+            let (i, less, from, under) = covered-at t′ n′ q e in
+            elim (decLe (j .at) i) [
+              | yes last ↦
+                  let here : i ≡ j .at = omega (arith, j .many) in
+                  last-either (omega (arith, last-first i here)) (omega (arith, last-end i here))
+              | no before ↦
+                  let (first, end) = kept i (omega arith) in
+                  was (covered-by t n q i (omega (arith, j .low)) (omega arith) (omega arith))
+            ]
+
+        -- a position of the last span
+        last-by : j .from ≤ q → q < to → coveredBy t′ n′ q ≡ true
+        last-by from under = covered-by t′ n′ q (j .at) (omega (arith, j .many)) (omega (arith, j .stored .one)) (omega (arith, j .stored .two))
+
+        from-either : either ≡ true → coveredBy t′ n′ q ≡ true
+        from-either e =
+            elim (or-either (coveredBy t n q) (coversAs state q c) e) [
+              | inl before ↦
+                  let (i, less, from, under) = covered-at t n q before in
+                  elim (decLe (j .at) i) [
+                    | yes last ↦
+                        let (first, end) = j .held i last less in
+                        last-by (omega arith) (omega arith)
+                    | no old ↦
+                        let (first, end) = kept i (omega arith) in
+                        covered-by t′ n′ q i (omega (arith, j .many)) (omega arith) (omega arith)
+                  ]
+              | inr last ↦
+                  let (_, from, _) = covers-true c q state last in
+                  last-by (omega (arith, on)) (span .only q below last)
+            ]
+
+    pub taken-span : Taken state end c t n t′ n′
+    taken-span =
+        record {
+          long = j .stored .long;
+          many = omega (arith, j .many, j .low);
+          behind = λ i from. j .stored .behind i (omega (arith, j .low));
+          spans = new-spans;
+          covers = λ s q below. same-truth _ _ (to-either s q below) (from-either s q below);
+        }
+
 -- ---- the rows so far
 
--- some of the chunks with one more supply a position
-module _ (cs : List Chunk) (c : Chunk) (q : ℕ) where
-  some-more : someOf (supplies q) (cs ++ (c ∷ [])) ≡ (someOf (supplies q) cs || supplies q c)
-  unfolding someOf
-  some-more = some-append (supplies q) cs (c ∷ []) ∙ ap (λ (t : Bool). someOf (supplies q) cs || t) (or-false (supplies q c))
+module _ (state : ℕ) (rows : List ℕ) (end : ℕ) where
+  pub spans-none : (t : List ℕ) → SpansOf state rows 0 end t 0
+  unfolding coveredBy chunksFrom someOf
+  spans-none t = record { spans = no-spans t end; covers = λ q below. refl }
 
-  some-before : someOf (supplies q) cs ≡ true → someOf (supplies q) (cs ++ (c ∷ [])) ≡ true
-  some-before e = some-more ∙ rw e
+  module _ {k : ℕ} {t : List ℕ} {n : ℕ} (s : SpansOf state rows k end t n) where
+    pub spans-more : (c : Chunk) → c ≡ chunkIn rows k → {t′ : List ℕ} {n′ : ℕ} → Taken state end c t n t′ n′ → SpansOf state rows (k + 1) end t′ n′
+    unfolding someOf
+    spans-more c row {t′} {n′} taken =
+        record {
+          spans = taken .spans (s .spans);
+          covers = λ q below.
+              let test : Chunk → Bool = coversAs state q in
+              taken .covers (s .spans) q below
+              ∙ (λ i. s .covers q below i || sym (or-false (test (row i))) i)
+              ∙ sym (some-append test (chunksIn rows k) (chunkIn rows k ∷ []))
+              ∙ ap (someOf test) (sym (rows-last rows k));
+        }
 
-  some-last : supplies q c ≡ true → someOf (supplies q) (cs ++ (c ∷ [])) ≡ true
-  some-last e = some-more ∙ ap (λ (t : Bool). someOf (supplies q) cs || t) e ∙ or-true (someOf (supplies q) cs)
+    pub spans-all : {count : ℕ} → k ≡ count → SpansOf state rows count end t n
+    spans-all all = subst (λ (i : ℕ). SpansOf state rows i end t n) all s
 
-  some-either : someOf (supplies q) (cs ++ (c ∷ [])) ≡ true → (someOf (supplies q) cs ≡ true) ⊎ (supplies q c ≡ true)
-  some-either e =
-      elim (which (someOf (supplies q) cs)) [
-        | inl before ↦ inl before
-        | inr none ↦ inr (ap (λ (t : Bool). t || supplies q c) (sym none) ∙ sym some-more ∙ e)
-      ]
+-- ---- spans over rows
 
 -- a good chunk stands in a row that is there
-row-long : (t : List ℕ) (k : ℕ) → chunkIn t k .state ≡ good → 6 * k + 6 ≤ length t
+pub row-long : (t : List ℕ) (k : ℕ) → chunkIn t k .state ≡ good → 6 * k + 6 ≤ length t
 unfolding chunkIn
 row-long t k state =
     elim (which (ltb k (length t / 6))) [
@@ -80,155 +219,25 @@ row-long t k state =
           omega arith
     ]
 
--- the row that is next is as it was
-row-same : (t t₀ : List ℕ) (k : ℕ) → length t ≡ length t₀ → ((i : ℕ) → 6 * k ≤ i → getD t i 0 ≡ getD t₀ i 0) → chunkIn t k ≡ chunkIn t₀ k
-unfolding chunkIn
-row-same t t₀ k long left =
-    let start = left (6 * k + 2) (omega arith) in
-    let size = left (6 * k + 3) (omega arith) in
-    let state = left (6 * k + 4) (omega arith) in
-    let place = left (6 * k + 5) (omega arith) in
-    λ j. elim (ltb k (long j / 6)) [ true ↦ record { start = start j; size = size j; state = state j; place = place j } | false ↦ noChunk ]
-
--- the first k rows have become n spans, and the others are as they were
-pub record Midway (t₀ : List ℕ) (end k : ℕ) (t : List ℕ) (n : ℕ) : Type 0 where
-  pub fewer : n ≤ k
+-- the rows of a table from one on are as they were
+pub record Left (t₀ : List ℕ) (k : ℕ) (t : List ℕ) : Type 0 where
   pub long : length t ≡ length t₀
-  pub left : (i : ℕ) → 6 * k ≤ i → getD t i 0 ≡ getD t₀ i 0
-  pub spans : Spans t n end
-  pub covers : (q : ℕ) → q < end → coveredBy t n q ≡ someOf (supplies q) (chunksIn t₀ k)
+  pub rest : (i : ℕ) → 6 * k ≤ i → getD t i 0 ≡ getD t₀ i 0
 
-pub midway-none : (t : List ℕ) (end : ℕ) → Midway t end 0 t 0
-unfolding coveredBy chunksFrom someOf
-midway-none t end =
-    record {
-      fewer = omega arith;
-      long = refl;
-      left = λ i from. refl;
-      spans = record { room = omega arith; some = λ k less. absurd (omega arith); most = λ k less. absurd (omega arith) };
-      covers = λ q below. refl;
-    }
+pub left-all : (t : List ℕ) → Left t 0 t
+left-all t = record { long = refl; rest = λ i from. refl }
 
-pub midway-as : {t₀ : List ℕ} {end k : ℕ} {t t′ : List ℕ} {n n′ : ℕ} → Midway t₀ end k t n → t′ ≡ t → n′ ≡ n → Midway t₀ end k t′ n′
-midway-as {t₀} {end} {k} m table many = subst (λ (x : List ℕ × ℕ). Midway t₀ end k (x .0) (x .1)) (λ i. (sym table i, sym many i)) m
+module _ {t₀ t : List ℕ} {k : ℕ} (l : Left t₀ k t) where
+  -- the row that is next
+  pub left-row : chunkIn t k ≡ chunkIn t₀ k
+  unfolding chunkIn
+  left-row =
+      let start = l .rest (6 * k + 2) (omega arith) in
+      let size = l .rest (6 * k + 3) (omega arith) in
+      let state = l .rest (6 * k + 4) (omega arith) in
+      let place = l .rest (6 * k + 5) (omega arith) in
+      λ j. elim (ltb k (l .long j / 6)) [ true ↦ record { start = start j; size = size j; state = state j; place = place j } | false ↦ noChunk ]
 
-module _ (t₀ : List ℕ) (end k : ℕ) {t : List ℕ} {n : ℕ} (m : Midway t₀ end k t n) where
-  pub midway-end : {count : ℕ} → k ≡ count → SpansOf t₀ count end t n
-  midway-end all = record { long = m .long; spans = m .spans; covers = λ q below. m .covers q below ∙ ap (λ (i : ℕ). someOf (supplies q) (chunksIn t₀ i)) all }
-
-  module _ (c : Chunk) (row : c ≡ chunkIn t k) {to : ℕ} (span : SpanEnd c end to) where
-    rows : chunksIn t₀ (k + 1) ≡ chunksIn t₀ k ++ (c ∷ [])
-    rows = rows-last t₀ k ∙ ap (λ (x : Chunk). chunksIn t₀ k ++ (x ∷ [])) (sym (row ∙ row-same t t₀ k (m .long) (m .left)))
-
-    -- there is room for a span that is not empty
-    pub span-room : c .start < to → 2 * n + 2 ≤ length t
-    span-room some =
-        let (state, _, _) = supplies-true c (c .start) (span .all (c .start) (omega arith) some) in
-        omega (arith, m .fewer, row-long t k (ap (λ (x : Chunk). x .state) (sym row) ∙ state))
-
-    -- a chunk without a span
-    pub midway-past : to ≤ c .start → Midway t₀ end (k + 1) t n
-    midway-past none =
-        record {
-          fewer = omega (arith, m .fewer);
-          long = m .long;
-          left = λ i from. m .left i (omega arith);
-          spans = m .spans;
-          covers = λ q below.
-              rw rows
-              (same-truth _ _
-              (λ e. some-before (chunksIn t₀ k) c q (sym (m .covers q below) ∙ e))
-              (λ e.
-              elim (some-either (chunksIn t₀ k) c q e) [
-                | inl before ↦ m .covers q below ∙ before
-                | inr last ↦
-                    let (_, from, _) = supplies-true c q last in
-                    absurd (omega (arith, span .only q below last))
-              ]));
-        }
-
-    -- a chunk with one, which is stored or makes the last longer
-    module _ {t′ : List ℕ} {n′ : ℕ} (some : c .start < to) (j : Joined t n (c .start) to t′ n′) where
-      on : j .from ≤ c .start
-      on = j .on (m .spans .some (j .at))
-
-      kept : (i : ℕ) → i < j .at → (firstAt t′ i ≡ firstAt t i) × (endAt t′ i ≡ endAt t i)
-      kept i less = (j .stored .before (2 * i) (omega arith), j .stored .before (2 * i + 1) (omega arith))
-
-      last-first : (i : ℕ) → i ≡ j .at → firstAt t′ i ≡ j .from
-      last-first i here = ap (λ (i : ℕ). firstAt t′ i) here ∙ j .stored .one
-
-      last-end : (i : ℕ) → i ≡ j .at → endAt t′ i ≡ to
-      last-end i here = ap (λ (i : ℕ). endAt t′ i) here ∙ j .stored .two
-
-      new-spans : Spans t′ n′ end
-      new-spans =
-          record {
-            room = omega (arith, span-room some, j .stored .long, j .many, j .low);
-            some = λ i less.
-                elim (decLe (j .at) i) [
-                  | yes last ↦
-                      let here : i ≡ j .at = omega (arith, j .many) in
-                      omega (arith, last-first i here, last-end i here, on)
-                  | no before ↦ omega (arith, kept i (omega arith), m .spans .some i (omega (arith, j .low)))
-                ];
-            most = λ i less.
-                elim (decLe (j .at) i) [
-                  | yes last ↦
-                      let here : i ≡ j .at = omega (arith, j .many) in
-                      omega (arith, last-end i here, span .most some)
-                  | no before ↦ omega (arith, kept i (omega arith), m .spans .most i (omega (arith, j .low)))
-                ];
-          }
-
-      -- the positions of the last span
-      last-some : (q : ℕ) → q < end → j .from ≤ q → q < to → someOf (supplies q) (chunksIn t₀ k ++ (c ∷ [])) ≡ true
-      last-some q below from under =
-          elim (decLe (c .start) q) [
-            | yes new ↦ some-last (chunksIn t₀ k) c q (span .all q new under)
-            | no old ↦ some-before (chunksIn t₀ k) c q (sym (m .covers q below) ∙ j .gap q from (omega arith))
-          ]
-
-      to-some : (q : ℕ) → q < end → coveredBy t′ n′ q ≡ true → someOf (supplies q) (chunksIn t₀ k ++ (c ∷ [])) ≡ true
-      to-some q below e =
-          let (i, less, from, under) = covered-at t′ n′ q e in
-          elim (decLe (j .at) i) [
-            | yes last ↦
-                let here : i ≡ j .at = omega (arith, j .many) in
-                last-some q below (omega (arith, last-first i here)) (omega (arith, last-end i here))
-            | no before ↦
-                let (first, end) = kept i (omega arith) in
-                some-before (chunksIn t₀ k) c q (sym (m .covers q below) ∙ covered-by t n q i (omega (arith, j .low)) (omega arith) (omega arith))
-          ]
-
-      -- a position of the last span
-      last-by : (q : ℕ) → j .from ≤ q → q < to → coveredBy t′ n′ q ≡ true
-      last-by q from under = covered-by t′ n′ q (j .at) (omega (arith, j .many)) (omega (arith, j .stored .one)) (omega (arith, j .stored .two))
-
-      from-some : (q : ℕ) → q < end → someOf (supplies q) (chunksIn t₀ k ++ (c ∷ [])) ≡ true → coveredBy t′ n′ q ≡ true
-      from-some q below e =
-          elim (some-either (chunksIn t₀ k) c q e) [
-            | inl before ↦
-                let (i, less, from, under) = covered-at t n q (m .covers q below ∙ before) in
-                elim (decLe (j .at) i) [
-                  | yes last ↦
-                      let (first, end) = j .held i last less in
-                      last-by q (omega arith) (omega arith)
-                  | no old ↦
-                      let (first, end) = kept i (omega arith) in
-                      covered-by t′ n′ q i (omega (arith, j .many)) (omega arith) (omega arith)
-                ]
-            | inr last ↦
-                let (_, from, _) = supplies-true c q last in
-                last-by q (omega (arith, on)) (span .only q below last)
-          ]
-
-      pub midway-more : Midway t₀ end (k + 1) t′ n′
-      midway-more =
-          record {
-            fewer = omega (arith, m .fewer, j .many, j .low);
-            long = j .stored .long ∙ m .long;
-            left = λ i from. j .stored .behind i (omega (arith, m .fewer, j .low)) ∙ m .left i (omega arith);
-            spans = new-spans;
-            covers = λ q below. rw rows (same-truth _ _ (to-some q below) (from-some q below));
-          }
+  -- a chunk more, taken into no more spans than rows are read
+  pub left-more : {n : ℕ} → n ≤ k → {state end : ℕ} {c : Chunk} {t′ : List ℕ} {n′ : ℕ} → Taken state end c t n t′ n′ → Left t₀ (k + 1) t′
+  left-more few taken = record { long = taken .long ∙ l .long; rest = λ i from. taken .behind i (omega arith) ∙ l .rest i (omega arith) }

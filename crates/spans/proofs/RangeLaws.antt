@@ -12,7 +12,7 @@ use Rattle.partial.specs.Sequences.{stretch}
 use Rattle.partial.proofs.Meaning.RangeLaws.{first-range}
 use Rattle.partial.proofs.Meaning.StretchLaws.{first-one, stretch-first}
 use Rattle.spans.specs.Spans.{firstAt, endAt, Within, coveredBy, Ordered}
-use Rattle.spans.specs.Ranges.{classBy, rangeIn, Passed, Reaches, GoesOn, Finds}
+use Rattle.spans.specs.Ranges.{classBy, rangeIn, OneClass, Passed, Reaches, GoesOn, Finds}
 use Rattle.spans.specs.declared.ranges.Range.{Range}
 use Rattle.spans.specs.declared.ranges.Found.{Found}
 use Rattle.spans.specs.declared.ranges.Reach.{Reach}
@@ -72,28 +72,27 @@ free t n end k p q o passed on next =
     ])
 
 module _ (t : List ℕ) (n q : ℕ) where
-  class-had : coveredBy t n q ≡ true → classBy t n q ≡ had
+  pub class-had : coveredBy t n q ≡ true → classBy t n q ≡ had
   unfolding classBy
   class-had e = rw (classBy, e)
 
-  class-missing : coveredBy t n q ≡ false → classBy t n q ≡ missing
+  pub class-missing : coveredBy t n q ≡ false → classBy t n q ≡ missing
   unfolding classBy
   class-missing e = rw (classBy, e)
 
--- so many positions of one class, and another class behind them
-range-of : (of : ℕ → ℕ) (p e end class other : ℕ) → p < e → e ≤ end → ((q : ℕ) → p ≤ q → q < e → of q ≡ class) → (e < end → of e ≡ other) → (other ≡ class → ⊥)
-    → record { class = class; length = e - p } ≡ rangeIn of p end
+-- the positions of one class from a position on are its range
+pub range-of : (of : ℕ → ℕ) (p end class to : ℕ) → p < to → OneClass of p end class to → record { class = class; length = to - p } ≡ rangeIn of p end
 unfolding rangeIn
-range-of of p e end class other some most same differs apart =
-    let here = same p (omega arith) some in
-    let on : p + (e - p) ≡ e = omega arith in
+range-of of p end class to some one =
+    let here = one .same p (omega arith) some in
+    let on : p + (to - p) ≡ to = omega arith in
     let long =
     first-one
     (stretch-first (λ q. eqb (of q) (of p)) (end - p) p)
     (record {
-      most = omega arith;
-      before = λ i h. eq-eqb (of (p + i)) (of p) (same (p + i) (omega arith) (omega arith) ∙ sym here);
-      there = λ h. ne-eqb (of (p + (e - p))) (of p) (λ f. apart (sym (differs (omega arith)) ∙ ap of (sym on) ∙ f ∙ here));
+      most = omega (arith, one .most);
+      before = λ i h. eq-eqb (of (p + i)) (of p) (one .same (p + i) (omega arith) (omega arith) ∙ sym here);
+      there = λ h. ne-eqb (of (p + (to - p))) (of p) (λ f. one .other (omega arith) (ap of (sym on) ∙ f ∙ here));
     }) in
     λ i. record { class = sym here i; length = sym long i }
 
@@ -110,8 +109,12 @@ next-high t n k p end {r} s stays below first last =
 module _ (t : List ℕ) (n k p end : ℕ) {r : Reach} (o : Ordered t n end) (before : Passed t n k p) (s : Reaches t n k p r) where
   pub range-had : p ≤ end → p < r .to → record { class = had; length = r .to - p } ≡ rangeIn (classBy t n) p end
   range-had below some =
-      range-of (classBy t n) p (r .to) end had missing some (s .most end below (o .spans .most)) (λ q from under. class-had t n q (s .had q from under))
-      (λ short. class-missing t n (r .to) (free t n end (r .passed) (r .to) (r .to) o (s .passed before) (omega arith) (s .next))) (λ z. omega arith)
+      range-of (classBy t n) p end had (r .to) some
+      (record {
+        most = s .most end below (o .spans .most);
+        same = λ q from under. class-had t n q (s .had q from under);
+        other = λ short e. omega (arith, e, class-missing t n (r .to) (free t n end (r .passed) (r .to) (r .to) o (s .passed before) (omega arith) (s .next)));
+      })
 
   module _ (stays : r .to ≤ p) (below : p < end) {next : ℕ} (first : r .passed < n → next ≡ firstAt t (r .passed)) (last : n ≤ r .passed → next ≡ end) where
     next-low : next ≤ end
@@ -132,9 +135,12 @@ module _ (t : List ℕ) (n k p end : ℕ) {r : Reach} (o : Ordered t n end) (bef
 
     pub range-missing : record { class = missing; length = next - p } ≡ rangeIn (classBy t n) p end
     range-missing =
-        range-of (classBy t n) p next end missing had (next-high t n k p end s stays below first last) next-low
-        (λ q from under. class-missing t n q (free t n end (r .passed) (r .to) q o (s .passed before) (omega arith) (λ one. omega (arith, first one))))
-        (λ short. class-had t n next (next-had short)) (λ z. omega arith)
+        range-of (classBy t n) p end missing next (next-high t n k p end s stays below first last)
+        (record {
+          most = next-low;
+          same = λ q from under. class-missing t n q (free t n end (r .passed) (r .to) q o (s .passed before) (omega arith) (λ one. omega (arith, first one)));
+          other = λ short e. omega (arith, e, class-had t n next (next-had short));
+        })
 
   -- the spans that are passed at the reach are passed behind it
   pub passed-on : {to : ℕ} → r .to ≤ to → Passed t n (r .passed) to
@@ -146,7 +152,7 @@ module _ {length passed : ℕ} {r : Found} (nothing : r ≡ record { range = rec
   long-nothing : r .range .length ≡ length
   long-nothing = ap (λ (x : Found). x .range .length) nothing
 
-  pub nothing-goes : {p end : ℕ} → (p < end → 0 < length) → p + length < 2 ^ 64 → GoesOn p end r
+  pub nothing-goes : {p end : ℕ} → (p < end → 0 < length) → p + length < 2 ^ 64 → GoesOn had p end (r .range)
   nothing-goes some ends =
       record {
         class = omega (arith, ap (λ (x : Found). x .range .class) nothing);
@@ -195,6 +201,17 @@ module _ (of : ℕ → ℕ) (p end : ℕ) (some : p < end) {r : Range} (found : 
       (λ i less. eqb-true _ _ (f .before i (omega (arith, long))))
       (λ short same. eqb-false _ _ (f .there (omega (arith, long))) (ap (λ (n : ℕ). of (p + n)) (sym long) ∙ same))
       ∙ (λ i. record { class = sym found-class i; first = p; length = r .length } ∷ ranges of (left i) (p + r .length))
+
+  pub found-one : OneClass of p end (r .class) (p + r .length)
+  found-one =
+      let f = stretch-first (λ q. eqb (of q) (of p)) (end - p) p in
+      record {
+        most = found-most;
+        same = λ q from under.
+            let on : q ≡ p + (q - p) = omega arith in
+            ap of on ∙ eqb-true _ _ (f .before (q - p) (omega (arith, long))) ∙ sym found-class;
+        other = λ short e. eqb-false _ _ (f .there (omega (arith, long))) (ap (λ (n : ℕ). of (p + n)) (sym long) ∙ e ∙ found-class);
+      }
 
 -- ranges are decided by the classes of their positions
 pub ranges-same : (of by : ℕ → ℕ) (more p : ℕ) → ((q : ℕ) → p ≤ q → q < p + more → of q ≡ by q) → ranges of more p ≡ ranges by more p

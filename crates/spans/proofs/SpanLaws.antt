@@ -62,6 +62,10 @@ uncovered t n q none =
       | inr e ↦ e
     ]
 
+-- a table has no span at all
+pub no-spans : (t : List ℕ) (end : ℕ) → Spans t 0 end
+no-spans t end = record { room = omega arith; some = λ k less. absurd (omega arith); most = λ k less. absurd (omega arith) }
+
 -- a span whose two numbers are set is stored
 pub span-stored : (t : List ℕ) (n first end : ℕ) → 2 * n + 2 ≤ length t → Stored t n first end (set (set t (2 * n) first) (2 * n + 1) end)
 span-stored t n first end room =

@@ -19,6 +19,12 @@ classBy t n q = elim (coveredBy t n q) [ true ↦ had | false ↦ missing ]
 unfoldable pub rangeIn : (ℕ → ℕ) → ℕ → ℕ → Range
 rangeIn class p end = record { class = class p; length = stretch (λ q. eqb (class q) (class p)) (end - p) p }
 
+-- from a position to another all are of one class, and that one is the end or of another class
+pub record OneClass (of : ℕ → ℕ) (p end class to : ℕ) : Type 0 where
+  pub most : to ≤ end
+  pub same : (q : ℕ) → p ≤ q → q < to → of q ≡ class
+  pub other : to < end → of to ≡ class → ⊥
+
 -- the first so many of n spans end at or before a position
 pub record Passed (t : List ℕ) (n k p : ℕ) : Type 0 where
   pub most : k ≤ n
@@ -32,11 +38,11 @@ pub record Reaches (t : List ℕ) (n k p : ℕ) (r : Reach) : Type 0 where
   pub passed : Passed t n k p → Passed t n (r .passed) (r .to)
   pub next : r .passed < n → r .to < firstAt t (r .passed)
 
--- a range is of one of the two classes and ends in 64 bits, and below an end it is not empty
-pub record GoesOn (p end : ℕ) (r : Found) : Type 0 where
-  pub class : r .range .class ≤ had
-  pub some : p < end → 0 < r .range .length
-  pub ends : p + r .range .length < 2 ^ 64
+-- a range is of no higher class than one, it ends in 64 bits, and below an end it is not empty
+pub record GoesOn (most p end : ℕ) (r : Range) : Type 0 where
+  pub class : r .class ≤ most
+  pub some : p < end → 0 < r .length
+  pub ends : p + r .length < 2 ^ 64
 
 -- the range of a position, and the spans that are passed where it ends
 pub record Finds (t : List ℕ) (n p end : ℕ) (r : Found) : Type 0 where

@@ -1,5 +1,7 @@
-// Spans: the stretches of the source that good chunks cover, in order, and the ranges that one sweep over them finds.
+// Spans: the stretches of the source that chunks of one state cover, in order, and the ranges that one sweep over them finds.
 pub mod chunks;
+pub mod naming;
 pub mod ordering;
 mod put;
 pub mod ranges;
+pub mod sweep;

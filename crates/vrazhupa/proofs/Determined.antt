@@ -7,6 +7,7 @@ use Rattle.vrazhupa.proofs.reading_calls.vrazhupa_list.Reads as list
 use Rattle.vrazhupa.proofs.reading_calls.vrazhupa_boxes.Reads as boxes
 use Rattle.vrazhupa.proofs.reading_calls.vrazhupa_map.Reads as map
 use Rattle.vrazhupa.proofs.reading_calls.vrazhupa_mime.Reads as mime
+use Rattle.vrazhupa.proofs.reading_calls.vrazhupa_missmap.Reads as missmap
 use Rattle.vrazhupa.proofs.reading_calls.vrazhupa_read.Reads as read
 use Rattle.vrazhupa.proofs.reading_calls.vrazhupa_serve.Reads as serve
 use Rattle.vrazhupa.proofs.reading_calls.vrazhupa_url.Reads as url
@@ -87,6 +88,15 @@ map-told κs args x y after after′ p q = p .said .values ∙ sym (q .said .val
 
 map-bytes : OneLeft map.Post (λ κs after. now (after .1 .1 .0))
 map-bytes κs args x y after after′ p q = p .left ∙ sym (q .left)
+
+missmap-result : OneResult missmap.Post
+missmap-result κs args x y after after′ p q = p .said .number ∙ sym (q .said .number)
+
+missmap-told : OneLeft missmap.Post (λ κs after. now (after .1 .1 .1 .0))
+missmap-told κs args x y after after′ p q = p .said .values ∙ sym (q .said .values)
+
+missmap-bytes : OneLeft missmap.Post (λ κs after. now (after .1 .1 .0))
+missmap-bytes κs args x y after after′ p q = p .left ∙ sym (q .left)
 
 boxes-result : OneResult boxes.Post
 boxes-result κs args x y after after′ p q = p .said .number ∙ sym (q .said .number)

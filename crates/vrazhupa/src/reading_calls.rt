@@ -1,4 +1,4 @@
-// The exported calls that read a file: its tables and texts, positions, lists, the map and the list of its boxes.
+// The exported calls that read a file: its tables and texts, positions, lists, both maps and the list of its boxes.
 use crate::answers::say_asked;
 use crate::answers::say_listed;
 use crate::answers::say_read;
@@ -6,6 +6,7 @@ use crate::answers::say_written;
 use boxlisting::call::boxes;
 use listing::calls::list;
 use mapping::call::map;
+use mapping::call::missmap;
 use partial::answers::Read;
 use partial::position::Position;
 use reading::judging::Judgement;
@@ -17,7 +18,7 @@ use serving::runs::run_at;
 ghost use Rattle.partial.specs.BoxList.{boxesText};
 ghost use Rattle.partial.specs.Heading.{url, mime};
 ghost use Rattle.partial.specs.Limits.{sourceLimit};
-ghost use Rattle.partial.specs.Map.{mapText};
+ghost use Rattle.partial.specs.Map.{mapText, missmapText};
 ghost use Rattle.vrazhupa.specs.Calls.{SaysRead, SaysText, SaysServed, SaysAsked, SaysListed, SaysPrinted};
 
 // Reads a file into both tables.
@@ -136,6 +137,19 @@ pub extern "C" fn vrazhupa_map(
     ensures { λ r. ⌜ SaysPrinted (mapText sourceLimit most (now (file .entry))) (now (buffer .entry)) (now (buffer .exit)) (now (told .entry)) (now (told .exit)) r ⌝ }
 {
     say_written(map(file, most, buffer), told)
+}
+
+// Writes the text of the map that does not name what is missing, 27 for a file of more bytes than the caller takes.
+#[no_mangle]
+pub extern "C" fn vrazhupa_missmap(
+    file: &[u8],
+    most: u64,
+    buffer: &mut [u8],
+    told: &mut [u64; 1],
+) -> u64
+    ensures { λ r. ⌜ SaysPrinted (missmapText sourceLimit most (now (file .entry))) (now (buffer .entry)) (now (buffer .exit)) (now (told .entry)) (now (told .exit)) r ⌝ }
+{
+    say_written(missmap(file, most, buffer), told)
 }
 
 // Writes a line for each top-level box, 27 for a file of more bytes than the caller takes.

@@ -25,6 +25,7 @@ use Rattle.partial.proofs.Meaning.SequenceLaws.{which, both, passes, al
 use Rattle.partial.proofs.Meaning.SupplyLaws.{supply, supplier-good, supplier-covers, beside}
 use Rattle.partial.proofs.Meaning.DescribedLaws.{InOrder}
 use Rattle.partial.proofs.Meaning.ListingLaws.{listing}
+use Rattle.partial.proofs.Meaning.NamingLaws.{naming}
 use Rattle.partial.proofs.Meaning.ServingLaws.{in-chunk, same-chunk, some-served, no-longer, served-part, served-long, served-told}
 use Rattle.partial.proofs.Meaning.ServingLaws.{missing, beyond}
 
@@ -157,6 +158,7 @@ module _ (f : List ℕ) (h : Heading) (ss : List Segment) (ok : Accepted f h ss)
   mapped =
       record {
         listing = listing ss (ok .agreed) (ok .order);
+        naming = naming ss (listing ss (ok .agreed) (ok .order));
         serving = λ p e. serving p (passes _ e);
         missing = missing f ss;
         beyond = beyond ss;

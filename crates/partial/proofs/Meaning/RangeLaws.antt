@@ -25,11 +25,11 @@ data Cut (class : ℕ → ℕ) (end : ℕ) : ℕ → List Range → Type 0 where
 
 -- what the test decides
 module _ (c p : ℕ) (r : Range) (rs : List Range) where
-  joins : c ≡ r .class → joined c p (r ∷ rs) ≡ record { class = c; first = p; length = suc (r .length) } ∷ rs
+  pub joins : c ≡ r .class → joined c p (r ∷ rs) ≡ record { class = c; first = p; length = suc (r .length) } ∷ rs
   unfolding joined
   joins e = simp (joined, eq-eqb c (r .class) e)
 
-  parts : (c ≡ r .class → ⊥) → joined c p (r ∷ rs) ≡ record { class = c; first = p; length = 1 } ∷ (r ∷ rs)
+  pub parts : (c ≡ r .class → ⊥) → joined c p (r ∷ rs) ≡ record { class = c; first = p; length = 1 } ∷ (r ∷ rs)
   unfolding joined
   parts d = simp (joined, ne-eqb c (r .class) d)
 

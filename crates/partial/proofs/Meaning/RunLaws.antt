@@ -11,7 +11,7 @@ use borrow.Author.Tests.{eq-eqb, ne-eqb, eqb-true, ltb-true, ltb-false, lt-ltb, 
 use lib.Dec.{ltb, eqb}
 use lib.ListN.{length}
 use Rattle.partial.specs.Segments.{Chunk, Segment, good, chunksOf}
-use Rattle.partial.specs.Meaning.{covers, supplies, supplier, supplied, describedLength, onward, servedRun, missingRun}
+use Rattle.partial.specs.Meaning.{covers, coversAs, supplies, supplier, supplied, describedLength, onward, servedRun, missingRun}
 use Rattle.partial.specs.Ranges.{classOf}
 use Rattle.partial.proofs.Meaning.SequenceLaws.{which, both, inside, within-true}
 use Rattle.partial.proofs.Meaning.StretchLaws.{first-one, stretch-first}
@@ -38,16 +38,24 @@ pub record Run (cs : List Chunk) (p end e : ℕ) : Type 0 where
   pub differs : e < end → supplier cs e ≡ supplier cs p → ⊥
 
 module _ (c : Chunk) (p : ℕ) where
+  -- of any state
+  module _ (state : ℕ) where
+    pub covers-true : coversAs state p c ≡ true → (c .state ≡ state) × (c .start ≤ p) × (p < c .start + c .size)
+    unfolding covers
+    covers-true e =
+        let (is, cover) = both (eqb (c .state) state) (covers p c) e in
+        let (from, to) = within-true _ _ _ cover in
+        (eqb-true _ _ is, from, to)
+
+    pub does-cover : c .state ≡ state → c .start ≤ p → p < c .start + c .size → coversAs state p c ≡ true
+    unfolding covers
+    does-cover is from to = simp (eq-eqb (c .state) state is, inside (c .start) (c .size) p from to)
+
   pub supplies-true : supplies p c ≡ true → (c .state ≡ good) × (c .start ≤ p) × (p < c .start + c .size)
-  unfolding covers
-  supplies-true e =
-      let (state, cover) = both (eqb (c .state) good) (covers p c) e in
-      let (from, to) = within-true _ _ _ cover in
-      (eqb-true _ _ state, from, to)
+  supplies-true = covers-true good
 
   pub does-supply : c .state ≡ good → c .start ≤ p → p < c .start + c .size → supplies p c ≡ true
-  unfolding covers
-  does-supply state from to = simp (eq-eqb (c .state) good state, inside (c .start) (c .size) p from to)
+  does-supply = does-cover good
 
   pub not-supply : (c .state ≡ good → c .start ≤ p → p < c .start + c .size → ⊥) → supplies p c ≡ false
   not-supply none =

@@ -19,7 +19,7 @@ use Rattle.partial.specs.Heading.{Heading, heading, Part}
 use Rattle.partial.specs.Entries.{Ploc, Cursor, plocHead, entry, chunkStep, chunksFrom}
 use Rattle.partial.specs.Reading.{pshdFields, pshdRight, segment, segmentsFrom, segments, reading}
 use Rattle.partial.specs.Tables.{tabled, listed, asked, textOf}
-use Rattle.partial.specs.Map.{refusedLine, mapText}
+use Rattle.partial.specs.Map.{refusedLine, textFor}
 use Rattle.partial.specs.Raised.{Kept}
 use Rattle.partial.proofs.Meaning.SequenceLaws.{which}
 use Rattle.partial.proofs.Reading.PrintedLaws.{printed}
@@ -119,27 +119,28 @@ module _ (low high : ℕ) (raised : low ≤ high) where
   unfolding textOf
   texts-same text f ss e = rw (textOf, e, kept _ _ (reading-same f) .accepted ss e)
 
-  -- an over-long input has one map, and any other its map by what is read
-  map-over : (most : ℕ) (input : List ℕ) → leb (length input) most ≡ false → mapText high most input ≡ mapText low most input
-  unfolding mapText
-  map-over most input over = rw (mapText, over)
+  -- what is printed of an accepted file: an over-long input has one text, and any other its text by what is read
+  module _ (of : List Segment → List ℕ) (most : ℕ) (input : List ℕ) where
+    text-over : leb (length input) most ≡ false → textFor of high most input ≡ textFor of low most input
+    unfolding textFor
+    text-over over = rw (textFor, over)
 
-  map-by : (most : ℕ) (input : List ℕ) → reading high input ≡ reading low input → mapText high most input ≡ mapText low most input
-  unfolding mapText
-  map-by most input e = elim (which (leb (length input) most)) [ inl takes ↦ rw (mapText, takes, e) | inr over ↦ map-over most input over ]
+    text-by : reading high input ≡ reading low input → textFor of high most input ≡ textFor of low most input
+    unfolding textFor
+    text-by e = elim (which (leb (length input) most)) [ inl takes ↦ rw (textFor, takes, e) | inr over ↦ text-over over ]
 
-  pub maps-accepted : (most : ℕ) (input : List ℕ) (ss : List Segment) → reading low input ≡ given ss → mapText high most input ≡ mapText low most input
-  maps-accepted most input ss e = map-by most input (kept _ _ (reading-same input) .accepted ss e ∙ sym e)
+    pub maps-accepted : (ss : List Segment) → reading low input ≡ given ss → textFor of high most input ≡ textFor of low most input
+    maps-accepted ss e = text-by (kept _ _ (reading-same input) .accepted ss e ∙ sym e)
 
-  abbrev MapSame : ℕ → List ℕ → Type 0
-  MapSame most input = (mapText high most input ≡ mapText low most input) ⊎ (mapText low most input ≡ refusedLine 23)
+    abbrev TextSame : Type 0
+    TextSame = (textFor of high most input ≡ textFor of low most input) ⊎ (textFor of low most input ≡ refusedLine 23)
 
-  map-was : (most : ℕ) (input : List ℕ) → reading low input ≡ refused 23 → MapSame most input
-  map-was most input was =
-      elim (which (leb (length input) most)) [
-        | inl takes ↦ inr (printed low most input .refusal 23 (leb-true (length input) most takes) was)
-        | inr over ↦ inl (map-over most input over)
-      ]
+    text-was : reading low input ≡ refused 23 → TextSame
+    text-was was =
+        elim (which (leb (length input) most)) [
+          | inl takes ↦ inr (printed of low most input .refusal 23 (leb-true (length input) most takes) was)
+          | inr over ↦ inl (text-over over)
+        ]
 
-  pub maps-same : (most : ℕ) (input : List ℕ) → MapSame most input
-  maps-same most input = ⊎-elim (λ same. inl (map-by most input same)) (map-was most input) (reading-same input)
+    pub maps-same : TextSame
+    maps-same = ⊎-elim (λ same. inl (text-by same)) text-was (reading-same input)

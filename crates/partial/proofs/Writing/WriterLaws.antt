@@ -43,7 +43,7 @@ demand2 limit below =
     record {
       mapped = λ f h ss head read. read-mapped limit f head read;
       partEmpty = part-empty limit;
-      printed = printed limit;
+      printed = λ of. printed of limit;
       readsBack = reads-back limit below;
       sameAgain = says-again limit;
       sameBytes = settled-added;

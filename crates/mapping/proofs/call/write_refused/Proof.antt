@@ -2,7 +2,7 @@
 use native.Mathlib.Omega.{arith}
 use Rattle.texts.proofs.TextLaws.{piece-puts}
 use Rattle.texts.proofs.WritesLaws.{writes-given}
-use Rattle.mapping.proofs.MapLaws.{piece-short}
+use Rattle.mapping.proofs.OutlineLaws.{piece-short}
 use borrow.Author.Needs.{needs}
 use Rattle.mapping.proofs.call.write_refused.Statement.{statement}
 use Rattle.mapping.proofs.call.write_refused.Tie as tie

@@ -1,0 +1,137 @@
+-- Laws of what is told of a file by two tables of spans: the ranges and the text are the file's.
+use Prim.Native.Nat.{ℕ, _<_}
+use mathlib.Core.Bool.{Bool, true, false, _&&_}
+use mathlib.Core.List.{List, [], _∷_, _++_, map}
+use mathlib.Core.Path.{_≡_, refl, sym, ap, subst, _∙_}
+use native.Mathlib.Omega.{arith}
+use lib.ListN.{length}
+use Rattle.ends.specs.Sizes.{sizesOf}
+use Rattle.ends.specs.declared.sizes.Sizes.{Sizes}
+use Rattle.listing.specs.Calls.{Known, Spanned}
+use Rattle.numerals.proofs.StoredLaws.{stored-none}
+use Rattle.partial.specs.Map.{ascii, decimal, line, sourceLine, rangeLines, totalLine, mapOf, missmapOf, textFor, mapText, missmapText}
+use Rattle.partial.specs.Meaning.{coversAs, supplied, describedLength, isClosed}
+use Rattle.partial.specs.Naming.{held, lost, damagedAt, namedClass, namedRanges, heldList, lostList}
+use Rattle.partial.specs.Ranges.{Range as Stretch, missing, had, ranges, classOf, rangesOf, hadList, missingList, total}
+use Rattle.partial.specs.Segments.{Chunk, Segment, damaged}
+use Rattle.partial.specs.Sequences.{someOf}
+use Rattle.partial.specs.declared.position.Position.{Position}
+use Rattle.partial.specs.declared.answers.Written.{Written}
+use Rattle.partial.specs.declared.answers.Written.the-variants.{Refused}
+use Rattle.partial.proofs.Meaning.NamingLaws.{as-had}
+use Rattle.spans.specs.Chunks.{SpansOf}
+use Rattle.spans.specs.Naming.{nameBy}
+use Rattle.spans.specs.Ranges.{classBy}
+use Rattle.spans.specs.Spans.{coveredBy, Same}
+use Rattle.spans.proofs.RangeLaws.{ranges-same}
+use Rattle.spans.proofs.SpanLaws.{same-covered}
+use Rattle.texts.specs.Pieces.{PutsPiece}
+use Rattle.texts.specs.Writes.{Writes}
+use Rattle.texts.proofs.WritesLaws.{writes-short}
+use Rattle.mapping.specs.Outline.{textOf, classIn, wordOf, listsOf, Damage, rangesIn, Outlined}
+use Rattle.mapping.specs.Totals.{Counts, toldOf}
+use Rattle.mapping.specs.declared.outline.Outline.{Outline}
+use Rattle.mapping.specs.declared.totals.Totals.{Totals}
+
+-- ---- the spans of the damaged chunks
+
+-- no spans
+pub none-damaged : (ss : List Segment) (t : List ℕ) (end : ℕ) {named : Bool} → named ≡ false → Damage ss named t 0 end
+unfolding coveredBy
+none-damaged ss t end without = record { covers = λ q below. rw without }
+
+-- the ordered spans of the damaged chunks of a file's rows
+pub damaged-by : {count end : ℕ} {ss : List Segment} {rows t t′ : List ℕ} {n : ℕ} → Known rows count end ss → SpansOf damaged rows count end t n → Same n t t′
+    → {named : Bool}
+    → named ≡ true
+    → Damage ss named t′ n end
+unfolding damagedAt
+damaged-by k spans same by =
+    record { covers = λ q below. rw by (same-covered same q ∙ spans .covers q below ∙ ap (λ (cs : List Chunk). someOf (coversAs damaged q) cs) (k .rows)) }
+
+-- ---- a file's outline
+
+-- positions of the same class are covered alike
+same-had : (a b : Bool) → _≡_ {A = ℕ} (elim a [ true ↦ had | false ↦ missing ]) (elim b [ true ↦ had | false ↦ missing ]) → a ≡ b
+same-had true true e = refl
+same-had true false e = absurd (omega arith)
+same-had false true e = absurd (omega arith)
+same-had false false e = refl
+
+-- the class of a position by what is known of both tables
+class-by : (named : Bool) (ss : List Segment) (t : List ℕ) (n : ℕ) (u : List ℕ) (m q : ℕ) → classBy t n q ≡ classOf ss q → coveredBy u m q ≡ (named && damagedAt ss q)
+    → nameBy t n u m q ≡ classIn named ss q
+unfolding nameBy classBy classOf classIn namedClass
+class-by true ss t n u m q class covers =
+    let same = same-had (coveredBy t n q) (supplied ss q) class in
+    λ i. elim (same i) [ true ↦ had | false ↦ elim (covers i) [ true ↦ held | false ↦ lost ] ]
+class-by false ss t n u m q class covers =
+    let same = same-had (coveredBy t n q) (supplied ss q) class in
+    λ i. elim (same i) [ true ↦ had | false ↦ elim (covers i) [ true ↦ held | false ↦ lost ] ]
+
+pub outlined-by : {ss : List Segment} {t u : List ℕ} {n m : ℕ} {end : Position} {closed named : Bool} → Spanned ss t n (end .0) → Damage ss named u m (end .0) → closed ≡ isClosed ss
+    → Outlined ss t u (record { good = n; damaged = m; end = end; closed = closed; named = named })
+unfolding classIn
+outlined-by {ss} {t} {u} {n} {m} {named = named} spanned damage known =
+    record {
+      long = spanned .long;
+      closed = known;
+      class = λ q below. class-by named ss t n u m q (spanned .class q below) (damage .covers q below);
+    }
+
+-- the ranges of a file, named or not
+abbrev rangesFor : Bool → List Segment → List Stretch
+rangesFor named ss = ranges (classIn named ss) (describedLength ss) 0
+
+-- what is counted of them are the totals of the file's lists
+total-for : (named : Bool) (ss : List Segment) {totals : Totals} → Counts (rangesFor named ss) totals → line (ascii "total") (map decimal (toldOf named totals)) ≡ totalLine (listsOf named ss)
+unfolding toldOf listsOf totalLine classIn namedRanges rangesOf heldList lostList hadList missingList
+total-for true ss counts =
+    let received = counts .received ∙ ap total (as-had ss) in
+    λ i. line (ascii "total") (decimal (received i) ∷ decimal (counts .held i) ∷ decimal (counts .lost i) ∷ [])
+total-for false ss counts = λ i. line (ascii "total") (decimal (counts .received i) ∷ decimal (counts .lost i) ∷ [])
+
+module _ {ss : List Segment} {t u : List ℕ} {o : Outline} (outlined : Outlined ss t u o) where
+  outlined-ranges : rangesIn t u o ≡ rangesFor (o .named) ss
+  outlined-ranges =
+      ranges-same (nameBy t (o .good) u (o .damaged)) (classIn (o .named) ss) (o .end .0) 0 (λ q from below. outlined .class q (omega arith))
+      ∙ ap (λ (end : ℕ). ranges (classIn (o .named) ss) end 0) (outlined .long)
+
+  -- the lines of the ranges
+  pub range-lines : rangeLines (wordOf (o .named)) (rangesIn t u o) ≡ rangeLines (wordOf (o .named)) (rangesFor (o .named) ss)
+  range-lines = ap (rangeLines (wordOf (o .named))) outlined-ranges
+
+  -- the totals
+  pub total-line : {totals : Totals} → Counts (rangesIn t u o) totals → line (ascii "total") (map decimal (toldOf (o .named) totals)) ≡ totalLine (listsOf (o .named) ss)
+  total-line {totals} counts = total-for (o .named) ss (subst (λ (rs : List Stretch). Counts rs totals) outlined-ranges counts)
+
+-- the text of a file is its lines
+pub text-lines : (named : Bool) (ss : List Segment) → sourceLine ss ++ (rangeLines (wordOf named) (rangesFor named ss) ++ totalLine (listsOf named ss)) ≡ textOf named ss
+unfolding textOf wordOf classIn listsOf mapOf missmapOf namedRanges rangesOf
+text-lines true ss = refl
+text-lines false ss = refl
+
+pub known-closed : (ss : List Segment) {x : Sizes} → x ≡ sizesOf ss → x .known ≡ isClosed ss
+unfolding sizesOf
+known-closed ss e = ap (λ (x : Sizes). x .known) e
+
+-- ---- what is written
+
+-- the text of the map, and that of the other one
+pub map-text : (limit most : ℕ) (f : List ℕ) → textFor (textOf true) limit most f ≡ mapText limit most f
+unfolding textOf mapText
+map-text limit most f = refl
+
+pub missmap-text : (limit most : ℕ) (f : List ℕ) → textFor (textOf false) limit most f ≡ missmapText limit most f
+unfolding textOf missmapText
+missmap-text limit most f = refl
+
+-- the same text
+pub writes-same : {a b buffer buffer′ : List ℕ} {r : Written} → a ≡ b → Writes a buffer buffer′ r → Writes b buffer buffer′ r
+writes-same {buffer = buffer} {buffer′ = buffer′} {r = r} e w = subst (λ (text : List ℕ). Writes text buffer buffer′ r) e w
+
+-- a text that is one piece, without room for it
+pub piece-short : {text buffer buffer′ : List ℕ} {next : ℕ} → PutsPiece buffer 0 text buffer′ next → length buffer < length text → Writes text buffer buffer′ (Refused 33)
+piece-short {text} {buffer} p short =
+    let none = p .left ∙ stored-none buffer 0 text (omega arith) in
+    subst (λ (after : List ℕ). Writes text buffer after (Refused 33)) (sym none) (writes-short text buffer short)

@@ -1,0 +1,91 @@
+-- `mapping::call::write_map` meets its contract: 27, then the judgement, then the text by the rows of the file's chunks.
+use mathlib.Core.Path.{sym}
+use native.Mathlib.Omega.{arith}
+use Rattle.gathering.proofs.GatheredLaws.{gathered-chunks, gathered-sizes}
+use Rattle.listing.proofs.CallsLaws.{known-by}
+use Rattle.partial.specs.Limits.{sourceLimit}
+use Rattle.partial.proofs.Reading.LimitLaws.{chunks-few, described-low}
+use Rattle.partial.proofs.Reading.PrintedLaws.{printed}
+use Rattle.reading.proofs.JudgedLaws.{accepted, read-refused, read-given, judgement-refused, judgement-given}
+use Rattle.mapping.proofs.OutlineLaws.{known-closed, writes-same}
+use borrow.Author.Needs.{needs}
+use Rattle.mapping.proofs.call.write_map.Statement.{statement}
+use Rattle.mapping.proofs.call.write_map.Tie as tie
+
+write-refused-requires : tie.Need-write-refused-requires
+write-refused-requires c κs = search needs
+
+same-length : tie.Need-same-length
+same-length c = search needs
+
+returns : tie.Need-returns
+returns c = writes-same (sym (printed _ sourceLimit _ _ .overLong (omega arith))) (c .before .before .write-refused .ensures)
+
+slice-aggregate-judge-into : tie.Need-slice-aggregate-judge-into
+slice-aggregate-judge-into c = search needs
+
+judge-into-requires : tie.Need-judge-into-requires
+judge-into-requires c κs = search needs
+
+enum-known-n : tie.Need-enum-known-n
+enum-known-n c = search needs
+
+write-refused-requires-2 : tie.Need-write-refused-requires-2
+write-refused-requires-2 c κs = search needs
+
+enum-known-judged : tie.Need-enum-known-judged
+enum-known-judged c = search needs
+
+described-requires : tie.Need-described-requires
+described-requires c κs = search needs
+
+slice-aggregate-write-rows : tie.Need-slice-aggregate-write-rows
+slice-aggregate-write-rows c = search needs
+
+write-rows-requires : tie.Need-write-rows-requires
+write-rows-requires c κs =
+    let met = c .before .before .before .before .before in
+    let a = accepted _ (judgement-given (met .before .before .before .judge-into .ensures .0) (met .judged .given .1)) in
+    let sizes = gathered-sizes (a .ss) (a .gathered) in (
+      omega (arith, chunks-few sourceLimit _ (a .h) (a .all), gathered-chunks (a .ss) (a .gathered)),
+      omega (arith, described-low sourceLimit _ (a .h) (a .all), c .before .before .described .ensures (a .ss) sizes),
+    )
+
+same-length-2 : tie.Need-same-length-2
+same-length-2 c = search needs
+
+returns-2 : tie.Need-returns-2
+returns-2 c =
+    let refusal = read-refused _ (judgement-refused (c .before .before .before .before .before .before .before .before .judge-into .ensures .0) (c .before .before .before .before .before .n .given .1)) in
+    writes-same (sym (printed _ sourceLimit _ _ .refusal _ (omega arith) refusal)) (c .before .before .write-refused2 .ensures)
+
+same-length-3 : tie.Need-same-length-3
+same-length-3 c = search needs
+
+returns-3 : tie.Need-returns-3
+returns-3 c =
+    let met = c .before .before .before .before .before .before .before .before .before in
+    let a = accepted _ (judgement-given (met .before .before .before .judge-into .ensures .0) (met .judged .given .1)) in
+    let sizes = gathered-sizes (a .ss) (a .gathered) in
+    let known = known-by a (met .before .before .before .judge-into .ensures .1) (omega arith) (c .before .before .before .before .before .before .described .ensures (a .ss) sizes) in
+    writes-same (sym (printed _ sourceLimit _ _ .lines (a .ss) (omega arith) (read-given _ a))) (c .before .before .before .write-rows .ensures (a .ss) known (known-closed (a .ss) sizes))
+
+pub write-map-spec : {M : Type 1} → statement M
+write-map-spec =
+    tie.close
+    (tie.spec
+    write-refused-requires
+    same-length
+    returns
+    slice-aggregate-judge-into
+    judge-into-requires
+    enum-known-n
+    write-refused-requires-2
+    enum-known-judged
+    described-requires
+    slice-aggregate-write-rows
+    write-rows-requires
+    same-length-2
+    returns-2
+    same-length-3
+    returns-3)

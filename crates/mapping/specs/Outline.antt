@@ -1,0 +1,48 @@
+-- The two maps of a file, by whether the missing positions are named, and what is told of a file by two tables of spans.
+use Prim.Native.Nat.{ℕ, _<_, _≤_}
+use mathlib.Core.Bool.{Bool, true, false, _&&_}
+use mathlib.Core.List.{List, [], _∷_}
+use mathlib.Core.Path.{_≡_}
+use Rattle.partial.specs.Limits.{sourceLimit}
+use Rattle.partial.specs.Map.{mapWord, mapOf, missWord, missmapOf}
+use Rattle.partial.specs.Meaning.{describedLength, isClosed}
+use Rattle.partial.specs.Naming.{damagedAt, namedClass, heldList, lostList}
+use Rattle.partial.specs.Ranges.{Range as Stretch, ranges, classOf, hadList, missingList}
+use Rattle.partial.specs.Segments.{Segment}
+use Rattle.spans.specs.Naming.{nameBy}
+use Rattle.spans.specs.Spans.{coveredBy, Ordered}
+use Rattle.mapping.specs.declared.outline.Outline.{Outline}
+
+-- the text
+unfoldable pub textOf : Bool → List Segment → List ℕ
+textOf named ss = elim named [ true ↦ mapOf ss | false ↦ missmapOf ss ]
+
+-- the class of a position, its word, and the lists whose totals are told
+unfoldable pub classIn : Bool → List Segment → ℕ → ℕ
+classIn named ss = elim named [ true ↦ namedClass ss | false ↦ classOf ss ]
+
+unfoldable pub wordOf : Bool → ℕ → List ℕ
+wordOf named = elim named [ true ↦ mapWord | false ↦ missWord ]
+
+unfoldable pub listsOf : Bool → List Segment → List (List Stretch)
+listsOf named ss = elim named [ true ↦ hadList ss ∷ heldList ss ∷ lostList ss ∷ [] | false ↦ hadList ss ∷ missingList ss ∷ [] ]
+
+-- below an end, spans cover what the damaged chunks of a file do; nothing where the missing positions are not named
+pub record Damage (ss : List Segment) (named : Bool) (t : List ℕ) (n end : ℕ) : Type 0 where
+  pub covers : (q : ℕ) → q < end → coveredBy t n q ≡ (named && damagedAt ss q)
+
+-- the spans in both tables are ordered below an end that the limit allows
+pub record Drawn (good damaged : List ℕ) (o : Outline) : Type 0 where
+  pub low : o .end .0 ≤ sourceLimit
+  pub ofGood : Ordered good (o .good) (o .end .0)
+  pub ofDamaged : Ordered damaged (o .damaged) (o .end .0)
+
+-- the ranges by the spans in both tables
+abbrev pub rangesIn : List ℕ → List ℕ → Outline → List Stretch
+rangesIn good damaged o = ranges (nameBy good (o .good) damaged (o .damaged)) (o .end .0) 0
+
+-- both tables and the outline are those of a file
+pub record Outlined (ss : List Segment) (good damaged : List ℕ) (o : Outline) : Type 0 where
+  pub long : o .end .0 ≡ describedLength ss
+  pub closed : o .closed ≡ isClosed ss
+  pub class : (q : ℕ) → q < o .end .0 → nameBy good (o .good) damaged (o .damaged) q ≡ classIn (o .named) ss q
