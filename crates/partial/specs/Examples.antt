@@ -164,7 +164,7 @@ lengthIn f = do
 
 -- P11: one open segment at 100: described length 100, missing (0, 100), open
 abbrev P11 : Example
-P11 = record { defined = says (lengthIn (grownBy begunBytes (segmentAt 100 false [] []))); paper = pos 100 ∷ pos 0 ∷ pos 0 ∷ pos 100 ∷ [] }
+P11 = record { defined = says (lengthIn (begunBytes ++ added (segmentAt 100 false [] []))); paper = pos 100 ∷ pos 0 ∷ pos 0 ∷ pos 100 ∷ [] }
 
 -- P12: empty input: 7
 abbrev P12 : Example
@@ -412,8 +412,12 @@ outsideBytes =
 -- "append stores all its good chunks outside, in chunk order, after the `pdat` of damaged ones"; what is missing then is the damaged one
 abbrev storedOutside : Example
 storedOutside =
-    let f = grownBy mixedBytes (segmentWith true 0 false (8 ∷ 2 ∷ 3 ∷ 1 ∷ 16 ∷ 2 ∷ []) (free ++ (61 ∷ 62 ∷ 63 ∷ mdat16))) in
-    record { defined = map pos f ++ says (missingIn f); paper = map pos (mixedBytes ++ (outsideBytes ++ (8 ∷ 3 ∷ []))) }
+    let f = mixedBytes ++ outsideBytes in
+    record {
+      defined =
+          map pos (grownBy mixedBytes (segmentWith true 0 false (8 ∷ 2 ∷ 3 ∷ 1 ∷ 16 ∷ 2 ∷ []) (free ++ (61 ∷ 62 ∷ 63 ∷ mdat16)))) ++ says (missingIn f);
+      paper = map pos (f ++ (8 ∷ 3 ∷ []));
+    }
 
 -- what append answers to a file; and to one, at 0, of chunks whose good ones are to go outside
 abbrev answerTo : List ℕ → Addition → List ℤ
@@ -461,8 +465,12 @@ elsewhereBytes =
 -- "The writer accepts state 3 and stores no data for it"; what is missing then is (4, 8)
 abbrev elsewhereStored : Example
 elsewhereStored =
-    let f = grownBy begunBytes (segmentAt 0 false (4 ∷ 2 ∷ 5 ∷ 3 ∷ 3 ∷ 1 ∷ []) (11 ∷ 12 ∷ 13 ∷ 14 ∷ 61 ∷ 62 ∷ 63 ∷ [])) in
-    record { defined = map pos f ++ says (missingIn f); paper = map pos (begunBytes ++ (elsewhereBytes ++ (4 ∷ 8 ∷ []))) }
+    let f = begunBytes ++ elsewhereBytes in
+    record {
+      defined =
+          map pos (grownBy begunBytes (segmentAt 0 false (4 ∷ 2 ∷ 5 ∷ 3 ∷ 3 ∷ 1 ∷ []) (11 ∷ 12 ∷ 13 ∷ 14 ∷ 61 ∷ 62 ∷ 63 ∷ []))) ++ says (missingIn f);
+      paper = map pos (f ++ (4 ∷ 8 ∷ []));
+    }
 
 -- "31 for states above 3"; data for state 3 is 32; without any there is no `pdat`: 55 bytes and a `pseg` of 51
 abbrev elsewhereWrong : Example
@@ -522,7 +530,7 @@ writersForm =
 -- a byte past 4 GiB is served
 abbrev servedFar : Example
 servedFar =
-    let f = grownBy begunBytes (segmentAt 4_294_967_296 false (2 ∷ 2 ∷ []) (81 ∷ 82 ∷ [])) in
+    let f = begunBytes ++ added (segmentAt 4_294_967_296 false (2 ∷ 2 ∷ []) (81 ∷ 82 ∷ [])) in
     record {
       defined = says (reading sourceLimit f >>= λ ss. given (pos (Option·getD (served f ss 4_294_967_297) 0) ∷ []));
       paper = pos 82 ∷ [];
