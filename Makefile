@@ -24,7 +24,10 @@ LIBRARY := crates.txt $(shell find crates -type f \( -name '*.rt' -o -name '*.an
 # How an x86-64 program is run here: on another processor under the kit's emulator.
 EMULATOR := $(shell sh command/emulator)
 
-.PHONY: all test bench
+# What `make test` runs, each by itself, so that `make -j2 test` runs two at a time.
+TESTS := test-scale test-scale-plain test-command test-command-undefined test-command-sanitized test-films
+
+.PHONY: all test bench $(TESTS)
 .DELETE_ON_ERROR:
 
 all: $(OUT)/paff
@@ -72,12 +75,24 @@ bench: $(OUT)/bench
 	python3 bench/films.py $(OUT)/films
 	$(EMULATOR) $(OUT)/bench $(OUT)/films
 
-test: $(OUT)/paff $(OUT)/paff-undefined $(OUT)/paff-sanitized $(OUT)/scale $(OUT)/scale-sanitized $(OUT)/bench
+test: $(TESTS) $(OUT)/bench
+
+test-scale: $(OUT)/scale
 	python3 tests/scale.py --cases 40000 --seed 7 $(EMULATOR) $(OUT)/scale
+
+test-scale-plain: $(OUT)/scale-sanitized
 	python3 tests/scale.py --cases 40000 --seed 7 $(OUT)/scale-sanitized
+
+test-command: $(OUT)/paff
 	mandoc -T lint -W warning command/paff.1
 	python3 tests/command.py $(EMULATOR) $(OUT)/paff
+
+test-command-undefined: $(OUT)/paff-undefined
 	python3 tests/command.py $(EMULATOR) $(OUT)/paff-undefined
+
+test-command-sanitized: $(OUT)/paff-sanitized
 	ASAN_OPTIONS=detect_leaks=0 python3 tests/command.py $(OUT)/paff-sanitized
+
+test-films: $(OUT)/paff
 	sh tests/evening.sh $(EMULATOR) $(OUT)/paff
 	sh tests/film.sh $(EMULATOR) $(OUT)/paff
