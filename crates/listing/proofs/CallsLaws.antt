@@ -29,9 +29,9 @@ use Rattle.reading.proofs.TableLaws.{chunks-filled}
 use Rattle.serving.specs.Rows.{chunksIn}
 use Rattle.serving.proofs.RowsLaws.{filled-chunks}
 use Rattle.spans.specs.Chunks.{SpansOf}
-use Rattle.spans.specs.Ranges.{classBy}
+use Rattle.sweeping.specs.Ranges.{classBy}
 use Rattle.spans.specs.Spans.{coveredBy, Same}
-use Rattle.spans.proofs.RangeLaws.{ranges-same}
+use Rattle.sweeping.proofs.RangeLaws.{ranges-same}
 use Rattle.spans.proofs.SpanLaws.{same-covered}
 use Rattle.listing.specs.Calls.{Known, Spanned, Counted, Listing}
 use Rattle.listing.specs.Lists.{Lists}

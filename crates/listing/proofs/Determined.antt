@@ -16,7 +16,7 @@ use Rattle.partial.specs.declared.answers.Listed.the-variants as Listed
 use Rattle.filling.specs.Rows.{Put}
 use Rattle.gathering.proofs.Determined.{OneLeftKnown}
 use Rattle.gathering.proofs.RowLaws.{put-filled}
-use Rattle.spans.specs.Ranges.{classBy}
+use Rattle.sweeping.specs.Ranges.{classBy}
 use Rattle.spans.specs.Spans.{Ordered}
 use Rattle.spans.proofs.Determined.{OneMade}
 use Rattle.listing.specs.Calls.{Known}

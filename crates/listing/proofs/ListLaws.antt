@@ -13,9 +13,9 @@ use Rattle.partial.specs.Tables.{rangeRows}
 use Rattle.partial.proofs.Meaning.SequenceLaws.{which}
 use Rattle.filling.specs.Rows.{Put}
 use Rattle.filling.proofs.RowLaws.{put-none, put-more, put-same}
-use Rattle.spans.specs.Ranges.{rangeIn}
-use Rattle.spans.specs.declared.ranges.Range.{Range}
-use Rattle.spans.proofs.RangeLaws.{found-next}
+use Rattle.sweeping.specs.Ranges.{rangeIn}
+use Rattle.sweeping.specs.declared.ranges.Range.{Range}
+use Rattle.sweeping.proofs.RangeLaws.{found-next}
 use Rattle.listing.specs.Lists.{Stands, Lists, Joins}
 use Rattle.listing.specs.declared.lists.Totals.{Totals}
 

@@ -14,7 +14,7 @@ use Rattle.partial.specs.declared.answers.Listed.{Listed}
 use Rattle.partial.specs.Ranges.{classOf, hadList, missingList, total}
 use Rattle.reading.specs.Tables.{Filled}
 use Rattle.serving.specs.Rows.{chunksIn}
-use Rattle.spans.specs.Ranges.{classBy}
+use Rattle.sweeping.specs.Ranges.{classBy}
 use Rattle.listing.specs.declared.lists.Totals.{Totals}
 
 -- the rows of so many chunks are those of a file's segments, and the described length is theirs

@@ -6,7 +6,7 @@ use lib.ListN.{length}
 use Rattle.partial.specs.Ranges.{Range as Stretch, had, missing, ranges, ofClass, total}
 use Rattle.partial.specs.Tables.{rangeRows}
 use Rattle.filling.specs.Rows.{Put}
-use Rattle.spans.specs.declared.ranges.Range.{Range}
+use Rattle.sweeping.specs.declared.ranges.Range.{Range}
 use Rattle.listing.specs.declared.lists.Totals.{Totals}
 
 -- ranges stand in the two lists, each behind those of its class before it, and are counted

@@ -1,13 +1,13 @@
 // The two lists: the ranges of each class in its own table, in the order of their positions.
 use filling::rows::put_row;
 use partial::position::Position;
-use spans::ranges::HAD;
-use spans::ranges::Range;
-use spans::ranges::range_at;
+use sweeping::ranges::HAD;
+use sweeping::ranges::Range;
+use sweeping::ranges::range_at;
 ghost use Prim.Native.Nat.{_+_, _*_};
 ghost use mathlib.Core.List.{[], _∷_};
 ghost use Rattle.filling.specs.Rows.{Put};
-ghost use Rattle.spans.specs.Ranges.{classBy};
+ghost use Rattle.sweeping.specs.Ranges.{classBy};
 ghost use Rattle.spans.specs.Spans.{Ordered};
 ghost use Rattle.listing.specs.Lists.{Bounded, Proper, Joins, Lists};
 

@@ -20,10 +20,10 @@ use Rattle.partial.specs.declared.answers.Written.{Written}
 use Rattle.partial.specs.declared.answers.Written.the-variants.{Refused}
 use Rattle.partial.proofs.Meaning.NamingLaws.{as-had}
 use Rattle.spans.specs.Chunks.{SpansOf}
-use Rattle.spans.specs.Naming.{nameBy}
-use Rattle.spans.specs.Ranges.{classBy}
+use Rattle.sweeping.specs.Naming.{nameBy}
+use Rattle.sweeping.specs.Ranges.{classBy}
 use Rattle.spans.specs.Spans.{coveredBy, Same}
-use Rattle.spans.proofs.RangeLaws.{ranges-same}
+use Rattle.sweeping.proofs.RangeLaws.{ranges-same}
 use Rattle.spans.proofs.SpanLaws.{same-covered}
 use Rattle.texts.specs.Pieces.{PutsPiece}
 use Rattle.texts.specs.Writes.{Writes}

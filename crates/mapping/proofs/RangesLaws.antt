@@ -9,14 +9,14 @@ use Rattle.filling.proofs.RowLaws.{put-none}
 use Rattle.filling.proofs.PutsLaws.{puts-same, puts-more}
 use Rattle.partial.specs.Map.{rangeLine, rangeLines}
 use Rattle.partial.specs.Ranges.{Range as Stretch, ranges}
-use Rattle.spans.specs.Naming.{nameBy, bothAtStart, Kept, BothReady, Names}
-use Rattle.spans.specs.Ranges.{rangeIn}
+use Rattle.sweeping.specs.Naming.{nameBy, bothAtStart, OverTheSame, BothReady, Names}
+use Rattle.sweeping.specs.Ranges.{rangeIn}
 use Rattle.spans.specs.Spans.{Ordered}
-use Rattle.spans.specs.declared.naming.Named.{Named}
-use Rattle.spans.specs.declared.naming.Sweeps.{Sweeps}
-use Rattle.spans.specs.declared.ranges.Range.{Range}
-use Rattle.spans.proofs.NameLaws.{both-ready}
-use Rattle.spans.proofs.RangeLaws.{found-next}
+use Rattle.sweeping.specs.declared.naming.Named.{Named}
+use Rattle.sweeping.specs.declared.naming.Sweeps.{Sweeps}
+use Rattle.sweeping.specs.declared.ranges.Range.{Range}
+use Rattle.sweeping.proofs.NameLaws.{both-ready}
+use Rattle.sweeping.proofs.RangeLaws.{found-next}
 use Rattle.mapping.specs.Outline.{Drawn}
 use Rattle.mapping.specs.declared.outline.Outline.{Outline}
 
@@ -99,7 +99,7 @@ module _ (good damaged : List ℕ) (o : Outline) where
         ready = both-ready good damaged (o .end .0) 0 (o .good) (o .damaged);
       })
 
-  pub swept-next : Drawn good damaged o → {p : ℕ} {s : Sweeps} → Swept good damaged o p s → p < o .end .0 → {r : Named} → Kept s (r .sweeps)
+  pub swept-next : Drawn good damaged o → {p : ℕ} {s : Sweeps} → Swept good damaged o p s → p < o .end .0 → {r : Named} → OverTheSame s (r .sweeps)
       → (Ordered good (s .good .n) (o .end .0) → Ordered damaged (s .damaged .n) (o .end .0) → BothReady good damaged (o .end .0) p s → p < o .end .0 → Names good damaged s p (o .end .0) r)
       → (r .range ≡ rangeIn (nameBy good (o .good) damaged (o .damaged)) p (o .end .0)) × Swept good damaged o (p + r .range .length) (r .sweeps)
   swept-next drawn {p} {s} swept some {r} kept names =

@@ -9,7 +9,7 @@ use Rattle.partial.specs.Meaning.{describedLength, isClosed}
 use Rattle.partial.specs.Naming.{damagedAt, namedClass, heldList, lostList}
 use Rattle.partial.specs.Ranges.{Range as Stretch, ranges, classOf, hadList, missingList}
 use Rattle.partial.specs.Segments.{Segment}
-use Rattle.spans.specs.Naming.{nameBy}
+use Rattle.sweeping.specs.Naming.{nameBy}
 use Rattle.spans.specs.Spans.{coveredBy, Ordered}
 use Rattle.mapping.specs.declared.outline.Outline.{Outline}
 

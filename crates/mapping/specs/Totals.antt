@@ -6,7 +6,7 @@ use mathlib.Core.Path.{_≡_}
 use lib.ListN.{length}
 use Rattle.partial.specs.Naming.{held, lost}
 use Rattle.partial.specs.Ranges.{Range as Stretch, had, ofClass, total}
-use Rattle.spans.specs.declared.ranges.Range.{Range}
+use Rattle.sweeping.specs.declared.ranges.Range.{Range}
 use Rattle.mapping.specs.declared.totals.Totals.{Totals}
 
 pub record Counts (rs : List Stretch) (t : Totals) : Type 0 where

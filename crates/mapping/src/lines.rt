@@ -1,9 +1,9 @@
 // The lines of a map.
 use crate::totals::Totals;
 use partial::position::Position;
-use spans::naming::HELD;
-use spans::ranges::HAD;
-use spans::ranges::Range;
+use sweeping::naming::HELD;
+use sweeping::ranges::HAD;
+use sweeping::ranges::Range;
 use texts::puts::put_decimal;
 use texts::puts::put_text;
 ghost use Prim.Native.Nat.{_+_, _<_, _≤_, _^_};

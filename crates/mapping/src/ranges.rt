@@ -2,8 +2,8 @@
 use crate::lines::put_range;
 use crate::outline::Outline;
 use partial::position::Position;
-use spans::naming::Sweeps;
-use spans::naming::named_at;
+use sweeping::naming::Sweeps;
+use sweeping::naming::named_at;
 ghost use Prim.Native.Nat.{_+_, _*_, _≤_};
 ghost use lib.ListN.{length};
 ghost use Rattle.filling.specs.Rows.{Puts};

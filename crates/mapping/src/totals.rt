@@ -1,11 +1,11 @@
 // What the ranges of a map hold together: the numbers of its last line, and how many lines it has.
 use crate::outline::Outline;
 use partial::position::Position;
-use spans::naming::HELD;
-use spans::naming::Sweeps;
-use spans::naming::named_at;
-use spans::ranges::HAD;
-use spans::ranges::Range;
+use sweeping::naming::HELD;
+use sweeping::naming::Sweeps;
+use sweeping::naming::named_at;
+use sweeping::ranges::HAD;
+use sweeping::ranges::Range;
 ghost use Prim.Native.Nat.{_+_, _<_, _≤_, _^_};
 ghost use Rattle.partial.specs.Naming.{held};
 ghost use Rattle.mapping.specs.Outline.{Drawn, rangesIn};

@@ -66,6 +66,10 @@ uncovered t n q none =
 pub no-spans : (t : List ℕ) (end : ℕ) → Spans t 0 end
 no-spans t end = record { room = omega arith; some = λ k less. absurd (omega arith); most = λ k less. absurd (omega arith) }
 
+-- a table without spans is ordered
+pub ordered-none : (t : List ℕ) (end : ℕ) → Ordered t 0 end
+ordered-none t end = record { spans = no-spans t end; order = record { up = λ j k low less. absurd (omega arith) } }
+
 -- a span whose two numbers are set is stored
 pub span-stored : (t : List ℕ) (n first end : ℕ) → 2 * n + 2 ≤ length t → Stored t n first end (set (set t (2 * n) first) (2 * n + 1) end)
 span-stored t n first end room =

@@ -1,7 +1,4 @@
-// Spans: the stretches of the source that chunks of one state cover, in order, and the ranges that one sweep over them finds.
+// Spans: the stretches of the source that chunks of one state cover, in order.
 pub mod chunks;
-pub mod naming;
 pub mod ordering;
 mod put;
-pub mod ranges;
-pub mod sweep;

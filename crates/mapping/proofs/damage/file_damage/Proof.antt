@@ -1,7 +1,6 @@
 -- `mapping::damage::file_damage` meets its contract.
 use borrow.Author.Tests.{not-true, not-false}
-use Rattle.spans.proofs.SpanLaws.{same-ordered}
-use Rattle.spans.proofs.SweepLaws.{ordered-none}
+use Rattle.spans.proofs.SpanLaws.{same-ordered, ordered-none}
 use Rattle.mapping.proofs.OutlineLaws.{none-damaged, damaged-by}
 use borrow.Author.Needs.{needs}
 use Rattle.mapping.proofs.damage.file_damage.Statement.{statement}

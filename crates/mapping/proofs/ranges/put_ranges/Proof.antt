@@ -4,8 +4,8 @@ use Prim.Native.Nat.{_+_, _-_, _*_, _≤_}
 use mathlib.Core.Path.{_≡_, refl, _∙_}
 use native.Mathlib.Omega.{arith}
 use lib.ListN.{length}
-use Rattle.spans.specs.Naming.{nameBy}
-use Rattle.spans.proofs.RangeLaws.{found-some, found-most}
+use Rattle.sweeping.specs.Naming.{nameBy}
+use Rattle.sweeping.proofs.RangeLaws.{found-some, found-most}
 use Rattle.mapping.specs.Outline.{wordOf}
 use Rattle.mapping.proofs.RangesLaws.{Midway, midway-none, midway-more, midway-end, Lines, lines-none, lines-more, Swept, swept-start, swept-next}
 use borrow.Author.Needs.{needs}

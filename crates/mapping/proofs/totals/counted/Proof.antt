@@ -1,8 +1,8 @@
 -- `mapping::totals::counted` meets its contract. The loop's invariant: the ranges so far are counted, those from here on are left, and the sweeps are ready.
 use Prim.Native.Nat.{_-_, _≤_}
 use native.Mathlib.Omega.{arith}
-use Rattle.spans.specs.Naming.{nameBy}
-use Rattle.spans.proofs.RangeLaws.{found-most}
+use Rattle.sweeping.specs.Naming.{nameBy}
+use Rattle.sweeping.proofs.RangeLaws.{found-most}
 use Rattle.mapping.specs.Totals.{Bounded, Counts}
 use Rattle.mapping.proofs.CountLaws.{counts-none}
 use Rattle.mapping.proofs.RangesLaws.{Midway, midway-none, midway-more, midway-end, Swept, swept-start, swept-next}

@@ -11,12 +11,12 @@ use Rattle.partial.specs.Ranges.{missing, had, ranges, joined}
 use Rattle.partial.specs.Sequences.{stretch}
 use Rattle.partial.proofs.Meaning.RangeLaws.{first-range}
 use Rattle.partial.proofs.Meaning.StretchLaws.{first-one, stretch-first}
 use Rattle.spans.specs.Spans.{firstAt, endAt, Within, coveredBy, Ordered}
-use Rattle.spans.specs.Ranges.{classBy, rangeIn, OneClass, Passed, Reaches, GoesOn, Finds}
-use Rattle.spans.specs.declared.ranges.Range.{Range}
-use Rattle.spans.specs.declared.ranges.Found.{Found}
-use Rattle.spans.specs.declared.ranges.Reach.{Reach}
+use Rattle.sweeping.specs.Ranges.{classBy, rangeIn, OneClass, Passed, Reaches, GoesOn, Finds}
+use Rattle.sweeping.specs.declared.ranges.Range.{Range}
+use Rattle.sweeping.specs.declared.ranges.Found.{Found}
+use Rattle.sweeping.specs.declared.ranges.Reach.{Reach}
 use Rattle.spans.proofs.SpanLaws.{covered-by, uncovered}
 
 -- ---- how far the positions are had
 

@@ -3,8 +3,8 @@ use Prim.Native.Nat.{ℕ, _<_, _≤_}
 use mathlib.Core.List.{List}
 use mathlib.Core.Path.{_≡_}
 use Rattle.partial.specs.Ranges.{missing}
-use Rattle.spans.specs.Ranges.{classBy, OneClass, Passed}
-use Rattle.spans.specs.declared.sweep.Sweep.{Sweep}
+use Rattle.sweeping.specs.Ranges.{classBy, OneClass, Passed}
+use Rattle.sweeping.specs.declared.sweep.Sweep.{Sweep}
 
 -- a sweep over n spans that has not begun
 abbrev pub atStart : ℕ → Sweep

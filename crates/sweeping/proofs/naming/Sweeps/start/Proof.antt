@@ -1,7 +1,7 @@
--- `spans::naming::Sweeps::start` meets its contract.
+-- `sweeping::naming::Sweeps::start` meets its contract.
 use borrow.Author.Needs.{needs}
-use Rattle.spans.proofs.naming.Sweeps.start.Statement.{statement}
-use Rattle.spans.proofs.naming.Sweeps.start.Tie as tie
+use Rattle.sweeping.proofs.naming.Sweeps.start.Statement.{statement}
+use Rattle.sweeping.proofs.naming.Sweeps.start.Tie as tie
 
 start-requires : tie.Need-start-requires
 start-requires c κs = search needs

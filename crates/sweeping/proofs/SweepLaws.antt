@@ -2,13 +2,11 @@
 use Prim.Native.Nat.{ℕ, _+_, _<_, _≤_}
 use mathlib.Core.List.{List}
 use native.Mathlib.Omega.{arith}
-use Rattle.spans.specs.Ranges.{classBy, Passed, Finds}
-use Rattle.spans.specs.Spans.{Ordered}
-use Rattle.spans.specs.Sweeps.{atStart, Ready}
-use Rattle.spans.specs.declared.ranges.Found.{Found}
-use Rattle.spans.specs.declared.sweep.Sweep.{Sweep}
-use Rattle.spans.proofs.RangeLaws.{found-one}
-use Rattle.spans.proofs.SpanLaws.{no-spans}
+use Rattle.sweeping.specs.Ranges.{classBy, Passed, Finds}
+use Rattle.sweeping.specs.Sweeps.{atStart, Ready}
+use Rattle.sweeping.specs.declared.ranges.Found.{Found}
+use Rattle.sweeping.specs.declared.sweep.Sweep.{Sweep}
+use Rattle.sweeping.proofs.RangeLaws.{found-one}
 
 pub ready-start : (t : List ℕ) (end p n : ℕ) → Ready t end p (atStart n)
 ready-start t end p n =
@@ -34,7 +32,3 @@ module _ {t : List ℕ} {end p : ℕ} {s : Sweep} (r : Ready t end p s) where
 pub ready-moved : (t : List ℕ) (n p end : ℕ) → p < end → {f : Found} → Finds t n p end f
     → Ready t end p (record { n = n; class = f .range .class; to = p + f .range .length; passed = f .passed })
 ready-moved t n p end below {f} finds = record { passed = finds .passed; stands = λ less. found-one (classBy t n) p end below (finds .range) }
-
--- a table without spans is ordered
-pub ordered-none : (t : List ℕ) (end : ℕ) → Ordered t 0 end
-ordered-none t end = record { spans = no-spans t end; order = record { up = λ j k low less. absurd (omega arith) } }

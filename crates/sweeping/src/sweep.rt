@@ -4,8 +4,8 @@ use crate::ranges::range_at;
 use partial::position::Position;
 ghost use Prim.Native.Nat.{_<_};
 ghost use mathlib.Core.Path.{_≡_};
 ghost use Rattle.spans.specs.Spans.{Ordered};
-ghost use Rattle.spans.specs.Sweeps.{atStart, Moves, Ready};
+ghost use Rattle.sweeping.specs.Sweeps.{atStart, Moves, Ready};
 
 // Over the first n spans of a table: the class of the range that it stands in, where that ends, and how many spans are passed there.
 pub struct Sweep {

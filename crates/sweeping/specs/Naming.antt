@@ -5,11 +5,11 @@ use mathlib.Core.List.{List}
 use mathlib.Core.Path.{_≡_}
 use Rattle.partial.specs.Naming.{held, lost}
 use Rattle.partial.specs.Ranges.{had}
-use Rattle.spans.specs.Ranges.{rangeIn}
+use Rattle.sweeping.specs.Ranges.{rangeIn}
 use Rattle.spans.specs.Spans.{coveredBy}
-use Rattle.spans.specs.Sweeps.{atStart, Ready}
-use Rattle.spans.specs.declared.naming.Named.{Named}
-use Rattle.spans.specs.declared.naming.Sweeps.{Sweeps}
+use Rattle.sweeping.specs.Sweeps.{atStart, Ready}
+use Rattle.sweeping.specs.declared.naming.Named.{Named}
+use Rattle.sweeping.specs.declared.naming.Sweeps.{Sweeps}
 
 -- had if one of the first n spans of the good chunks holds a position; else held if one of the first m of the damaged ones does, else lost
 unfoldable pub nameBy : List ℕ → ℕ → List ℕ → ℕ → ℕ → ℕ
@@ -20,7 +20,7 @@ abbrev pub bothAtStart : ℕ → ℕ → Sweeps
 bothAtStart n m = record { good = atStart n; damaged = atStart m }
 
 -- both sweeps are over the same spans
-pub record Kept (s s′ : Sweeps) : Type 0 where
+pub record OverTheSame (s s′ : Sweeps) : Type 0 where
   pub good : s′ .good .n ≡ s .good .n
   pub damaged : s′ .damaged .n ≡ s .damaged .n
 

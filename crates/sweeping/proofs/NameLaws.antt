@@ -9,15 +9,15 @@ use native.Mathlib.Omega.{arith}
 use Rattle.partial.specs.Naming.{held, lost}
 use Rattle.partial.specs.Ranges.{missing, had}
 use Rattle.partial.proofs.Meaning.SequenceLaws.{which}
-use Rattle.spans.specs.Naming.{nameBy, bothAtStart, BothReady, Names}
-use Rattle.spans.specs.Ranges.{classBy, rangeIn, OneClass}
+use Rattle.sweeping.specs.Naming.{nameBy, bothAtStart, BothReady, Names}
+use Rattle.sweeping.specs.Ranges.{classBy, rangeIn, OneClass}
 use Rattle.spans.specs.Spans.{coveredBy}
-use Rattle.spans.specs.Sweeps.{Ready}
-use Rattle.spans.specs.declared.naming.Sweeps.{Sweeps}
-use Rattle.spans.specs.declared.ranges.Range.{Range}
-use Rattle.spans.specs.declared.sweep.Sweep.{Sweep}
-use Rattle.spans.proofs.RangeLaws.{class-had, class-missing, range-of}
-use Rattle.spans.proofs.SweepLaws.{ready-start, ready-on}
+use Rattle.sweeping.specs.Sweeps.{Ready}
+use Rattle.sweeping.specs.declared.naming.Sweeps.{Sweeps}
+use Rattle.sweeping.specs.declared.ranges.Range.{Range}
+use Rattle.sweeping.specs.declared.sweep.Sweep.{Sweep}
+use Rattle.sweeping.proofs.RangeLaws.{class-had, class-missing, range-of}
+use Rattle.sweeping.proofs.SweepLaws.{ready-start, ready-on}
 
 -- without spans of damaged chunks there are two classes
 pub name-class : (good : List ℕ) (n : ℕ) (damaged : List ℕ) (q : ℕ) → nameBy good n damaged 0 q ≡ classBy good n q

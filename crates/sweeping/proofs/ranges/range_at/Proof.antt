@@ -1,10 +1,10 @@
--- `spans::ranges::range_at` meets its contract: by whether the reach lies behind the position.
+-- `sweeping::ranges::range_at` meets its contract: by whether the reach lies behind the position.
 use native.Mathlib.Omega.{arith}
 use mathlib.Core.Logic.{⊎-elim}
-use Rattle.spans.proofs.RangeLaws.{range-had, range-missing, next-high, passed-on, nothing-goes, nothing-found}
+use Rattle.sweeping.proofs.RangeLaws.{range-had, range-missing, next-high, passed-on, nothing-goes, nothing-found}
 use borrow.Author.Needs.{needs}
-use Rattle.spans.proofs.ranges.range_at.Statement.{statement}
-use Rattle.spans.proofs.ranges.range_at.Tie as tie
+use Rattle.sweeping.proofs.ranges.range_at.Statement.{statement}
+use Rattle.sweeping.proofs.ranges.range_at.Tie as tie
 
 nothing-requires : tie.Need-nothing-requires
 nothing-requires c κs = search needs

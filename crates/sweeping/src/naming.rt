@@ -8,9 +8,9 @@ use serving::runs::smaller;
 ghost use Prim.Native.Nat.{_<_};
 ghost use mathlib.Core.Path.{_≡_};
 ghost use Rattle.partial.specs.Naming.{held};
-ghost use Rattle.spans.specs.Naming.{bothAtStart, Kept, BothReady, Names};
-ghost use Rattle.spans.specs.Ranges.{GoesOn};
+ghost use Rattle.sweeping.specs.Naming.{bothAtStart, OverTheSame, BothReady, Names};
+ghost use Rattle.sweeping.specs.Ranges.{GoesOn};
 ghost use Rattle.spans.specs.Spans.{Ordered};
 
 // The class of the missing positions that a damaged chunk covers. The others have that of all missing ones.
 pub const HELD: u64 = 2;
@@ -41,7 +41,7 @@ pub struct Named {
 
 // The range of a position below an end, by the ordered spans of both tables. The damaged ones are not looked at while the position is had.
 pub fn named_at(good: &[u64], damaged: &[u64], sweeps: Sweeps, p: Position, end: Position) -> Named
-    ensures { λ r. ⌜ GoesOn held (p .0) (end .0) (r .range) × Kept sweeps (r .sweeps) × (Ordered (now (good .entry)) (sweeps .good .n) (end .0) → Ordered (now (damaged .entry)) (sweeps .damaged .n) (end .0) → BothReady (now (good .entry)) (now (damaged .entry)) (end .0) (p .0) sweeps → p .0 < end .0 → Names (now (good .entry)) (now (damaged .entry)) sweeps (p .0) (end .0) r) ⌝ }
+    ensures { λ r. ⌜ GoesOn held (p .0) (end .0) (r .range) × OverTheSame sweeps (r .sweeps) × (Ordered (now (good .entry)) (sweeps .good .n) (end .0) → Ordered (now (damaged .entry)) (sweeps .damaged .n) (end .0) → BothReady (now (good .entry)) (now (damaged .entry)) (end .0) (p .0) sweeps → p .0 < end .0 → Names (now (good .entry)) (now (damaged .entry)) sweeps (p .0) (end .0) r) ⌝ }
 {
     let before = sweeps.good;
     let waiting = sweeps.damaged;

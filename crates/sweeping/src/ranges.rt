@@ -4,8 +4,8 @@ ghost use Prim.Native.Nat.{_*_, _<_, _≤_};
 ghost use mathlib.Core.Path.{_≡_};
 ghost use lib.ListN.{length};
 ghost use Rattle.partial.specs.Ranges.{missing, had};
 ghost use Rattle.spans.specs.Spans.{Ordered};
-ghost use Rattle.spans.specs.Ranges.{Passed, Reaches, GoesOn, Finds};
+ghost use Rattle.sweeping.specs.Ranges.{Passed, Reaches, GoesOn, Finds};
 
 // The class of the positions that no span holds.
 pub const MISSING: u64 = 0;

@@ -1,11 +1,11 @@
--- `spans::ranges::had_to` meets its contract. The loop's invariant: the positions up to here are had.
+-- `sweeping::ranges::had_to` meets its contract. The loop's invariant: the positions up to here are had.
 use Prim.Native.Nat.{_-_}
 use mathlib.Core.Logic.{⊎-elim}
 use native.Mathlib.Omega.{arith}
-use Rattle.spans.proofs.RangeLaws.{Reached, reached-none, reached-more, reached-end}
+use Rattle.sweeping.proofs.RangeLaws.{Reached, reached-none, reached-more, reached-end}
 use borrow.Author.Needs.{needs}
-use Rattle.spans.proofs.ranges.had_to.Statement.{statement}
-use Rattle.spans.proofs.ranges.had_to.Tie as tie
+use Rattle.sweeping.proofs.ranges.had_to.Statement.{statement}
+use Rattle.sweeping.proofs.ranges.had_to.Tie as tie
 
 abbrev Inv-loop : tie.InvT-loop
 Inv-loop table n passed to₀ k₀ to k = Reached table n k₀ to₀ to k

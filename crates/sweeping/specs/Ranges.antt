@@ -6,10 +6,10 @@ use mathlib.Core.Path.{_≡_}
 use lib.Dec.{eqb}
 use Rattle.partial.specs.Ranges.{missing, had}
 use Rattle.partial.specs.Sequences.{stretch}
 use Rattle.spans.specs.Spans.{firstAt, Within, coveredBy}
-use Rattle.spans.specs.declared.ranges.Range.{Range}
-use Rattle.spans.specs.declared.ranges.Found.{Found}
-use Rattle.spans.specs.declared.ranges.Reach.{Reach}
+use Rattle.sweeping.specs.declared.ranges.Range.{Range}
+use Rattle.sweeping.specs.declared.ranges.Found.{Found}
+use Rattle.sweeping.specs.declared.ranges.Reach.{Reach}
 
 -- the class of a position by the first n spans: had if one of them holds it, else missing
 unfoldable pub classBy : List ℕ → ℕ → ℕ → ℕ

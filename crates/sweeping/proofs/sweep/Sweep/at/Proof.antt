@@ -1,10 +1,10 @@
--- `spans::sweep::Sweep::at` meets its contract: by whether the sweep stands in the position's range already.
+-- `sweeping::sweep::Sweep::at` meets its contract: by whether the sweep stands in the position's range already.
 use native.Mathlib.Omega.{arith}
 use mathlib.Core.Path.{refl}
-use Rattle.spans.proofs.SweepLaws.{ready-passed, ready-moved}
+use Rattle.sweeping.proofs.SweepLaws.{ready-passed, ready-moved}
 use borrow.Author.Needs.{needs}
-use Rattle.spans.proofs.sweep.Sweep.at.Statement.{statement}
-use Rattle.spans.proofs.sweep.Sweep.at.Tie as tie
+use Rattle.sweeping.proofs.sweep.Sweep.at.Statement.{statement}
+use Rattle.sweeping.proofs.sweep.Sweep.at.Tie as tie
 
 returns : tie.Need-returns
 returns c = (record { many = refl; on = omega arith; some = λ below. omega arith }, λ o ready below. ready)

@@ -1,11 +1,11 @@
--- `spans::naming::named_at` meets its contract: by whether the position is had, and if not, whether it is held.
+-- `sweeping::naming::named_at` meets its contract: by whether the position is had, and if not, whether it is held.
 use native.Mathlib.Omega.{arith}
 use mathlib.Core.Logic.{⊎-elim}
 use mathlib.Core.Path.{refl}
-use Rattle.spans.proofs.NameLaws.{names-had, names-held, names-lost}
+use Rattle.sweeping.proofs.NameLaws.{names-had, names-held, names-lost}
 use borrow.Author.Needs.{needs}
-use Rattle.spans.proofs.naming.named_at.Statement.{statement}
-use Rattle.spans.proofs.naming.named_at.Tie as tie
+use Rattle.sweeping.proofs.naming.named_at.Statement.{statement}
+use Rattle.sweeping.proofs.naming.named_at.Tie as tie
 
 at-requires : tie.Need-at-requires
 at-requires c κs = search needs

@@ -1,0 +1,4 @@
+pub mod RangeLaws
+pub mod SweepLaws
+pub mod NameLaws
+pub mod Determined

@@ -1,0 +1,3 @@
+pub mod Ranges
+pub mod Sweeps
+pub mod Naming
