@@ -26,7 +26,7 @@ use Rattle.filling.proofs.RowLaws.{put-none, put-more}
 use Rattle.gathering.specs.Chunks.{chunksBy, Ran, Chunked}
 use Rattle.gathering.specs.declared.chunks.ChunksRead.the-variants.{Given}
 use Rattle.gathering.specs.declared.gathered.Gathered.{Gathered}
-use Rattle.gathering.proofs.RowLaws.{chunk-rows-long, chunk-rows-last}
+use Rattle.partial.proofs.Reading.RowLaws.{chunk-rows-long, chunk-rows-last}
 
 module _ (limit : ℕ) (f : List ℕ) (h : Heading) (pseg : ℕ) (l : Ploc) (c : At) where
   chunks-refused : (more : ℕ) {n : ℕ} → chunkStep limit f h pseg l c ≡ refused n → chunksFrom limit f h pseg l (suc more) c ≡ refused n

@@ -33,7 +33,7 @@ use Rattle.gathering.specs.declared.gathered.Gathered.{Gathered}
 use Rattle.gathering.specs.declared.pass.Passed.{Passed}
 use Rattle.gathering.specs.declared.pass.Passed.the-variants.{Refused, Given}
 use Rattle.gathering.specs.declared.step.SegmentRead.the-variants as SegmentRead
-use Rattle.gathering.proofs.RowLaws.{segment-rows-long, segment-rows-last, all-rows-long, all-rows-last}
+use Rattle.partial.proofs.Reading.RowLaws.{segment-rows-long, segment-rows-last, all-rows-long, all-rows-last}
 
 -- a box of no kind may be looked at first
 pub searched-none : {f : List ℕ} {bs : List Box} (b : Framed) → b .kind ≡ 0 → boxesIn File f 0 (length f) ≡ given bs → Searched f (boxOf b) bs

@@ -3,6 +3,8 @@ use boxes::framing::Framed;
 use fields::fields::Fields;
 use filling::rows::put_row;
 use numerals::place::Place;
+use partial::rows::CHUNK_ROW;
+use partial::rows::SEGMENT_ROW;
 use segment::chunk::Chunk;
 ghost use Prim.Native.Nat.{_*_, _≤_};
 ghost use Rattle.boxes.specs.Framing.{boxLimit, boxOf};
@@ -11,11 +13,6 @@ ghost use Rattle.partial.specs.Tables.{chunkRow};
 ghost use Rattle.segment.specs.Chunk.{chunkOf};
 ghost use Rattle.filling.specs.Rows.{Put};
 ghost use Rattle.gathering.specs.Rows.{rowBy};
-
-// The numbers of a segment's row.
-pub const SEGMENT_ROW: u64 = 7;
-// The numbers of a chunk's row.
-pub const CHUNK_ROW: u64 = 6;
 
 // Writes the row of a chunk behind so many others: the number of its segment, its index there, its start, size, state and place.
 pub(crate) fn put_chunk(table: &mut [u64], before: u64, segment: u64, index: u64, c: Chunk)

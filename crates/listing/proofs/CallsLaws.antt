@@ -26,8 +26,8 @@ use Rattle.gathering.proofs.RowLaws.{put-filled}
 use Rattle.reading.specs.Judged.{Judged, RowsIn}
 use Rattle.reading.proofs.JudgedLaws.{Accepted, read-given}
 use Rattle.reading.proofs.TableLaws.{chunks-filled}
-use Rattle.serving.specs.Rows.{chunksIn}
-use Rattle.serving.proofs.RowsLaws.{filled-chunks}
+use Rattle.supplying.specs.Rows.{chunksIn}
+use Rattle.supplying.proofs.RowsLaws.{filled-chunks}
 use Rattle.spans.specs.Chunks.{SpansOf}
 use Rattle.sweeping.specs.Ranges.{classBy}
 use Rattle.spans.specs.Spans.{coveredBy, Same}

@@ -13,7 +13,7 @@ use Rattle.partial.specs.Tables.{listed, hadRows, missingRows, totals}
 use Rattle.partial.specs.declared.answers.Listed.{Listed}
 use Rattle.partial.specs.Ranges.{classOf, hadList, missingList, total}
 use Rattle.reading.specs.Tables.{Filled}
-use Rattle.serving.specs.Rows.{chunksIn}
+use Rattle.supplying.specs.Rows.{chunksIn}
 use Rattle.sweeping.specs.Ranges.{classBy}
 use Rattle.listing.specs.declared.lists.Totals.{Totals}
 

@@ -1,13 +1,13 @@
 // Listing into the two lent lists, after reading into the two lent tables.
-use crate::lists::RANGE_ROW;
 use crate::lists::Totals;
 use crate::lists::put_lists;
 use gathering::pass::pass;
-use gathering::rows::CHUNK_ROW;
-use gathering::rows::SEGMENT_ROW;
 use partial::answers::Listed;
 use partial::position::Position;
 use partial::refusals::TABLE_TOO_SHORT;
+use partial::rows::CHUNK_ROW;
+use partial::rows::RANGE_ROW;
+use partial::rows::SEGMENT_ROW;
 use reading::judging::Judgement;
 use reading::judging::judge_into;
 use spans::chunks::spans_of;

@@ -1,6 +1,7 @@
 // The two lists: the ranges of each class in its own table, in the order of their positions.
 use filling::rows::put_row;
 use partial::position::Position;
+use partial::rows::RANGE_ROW;
 use sweeping::ranges::HAD;
 use sweeping::ranges::Range;
 use sweeping::ranges::range_at;
@@ -10,9 +11,6 @@ ghost use Rattle.filling.specs.Rows.{Put};
 ghost use Rattle.sweeping.specs.Ranges.{classBy};
 ghost use Rattle.spans.specs.Spans.{Ordered};
 ghost use Rattle.listing.specs.Lists.{Bounded, Proper, Joins, Lists};
-
-// The numbers of a range in a list.
-pub const RANGE_ROW: u64 = 2;
 
 // How many ranges each list has, and how many positions they hold.
 pub struct Totals {

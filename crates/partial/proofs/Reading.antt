@@ -1,4 +1,4 @@
--- Laws of reading: what an accepted file gives, what is put behind a file, every refusal, and what is handed back and printed.
+-- Laws of reading: what an accepted file gives, what is put behind a file, every refusal, what is handed back and printed, and the rows of tables.
 pub mod HeadingAppendLaws
 pub mod KeptLaws
 pub mod LieLaws
@@ -9,3 +9,4 @@ pub mod PrintedLaws
 pub mod RaisedLaws
 pub mod ReadingLaws
 pub mod RefusalLaws
+pub mod RowLaws

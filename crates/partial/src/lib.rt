@@ -1,4 +1,4 @@
-// Partial files: the types of the answers, the brand, positions, the segment header, limits and numbers of refusals. The definitions and their laws stand
+// Partial files: the types of the answers, the brand, positions, the segment header, limits, the lengths of rows and numbers of refusals. The definitions and their laws stand
 // beside them in specs/ and proofs/, and the calls in the layers above.
 pub mod answers;
 pub mod brand;
@@ -6,3 +6,4 @@ pub mod header;
 pub mod limits;
 pub mod position;
 pub mod refusals;
+pub mod rows;

@@ -20,7 +20,8 @@ use Rattle.filling.specs.Rows.{Put}
 use Rattle.ends.specs.Sizes.{sizesOf}
 use Rattle.gathering.specs.Gathered.{gatheredOf}
 use Rattle.gathering.specs.declared.gathered.Gathered.{Gathered}
-use Rattle.gathering.proofs.RowLaws.{segment-rows-long, all-rows-long, put-filled}
+use Rattle.partial.proofs.Reading.RowLaws.{segment-rows-long, all-rows-long}
+use Rattle.gathering.proofs.RowLaws.{put-filled}
 use Rattle.reading.specs.Tables.{Reads}
 
 chunk-rows-all : (ss : List Segment) → length (chunkRows ss) ≡ 6 * length (chunksOf ss)

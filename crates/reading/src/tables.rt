@@ -2,11 +2,11 @@
 use crate::judging::Judgement;
 use crate::judging::judge;
 use gathering::pass::pass;
-use gathering::rows::CHUNK_ROW;
-use gathering::rows::SEGMENT_ROW;
 use partial::answers::Read;
 use partial::position::Position;
 use partial::refusals::TABLE_TOO_SHORT;
+use partial::rows::CHUNK_ROW;
+use partial::rows::SEGMENT_ROW;
 ghost use Rattle.reading.specs.Tables.{Reads};
 
 // Reads a file: its segments and its chunks in rows, how many there are, the described length, and whether the size of the source is known. After a

@@ -24,10 +24,10 @@ use Rattle.partial.proofs.Reading.ReadingLaws.{read-mapped}
 use Rattle.reading.specs.Tables.{Reads}
 use Rattle.reading.proofs.JudgedLaws.{first-refused}
 use Rattle.serving.specs.Calls.{partAt}
-use Rattle.serving.specs.Rows.{chunkIn, chunksFrom, chunksIn}
-use Rattle.serving.specs.Runs.{sameRun, runIn}
-use Rattle.serving.specs.declared.runs.Run.{Run}
-use Rattle.serving.proofs.RowsLaws.{filled-chunks}
+use Rattle.supplying.specs.Rows.{chunkIn, chunksFrom, chunksIn}
+use Rattle.supplying.specs.Runs.{sameRun, runIn}
+use Rattle.supplying.specs.declared.runs.Run.{Run}
+use Rattle.supplying.proofs.RowsLaws.{filled-chunks}
 
 -- the chunk of a row is one of the table's
 row-of : (table : List ℕ) (count n k : ℕ) → k < count → getD (chunksFrom table count n) k noChunk ≡ chunkIn table (n + k)

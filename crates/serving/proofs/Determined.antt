@@ -8,16 +8,9 @@ use Rattle.numerals.proofs.Determined.{OneResult, OneLeft}
 use Rattle.boxes.proofs.ToldLaws.{Tells}
 use Rattle.partial.specs.Answers.{askedAnswer}
 use Rattle.partial.specs.declared.answers.Asked.the-variants as Asked
-use Rattle.segment.specs.Chunk.{chunkOf}
 use Rattle.reading.proofs.Determined.{OneOf, one-part}
 use Rattle.serving.proofs.calls.ask.Reads as ask
 use Rattle.serving.proofs.calls.serve.Reads as serve
-use Rattle.serving.proofs.rows.chunk_at.Reads as chunk-at
-use Rattle.serving.proofs.runs.run_at.Reads as run-at
-use Rattle.serving.proofs.runs.smaller.Reads as smaller
-
-chunk-told : Tells chunkOf
-chunk-told c d e = λ i. record { start = record { 0 = e i .start }; size = e i .size; state = e i .state; place = record { 0 = e i .place } }
 
 asked-told : Tells askedAnswer
 unfolding askedAnswer
@@ -37,15 +30,6 @@ asked-told Asked.NotBelow (Asked.Refused m) e = cc
 asked-told Asked.NotBelow (Asked.Served m) e = cc
 asked-told Asked.NotBelow (Asked.Missing m) e = cc
 asked-told Asked.NotBelow Asked.NotBelow e = cc
-
-chunk-at-result : OneResult chunk-at.Post
-chunk-at-result κs args x y after after′ p q = chunk-told x y (p ∙ sym q)
-
-smaller-result : OneResult smaller.Post
-smaller-result κs args x y after after′ p q = p ∙ sym q
-
-run-at-result : OneResult run-at.Post
-run-at-result κs args x y after after′ p q = p ∙ sym q
 
 serve-part : OneOf serve.Post {X = (ℕ × ℕ) × List ℕ} (λ κs r. (ptr r, now r))
 serve-part κs args x y after after′ p q = one-part (p .part) (q .part)

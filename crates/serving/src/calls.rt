@@ -1,11 +1,11 @@
 // Serving and asking of a position, each reading the file into the two lent tables first.
-use crate::rows::chunk_at;
-use crate::runs::run_at;
 use partial::answers::Asked;
 use partial::answers::Read;
 use partial::position::Position;
 use reading::tables::read;
 use segment::chunk::Chunk;
+use supplying::rows::chunk_at;
+use supplying::runs::run_at;
 ghost use Prim.Native.Nat.{_+_, _-_, _≤_};
 ghost use denote.Ref.{ptr};
 ghost use lib.ListN.{length};

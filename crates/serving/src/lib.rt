@@ -1,4 +1,2 @@
-// Serving and asking: which chunk supplies a position, and for how many positions in a row.
+// Serving and asking of a position of a file.
 pub mod calls;
-pub mod rows;
-pub mod runs;

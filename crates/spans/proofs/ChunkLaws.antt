@@ -14,8 +14,8 @@ use Rattle.partial.specs.Segments.{Chunk, noChunk, good}
 use Rattle.partial.specs.Sequences.{someOf}
 use Rattle.partial.proofs.Meaning.RunLaws.{covers-true, does-cover}
 use Rattle.partial.proofs.Meaning.SequenceLaws.{which, some-append}
-use Rattle.serving.specs.Rows.{chunkIn, chunksFrom, chunksIn}
-use Rattle.serving.proofs.RowsLaws.{rows-last}
+use Rattle.supplying.specs.Rows.{chunkIn, chunksFrom, chunksIn}
+use Rattle.supplying.proofs.RowsLaws.{rows-last}
 use Rattle.spans.specs.Spans.{firstAt, endAt, coveredBy, Spans, Joined}
 use Rattle.spans.specs.Chunks.{SpanEnd, Taken, SpansOf}
 use Rattle.spans.proofs.SpanLaws.{same-truth, covered-at, covered-by, no-spans}

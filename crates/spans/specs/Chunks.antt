@@ -7,7 +7,7 @@ use lib.ListN.{length, getD}
 use Rattle.partial.specs.Meaning.{coversAs}
 use Rattle.partial.specs.Segments.{Chunk}
 use Rattle.partial.specs.Sequences.{someOf}
-use Rattle.serving.specs.Rows.{chunksIn}
+use Rattle.supplying.specs.Rows.{chunksIn}
 use Rattle.spans.specs.Spans.{Spans, coveredBy}
 
 -- from its start to here a chunk of that state covers every position, and below an end no other

@@ -4,7 +4,7 @@ use crate::ranges::MISSING;
 use crate::ranges::Range;
 use crate::sweep::Sweep;
 use partial::position::Position;
-use serving::runs::smaller;
+use supplying::runs::smaller;
 ghost use Prim.Native.Nat.{_<_};
 ghost use mathlib.Core.Path.{_≡_};
 ghost use Rattle.partial.specs.Naming.{held};

@@ -1,9 +1,9 @@
--- `serving::runs::supplies` meets its contract.
+-- `supplying::runs::supplies` meets its contract.
 use native.Mathlib.Omega.{arith}
 use Rattle.segment.specs.Chunk.{chunkOf}
-use Rattle.serving.proofs.RunsLaws.{supplies-other, supplies-before, supplies-by}
-use Rattle.serving.proofs.runs.supplies.Statement.{statement}
-use Rattle.serving.proofs.runs.supplies.Tie as tie
+use Rattle.supplying.proofs.RunsLaws.{supplies-other, supplies-before, supplies-by}
+use Rattle.supplying.proofs.runs.supplies.Statement.{statement}
+use Rattle.supplying.proofs.runs.supplies.Tie as tie
 
 returns : tie.Need-returns
 returns c = supplies-other _ _ (c .if1 .taken)

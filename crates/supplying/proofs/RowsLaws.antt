@@ -9,8 +9,8 @@ use lib.Seq.{getD-append-add}
 use Rattle.partial.specs.Memory.{filled}
 use Rattle.partial.specs.Segments.{Chunk, Segment, chunksOf}
 use Rattle.partial.specs.Tables.{chunkRow, chunkRowsOf, chunkRowsFrom, chunkRows}
-use Rattle.gathering.proofs.RowLaws.{chunk-rows-long}
-use Rattle.serving.specs.Rows.{chunkIn, chunksFrom, chunksIn}
+use Rattle.partial.proofs.Reading.RowLaws.{chunk-rows-long}
+use Rattle.supplying.specs.Rows.{chunkIn, chunksFrom, chunksIn}
 
 -- the chunk of a row that is there
 pub row-there : (table : List ℕ) (n : ℕ) → n < length table / 6

@@ -1,12 +1,12 @@
--- `serving::rows::chunk_at` meets its contract.
+-- `supplying::rows::chunk_at` meets its contract.
 use mathlib.Core.Path.{sym}
 use native.Mathlib.Omega.{arith}
 use borrow.Author.Tests.{le-ltb}
-use Rattle.serving.specs.Rows.{chunkIn}
-use Rattle.serving.proofs.RowsLaws.{row-there}
+use Rattle.supplying.specs.Rows.{chunkIn}
+use Rattle.supplying.proofs.RowsLaws.{row-there}
 use borrow.Author.Needs.{needs}
-use Rattle.serving.proofs.rows.chunk_at.Statement.{statement}
-use Rattle.serving.proofs.rows.chunk_at.Tie as tie
+use Rattle.supplying.proofs.rows.chunk_at.Statement.{statement}
+use Rattle.supplying.proofs.rows.chunk_at.Tie as tie
 
 returns : tie.Need-returns
 unfolding chunkIn

@@ -1,11 +1,11 @@
 // The chunks of a table that reading filled, row by row.
-use gathering::rows::CHUNK_ROW;
 use numerals::place::Place;
 use partial::position::Position;
+use partial::rows::CHUNK_ROW;
 use segment::chunk::Chunk;
 ghost use mathlib.Core.Path.{_≡_};
 ghost use Rattle.segment.specs.Chunk.{chunkOf};
-ghost use Rattle.serving.specs.Rows.{chunkIn};
+ghost use Rattle.supplying.specs.Rows.{chunkIn};
 
 // What stands for the chunk of a row that is not there: a lost one of no size.
 const NO_CHUNK: Chunk = Chunk {

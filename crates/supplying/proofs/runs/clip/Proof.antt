@@ -1,10 +1,10 @@
--- `serving::runs::clip` meets its contract.
+-- `supplying::runs::clip` meets its contract.
 use native.Mathlib.Omega.{arith}
 use mathlib.Core.Path.{_∙_}
-use Rattle.serving.proofs.RunsLaws.{clip-other, clip-begun, clip-empty, clip-begins}
+use Rattle.supplying.proofs.RunsLaws.{clip-other, clip-begun, clip-empty, clip-begins}
 use borrow.Author.Needs.{needs}
-use Rattle.serving.proofs.runs.clip.Statement.{statement}
-use Rattle.serving.proofs.runs.clip.Tie as tie
+use Rattle.supplying.proofs.runs.clip.Statement.{statement}
+use Rattle.supplying.proofs.runs.clip.Tie as tie
 
 returns : tie.Need-returns
 returns c = clip-other _ _ _ (c .if1 .taken)

@@ -1,13 +1,13 @@
--- `serving::runs::run_at` meets its contract. The loop's invariant: no chunk before supplies the position, and those that are left decide.
+-- `supplying::runs::run_at` meets its contract. The loop's invariant: no chunk before supplies the position, and those that are left decide.
 use Prim.Native.Nat.{ℕ, _+_, _-_, _≤_, _<_, min}
 use mathlib.Core.Path.{sym, ap, _∙_}
 use native.Mathlib.Omega.{arith}
 use borrow.Author.Needs.{needs}
 use Rattle.partial.proofs.Meaning.RunLaws.{supplies-true}
 use Rattle.segment.specs.Chunk.{chunkOf}
-use Rattle.serving.proofs.RunsLaws.{Midway, midway-none, midway-more, midway-here, midway-end}
-use Rattle.serving.proofs.runs.run_at.Statement.{statement}
-use Rattle.serving.proofs.runs.run_at.Tie as tie
+use Rattle.supplying.proofs.RunsLaws.{Midway, midway-none, midway-more, midway-here, midway-end}
+use Rattle.supplying.proofs.runs.run_at.Statement.{statement}
+use Rattle.supplying.proofs.runs.run_at.Tie as tie
 
 abbrev Inv-loop : tie.InvT-loop
 Inv-loop table count p stop₀ k₀ stop k = (k ≤ count) × Midway table count (p .0) stop₀ k stop

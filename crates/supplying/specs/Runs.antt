@@ -6,7 +6,7 @@ use lib.Dec.{ltb, eqb}
 use Rattle.partial.specs.Meaning.{supplier}
 use Rattle.partial.specs.Segments.{Chunk, good}
 use Rattle.partial.specs.Sequences.{stretch}
-use Rattle.serving.specs.declared.runs.Run.{Run}
+use Rattle.supplying.specs.declared.runs.Run.{Run}
 
 -- how many positions from p on, below an end, the same chunk supplies, or none does
 unfoldable pub sameRun : List Chunk → ℕ → ℕ → ℕ

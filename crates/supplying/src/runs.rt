@@ -7,8 +7,8 @@ ghost use Prim.Native.Nat.{_-_, min};
 ghost use mathlib.Core.Path.{_≡_};
 ghost use Rattle.partial.specs.Meaning.{supplies};
 ghost use Rattle.segment.specs.Chunk.{chunkOf};
-ghost use Rattle.serving.specs.Rows.{chunksIn};
-ghost use Rattle.serving.specs.Runs.{runIn, clip};
+ghost use Rattle.supplying.specs.Rows.{chunksIn};
+ghost use Rattle.supplying.specs.Runs.{runIn, clip};
 
 // The number of the chunk that supplies a position, or of all chunks where none does, and how many positions from there on are alike.
 pub struct Run {

@@ -15,8 +15,8 @@ use Rattle.partial.proofs.Meaning.SequenceLaws.{which}
 use Rattle.partial.proofs.Meaning.StretchLaws.{first-one, stretch-first}
 use Rattle.partial.proofs.Meaning.RunLaws.{comes, supplies-true, runEnd, run}
 use Rattle.partial.proofs.Meaning.SupplyLaws.{supplier-here, supplier-on}
-use Rattle.serving.specs.Rows.{chunkIn, chunksFrom, chunksIn}
-use Rattle.serving.specs.Runs.{sameRun, runIn, clip}
+use Rattle.supplying.specs.Rows.{chunkIn, chunksFrom, chunksIn}
+use Rattle.supplying.specs.Runs.{sameRun, runIn, clip}
 
 module _ (c : Chunk) (p : ℕ) where
   pub supplies-other : (c .state ≡ good → ⊥) → false ≡ supplies p c

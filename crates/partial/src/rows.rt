@@ -1,0 +1,8 @@
+// How many numbers the rows of the lent tables and lists have.
+
+// A segment's row.
+pub const SEGMENT_ROW: u64 = 7;
+// A chunk's row.
+pub const CHUNK_ROW: u64 = 6;
+// The row of a range.
+pub const RANGE_ROW: u64 = 2;
