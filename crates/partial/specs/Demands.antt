@@ -11,7 +11,7 @@ use lib.ListN.{length, getD}
 use lib.Dec.{T, leb, eqb}
 use Rattle.boxes.specs.Answer.{refused, given, _>>=_, hold}
 use Rattle.boxes.specs.Framing.{Box, boxLimit, boxesIn}
-use Rattle.boxes.specs.Kinds.{pdat, is, boxAt}
+use Rattle.boxes.specs.Kinds.{pseg, pdat, is, those, boxAt}
 use Rattle.boxes.specs.declared.kinds.Container.the-variants.{File}
 use Rattle.partial.specs.Limits.{fileLimit, segmentLimit, chunkLimit}
 use Rattle.partial.specs.Sequences.{someOf, sum, within}
@@ -21,7 +21,7 @@ use Rattle.partial.specs.Heading.{Part, Heading, heading}
 use Rattle.partial.specs.Mixed.{allowed}
 use Rattle.partial.specs.Meaning.{givesSize, describedLength, covers, supplier, supplied, chunkNo, chunkFor, served, servedRun, missingRun}
 use Rattle.partial.specs.Meaning.{reply, servedFor, missingFor, notBelow}
-use Rattle.partial.specs.Reading.{segments, reading, earlierSegments}
+use Rattle.partial.specs.Reading.{segmentsFrom, segments, reading, earlierSegments}
 use Rattle.partial.specs.Ranges.{had, rangesOf, ofClass, hadList, missingList, total, among, apart, inRow}
 use Rattle.partial.specs.Naming.{damagedAt, namedRanges, heldList, lostList}
 use Rattle.partial.specs.Memory.{after, written, textWritten}
@@ -39,9 +39,13 @@ use Rattle.partial.specs.Carried.{carried, orElse}
 abbrev oneOf : List ℕ → ℕ → Bool
 oneOf numbers n = someOf (eqb n) numbers
 
--- the numbers of a file's stages, but for 12: of 1 to 25 all but that one and 21
+-- the numbers of a file's stages before 25, but for 12: of 1 to 24 all but that one and 21
+abbrev pub beforeAgreement : ℕ → Bool
+beforeAgreement n = within 1 11 n || (within 13 8 n || within 22 3 n)
+
+-- and with 25, the last of them
 abbrev pub ofStages : ℕ → Bool
-ofStages n = within 1 11 n || (within 13 8 n || within 22 4 n)
+ofStages n = beforeAgreement n || eqb n 25
 
 -- a refused addition changes nothing
 abbrev NothingChanges : ℕ → Type 0
@@ -188,8 +192,22 @@ pub record Missing (f : List ℕ) (ss : List Segment) (p : ℕ) : Type 0 where
   pub upTo : (p + missingRun ss p ≡ describedLength ss) ⊎ T (supplied ss (p + missingRun ss p))
   pub notEmpty : 0 < missingRun ss p
 
--- an accepted file: each source byte is served or listed missing
+-- no segment ends above, or differs from, a size that one of them makes known
+abbrev pub InAgreement : List Segment → Type 0
+InAgreement ss = (s t : Segment) → List·Memᴰ s ss → List·Memᴰ t ss → T (givesSize s) → endOf t ≤ endOf s
+
+-- a file that reaches 25 with these segments: its heading is right, and each of its `pseg` boxes reads, of which there are
+-- some and not too many
+pub record Reaches25 (limit : ℕ) (f : List ℕ) (ss : List Segment) : Type 0 where
+  pub h : Heading
+  pub headed : heading f ≡ given h
+  pub any : 0 < length (those pseg (h .boxes))
+  pub few : length (those pseg (h .boxes)) ≤ segmentLimit
+  pub read : segmentsFrom limit f h [] (those pseg (h .boxes)) ≡ given ss
+
+-- an accepted file: its sizes agree, and each source byte is served or listed missing
 pub record Mapped (f : List ℕ) (h : Heading) (ss : List Segment) : Type 0 where
+  pub agreed : InAgreement ss
   pub listing : Listing ss
   pub naming : Naming ss
   pub serving : (p : ℕ) → T (supplied ss p) → Serving f h ss p
@@ -237,6 +255,9 @@ pub record BoxesPrinted (most : ℕ) (input : List ℕ) : Type 0 where
 -- reads back with the same chunks and bytes; writing again what was read from our writer's file gives that file
 pub record Demand2 (limit : ℕ) : Type 0 where
   pub mapped : (f : List ℕ) (h : Heading) (ss : List Segment) → heading f ≡ given h → reading limit f ≡ given ss → Mapped f h ss
+  -- a file that reaches 25 is accepted exactly if its sizes agree, and no other is; it is 25 exactly if they do not
+  pub agrees : (f : List ℕ) (ss : List Segment) → (reading limit f ≡ given ss) ↔ (Reaches25 limit f ss × InAgreement ss)
+  pub disagrees : (f : List ℕ) → (reading limit f ≡ refused 25) ↔ ((ss : List Segment) × Reaches25 limit f ss × (InAgreement ss → ⊥))
   -- the part is empty exactly when the file is refused, a table is too short or p is not supplied
   pub partEmpty :
       (f a b : List ℕ) (p : ℕ)
@@ -282,10 +303,6 @@ pub record Takes (limit : ℕ) (f : List ℕ) : Type 0 where
   -- any other refusal is the file's own
   pub itsOwn : (k : ℕ) → reading limit f ≡ refused k → (k ≡ 12 → ⊥) → earlierSegments limit f ≡ refused k
 
--- no segment ends above, or differs from, a size that one of them makes known
-abbrev InAgreement : List Segment → Type 0
-InAgreement ss = (s t : Segment) → List·Memᴰ s ss → List·Memᴰ t ss → T (givesSize s) → endOf t ≤ endOf s
-
 -- an addition with a right list and data, within each limit and in agreement with the segments before it
 pub record Right (limit : ℕ) (h : Heading) (ss : List Segment) (n : ℕ) (a : Addition) : Type 0 where
   pub list : T (listRight (a .list))
@@ -298,7 +315,17 @@ pub record Right (limit : ℕ) (h : Heading) (ss : List Segment) (n : ℕ) (a : 
   pub low : a .sourceOffset + sum (map (λ i. i .size) (items (a .list))) ≤ limit
   pub agreed : InAgreement (ss ++ (newSegment (psegPlace n a) a ∷ []))
 
--- an addition is refused exactly where a numbered reason for additions holds, in their order
+-- an addition that append takes: it is right, beside a file that append takes, and the buffer has room for the result
+pub record Acceptable (limit : ℕ) (buffer : List ℕ) (n : ℕ) (a : Addition) : Type 0 where
+  pub enough : n ≤ length buffer
+  pub h : Heading
+  pub ss : List Segment
+  pub headed : heading (fileIn (lent buffer n)) ≡ given h
+  pub before : segments limit (fileIn (lent buffer n)) h ≡ given ss
+  pub right : Right limit h ss n a
+  pub room : n + length (added a) ≤ length buffer
+
+-- the numbered reasons for which an addition is refused, in their order
 pub record Reasons (limit : ℕ) (buffer : List ℕ) (n : ℕ) (a : Addition) : Type 0 where
   pub lengthOver : length buffer < n → appended limit buffer n a ≡ refused 30
   -- the file's own refusal, never 12
@@ -362,14 +389,11 @@ pub record Reasons (limit : ℕ) (buffer : List ℕ) (n : ℕ) (a : Addition) : 
 pub record Demand3 (limit : ℕ) : Type 0 where
   -- any accepted file is one that append takes, and so is one whose only refusal is 12
   pub takes : (f : List ℕ) → Takes limit f
-  -- a beginning with two texts, within the limit and the buffer, is given its length
+  -- a beginning is given a length exactly if it has two texts, within the limit and the buffer; it is its own length
   pub begins :
-      (buffer : List ℕ) (brand : Brand) (u m : List ℕ)
-      → T (isText u)
-      → T (isText m)
-      → length (beginning brand u m) ≤ fileLimit
-      → length (beginning brand u m) ≤ length buffer
-      → begun buffer brand u m ≡ given (length (beginning brand u m))
+      (buffer : List ℕ) (brand : Brand) (u m : List ℕ) (n : ℕ)
+      → (begun buffer brand u m ≡ given n)
+      ↔ (T (isText u) × T (isText m) × (n ≤ fileLimit) × (n ≤ length buffer) × (n ≡ length (beginning brand u m)))
   -- one just begun serves nothing and has described length 0
   pub justBegun :
       (buffer : List ℕ) (brand : Brand) (u m : List ℕ) (n : ℕ)
@@ -380,15 +404,12 @@ pub record Demand3 (limit : ℕ) : Type 0 where
       (l : Lent) (additions : List Addition) (ss : List Segment)
       → earlierSegments limit (fileIn l) ≡ given ss
       → (ts : List Segment) × (earlierSegments limit (fileIn (appendAll limit l additions)) ≡ given ts)
-  -- an addition with a right list and data, within each limit, in agreement and within the buffer, is given its length
+  -- an addition is given a length exactly if it has a right list and data, within each limit, in agreement and within the
+  -- buffer; it is the length of the file and of what is added
   pub accepts :
-      (buffer : List ℕ) (n : ℕ) (a : Addition) (h : Heading) (ss : List Segment)
-      → n ≤ length buffer
-      → heading (fileIn (lent buffer n)) ≡ given h
-      → segments limit (fileIn (lent buffer n)) h ≡ given ss
-      → Right limit h ss n a
-      → n + length (added a) ≤ length buffer
-      → appended limit buffer n a ≡ given (n + length (added a))
+      (buffer : List ℕ) (n : ℕ) (a : Addition) (size : ℕ)
+      → (appended limit buffer n a ≡ given size)
+      ↔ (Acceptable limit buffer n a × (size ≡ n + length (added a)))
   -- after each accepted addition
   pub accepted :
       (buffer : List ℕ) (n : ℕ) (a : Addition) (size : ℕ) (ss : List Segment)

@@ -125,6 +125,10 @@ segmentAt = segmentWith false
 abbrev grownBy : List ℕ → Addition → List ℕ
 grownBy f a = fileIn (append sourceLimit (lent (f ++ spare) (length f)) a)
 
+-- what it answers
+abbrev answerTo : List ℕ → Addition → List ℤ
+answerTo f a = says (appended sourceLimit (f ++ spare) (length f) a >>= λ size. given (pos size ∷ []))
+
 abbrev missingIn : List ℕ → Answer (List ℤ)
 missingIn f = do
   ss ← reading sourceLimit f
@@ -291,6 +295,44 @@ openLast =
       paper = pos 10 ∷ pos 0 ∷ pos 0 ∷ pos 10 ∷ [];
     }
 
+-- a last segment of that size, one that is not last, and an open one at that offset
+abbrev lastOf : ℕ → Addition
+lastOf size = segmentAt 0 true (size ∷ 0 ∷ []) []
+
+abbrev otherOf : ℕ → Addition
+otherOf size = segmentAt 0 false (size ∷ 0 ∷ []) []
+
+abbrev openAt : ℕ → Addition
+openAt offset = segmentAt offset false [] []
+
+-- a last segment of ten and that one, in both orders: what reading says, and what append answers for the second
+abbrev besideTen : Addition → List ℤ
+besideTen a =
+    says (lengthIn (begunBytes ++ (added (lastOf 10) ++ added a)))
+    ++ (says (lengthIn (begunBytes ++ (added a ++ added (lastOf 10))))
+    ++ (answerTo (begunBytes ++ added (lastOf 10)) a ++ answerTo (begunBytes ++ added a) (lastOf 10)))
+
+-- "two known sizes differ, or a segment end or open offset lies above the known size": 25, whichever stands first
+abbrev sizesDiffer : Example
+sizesDiffer =
+    record {
+      defined = besideTen (lastOf 5) ++ (besideTen (otherOf 11) ++ besideTen (openAt 11));
+      paper = map pos (replicate 12 25);
+    }
+
+-- the same size a second time, and an end and an open offset just there, are taken: ten are described and missing. To 55
+-- bytes come two segments of 51, or one and an open one of 49
+abbrev sizesAgree : Example
+sizesAgree =
+    record {
+      defined = besideTen (lastOf 10) ++ (besideTen (otherOf 10) ++ besideTen (openAt 10));
+      paper =
+          map pos
+          (10 ∷ 1 ∷ 0 ∷ 10 ∷ 10 ∷ 1 ∷ 0 ∷ 10 ∷ 157 ∷ 157
+          ∷ 10 ∷ 1 ∷ 0 ∷ 10 ∷ 10 ∷ 1 ∷ 0 ∷ 10 ∷ 157 ∷ 157
+          ∷ 10 ∷ 1 ∷ 0 ∷ 10 ∷ 10 ∷ 1 ∷ 0 ∷ 10 ∷ 155 ∷ 155 ∷ []);
+    }
+
 -- last_segment beside other flags is last_segment, and other flags alone are not
 abbrev otherFlags : Example
 otherFlags =
@@ -419,10 +461,7 @@ storedOutside =
       paper = map pos (f ++ (8 ∷ 3 ∷ []));
     }
 
--- what append answers to a file; and to one, at 0, of chunks whose good ones are to go outside
-abbrev answerTo : List ℕ → Addition → List ℤ
-answerTo f a = says (appended sourceLimit (f ++ spare) (length f) a >>= λ size. given (pos size ∷ []))
-
+-- what append answers to a file of chunks at 0 whose good ones are to go outside
 abbrev answerOf : List ℕ → List ℕ → List ℕ → List ℤ
 answerOf f list bytes = answerTo f (segmentWith true 0 false list bytes)
 
@@ -539,7 +578,7 @@ servedFar =
 unfoldable pub table : List Example
 table =
     P1 ∷ P2 ∷ P3 ∷ P4 ∷ P5 ∷ P6 ∷ P7 ∷ P8 ∷ P9 ∷ P10 ∷ P11 ∷ P12 ∷
-    missmap10 ∷ missmap11 ∷ rowsFit ∷ rowsShort ∷ ahead ∷ overHeader ∷ damagedBytes ∷ openLast ∷ otherFlags ∷
+    missmap10 ∷ missmap11 ∷ rowsFit ∷ rowsShort ∷ ahead ∷ overHeader ∷ damagedBytes ∷ openLast ∷ sizesDiffer ∷ sizesAgree ∷ otherFlags ∷
     vendorForms ∷ largeVendorForms ∷ boxes3 ∷
     begunMixed ∷ wholeServed ∷ notWhole ∷ byBrand ∷ storedOutside ∷ outsideWrong ∷
     elsewhereRead ∷ elsewhereMissing ∷ elsewhereStored ∷ elsewhereWrong ∷

@@ -33,17 +33,17 @@ use Rattle.partial.specs.Begin.{beginning, isText, begun}
 use Rattle.partial.specs.Addition.{Addition, listRight, dataRight, outsideRight}
 use Rattle.partial.specs.Append.{addedBoxes, newSegment, added, appended, admission, psegPlace}
 use Rattle.partial.specs.Runs.{lent, sizeAfter, append}
-use Rattle.partial.specs.Demands.{ofStages, Never, Demand1, Takes}
+use Rattle.partial.specs.Demands.{beforeAgreement, ofStages, Never, Demand1, Takes}
 use Rattle.partial.proofs.Meaning.SequenceLaws.{inside, which}
 
--- stages 1 to 11 and 13 to 25, by a kind that has their numbers
-module _ (P : ℕ → Type 0) (known : (n : ℕ) → T (ofStages n) → P n) where
+-- stages 1 to 11 and 13 to 24, by a kind that has their numbers, and 25
+module _ (P : ℕ → Type 0) (known : (n : ℕ) → T (beforeAgreement n) → P n) where
   boxes-only : (c : Container) (s : List ℕ) (start end : ℕ) → Only P (boxesIn c s start end)
   boxes-only c s start end n e =
       let (low, high) = boxes-numbers c s start end n e in
       known n (rw (inside 1 11 n (omega arith) (omega arith)) tt)
 
-  heading-only : (f : List ℕ) → Only P (heading f)
+  pub heading-only : (f : List ℕ) → Only P (heading f)
   unfolding heading fileBoxes judged within
   heading-only f =
       only-then P (fileBoxes f) _
@@ -116,22 +116,29 @@ module _ (P : ℕ → Type 0) (known : (n : ℕ) → T (ofStages n) → P n) whe
       (chunks-only limit f h (b .at) l (l .count) (record { at = l .first; start = offset }))
       (λ chunks. only-given P _))))))))
 
-  segments-from-only : (limit : ℕ) (f : List ℕ) (h : Heading) (before : List Segment) (bs : List Box) → Only P (segmentsFrom limit f h before bs)
+  pub segments-from-only : (limit : ℕ) (f : List ℕ) (h : Heading) (before : List Segment) (bs : List Box) → Only P (segmentsFrom limit f h before bs)
   unfolding segmentsFrom
   segments-from-only limit f h before [] = only-given P before
   segments-from-only limit f h before (b ∷ bs) =
       only-then P (segment limit f h before b) _ (segment-only limit f h before b)
       (λ s. segments-from-only limit f h (before ++ (s ∷ [])) bs)
 
-  segments-only : (limit : ℕ) (f : List ℕ) (h : Heading) → Only P (segments limit f h)
+  segments-only : P 25 → (limit : ℕ) (f : List ℕ) (h : Heading) → Only P (segments limit f h)
   unfolding segments within
-  segments-only limit f h =
+  segments-only last limit f h =
       only-held P 13 (leb (length (those pseg (h .boxes))) segmentLimit) _ (known 13 tt)
       (only-then P (segmentsFrom limit f h [] (those pseg (h .boxes))) _ (segments-from-only limit f h [] (those pseg (h .boxes)))
-      (λ ss. only-held P 25 (agree ss) _ (known 25 tt) (only-given P ss)))
+      (λ ss. only-held P 25 (agree ss) _ last (only-given P ss)))
+
+-- a test that passes beside another
+beside : (b c : Bool) → T b → T (b || c)
+beside true c t = tt
 
 abbrev OfFile : ℕ → Type 0
 OfFile n = T (ofStages n)
+
+known-file : (n : ℕ) → T (beforeAgreement n) → OfFile n
+known-file n = beside (beforeAgreement n) (eqb n 25)
 
 -- append takes an acceptable file, or one whose only refusal is 12
 module _ (limit : ℕ) (f : List ℕ) where
@@ -160,9 +167,9 @@ module _ (limit : ℕ) (f : List ℕ) where
           ]
 
   earlier-only : Only OfFile (earlierSegments limit f)
-  unfolding earlierSegments
+  unfolding earlierSegments within
   earlier-only =
-      only-then OfFile (heading f) _ (heading-only OfFile (λ n t. t) f) (λ h. segments-only OfFile (λ n t. t) limit f h)
+      only-then OfFile (heading f) _ (heading-only OfFile known-file f) (λ h. segments-only OfFile known-file tt limit f h)
 
   pub takes : Takes limit f
   unfolding within
@@ -174,21 +181,18 @@ module _ (limit : ℕ) (f : List ℕ) where
       }
 
 -- the numbers of each call
-beside : (b c : Bool) → T b → T (b || c)
-beside true c t = tt
-
 module _ (limit : ℕ) where
   abbrev OfReading : ℕ → Type 0
   OfReading n = T (ofStages n || someOf (eqb n) (12 ∷ 26 ∷ []))
 
-  known-read : (n : ℕ) → T (ofStages n) → OfReading n
-  known-read n = beside (ofStages n) (someOf (eqb n) (12 ∷ 26 ∷ []))
+  known-read : (n : ℕ) → T (beforeAgreement n) → OfReading n
+  known-read n before = beside (ofStages n) (someOf (eqb n) (12 ∷ 26 ∷ [])) (known-file n before)
 
   reading-only : (f : List ℕ) → Only OfReading (reading limit f)
   unfolding reading within someOf
   reading-only f =
       only-then OfReading (heading f) _ (heading-only OfReading known-read f)
-      (λ h. only-held OfReading 12 (right File pseg (h .boxes)) _ tt (segments-only OfReading known-read limit f h))
+      (λ h. only-held OfReading 12 (right File pseg (h .boxes)) _ tt (segments-only OfReading known-read tt limit f h))
 
   tabled-only : (f a b : List ℕ) → Only OfReading (tabled limit f a b)
   unfolding tabled within someOf
@@ -205,8 +209,8 @@ module _ (limit : ℕ) where
   abbrev OfAddition : ℕ → Type 0
   OfAddition n = T (ofStages n || someOf (eqb n) (30 ∷ 31 ∷ 32 ∷ 33 ∷ 35 ∷ []))
 
-  known-added : (n : ℕ) → T (ofStages n) → OfAddition n
-  known-added n = beside (ofStages n) (someOf (eqb n) (30 ∷ 31 ∷ 32 ∷ 33 ∷ 35 ∷ []))
+  known-added : (n : ℕ) → T (beforeAgreement n) → OfAddition n
+  known-added n before = beside (ofStages n) (someOf (eqb n) (30 ∷ 31 ∷ 32 ∷ 33 ∷ 35 ∷ [])) (known-file n before)
 
   admission-only : (h : Heading) (ss : List Segment) (n : ℕ) (a : Addition) → Only OfAddition (admission limit h ss n a)
   unfolding admission admitted within someOf
@@ -227,7 +231,7 @@ module _ (limit : ℕ) where
       only-held OfAddition 30 (leb n (length buffer)) _ tt
       (only-then OfAddition (heading f) _ (heading-only OfAddition known-added f)
       (λ h.
-      only-then OfAddition (segments limit f h) _ (segments-only OfAddition known-added limit f h)
+      only-then OfAddition (segments limit f h) _ (segments-only OfAddition known-added tt limit f h)
       (λ ss.
       only-held OfAddition 31 (listRight (a .list)) _ tt
       (only-held OfAddition 32 (dataRight a) _ tt
@@ -285,7 +289,7 @@ module _ (limit : ℕ) where
         append = λ buffer size a e. appended-only limit buffer size a 21 e;
         text = λ text buffer e. omega (arith, text-only text buffer 21 e);
         mapped = λ input e. reading-only limit input 21 e;
-        boxes = λ input e. boxes-only OfFile (λ n t. t) File input 0 (length input) 21 e;
+        boxes = λ input e. boxes-only OfFile known-file File input 0 (length input) 21 e;
       }
 
 pub demand1 : (limit : ℕ) → Demand1 limit

@@ -1,8 +1,9 @@
 -- After each accepted addition: the file reads, every byte served before keeps its value, one that was not is served exactly if the addition
 -- carries it as good, and the described length never shrinks.
-use Prim.Native.Nat.{ℕ, _^_, _<_, _≤_, _+_}
+use Prim.Native.Nat.{ℕ, _^_, _<_, _+_}
 use mathlib.Core.List.{List, [], _∷_, _++_}
-use mathlib.Core.Path.{_≡_, refl, _∙_}
+use mathlib.Core.Logic.{_↔_}
+use mathlib.Core.Path.{_≡_, refl, sym, ap, _∙_}
 use native.Mathlib.Nat.{mod-lt}
 use native.Mathlib.Omega.{arith}
 use borrow.Author.Tests.{le-leb}
@@ -10,22 +11,22 @@ use lib.Dec.{lit<}
 use lib.ListN.{length, take}
 use Rattle.boxes.specs.Answer.{Answer, refused, given}
 use Rattle.partial.specs.Segments.{Segment}
-use Rattle.partial.specs.Heading.{Heading, heading}
-use Rattle.partial.specs.Reading.{reading, earlierSegments, segments}
+use Rattle.partial.specs.Heading.{Heading}
+use Rattle.partial.specs.Reading.{reading, earlierSegments}
 use Rattle.partial.specs.Memory.{after}
 use Rattle.partial.specs.Addition.{Addition}
 use Rattle.partial.specs.Append.{added, newSegment, appended, psegPlace}
 use Rattle.partial.specs.Runs.{Lent, lent, fileIn, sizeAfter, append, appendAll}
 use Rattle.partial.specs.Carried.{carried}
-use Rattle.partial.specs.Demands.{Grown, Right}
+use Rattle.partial.specs.Demands.{Grown, Acceptable}
 use Rattle.partial.proofs.Reading.ReadingLaws.{accepted}
 use Rattle.partial.proofs.Writing.GrownLaws.{grown}
 use Rattle.partial.proofs.Writing.RepairTimeLaws.{cut, added-cut, taken-cut}
-use Rattle.partial.proofs.Writing.ReadsBackLaws.{Taken, taken, taken-sayable, reading-added, file-after, admits, Offered, Admits}
+use Rattle.partial.proofs.Writing.ReadsBackLaws.{Taken, taken-any, taken, taken-sayable, reading-added, file-after, admits, Offered, Admits}
 use Rattle.partial.proofs.Writing.ReadsBackLaws.{admission-of}
 use Rattle.partial.proofs.Reading.RefusalLaws.{takes}
 use Rattle.partial.proofs.Meaning.SequenceLaws.{passes}
-use Rattle.partial.proofs.Meaning.AgreementLaws.{in-agreement}
+use Rattle.partial.proofs.Meaning.AgreementLaws.{in-agreement, agreement}
 use Rattle.partial.proofs.Writing.ResultLaws.{appended-offered}
 
 module _ (limit : ℕ) (f : List ℕ) (h : Heading) (ss : List Segment) (a : Addition) (t : Taken limit f h ss a) where
@@ -71,29 +72,56 @@ module _ (limit : ℕ) (below : limit < 2 ^ 64) where
       let (ts, after) = stands-one l a ss before in
       stands (append limit l a) more ts after
 
--- an addition with a right list and data, within each limit, in agreement and within the buffer, is given its length
-pub accepts : (limit : ℕ) (buffer : List ℕ) (n : ℕ) (a : Addition) (h : Heading) (ss : List Segment) → n ≤ length buffer
-    → heading (fileIn (lent buffer n)) ≡ given h
-    → segments limit (fileIn (lent buffer n)) h ≡ given ss
-    → Right limit h ss n a
-    → n + length (added a) ≤ length buffer
-    → appended limit buffer n a ≡ given (n + length (added a))
-unfolding fileIn
-accepts limit buffer n a h ss fits head read right room =
-    let offered : Offered limit (take n buffer) h ss a = record {
-      headed = head;
-      before = read;
-      list = passes _ (right .list);
-      carried = passes _ (right .bytes);
-      outside = passes _ (right .outside);
-    } in
-    let ok : Admits limit h ss n a = record {
-      small = right .small;
-      boxes = right .boxes;
-      few = omega arith;
-      chunks = right .chunks;
-      low = right .low;
-      agreed = in-agreement (ss ++ (newSegment (psegPlace n a) a ∷ [])) (right .agreed);
-    } in
-    appended-offered limit buffer n a h ss fits offered
-    ∙ rw (admission-of limit h ss n a ok, le-leb (n + length (added a)) (length buffer) room)
+-- an addition is given a length exactly if append takes it, and the length is that of the file and of what is added
+module _ (limit : ℕ) (buffer : List ℕ) (n : ℕ) (a : Addition) where
+  given-length : Acceptable limit buffer n a → appended limit buffer n a ≡ given (n + length (added a))
+  unfolding fileIn
+  given-length t =
+      let r = t .right in
+      let offered : Offered limit (take n buffer) (t .h) (t .ss) a = record {
+        headed = t .headed;
+        before = t .before;
+        list = passes _ (r .list);
+        carried = passes _ (r .bytes);
+        outside = passes _ (r .outside);
+      } in
+      let ok : Admits limit (t .h) (t .ss) n a = record {
+        small = r .small;
+        boxes = r .boxes;
+        few = omega (arith, r .few);
+        chunks = r .chunks;
+        low = r .low;
+        agreed = in-agreement (t .ss ++ (newSegment (psegPlace n a) a ∷ [])) (r .agreed);
+      } in
+      appended-offered limit buffer n a (t .h) (t .ss) (t .enough) offered
+      ∙ rw (admission-of limit (t .h) (t .ss) n a ok, le-leb (n + length (added a)) (length buffer) (t .room))
+
+  acceptable : (size : ℕ) → appended limit buffer n a ≡ given size → Acceptable limit buffer n a × (size ≡ n + length (added a))
+  unfolding fileIn
+  acceptable size e =
+      let (h, ss, t, long, total, room) = taken-any limit buffer n a size e in
+      let (ok, _) = admits limit h ss n a (rw (← long) at (t .admits)) in (
+        record {
+          enough = omega arith;
+          h = h;
+          ss = ss;
+          headed = t .offered .headed;
+          before = t .offered .before;
+          right = record {
+            list = rw (t .offered .list) tt;
+            bytes = rw (t .offered .carried) tt;
+            outside = rw (t .offered .outside) tt;
+            small = ok .small;
+            boxes = ok .boxes;
+            few = omega (arith, ok .few);
+            chunks = ok .chunks;
+            low = ok .low;
+            agreed = agreement _ (ok .agreed);
+          };
+          room = omega arith;
+        },
+        total,
+      )
+
+  pub accepts : (size : ℕ) → (appended limit buffer n a ≡ given size) ↔ (Acceptable limit buffer n a × (size ≡ n + length (added a)))
+  accepts size = (acceptable size, λ r. given-length (r .0) ∙ ap (λ (m : ℕ). given m) (sym (r .1)))

@@ -2,6 +2,7 @@
 use Prim.Native.Nat.{ℕ, zero, suc, _+_, _-_, _≤_, _<_, _/_, _%_, _^_}
 use mathlib.Core.Bool.{Bool, true, not, _&&_, _||_, or-false}
 use mathlib.Core.List.{List, [], _∷_, _++_}
+use mathlib.Core.Logic.{_↔_}
 use mathlib.Core.Path.{_≡_, refl, sym, ap, _∙_}
 use native.Mathlib.Nat.{add-assoc, zero-add, add-zero}
 use native.Mathlib.Numerals.{add-one}
@@ -260,33 +261,47 @@ module _ (brand : Brand) (u m : List ℕ) where
   unfolding earlierSegments
   begun-taken limit small plain-url plain-mime = rw (heading-of (beginning brand u m) begunHeading (begun-headed small plain-url plain-mime)) (begun-segments limit)
 
--- what begin accepts, and the file that it leaves
+-- a beginning is given a length exactly if it has two texts, within the limit and the buffer; it is its own length
+pub begins : (buffer : List ℕ) (brand : Brand) (u m : List ℕ) (n : ℕ)
+    → (begun buffer brand u m ≡ given n)
+    ↔ (T (isText u) × T (isText m) × (n ≤ fileLimit) × (n ≤ length buffer) × (n ≡ length (beginning brand u m)))
+unfolding begun
+begins buffer brand u m n = (forth, back)
+  where
+    whole : ℕ
+    whole = length (beginning brand u m)
+
+    forth : begun buffer brand u m ≡ given n
+        → T (isText u) × T (isText m) × (n ≤ fileLimit) × (n ≤ length buffer) × (n ≡ length (beginning brand u m))
+    forth e =
+        let (plain, e1) = held 34 (isText u && isText m) _ e in
+        let (small, e2) = held 1 (leb whole fileLimit) _ e1 in
+        let (room, e3) = held 33 (leb whole (length buffer)) _ e2 in
+        let (plain-url, plain-mime) = both (isText u) (isText m) plain in
+        let same : whole ≡ n = given-same e3 in
+        (rw plain-url tt, rw plain-mime tt, rw same at (leb-true whole fileLimit small), rw same at (leb-true whole (length buffer) room), sym same)
+
+    back : T (isText u) × T (isText m) × (n ≤ fileLimit) × (n ≤ length buffer) × (n ≡ length (beginning brand u m)) → begun buffer brand u m ≡ given n
+    back (plain-url, plain-mime, small, room, same) =
+        rw (passes (isText u) plain-url, passes (isText m) plain-mime, ← same, le-leb n fileLimit small, le-leb n (length buffer) room)
+
+-- the file that begin leaves
 module _ (buffer : List ℕ) (brand : Brand) (u m : List ℕ) where
   pub begin-given : (n : ℕ) → begun buffer brand u m ≡ given n
       → (isText u ≡ true) × (isText m ≡ true) × (length (beginning brand u m) ≤ fileLimit) × (fileIn (begin buffer brand u m) ≡ beginning brand u m)
-  unfolding begun begin fileIn sizeAfter after filled
+  unfolding begin fileIn sizeAfter after filled
   begin-given n e =
-      let whole : ℕ = length (beginning brand u m) in
-      let (plain, e1) = held 34 (isText u && isText m) _ e in
-      let (small, e2) = held 1 (leb whole fileLimit) _ e1 in
-      let (room, e3) = held 33 (leb whole (length buffer)) _ e2 in
-      let (plain-url, plain-mime) = both (isText u) (isText m) plain in
-      (plain-url, plain-mime, leb-true whole fileLimit small, rw (e, take-at (beginning brand u m) (drop whole buffer) n (given-same e3)))
+      let (plain-url, plain-mime, small, room, same) = begins buffer brand u m n .0 e in
+      let rest : List ℕ = drop (length (beginning brand u m)) buffer in
+      (passes _ plain-url, passes _ plain-mime, omega arith, rw (e, take-at (beginning brand u m) rest n (sym same)))
 
   pub begin-fits : isText u ≡ true → isText m ≡ true → length (beginning brand u m) ≤ fileLimit → length (beginning brand u m) ≤ length buffer
       → begin buffer brand u m ≡ lent (filled (beginning brand u m) buffer) (length (beginning brand u m))
-  unfolding begun begin sizeAfter after
+  unfolding begin sizeAfter after
   begin-fits plain-url plain-mime small room =
-      let whole : ℕ = length (beginning brand u m) in
-      rw (plain-url, plain-mime, le-leb whole fileLimit small, le-leb whole (length buffer) room)
-
--- a beginning with two texts, within the limit and the buffer, is given its length
-pub begins : (buffer : List ℕ) (brand : Brand) (u m : List ℕ) → T (isText u) → T (isText m) → length (beginning brand u m) ≤ fileLimit → length (beginning brand u m) ≤ length buffer
-    → begun buffer brand u m ≡ given (length (beginning brand u m))
-unfolding begun
-begins buffer brand u m plain-url plain-mime small room =
-    let whole : ℕ = length (beginning brand u m) in
-    rw (passes (isText u) plain-url, passes (isText m) plain-mime, le-leb whole fileLimit small, le-leb whole (length buffer) room)
+      let e : begun buffer brand u m ≡ given (length (beginning brand u m)) =
+      begins buffer brand u m _ .1 (rw plain-url tt, rw plain-mime tt, small, room, refl) in
+      rw e
 
 -- one just begun serves nothing and has described length 0
 pub just-begun : (limit : ℕ) (buffer : List ℕ) (brand : Brand) (u m : List ℕ) (n : ℕ) → begun buffer brand u m ≡ given n → earlierSegments limit (fileIn (begin buffer brand u m)) ≡ given []

@@ -2,7 +2,7 @@
 use Prim.Native.Nat.{ℕ, _+_, _^_, _≤_, _<_}
 use mathlib.Core.Bool.{Bool, true, false}
 use mathlib.Core.List.{List, [], _∷_, _++_, map}
-use mathlib.Core.Path.{_≡_, refl, sym, ap, _∙_}
+use mathlib.Core.Path.{_≡_, refl, sym, ap, subst, _∙_}
 use native.Mathlib.Nat.{add-zero}
 use native.Mathlib.Decide.{decLe}
 use native.Mathlib.Omega.{arith}
@@ -114,49 +114,49 @@ module _ (limit : ℕ) (h : Heading) (ss : List Segment) (n : ℕ) (a : Addition
         t .agreed,
       )
 
-pub taken : (limit : ℕ) (buffer : List ℕ) (n : ℕ) (a : Addition) (size : ℕ) (ss : List Segment) → earlierSegments limit (take n buffer) ≡ given ss
-    → appended limit buffer n a ≡ given size
-    → (h : Heading) × Taken limit (take n buffer) h ss a × (n ≡ length (take n buffer)) × (size ≡ n + length (added a))
-unfolding appended earlierSegments
-taken limit buffer n a size ss before e =
-    let f : List ℕ = take n buffer in
-    let (lent-enough, e1) = held 30 (leb n (length buffer)) _ e in
-    let (h, head, e2) = both-given (heading f) _ e1 in
-    let (ts, earlier, e3) = both-given (segments limit f h) _ e2 in
-    let again : segments limit f h ≡ given ss = rw head at before in
-    let same : ts ≡ ss = given-same (sym earlier ∙ again) in
-    let (list, e4) = held 31 (listRight (a .list)) _ e3 in
-    let (carried, e5) = held 32 (dataRight a) _ e4 in
-    let (outer, e6) = held 35 (outsideRight h a) _ e5 in
-    let (us, admitted-there, e7) = both-given (admission limit h ts n a) _ e6 in
-    let (room, e8) = held 33 (leb (n + length (added a)) (length buffer)) _ e7 in
-    let long : length f ≡ n = length-take-le n buffer (leb-true n (length buffer) lent-enough) in (
-      h,
-      record {
-        offered = record { headed = head; before = again; list = list; carried = carried; outside = outer };
-        admits = rw (long, ← same) (admission-of limit h ts n a (admits limit h ts n a {ts = us} admitted-there .0));
-      },
-      sym long,
-      sym (given-same e8),
-    )
-
--- the segments of a file that append takes are those of its heading
-pub earlier-of : (limit : ℕ) (f : List ℕ) (h : Heading) (ss : List Segment) → heading f ≡ given h → segments limit f h ≡ given ss
-    → earlierSegments limit f ≡ given ss
-unfolding earlierSegments
-earlier-of limit f h ss head read = rw (earlierSegments, head) read
-
--- an accepted addition is one to a file that append takes
+-- an accepted addition is one to a file that append takes, and there is room for it
 pub taken-any : (limit : ℕ) (buffer : List ℕ) (n : ℕ) (a : Addition) (size : ℕ) → appended limit buffer n a ≡ given size
     → (h : Heading) × (ss : List Segment) × Taken limit (take n buffer) h ss a × (n ≡ length (take n buffer)) × (size ≡ n + length (added a))
+    × (size ≤ length buffer)
 unfolding appended
 taken-any limit buffer n a size e =
     let f : List ℕ = take n buffer in
     let (lent-enough, e1) = held 30 (leb n (length buffer)) _ e in
     let (h, head, e2) = both-given (heading f) _ e1 in
     let (ss, before, e3) = both-given (segments limit f h) _ e2 in
-    let (k, t, long, total) = taken limit buffer n a size ss (earlier-of limit f h ss head before) e in
-    (k, ss, t, long, total)
+    let (list, e4) = held 31 (listRight (a .list)) _ e3 in
+    let (carried, e5) = held 32 (dataRight a) _ e4 in
+    let (outer, e6) = held 35 (outsideRight h a) _ e5 in
+    let (us, admitted-there, e7) = both-given (admission limit h ss n a) _ e6 in
+    let (room, e8) = held 33 (leb (n + length (added a)) (length buffer)) _ e7 in
+    let long : length f ≡ n = length-take-le n buffer (leb-true n (length buffer) lent-enough) in
+    let total = given-same e8 in (
+      h,
+      ss,
+      record {
+        offered = record { headed = head; before = before; list = list; carried = carried; outside = outer };
+        admits = rw long (admission-of limit h ss n a (admits limit h ss n a {ts = us} admitted-there .0));
+      },
+      sym long,
+      sym total,
+      omega (arith, leb-true (n + length (added a)) (length buffer) room),
+    )
+
+-- of a file whose segments are known
+pub taken : (limit : ℕ) (buffer : List ℕ) (n : ℕ) (a : Addition) (size : ℕ) (ss : List Segment) → earlierSegments limit (take n buffer) ≡ given ss
+    → appended limit buffer n a ≡ given size
+    → (h : Heading) × Taken limit (take n buffer) h ss a × (n ≡ length (take n buffer)) × (size ≡ n + length (added a))
+unfolding earlierSegments
+taken limit buffer n a size ss before e =
+    let (h, ts, t, long, total, _) = taken-any limit buffer n a size e in
+    let same : ts ≡ ss = given-same (sym (t .offered .before) ∙ (rw (earlierSegments, t .offered .headed) at before)) in
+    (h, subst (λ us. Taken limit (take n buffer) h us a) same t, long, total)
+
+-- the segments of a file that append takes are those of its heading
+pub earlier-of : (limit : ℕ) (f : List ℕ) (h : Heading) (ss : List Segment) → heading f ≡ given h → segments limit f h ≡ given ss
+    → earlierSegments limit f ≡ given ss
+unfolding earlierSegments
+earlier-of limit f h ss head read = rw (earlierSegments, head) read
 
 module _ (limit : ℕ) (f : List ℕ) (h : Heading) (ss : List Segment) (a : Addition) where
   -- the heading of the longer file

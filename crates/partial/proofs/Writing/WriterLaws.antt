@@ -12,6 +12,7 @@ use Rattle.partial.specs.Append.{added, newSegment, appended, psegPlace}
 use Rattle.partial.specs.Runs.{lent, fileIn, append}
 use Rattle.partial.specs.Again.{again, settled}
 use Rattle.partial.specs.Demands.{Demand2}
+use Rattle.partial.proofs.Reading.AgreementReadLaws.{agrees, disagrees}
 use Rattle.partial.proofs.Reading.ReadingLaws.{read-mapped}
 use Rattle.partial.proofs.Writing.DataLaws.{settled-added}
 use Rattle.partial.proofs.Writing.ReadsBackLaws.{taken-any, file-after, reads-back, grownHeading, heading-added, admits}
@@ -27,7 +28,7 @@ pub says-again : (limit : ℕ) (buffer : List ℕ) (n : ℕ) (a : Addition) (siz
     → again g h (newSegment (psegPlace n a) a) ≡ settled a
 unfolding allOf
 says-again limit buffer n a size h e head =
-    let (h₀, ss, t, long, total) = taken-any limit buffer n a size e in
+    let (h₀, ss, t, long, total, _) = taken-any limit buffer n a size e in
     let f : List ℕ = take n buffer in
     let (ok, _) = admits limit h₀ ss (length f) a (t .admits) in
     let k = grownHeading limit f h₀ ss a in
@@ -42,6 +43,8 @@ pub demand2 : (limit : ℕ) → limit < 2 ^ 64 → Demand2 limit
 demand2 limit below =
     record {
       mapped = λ f h ss head read. read-mapped limit f head read;
+      agrees = agrees limit;
+      disagrees = disagrees limit;
       partEmpty = part-empty limit;
       printed = λ of. printed of limit;
       readsBack = reads-back limit below;
