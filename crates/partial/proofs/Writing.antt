@@ -5,6 +5,7 @@ pub mod AdditionLaws
 pub mod AgainLaws
 pub mod BegunLaws
 pub mod BoxesStandLaws
+pub mod BufferLaws
 pub mod DataLaws
 pub mod EntriesBackLaws
 pub mod FieldsBackLaws

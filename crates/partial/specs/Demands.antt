@@ -31,7 +31,7 @@ use Rattle.partial.specs.BoxList.{each, boxLine, boxesText}
 use Rattle.partial.specs.Begin.{beginning, isText, begun}
 use Rattle.partial.specs.Addition.{Addition, items, listRight, dataRight, outsideRight, sayable}
 use Rattle.partial.specs.Append.{addedBoxes, added, psegPlace, newSegment, appended, result}
-use Rattle.partial.specs.Runs.{Lent, lent, fileIn, begin, append, appendAll}
+use Rattle.partial.specs.Runs.{Lent, lent, bufferIn, fileIn, begin, append, appendAll}
 use Rattle.partial.specs.Again.{again, settled, writeAgain}
 use Rattle.partial.specs.Carried.{carried, orElse}
 
@@ -410,6 +410,21 @@ pub record Demand3 (limit : ℕ) : Type 0 where
       (buffer : List ℕ) (n : ℕ) (a : Addition) (size : ℕ)
       → (appended limit buffer n a ≡ given size)
       ↔ (Acceptable limit buffer n a × (size ≡ n + length (added a)))
+  -- earlier bytes and bytes past the new end keep their values
+  pub earlierKept :
+      (buffer : List ℕ) (n : ℕ) (a : Addition) (size : ℕ)
+      → appended limit buffer n a ≡ given size
+      → (i : ℕ)
+      → i < n
+      → getD (bufferIn (append limit (lent buffer n) a)) i 0 ≡ getD buffer i 0
+  pub behindKept :
+      (buffer : List ℕ) (n : ℕ) (a : Addition) (size : ℕ)
+      → appended limit buffer n a ≡ given size
+      → (i : ℕ)
+      → size ≤ i
+      → getD (bufferIn (append limit (lent buffer n) a)) i 0 ≡ getD buffer i 0
+  -- the buffer is no longer and no shorter
+  pub asLong : (l : Lent) (a : Addition) → length (bufferIn (append limit l a)) ≡ length (bufferIn l)
   -- after each accepted addition
   pub accepted :
       (buffer : List ℕ) (n : ℕ) (a : Addition) (size : ℕ) (ss : List Segment)

@@ -13,6 +13,10 @@ use Rattle.partial.specs.Append.{appended, result}
 pub data Lent : Type 0 where
   lent : List ℕ → ℕ → Lent
 
+-- the buffer
+unfoldable pub bufferIn : Lent → List ℕ
+bufferIn (lent buffer size) = buffer
+
 -- the file
 unfoldable pub fileIn : Lent → List ℕ
 fileIn (lent buffer size) = take size buffer

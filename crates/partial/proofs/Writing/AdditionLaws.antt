@@ -9,6 +9,7 @@ use Rattle.partial.proofs.Reading.RefusalLaws.{demand1, takes}
 use Rattle.partial.proofs.Writing.ReasonLaws.{length-over, file-refused, list-wrong, data-wrong, outside-wrong}
 use Rattle.partial.proofs.Writing.ResultLaws.{by-result, too-many}
 use Rattle.partial.proofs.Writing.BegunLaws.{just-begun, begins}
+use Rattle.partial.proofs.Writing.BufferLaws.{earlier-kept, behind-kept, as-long}
 use Rattle.partial.proofs.Writing.AcceptedLaws.{after-addition, stands, accepts}
 
 -- an addition is refused exactly where a numbered reason for additions holds, in their order
@@ -33,6 +34,9 @@ demand3 limit below =
       justBegun = just-begun limit;
       stands = stands limit below;
       accepts = accepts limit;
+      earlierKept = earlier-kept limit;
+      behindKept = behind-kept limit;
+      asLong = as-long limit;
       accepted = after-addition limit below;
       refusedExactly = reasons limit;
       unchanged = demand1 limit .appendKept;
