@@ -6,7 +6,7 @@ use mathlib.Core.Bool.{Bool, true, false}
 use mathlib.Core.List.{List, [], _∷_, _++_, map}
 use mathlib.Core.Option.{Option·getD}
 use mathlib.Core.Path.{_≡_}
-use lib.ListN.{length, drop, replicate}
+use lib.ListN.{length, take, drop, replicate}
 use lib.IntN.{ℤ, pos, negsuc}
 use Rattle.boxes.specs.Answer.{Answer, refused, given, _>>=_, hold}
 use Rattle.numerals.specs.Numbers.{number, bytesOf, valueOf, signed, holdsOffset, leastWidth}
@@ -16,11 +16,12 @@ use Rattle.numerals.specs.declared.numbers.Offset.the-variants.{Back}
 use Rattle.partial.specs.declared.brand.Brand.{Brand}
 use Rattle.partial.specs.declared.brand.Brand.the-variants.{Paff, Pmff}
 use Rattle.partial.specs.Limits.{programLimit, sourceLimit}
+use Rattle.partial.specs.Heading.{url, mime}
 use Rattle.partial.specs.Entries.{plocHead, entry}
 use Rattle.partial.specs.Meaning.{describedLength, isClosed, served}
 use Rattle.partial.specs.Reading.{reading}
 use Rattle.partial.specs.Memory.{after}
-use Rattle.partial.specs.Tables.{missingRows, tabled, summary, segmentRows, chunkRows, bytesIn, servedPart}
+use Rattle.partial.specs.Tables.{missingRows, tabled, summary, segmentRows, chunkRows, bytesIn, servedPart, textOf}
 use Rattle.partial.specs.Segments.{Segment}
 use Rattle.partial.specs.Map.{ascii, sourceLine, mapText, missmapText, textFor, refusedLine}
 use Rattle.partial.specs.BoxList.{boxesText}
@@ -343,6 +344,25 @@ otherFlags =
       paper = pos 7 ∷ pos 1 ∷ pos 0 ∷ pos 7 ∷ pos 7 ∷ pos 0 ∷ pos 0 ∷ pos 7 ∷ [];
     }
 
+-- a `pfil` with two `surl`: URL `one` with MIME text `a/b`, then `two` with `c/de`
+abbrev twoUrls : List ℕ
+twoUrls =
+    0x00 ∷ 0x00 ∷ 0x00 ∷ 0x3d ∷ 0x70 ∷ 0x66 ∷ 0x69 ∷ 0x6c ∷
+    0x00 ∷ 0x00 ∷ 0x00 ∷ 0x0c ∷ 0x70 ∷ 0x66 ∷ 0x68 ∷ 0x64 ∷ 0x00 ∷ 0x00 ∷ 0x00 ∷ 0x00 ∷
+    0x00 ∷ 0x00 ∷ 0x00 ∷ 0x14 ∷ 0x73 ∷ 0x75 ∷ 0x72 ∷ 0x6c ∷ 0x00 ∷ 0x00 ∷ 0x00 ∷ 0x00 ∷
+    0x6f ∷ 0x6e ∷ 0x65 ∷ 0x00 ∷ 0x61 ∷ 0x2f ∷ 0x62 ∷ 0x00 ∷
+    0x00 ∷ 0x00 ∷ 0x00 ∷ 0x15 ∷ 0x73 ∷ 0x75 ∷ 0x72 ∷ 0x6c ∷ 0x00 ∷ 0x00 ∷ 0x00 ∷ 0x00 ∷
+    0x74 ∷ 0x77 ∷ 0x6f ∷ 0x00 ∷ 0x63 ∷ 0x2f ∷ 0x64 ∷ 0x65 ∷ 0x00 ∷ []
+
+-- "The URL and the MIME text of the first `surl`"
+abbrev firstTexts : Example
+firstTexts =
+    let f = take 20 begunBytes ++ (twoUrls ++ added (openAt 0)) in
+    record {
+      defined = map pos (bytesIn f (textOf url sourceLimit f) ++ bytesIn f (textOf mime sourceLimit f));
+      paper = map pos (ascii "onea/b");
+    }
+
 -- a `uuid` box's header in the two forms, up to its user type, with that size
 abbrev vendor : ℕ → List ℕ
 vendor size = bytesOf 4 size ++ bytesOf 4 uuid
@@ -578,7 +598,7 @@ servedFar =
 unfoldable pub table : List Example
 table =
     P1 ∷ P2 ∷ P3 ∷ P4 ∷ P5 ∷ P6 ∷ P7 ∷ P8 ∷ P9 ∷ P10 ∷ P11 ∷ P12 ∷
-    missmap10 ∷ missmap11 ∷ rowsFit ∷ rowsShort ∷ ahead ∷ overHeader ∷ damagedBytes ∷ openLast ∷ sizesDiffer ∷ sizesAgree ∷ otherFlags ∷
+    missmap10 ∷ missmap11 ∷ rowsFit ∷ rowsShort ∷ ahead ∷ overHeader ∷ damagedBytes ∷ openLast ∷ sizesDiffer ∷ sizesAgree ∷ otherFlags ∷ firstTexts ∷
     vendorForms ∷ largeVendorForms ∷ boxes3 ∷
     begunMixed ∷ wholeServed ∷ notWhole ∷ byBrand ∷ storedOutside ∷ outsideWrong ∷
     elsewhereRead ∷ elsewhereMissing ∷ elsewhereStored ∷ elsewhereWrong ∷
