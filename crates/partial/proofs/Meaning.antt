@@ -2,6 +2,7 @@
 pub mod AgreementLaws
 pub mod AlikeLaws
 pub mod DescribedLaws
+pub mod EdgeLaws
 pub mod KnownLaws
 pub mod ListingLaws
 pub mod MappedLaws

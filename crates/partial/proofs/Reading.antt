@@ -11,3 +11,4 @@ pub mod RaisedLaws
 pub mod ReadingLaws
 pub mod RefusalLaws
 pub mod RowLaws
+pub mod TextLengthLaws

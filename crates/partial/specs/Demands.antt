@@ -232,6 +232,13 @@ pub record Printed (of : List Segment → List ℕ) (limit most : ℕ) (input : 
       → length buffer < length (textFor of limit most input)
       → textWritten (textFor of limit most input) buffer ≡ refused 33
 
+-- a program that lends a buffer of so many bytes for its text does not answer 33, whatever it takes and is given
+abbrev pub NeverShort : (List Segment → List ℕ) → ℕ → ℕ → Type 0
+NeverShort of limit room =
+    (most : ℕ) (input buffer : List ℕ)
+    → length buffer ≡ room
+    → textWritten (textFor of limit most input) buffer ≡ given (length (textFor of limit most input))
+
 -- document 02, [1]: what the program prints that lists the boxes of its input, whatever the most is that it takes
 pub record BoxesPrinted (most : ℕ) (input : List ℕ) : Type 0 where
   -- 27 and 1 come first

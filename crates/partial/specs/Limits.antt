@@ -20,3 +20,7 @@ sourceLimit = 1_099_511_627_775
 -- bytes that the map program takes
 abbrev pub programLimit : ℕ
 programLimit = 65_536
+
+-- bytes of the buffer that a program lends for its text, `io::large_buffer`
+abbrev pub programBuffer : ℕ
+programBuffer = 65_536

@@ -14,7 +14,7 @@ use Rattle.partial.specs.Sequences.{someOf, sum, within}
 use Rattle.partial.specs.Ranges.{Range, joined, ranges, ofClass, total, among, apart, inRow}
 
 -- the positions from p to an end, cut into maximal ranges of one class, the first of them from p to q
-data Cut (class : ℕ → ℕ) (end : ℕ) : ℕ → List Range → Type 0 where
+pub data Cut (class : ℕ → ℕ) (end : ℕ) : ℕ → List Range → Type 0 where
   done : {p : ℕ} → p ≡ end → Cut class end p []
   next : {p q : ℕ} {rs : List Range}
       → p < q
@@ -55,12 +55,12 @@ module _ (class : ℕ → ℕ) where
         | no d ↦ rw parts (alone (λ h e. d (sym e)) (next some same differs rest))
       ]
 
-  cut : (k p : ℕ) → Cut class (p + k) p (ranges class k p)
+  pub cut : (k p : ℕ) → Cut class (p + k) p (ranges class k p)
   unfolding ranges
   cut zero p = done {p = p} (omega arith)
   cut (suc k) p = one-more (rw (add-suc p k) (rw (suc-add p k) at (cut k (suc p))))
 
-  ordered : {end p : ℕ} {rs : List Range} → Cut class end p rs → p ≤ end
+  pub ordered : {end p : ℕ} {rs : List Range} → Cut class end p rs → p ≤ end
   ordered (done e) = omega arith
   ordered (next some same differs rest) = omega (arith, ordered rest)
 

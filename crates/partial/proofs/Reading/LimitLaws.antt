@@ -1,10 +1,12 @@
--- Laws of the limits: an accepted file has no more chunks than its limit, and its described length is no higher than the source may be.
+-- Laws of the limits: an accepted file has no more segments and chunks than are taken, and its described length is no
+-- higher than the source may be.
 use Prim.Native.Nat.{ℕ, zero, suc, _+_, _≤_}
 use mathlib.Core.Bool.{Bool, true, false}
 use mathlib.Core.List.{List, [], _∷_, _++_, map}
 use mathlib.Core.Logic.{⊎-elim}
 use mathlib.Core.Option.{some, Option·getD}
 use mathlib.Core.Path.{_≡_, sym, ap, _∙_}
+use native.Mathlib.Nat.{add-zero}
 use native.Mathlib.Omega.{arith}
 use borrow.Author.Tests.{leb-true}
 use lib.Dec.{leb, eqb}
@@ -24,6 +26,25 @@ use Rattle.partial.proofs.Meaning.KnownLaws.{largest-both, described-op
 use Rattle.partial.proofs.Meaning.SequenceLaws.{which}
 use Rattle.partial.proofs.Meaning.SupplyLaws.{chunks-append}
 use Rattle.partial.proofs.Reading.KeptLaws.{stepped}
+
+-- there are as many segments as boxes
+module _ (limit : ℕ) (f : List ℕ) (h : Heading) where
+  pub segments-many : (bs : List Box) (before : List Segment) {ss : List Segment} → segmentsFrom limit f h before bs ≡ given ss
+      → length ss ≡ length before + length bs
+  unfolding segmentsFrom
+  segments-many [] before e = rw (given-same e) (sym (add-zero _))
+  segments-many (b ∷ bs) before e =
+      let (s, read, e1) = both-given (segment limit f h before b) _ e in
+      let rest = segments-many bs (before ++ (s ∷ [])) e1 in
+      omega (arith, length-append before (s ∷ []))
+
+  pub segments-limited : {ss : List Segment} → segments limit f h ≡ given ss → length ss ≤ segmentLimit
+  unfolding segments
+  segments-limited e =
+      let (few, e) = held 13 (leb (length (those pseg (h .boxes))) segmentLimit) _ e in
+      let (ss, read, e) = both-given (segmentsFrom limit f h [] (those pseg (h .boxes))) _ e in
+      let (_, same) = held 25 (agree ss) _ e in
+      omega (arith, leb-true (length (those pseg (h .boxes))) segmentLimit few, segments-many (those pseg (h .boxes)) [] read, ap length (given-same same))
 
 -- there are as many chunks as entries
 chunks-many : (limit : ℕ) (f : List ℕ) (h : Heading) (from : ℕ) (l : Ploc) (n : ℕ) (c : Cursor) {cs : List Chunk} → chunksFrom limit f h from l n c ≡ given cs → length cs ≡ n

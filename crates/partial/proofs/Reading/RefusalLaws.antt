@@ -188,7 +188,7 @@ module _ (limit : ℕ) where
   known-read : (n : ℕ) → T (beforeAgreement n) → OfReading n
   known-read n before = beside (ofStages n) (someOf (eqb n) (12 ∷ 26 ∷ [])) (known-file n before)
 
-  reading-only : (f : List ℕ) → Only OfReading (reading limit f)
+  pub reading-only : (f : List ℕ) → Only OfReading (reading limit f)
   unfolding reading within someOf
   reading-only f =
       only-then OfReading (heading f) _ (heading-only OfReading known-read f)

@@ -3,7 +3,6 @@ use Prim.Native.Nat.{ℕ, _+_, _^_, _≤_, _<_}
 use mathlib.Core.Bool.{Bool, true, false}
 use mathlib.Core.List.{List, [], _∷_, _++_, map}
 use mathlib.Core.Path.{_≡_, refl, sym, ap, subst, _∙_}
-use native.Mathlib.Nat.{add-zero}
 use native.Mathlib.Decide.{decLe}
 use native.Mathlib.Omega.{arith}
 use borrow.Author.Tests.{le-leb, lt-leb, leb-true}
@@ -32,6 +31,7 @@ use Rattle.partial.specs.Runs.{lent, fileIn, sizeAfter, append}
 use Rattle.partial.proofs.Writing.PlacedLaws.{list-formed, sizes-placed}
 use Rattle.partial.proofs.Reading.HeadingAppendLaws.{headed, heading-of, headed-appended, lies, boxes-lie, those-all, withBoxes}
 use Rattle.partial.proofs.Reading.KeptLaws.{segments-kept}
+use Rattle.partial.proofs.Reading.LimitLaws.{segments-many}
 use Rattle.partial.proofs.Writing.FieldsBackLaws.{sizes-eight}
 use Rattle.partial.proofs.Writing.WholeLaws.{allowed-other, filled-row, row-starts}
 use Rattle.partial.proofs.Writing.AddedBoxesLaws.{segmentBox, newBoxes, boxes-added, added-moved, those-new, data-low, length-added}
@@ -47,14 +47,6 @@ module _ (limit : ℕ) (f : List ℕ) (h : Heading) where
   segments-on (b ∷ bs) cs before e =
       let (s, read, e1) = both-given (segment limit f h before b) _ e in
       rw read (segments-on bs cs (before ++ (s ∷ [])) e1)
-
-  segments-many : (bs : List Box) (before : List Segment) {ss : List Segment} → segmentsFrom limit f h before bs ≡ given ss → length ss ≡ length before + length bs
-  unfolding segmentsFrom
-  segments-many [] before e = rw (given-same e) (sym (add-zero _))
-  segments-many (b ∷ bs) before e =
-      let (s, read, e1) = both-given (segment limit f h before b) _ e in
-      let rest = segments-many bs (before ++ (s ∷ [])) e1 in
-      omega (arith, length-append before (s ∷ []))
 
 -- an addition, right in itself, to a file that append takes
 pub record Offered (limit : ℕ) (f : List ℕ) (h : Heading) (ss : List Segment) (a : Addition) : Type 0 where
