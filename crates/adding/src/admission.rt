@@ -5,7 +5,7 @@ use crate::layout::Layout;
 use boxes::limits::BOX_LIMIT;
 use boxes::refusals::TOO_MANY_BOXES;
 use ends::sizes::gives_size;
-use fields::sums::ends_by;
+use numerals::order::ends_by;
 use outside::chunks::Outside;
 use partial::answers::Written;
 use partial::header::SegmentHeader;

@@ -1,7 +1,8 @@
 // The chunk list of an addition, counted in one pass.
 use fields::state::ELSEWHERE;
 use fields::state::present;
-ghost use Prim.Native.Nat.{_+_, _-_, _<_, _≤_, _^_, min, max};
+use numerals::order::larger;
+ghost use Prim.Native.Nat.{_+_, _-_, _<_, _≤_, _^_, min};
 ghost use mathlib.Core.Bool.{not, _&&_};
 ghost use mathlib.Core.List.{List, [], _∷_, _++_};
 ghost use mathlib.Core.Path.{_≡_};
@@ -26,13 +27,6 @@ pub(crate) fn sum_of(a: u64, b: u64) -> u64
     ensures { λ r. ⌜ r ≡ min (a + b) (2 ^ 64 - 1) ⌝ }
 {
     if u64::MAX - a < b { u64::MAX } else { a + b }
-}
-
-// The larger of two sizes.
-fn larger(a: u64, b: u64) -> u64
-    ensures { λ r. ⌜ r ≡ max a b ⌝ }
-{
-    if a < b { b } else { a }
 }
 
 // Whether items are right with one more: its size is not 0, and its state is one.

@@ -1,6 +1,6 @@
 // What the ends of segments say of the size of the source, gathered segment by segment.
+use numerals::order::larger;
 use partial::header::SegmentHeader;
-ghost use Prim.Native.Nat.{max};
 ghost use mathlib.Core.List.{List, [], _∷_, _++_};
 ghost use mathlib.Core.Path.{_≡_};
 ghost use lib.ListN.{length};
@@ -24,13 +24,6 @@ pub fn gives_size(flags: u64, count: u64) -> bool
         return false;
     }
     count != 0
-}
-
-// The larger of two ends.
-fn larger(a: u64, b: u64) -> u64
-    ensures { λ r. ⌜ r ≡ max a b ⌝ }
-{
-    if a < b { b } else { a }
 }
 
 impl Sizes {

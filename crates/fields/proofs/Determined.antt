@@ -8,7 +8,6 @@ use Rattle.fields.proofs.fields.fields_of.Reads as fields-of
 use Rattle.fields.proofs.location.location_of.Reads as location-of
 use Rattle.fields.proofs.state.present.Reads as present
 use Rattle.fields.proofs.state.state_of.Reads as state-of
-use Rattle.fields.proofs.sums.ends_by.Reads as ends-by
 
 fields-of-result : OneResult fields-of.Post
 fields-of-result κs args x y after after′ p q = fields-told x y (p ∙ sym q)
@@ -21,9 +20,6 @@ state-of-result κs args x y after after′ p q = state-told x y (p ∙ sym q)
 
 present-result : OneResult present.Post
 present-result κs args x y after after′ p q = p ∙ sym q
-
-ends-by-result : OneResult ends-by.Post
-ends-by-result κs args x y after after′ p q = p ∙ sym q
 
 entry-at-result : OneResult entry-at.Post
 entry-at-result κs args x y after after′ p q = entry-told x y (p ∙ sym q)

@@ -3,13 +3,14 @@ use crate::location::Location;
 use crate::state::StateRead;
 use crate::state::present;
 use crate::state::state_of;
-use crate::sums::ends_by;
 use numerals::numbers::Offset;
 use numerals::numbers::signed;
 use numerals::numbers::unsigned;
+use numerals::numbers::within;
+use numerals::order::ends_by;
 use numerals::place::Place;
 use partial::refusals::PLOC_WRONG;
-ghost use Prim.Native.Nat.{_<_, min};
+ghost use Prim.Native.Nat.{_<_};
 ghost use mathlib.Core.Path.{_≡_};
 ghost use Rattle.partial.specs.Entries.{entry};
 ghost use Rattle.fields.specs.Entry.{offsetBytes, entryRest, entryAnswer};
@@ -29,19 +30,12 @@ pub enum EntryRead {
     Given(Entry),
 }
 
-// A width over 8 counts as 8, as it does where its number is read.
-fn counted(width: usize) -> usize
-    ensures { λ r. ⌜ r ≡ min width 8 ⌝ }
-{
-    if width < 8 { width } else { 8 }
-}
-
 // The bytes of an offset in an entry of that state: a chunk that is not present has none.
 fn offset_size(l: Location, state: u64) -> usize
     ensures { λ r. ⌜ r ≡ offsetBytes (plocOf l) state ⌝ }
 {
     if present(state) {
-        counted(l.offset_size)
+        within(l.offset_size)
     } else {
         0
     }
@@ -54,7 +48,7 @@ fn rest_of(s: &[u8], l: Location, at: Place, state: u64) -> EntryRead
 {
     let end = l.end;
     let size_at = Place(at.0 + 1);
-    let length_size = counted(l.length_size);
+    let length_size = within(l.length_size);
     let offset_size = offset_size(l, state);
     if !ends_by(size_at.0, (length_size + offset_size) as u64, end.0) {
         return EntryRead::Refused(PLOC_WRONG);

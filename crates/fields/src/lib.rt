@@ -4,4 +4,3 @@ pub mod entry;
 pub mod fields;
 pub mod location;
 pub mod state;
-pub mod sums;

@@ -1,7 +1,7 @@
 // The head of a `ploc`.
-use crate::sums::ends_by;
 use boxes::framing::Framed;
 use numerals::numbers::unsigned;
+use numerals::order::ends_by;
 use numerals::place::Place;
 use partial::refusals::DATA_ELSEWHERE;
 use partial::refusals::PLOC_WRONG;

@@ -7,6 +7,10 @@ use Rattle.numerals.proofs.numbers.signed.Reads as signed
 use Rattle.numerals.proofs.numbers.unsigned.Reads as unsigned
 use Rattle.numerals.proofs.numbers.width_of.Reads as width-of
 use Rattle.numerals.proofs.numbers.width_of_offset.Reads as width-of-offset
+use Rattle.numerals.proofs.numbers.within.Reads as within
+use Rattle.numerals.proofs.order.ends_by.Reads as ends-by
+use Rattle.numerals.proofs.order.larger.Reads as larger
+use Rattle.numerals.proofs.order.smaller.Reads as smaller
 
 module _ {L : Type 0} {A R E : L → Type 0} (post : (κs : L) → A κs → R κs → E κs → Type 0) where
   -- a contract allows one result
@@ -27,6 +31,9 @@ module _ {L : Type 0} {A R E : L → Type 0} (post : (κs : L) → A κs → R �
       → post κs args x after
       → post κs args y after′
       → x ≡ y
+
+within-result : OneResult within.Post
+within-result κs args x y after after′ p q = p ∙ sym q
 
 unsigned-result : OneResult unsigned.Post
 unsigned-result κs args x y after after′ p q = p ∙ sym q
@@ -51,3 +58,12 @@ width-of-result κs args x y after after′ p q = p ∙ sym q
 
 width-of-offset-result : OneResult width-of-offset.Post
 width-of-offset-result κs args x y after after′ p q = p ∙ sym q
+
+smaller-result : OneResult smaller.Post
+smaller-result κs args x y after after′ p q = p ∙ sym q
+
+larger-result : OneResult larger.Post
+larger-result κs args x y after after′ p q = p ∙ sym q
+
+ends-by-result : OneResult ends-by.Post
+ends-by-result κs args x y after after′ p q = p ∙ sym q

@@ -16,7 +16,7 @@ pub enum Offset {
 }
 
 // A width over 8 counts as 8.
-fn within(width: usize) -> usize
+pub fn within(width: usize) -> usize
     ensures { λ r. ⌜ r ≡ min width 8 ⌝ }
 {
     if width < 8 { width } else { 8 }

@@ -6,7 +6,7 @@ use boxes::framing::Framed;
 use fields::entry::EntryRead;
 use fields::entry::entry_at;
 use fields::location::Location;
-use fields::sums::ends_by;
+use numerals::order::ends_by;
 use numerals::place::Place;
 use partial::limits::SOURCE_LIMIT;
 use partial::position::Position;

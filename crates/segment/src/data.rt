@@ -5,7 +5,7 @@ use boxes::framing::Framed;
 use boxes::framing::Header;
 use boxes::framing::header_at;
 use boxes::kinds::PDAT;
-use fields::sums::ends_by;
+use numerals::order::ends_by;
 use numerals::place::Place;
 ghost use mathlib.Core.Path.{_≡_};
 ghost use Rattle.boxes.specs.Framing.{boxOf};

@@ -2,10 +2,10 @@
 use crate::put::join_span;
 use fields::state::DAMAGED;
 use fields::state::GOOD;
+use numerals::order::smaller;
 use partial::position::Position;
 use segment::chunk::Chunk;
 use supplying::rows::chunk_at;
-use supplying::runs::smaller;
 ghost use Prim.Native.Nat.{_+_, _*_, _≤_};
 ghost use mathlib.Core.Path.{_≡_};
 ghost use lib.ListN.{length};

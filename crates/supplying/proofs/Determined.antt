@@ -5,16 +5,12 @@ use Rattle.boxes.proofs.ToldLaws.{Tells}
 use Rattle.segment.specs.Chunk.{chunkOf}
 use Rattle.supplying.proofs.rows.chunk_at.Reads as chunk-at
 use Rattle.supplying.proofs.runs.run_at.Reads as run-at
-use Rattle.supplying.proofs.runs.smaller.Reads as smaller
 
 chunk-told : Tells chunkOf
 chunk-told c d e = λ i. record { start = record { 0 = e i .start }; size = e i .size; state = e i .state; place = record { 0 = e i .place } }
 
 chunk-at-result : OneResult chunk-at.Post
 chunk-at-result κs args x y after after′ p q = chunk-told x y (p ∙ sym q)
-
-smaller-result : OneResult smaller.Post
-smaller-result κs args x y after after′ p q = p ∙ sym q
 
 run-at-result : OneResult run-at.Post
 run-at-result κs args x y after after′ p q = p ∙ sym q

@@ -11,14 +11,14 @@ use Rattle.fields.proofs.entry.rest_of.Statement.{statement}
 use Rattle.fields.proofs.entry.rest_of.Tie as tie
 
 -- the entry ends by the end
-room : (c : tie.Else1) → let a = c .before .before .before .before .before .before .before .args in a .at .0 + 1 + (c .before .before .before .counted .result + c .before .before .offset-size .result) ≤ a .l .end .0
+room : (c : tie.Else1) → let a = c .before .before .before .before .before .before .before .args in a .at .0 + 1 + (c .before .before .before .within .result + c .before .before .offset-size .result) ≤ a .l .end .0
 room c = leb-true _ _ (sym (c .before .ends-by .ensures) ∙ not-false _ (c .if1 .left))
 
 add-ends-by : tie.Need-add-ends-by
 add-ends-by c = search needs
 
-counted-requires : tie.Need-counted-requires
-counted-requires c κs = search needs
+within-requires : tie.Need-within-requires
+within-requires c κs = search needs
 
 offset-size-requires : tie.Need-offset-size-requires
 offset-size-requires c κs = search needs
@@ -26,7 +26,7 @@ offset-size-requires c κs = search needs
 add-ends-by-2 : tie.Need-add-ends-by-2
 add-ends-by-2 c =
     let a = c .before .before .before .before .before .args in
-    omega (arith, bytes-most (plocOf (a .l)) (a .state), c .offset-size .ensures, c .before .counted .ensures)
+    omega (arith, bytes-most (plocOf (a .l)) (a .state), c .offset-size .ensures, c .before .within .ensures)
 
 ends-by-requires : tie.Need-ends-by-requires
 ends-by-requires c κs = search needs
@@ -35,7 +35,7 @@ returns : tie.Need-returns
 unfolding entryAnswer
 returns c =
     let e = c .before in
-    sym (rest-cut _ _ _ _ (e .before .before .counted .ensures) (e .before .offset-size .ensures) (sym (e .ends-by .ensures) ∙ not-true _ (c .if1 .taken)))
+    sym (rest-cut _ _ _ _ (e .before .before .within .ensures) (e .before .offset-size .ensures) (sym (e .ends-by .ensures) ∙ not-true _ (c .if1 .taken)))
 
 add-t14 : tie.Need-add-t14
 add-t14 c = omega (arith, room (c .before))
@@ -54,14 +54,14 @@ unfolding entryAnswer
 returns-2 c =
     let e = c .before .before .before .before .before in
     sym
-    (rest-whole _ _ _ _ (e .before .before .counted .ensures) (e .before .offset-size .ensures) (sym (e .ends-by .ensures) ∙ not-false _ (c .before .before .before .before .if1 .left)) (omega arith) (omega arith) (c .before .before .unsigned .ensures) (c .before .signed .ensures))
+    (rest-whole _ _ _ _ (e .before .before .within .ensures) (e .before .offset-size .ensures) (sym (e .ends-by .ensures) ∙ not-false _ (c .before .before .before .before .if1 .left)) (omega arith) (omega arith) (c .before .before .unsigned .ensures) (c .before .signed .ensures))
 
 pub rest-of-spec : {M : Type 1} → statement M
 rest-of-spec =
     tie.close
     (tie.spec
     add-ends-by
-    counted-requires
+    within-requires
     offset-size-requires
     add-ends-by-2
     ends-by-requires

@@ -1,11 +1,11 @@
--- `fields::sums::ends_by` meets its contract: what is left of the end is compared instead of the sum.
+-- `numerals::order::ends_by` meets its contract: what is left of the end is compared instead of the sum.
 use mathlib.Core.Path.{sym, _∙_}
 use native.Mathlib.Decide.{decLe}
 use native.Mathlib.Omega.{arith}
 use Prim.Native.Nat.{_+_, _-_}
 use borrow.Author.Tests.{le-leb, lt-leb}
-use Rattle.fields.proofs.sums.ends_by.Statement.{statement}
-use Rattle.fields.proofs.sums.ends_by.Tie as tie
+use Rattle.numerals.proofs.order.ends_by.Statement.{statement}
+use Rattle.numerals.proofs.order.ends_by.Tie as tie
 
 returns : tie.Need-returns
 returns c =
