@@ -14,7 +14,7 @@ use Rattle.boxes.specs.Framing.{Box}
 use Rattle.boxes.specs.Kinds.{is, those, keeps, containerNo, rightCount, right, noBox, boxAt, firstOf}
 use Rattle.boxes.specs.declared.kinds.Container.{Container}
 use Rattle.boxes.specs.declared.kinds.Count.{Count}
-use Rattle.boxes.specs.declared.kinds.Count.the-variants.{One, OneOrMore, Any}
+use Rattle.boxes.specs.declared.kinds.Count.the-variants.{One, OneOrMore}
 use Rattle.boxes.specs.declared.kinds.Kind.{Kind}
 
 -- ---- the box of a number
@@ -210,7 +210,3 @@ module _ (k : Kind) where
     pub some-right : k .count ≡ OneOrMore → 1 ≤ length (those k bs) → right (k .container) k bs ≡ true
     unfolding keeps
     some-right rule h = right-by rule ∙ le-leb 1 (length (those k bs)) h
-
-    pub any-right : k .count ≡ Any → right (k .container) k bs ≡ true
-    unfolding keeps
-    any-right rule = right-by rule

@@ -45,10 +45,6 @@ number-same s t a b (suc w) same =
 pub number-append : (s t : List ℕ) (at w : ℕ) → at + w ≤ length s → number (s ++ t) at w ≡ number s at w
 number-append s t at w h = number-same (s ++ t) s at at w (λ k l. List·getD-append s t 0 (at + k) (omega arith))
 
--- what precedes a list moves its numbers
-pub number-behind : (s t : List ℕ) (at w : ℕ) → number (s ++ t) (length s + at) w ≡ number t at w
-number-behind s t at w = number-same (s ++ t) t (length s + at) at w (λ k l. rw add-assoc (getD-append-add s t (at + k) 0))
-
 -- ---- what w bytes can hold
 
 -- a byte more is below a power of 256 more

@@ -2,15 +2,15 @@
 use mathlib.Core.Path.{_≡_, refl, ap}
 use mathlib.Core.Bool.{true}
 use mathlib.Core.List.{List, _++_}
-use Prim.Native.Nat.{ℕ, zero, suc, _+_, _-_, _*_, _/_, _^_, _≤_, _<_, zero-le}
+use Prim.Native.Nat.{ℕ, zero, suc, _+_, _-_, _*_, _/_, _^_, _≤_, _<_}
 use native.Mathlib.Nat.{mod-self, sub-zero}
 use native.Mathlib.Omega.{arith}
 use borrow.Author.Tests.{lt-ltb, le-ltb}
 use lib.ListN.{length}
-use Rattle.numerals.specs.Numbers.{number, bytesOf, signed, twosComplement, holdsOffset, valueOf}
+use Rattle.numerals.specs.Numbers.{number, bytesOf, signed, twosComplement, holdsOffset}
 use Rattle.numerals.specs.declared.numbers.Offset.{Offset}
 use Rattle.numerals.specs.declared.numbers.Offset.the-variants.{Ahead, Back}
-use Rattle.numerals.proofs.NumberLaws.{bytesOf-mod, number-bytesOf, number-bytesOf-mod, power-pos}
+use Rattle.numerals.proofs.NumberLaws.{bytesOf-mod, number-bytesOf, power-pos}
 use Rattle.numerals.proofs.WidthLaws.{ahead-below, back-within}
 
 -- By the largest number of w bytes, since 256 to the 8 is past 64 bits.
@@ -59,12 +59,3 @@ twosComplement-below w (Back (suc n)) h some = omega (arith, power-pos w)
 pub offset-back : (p t : List ℕ) (w : ℕ) (z : Offset) → holdsOffset w z ≡ true → (z ≡ Back 0 → ⊥)
     → signed w (number (p ++ (bytesOf w (twosComplement w z) ++ t)) (length p) w) ≡ z
 offset-back p t w z h some = rw (number-bytesOf p t w (twosComplement w z) (twosComplement-below w z h some)) (signed-twosComplement w z h)
-
--- the same of the value, which both names of 0 have
-pub value-back : (p t : List ℕ) (w : ℕ) (z : Offset) → holdsOffset w z ≡ true
-    → valueOf (signed w (number (p ++ (bytesOf w (twosComplement w z) ++ t)) (length p) w)) ≡ valueOf z
-unfolding valueOf twosComplement
-value-back p t w (Ahead n) h = ap valueOf (offset-back p t w (Ahead n) h (λ e. let z : _≡_ {A = ℕ} 0 1 = cc in omega arith))
-value-back p t w (Back zero) h =
-    rw (number-bytesOf-mod p t w (256 ^ w - 0), sub-zero, mod-self, ← signed-ahead w 0 (256 ^ w - 1) (omega (arith, power-pos w)) zero-le)
-value-back p t w (Back (suc n)) h = ap valueOf (offset-back p t w (Back (suc n)) h (λ e. let z : _≡_ {A = ℕ} 0 1 = cc in omega arith))

@@ -2,15 +2,15 @@
 use mathlib.Core.Path.{_≡_, refl, sym, ap, _∙_}
 use mathlib.Core.Bool.{Bool, true, false}
 use mathlib.Core.List.{List, [], _∷_, _++_, append-assoc}
-use Prim.Native.Nat.{ℕ, zero, suc, _+_, _-_, _/_, _%_, _^_, _≤_, _<_}
+use Prim.Native.Nat.{ℕ, zero, suc, _+_, _-_, _/_, _%_, _≤_, _<_}
 use native.Mathlib.Nat.{le-refl, add-zero, add-assoc}
 use native.Mathlib.Omega.{arith}
 use borrow.Author.Tests.{le-leb, lt-leb}
 use lib.ListN.{length, take, drop, set, length-append, length-drop, length-set, take-append-drop}
 use lib.Seq.{length-take-le, drop-cons, drop-set-lt, take-set-le, getD-set-same, take-at, drop-at, drop-drop}
-use Rattle.numerals.specs.Numbers.{number, bytesOf}
+use Rattle.numerals.specs.Numbers.{bytesOf}
 use Rattle.numerals.specs.Stored.{roomFor, stored, Stores}
-use Rattle.numerals.proofs.NumberLaws.{length-bytesOf, bytesOf-more, number-bytesOf-mod}
+use Rattle.numerals.proofs.NumberLaws.{length-bytesOf, bytesOf-more}
 
 module _ (s : List ℕ) (at : ℕ) (bytes : List ℕ) where
   -- with room: what was before, the bytes, what was after
@@ -122,11 +122,3 @@ module _ (held : Bool) (s : List ℕ) (at : ℕ) (bytes : List ℕ) where
     -- the same bytes of a value that is held as well
     pub stores-same : {held′ : Bool} {bytes′ : List ℕ} → held ≡ held′ → bytes ≡ bytes′ → Stores held′ s at bytes′ answer exit
     stores-same h e = rw (h, e) at stores
-
--- reading back a number where it was stored
-pub number-stored : (s : List ℕ) (at w n : ℕ) → at + w ≤ length s → number (stored s at (bytesOf w n)) at w ≡ n % 256 ^ w
-number-stored s at w n h =
-    let size : length (bytesOf w n) ≡ w = length-bytesOf w n in
-    let start : length (take at s) ≡ at = length-take-le at s (omega arith) in
-    rw (stored-room s at (bytesOf w n) (omega arith))
-    (rw start at (number-bytesOf-mod (take at s) (drop (at + length (bytesOf w n)) s) w n))

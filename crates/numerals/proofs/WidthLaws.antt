@@ -5,7 +5,7 @@ use Prim.Native.Nat.{ℕ, zero, suc, _+_, _-_, _*_, _/_, _%_, _^_, _≤_, _<_, z
 use mathlib.Core.Logic.{⊎-elim}
 use native.Mathlib.Nat.{eq-or-lt-of-le, pow-le-pow-right, zero-lt-suc, le-refl, add-zero, add-suc, suc-add}
 use native.Mathlib.Omega.{arith}
-use borrow.Author.Tests.{lt-ltb, le-ltb, le-leb, lt-leb, ltb-true, leb-true, leb-false}
+use borrow.Author.Tests.{lt-ltb, le-ltb, le-leb, ltb-true, leb-true, leb-false}
 use lib.Dec.{leb}
 use Rattle.numerals.specs.Numbers.{least, leastWidth, holds, holdsOffset}
 use Rattle.numerals.specs.declared.numbers.Offset.the-variants.{Ahead, Back}
@@ -53,15 +53,6 @@ module _ (test : ℕ → Bool) where
   least-passes (suc more) from h =
       step (λ w. test w ≡ true) more from (λ e. e) (λ e. least-passes more (suc from) (rw (add-suc, ← suc-add) at h))
 
-  -- no lesser one does
-  least-least : (more from k : ℕ) → from ≤ k → k < least test more from → test k ≡ false
-  unfolding least
-  least-least zero from k low = λ h. absurd (omega arith)
-  least-least (suc more) from k low =
-      step (λ w. k < w → test k ≡ false) more from
-      (λ e h. absurd (omega arith))
-      (λ e h. ⊎-elim (λ same. rw (← same) e) (λ above. least-least more (suc from) k above h) (eq-or-lt-of-le low))
-
   -- it is not past the last
   least-within : (more from : ℕ) → least test more from ≤ from + more
   unfolding least
@@ -77,10 +68,6 @@ module _ (test : ℕ → Bool) where
   pub leastWidth-passes : test 8 ≡ true → test (leastWidth test) ≡ true
   unfolding leastWidth
   leastWidth-passes h = least-passes 8 0 h
-
-  pub leastWidth-least : (k : ℕ) → k < leastWidth test → test k ≡ false
-  unfolding leastWidth
-  leastWidth-least k h = least-least 8 0 k zero-le h
 
   -- what a loop over the widths has shown when it ends
   pub leastWidth-is : (w : ℕ) → w ≤ 8 → ((k : ℕ) → k < w → test k ≡ false) → (w < 8 → test w ≡ true)
@@ -131,10 +118,6 @@ module _ (w n : ℕ) where
   unfolding holdsOffset
   below-ahead h = lt-ltb (2 * n) (256 ^ w) h
 
-  pub over-ahead : 256 ^ w ≤ 2 * n → holdsOffset w (Ahead n) ≡ false
-  unfolding holdsOffset
-  over-ahead h = le-ltb (2 * n) (256 ^ w) h
-
   pub ahead-below : holdsOffset w (Ahead n) ≡ true → 2 * n < 256 ^ w
   unfolding holdsOffset
   ahead-below h = ltb-true (2 * n) (256 ^ w) h
@@ -142,10 +125,6 @@ module _ (w n : ℕ) where
   pub within-back : 2 * n ≤ 256 ^ w → holdsOffset w (Back n) ≡ true
   unfolding holdsOffset
   within-back h = le-leb (2 * n) (256 ^ w) h
-
-  pub over-back : 256 ^ w < 2 * n → holdsOffset w (Back n) ≡ false
-  unfolding holdsOffset
-  over-back h = lt-leb (2 * n) (256 ^ w) h
 
   pub back-within : holdsOffset w (Back n) ≡ true → 2 * n ≤ 256 ^ w
   unfolding holdsOffset

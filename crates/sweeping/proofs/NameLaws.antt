@@ -19,11 +19,6 @@ use Rattle.sweeping.specs.declared.sweep.Sweep.{Sweep}
 use Rattle.sweeping.proofs.RangeLaws.{class-had, class-missing, range-of}
 use Rattle.sweeping.proofs.SweepLaws.{ready-start, ready-on}
 
--- without spans of damaged chunks there are two classes
-pub name-class : (good : List ℕ) (n : ℕ) (damaged : List ℕ) (q : ℕ) → nameBy good n damaged 0 q ≡ classBy good n q
-unfolding nameBy classBy coveredBy
-name-class good n damaged q = refl
-
 pub both-ready : (good damaged : List ℕ) (end p n m : ℕ) → BothReady good damaged end p (bothAtStart n m)
 both-ready good damaged end p n m = record { ofGood = ready-start good end p n; ofDamaged = ready-start damaged end p m }
 

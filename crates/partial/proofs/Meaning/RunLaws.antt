@@ -11,10 +11,8 @@ use borrow.Author.Tests.{eq-eqb, ne-eqb, eqb-true, ltb-true, ltb-false, lt-ltb, 
 use lib.Dec.{ltb, eqb}
 use lib.ListN.{length}
 use Rattle.partial.specs.Segments.{Chunk, Segment, good, chunksOf}
-use Rattle.partial.specs.Meaning.{covers, coversAs, supplies, supplier, supplied, describedLength, onward, servedRun, missingRun}
-use Rattle.partial.specs.Ranges.{classOf}
+use Rattle.partial.specs.Meaning.{covers, coversAs, supplies, supplier, supplied, onward, servedRun, missingRun}
 use Rattle.partial.proofs.Meaning.SequenceLaws.{which, both, inside, within-true}
-use Rattle.partial.proofs.Meaning.StretchLaws.{first-one, stretch-first}
 use Rattle.partial.proofs.Meaning.SupplyLaws.{supplier-here, supplier-on, supply}
 
 -- whether a good chunk begins after a position
@@ -139,22 +137,8 @@ run (c ∷ cs) p end some =
           ]
     ]
 
--- the runs of a position below the described length, served or missing
+-- where nothing supplies a position, its two runs are one
 module _ (ss : List Segment) (p : ℕ) where
-  pub served-run : p < describedLength ss → servedRun ss p ≡ runEnd (chunksOf ss) p (describedLength ss) - p
-  unfolding servedRun onward
-  served-run below =
-      let e = runEnd (chunksOf ss) p (describedLength ss) in
-      let r = run (chunksOf ss) p (describedLength ss) below in
-      let on : p + (e - p) ≡ e = omega arith in
-      first-one
-      (stretch-first _ (describedLength ss - p) p)
-      (record {
-        most = omega arith;
-        before = λ i h. eq-eqb (supplier (chunksOf ss) (p + i)) _ (r .same (p + i) (omega arith) (omega arith));
-        there = λ h. ne-eqb (supplier (chunksOf ss) (p + (e - p))) _ (λ f. r .differs (omega arith) (rw on at f));
-      })
-
   pub missing-run : supplied ss p ≡ false → missingRun ss p ≡ servedRun ss p
   unfolding missingRun servedRun supplied
   missing-run lacks =
@@ -169,8 +153,3 @@ module _ (ss : List Segment) (p : ℕ) where
         | yes a ↦ ap not (le-ltb m n a) ∙ sym (eq-eqb m _ (omega arith))
         | no b ↦ ap not (lt-ltb m n (omega arith)) ∙ sym (ne-eqb m _ (λ f. omega arith))
       ])
-
-  -- a run is of one class
-  pub run-class : {end e : ℕ} → Run (chunksOf ss) p end e → (q : ℕ) → p ≤ q → q < e → classOf ss q ≡ classOf ss p
-  unfolding classOf supplied
-  run-class r q from to = rw (classOf, r .same q from to)

@@ -1,6 +1,6 @@
 -- Laws of supply: which chunk supplies a position, in a list of chunks and after segments are added.
 use Prim.Native.Nat.{ℕ, suc, zero, _+_, _-_, _≤_, _<_}
-use mathlib.Core.Bool.{Bool, true, false, _&&_, _||_, false≢true}
+use mathlib.Core.Bool.{true, false, _||_, false≢true}
 use mathlib.Core.List.{List, [], _∷_, _++_, append-assoc}
 use mathlib.Core.Logic.{_⊎_, inl, inr}
 use mathlib.Core.Option.{Option, none, some}
@@ -65,7 +65,8 @@ supply (c ∷ cs) p =
           })
     ]
 
--- of two lists, one after the other: the first list's supplier if it has one, else the second's, counted on
+-- Of two lists, one after the other: the first list's supplier if it has one, else the second's, counted on.
+-- These two are for document 02, [14], "two additions .. whichever went first", which alone asks for them.
 module _ (cs ds : List Chunk) (p : ℕ) where
   pub supplier-first : supplier cs p < length cs → supplier (cs ++ ds) p ≡ supplier cs p
   supplier-first h =
@@ -112,6 +113,7 @@ module _ (ss : List Segment) where
   unfolding supplied
   supplied-some p = some-supplies (chunksOf ss) p
 
+  -- for document 02, [14], too
   pub supplied-append : (ts : List Segment) (p : ℕ) → supplied (ss ++ ts) p ≡ (supplied ss p || supplied ts p)
   unfolding supplied
   supplied-append ts p = simp (some-supplies, chunks-append, some-append)

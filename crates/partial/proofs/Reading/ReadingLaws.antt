@@ -19,7 +19,7 @@ use Rattle.partial.specs.Segments.{Chunk, Segment, chunksOf, hasPlace}
 use Rattle.partial.specs.Heading.{Heading, heading}
 use Rattle.partial.specs.Entries.{Ploc, Entry, entry, mayLie, offsetPlace, placeOf, chunksFrom, chunkStep, Cursor}
 use Rattle.partial.specs.Meaning.{agree}
-use Rattle.partial.specs.Reading.{segment, segmentsFrom, segments, reading, earlierSegments}
+use Rattle.partial.specs.Reading.{segment, segmentsFrom, segments, reading}
 use Rattle.partial.specs.Demands.{Mapped}
 use Rattle.partial.proofs.Reading.HeadingAppendLaws.{headed}
 use Rattle.partial.proofs.Reading.KeptLaws.{stepped}
@@ -113,15 +113,11 @@ module _ (limit : ℕ) (f : List ℕ) (h : Heading) where
       let all = segments-told [] (those pseg (h .boxes)) (record { order = tt; lie = refl }) read in
       subst (Accepted f h) (given-same g) (record { agreed = agreed; order = all .order; lie = all .lie; inside = heading-inside f head })
 
--- an accepted file's segments, and those that append takes, are those of its heading
+-- an accepted file's segments are those of its heading
 module _ (limit : ℕ) (f : List ℕ) {h : Heading} {ss : List Segment} (head : heading f ≡ given h) where
   pub reading-segments : reading limit f ≡ given ss → segments limit f h ≡ given ss
   unfolding reading
   reading-segments g = held 12 (right File pseg (h .boxes)) _ (rw (reading, head) at g) .1
-
-  pub earlier-segments : earlierSegments limit f ≡ given ss → segments limit f h ≡ given ss
-  unfolding earlierSegments
-  earlier-segments g = rw (earlierSegments, head) at g
 
   -- each source byte of an accepted file is served or listed missing
   pub read-mapped : reading limit f ≡ given ss → Mapped f h ss

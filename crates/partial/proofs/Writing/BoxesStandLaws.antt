@@ -1,4 +1,4 @@
--- Laws of boxes that stand in a file at a place: where their bodies stand, and that two of them are the boxes of the container that they fill.
+-- Laws of boxes that stand in a file at a place: where their bodies stand, and which of two are of a kind.
 use Prim.Native.Nat.{ℕ, _+_}
 use mathlib.Core.List.{List, [], _∷_, _++_}
 use mathlib.Core.Path.{_≡_, ap, _∙_}
@@ -7,7 +7,7 @@ use lib.ListN.{length}
 use Rattle.boxes.specs.Framing.{Box, frontSize, front, boxed}
 use Rattle.boxes.specs.declared.kinds.Kind.{Kind}
 use Rattle.boxes.specs.Kinds.{boxAt, is, those}
-use Rattle.boxes.proofs.BoxedLaws.{boxedAt, length-front, length-boxed, boxed-parts}
+use Rattle.boxes.proofs.BoxedLaws.{length-front, length-boxed, boxed-parts}
 use Rattle.boxes.proofs.KindLaws.{boxAt-getD, those-one, those-other, those-nil}
 use Rattle.partial.proofs.Writing.StandsLaws.{Stands, stands-left, stands-right}
 
@@ -18,9 +18,6 @@ stands-body g at kind body stands =
 
 -- two boxes, one after the other
 module _ (g : List ℕ) (at first second : ℕ) (one two : List ℕ) where
-  abbrev pub twoBoxes : List Box
-  twoBoxes = boxedAt at first (length one) ∷ boxedAt (at + (frontSize + length one)) second (length two) ∷ []
-
   -- the bodies of the two
   pub stands-two : Stands g at (boxed first one ++ boxed second two)
       → Stands g (at + frontSize) one × Stands g (at + (frontSize + length one) + frontSize) two
