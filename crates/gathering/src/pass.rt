@@ -2,7 +2,6 @@
 use crate::gathered::Gathered;
 use crate::step::SegmentRead;
 use crate::step::segment_of;
-use boxes::framing::Framed;
 use boxes::kinds::Container;
 use boxes::kinds::PSEG;
 use boxes::walk::Step;
@@ -11,6 +10,7 @@ use numerals::place::Place;
 use segment::tops::NO_TOP;
 use segment::tops::TOPS;
 use segment::tops::tops_of;
+use tallying::find::NO_BOX;
 ghost use mathlib.Core.Path.{_≡_};
 ghost use lib.ListN.{length};
 ghost use Rattle.boxes.specs.Answer.{given};
@@ -25,15 +25,6 @@ pub enum Passed {
     Given(Gathered),
 }
 
-// No box held a chunk before the first.
-const NO_BOX: Framed = Framed {
-    kind: 0,
-    at: Place(0),
-    user: Place(0),
-    body: Place(0),
-    end: Place(0),
-};
-
 // Judges the segments of a file, which is mixed or not, in their order, and puts the rows into the tables that have room for them all.
 pub fn pass(file: &[u8], mixed: bool, segments: &mut [u64], chunks: &mut [u64]) -> Passed
     ensures { λ r. ⌜ ((h : Heading) → boxesIn File (now (file .entry)) 0 (length (now (file .entry))) ≡ given (h .boxes) → mixed ≡ h .mixed → Gathers (now (file .entry)) h (now (segments .entry)) (now (segments .exit)) (now (chunks .entry)) (now (chunks .exit)) r) ⌝ }
@@ -42,6 +33,7 @@ pub fn pass(file: &[u8], mixed: bool, segments: &mut [u64], chunks: &mut [u64]) 
     tops_of(file, &mut tops);
     let mut walk = Walk::new(Container::File, Place(0), Place(file.len() as u64));
     let mut gathered = Gathered::none();
+    // No box held a chunk before the first.
     let mut last = NO_BOX;
     loop {
         match walk.step(file) {

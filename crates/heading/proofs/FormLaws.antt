@@ -2,23 +2,17 @@
 use Prim.Native.Nat.{ℕ, _+_, _-_, _%_, _≤_}
 use mathlib.Core.Bool.{Bool, true, false, not, _&&_}
 use mathlib.Core.List.{List, [], _∷_}
-use mathlib.Core.Path.{_≡_, refl, sym, ap, _∙_}
+use mathlib.Core.Path.{_≡_, sym, _∙_}
 use native.Mathlib.Omega.{arith}
 use borrow.Author.Tests.{not-true, not-false}
 use lib.Dec.{leb, eqb}
-use Rattle.boxes.specs.Answer.{given}
-use Rattle.boxes.specs.Framing.{Box, boxesIn, boxOf}
-use Rattle.boxes.specs.Kinds.{ftyp, pfil, surl, kinds, is, those, rightCount, right, boxAt}
+use Rattle.boxes.specs.Framing.{Box, boxOf}
+use Rattle.boxes.specs.Kinds.{ftyp, pfil, surl, is, those, right, boxAt}
 use Rattle.numerals.specs.Numbers.{number}
 use Rattle.boxes.specs.declared.framing.Framed.{Framed}
-use Rattle.boxes.specs.declared.kinds.Container.{Container}
 use Rattle.boxes.specs.declared.kinds.Container.the-variants.{File}
-use Rattle.boxes.specs.declared.kinds.Kind.{Kind}
 use Rattle.boxes.proofs.KindLaws.{those-nil, those-one, those-other}
 use Rattle.boxes.proofs.ToldLaws.{box-fields}
-use Rattle.tallying.specs.Rules.{tallyOf, tallyFor}
-use Rattle.tallying.specs.declared.tally.Tally.{Tally}
-use Rattle.tallying.proofs.RuleLaws.{has, tally-given, tally-sound, tally-right}
 use Rattle.partial.specs.Heading.{ftypRight, pfilRight, pfhdFormed, text, url, mime, surlFormed}
 use Rattle.partial.specs.Sequences.{allOf}
 use Rattle.heading.proofs.TextLaws.{text-most}
@@ -29,20 +23,6 @@ refuted {r} answer h = sym answer ∙ not-true r h
 
 pub upheld : {r x : Bool} → r ≡ x → not r ≡ false → x ≡ true
 upheld {r} answer h = sym answer ∙ not-false r h
-
--- a tally that tells no fault counts the boxes of its container
-pub tally-known : (c : Container) (s : List ℕ) (start end : ℕ) {t : Tally} → t ≡ tallyOf (boxesIn c s start end) → t .fault ≡ 0
-    → (bs : List Box) × (boxesIn c s start end ≡ given bs) × (t ≡ tallyOf (given bs))
-tally-known c s start end answer sound =
-    let (bs, known, tallied) = tally-sound c s start end answer sound in
-    (bs, known, answer ∙ ap tallyOf known)
-
--- a count rule that was held against a tally is held against the boxes
-pub rule-kept : {t : Tally} (bs : List Box) → t ≡ tallyOf (given bs) → (c : Container) (k : Kind) → has kinds k ≡ true → {n : ℕ} {r : Bool}
-    → n ≡ tallyFor k (t .counts)
-    → r ≡ rightCount c k n
-    → r ≡ right c k bs
-rule-kept bs tallied c k known counted kept = kept ∙ ap (rightCount c k) counted ∙ tally-right c k known (tally-given tallied refl)
 
 module _ (b : Framed) (bs : List Box) where
   pub ftyp-tests : boxOf b ≡ boxAt 0 bs

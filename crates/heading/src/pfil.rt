@@ -1,7 +1,6 @@
 // Refusals 9 to 11: the `pfil` box, the framing of its body, and the `pfhd` and the `surl` boxes in it.
 use crate::answers::Head;
 use crate::answers::Headed;
-use crate::find::first_of;
 use crate::surl::mime_of;
 use crate::surl::surl_formed;
 use crate::surl::url_of;
@@ -17,6 +16,7 @@ use numerals::numbers::unsigned;
 use numerals::place::Place;
 use partial::refusals::PFHD_WRONG;
 use partial::refusals::SURL_WRONG;
+use tallying::find::first_of;
 use tallying::rules::keeps;
 use tallying::rules::tally;
 use tallying::tally::Tally;

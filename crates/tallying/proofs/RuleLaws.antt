@@ -194,3 +194,17 @@ module _ (c : Container) (s : List ℕ) (start end : ℕ) {t : Tally} (answer : 
 -- a rule held against a tally is held against the boxes
 pub tally-right : (c : Container) (k : Kind) → has kinds k ≡ true → {t : Tally} {bs : List Box} → Tallied t bs → rightCount c k (tallyFor k (t .counts)) ≡ right c k bs
 tally-right c k h {bs = bs} tallied = ap (rightCount c k) (tallied .of k h) ∙ sym (right-count c k bs)
+
+-- a tally that tells no fault counts the boxes of its container
+pub tally-known : (c : Container) (s : List ℕ) (start end : ℕ) {t : Tally} → t ≡ tallyOf (boxesIn c s start end) → t .fault ≡ 0
+    → (bs : List Box) × (boxesIn c s start end ≡ given bs) × (t ≡ tallyOf (given bs))
+tally-known c s start end answer sound =
+    let (bs, known, tallied) = tally-sound c s start end answer sound in
+    (bs, known, answer ∙ ap tallyOf known)
+
+-- a count rule that was held against a tally is held against the boxes
+pub rule-kept : {t : Tally} (bs : List Box) → t ≡ tallyOf (given bs) → (c : Container) (k : Kind) → has kinds k ≡ true → {n : ℕ} {r : Bool}
+    → n ≡ tallyFor k (t .counts)
+    → r ≡ rightCount c k n
+    → r ≡ right c k bs
+rule-kept bs tallied c k known counted kept = kept ∙ ap (rightCount c k) counted ∙ tally-right c k known (tally-given tallied refl)

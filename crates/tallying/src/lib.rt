@@ -1,3 +1,4 @@
-// How many boxes of each kind a container holds, held against the table.
+// How many boxes of each kind a container holds, held against the table, and the first of a kind.
+pub mod find;
 pub mod rules;
 pub mod tally;

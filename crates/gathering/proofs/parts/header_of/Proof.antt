@@ -5,7 +5,7 @@ use Rattle.boxes.specs.Kinds.{pshd}
 use Rattle.boxes.specs.declared.kinds.Container.the-variants.{Pseg}
 use Rattle.boxes.proofs.ToldLaws.{header-found, header-fault}
 use Rattle.fields.proofs.FieldsLaws.{fields-given, fields-refused}
-use Rattle.heading.proofs.FormLaws.{rule-kept}
+use Rattle.tallying.proofs.RuleLaws.{rule-kept}
 use Rattle.gathering.specs.Parts.{pshdAnswer}
 use Rattle.gathering.proofs.PartsLaws.{header-lone, first-sound, first-other, first-by}
 use borrow.Author.Needs.{needs}

@@ -4,9 +4,8 @@ use borrow.Author.Tests.{not-true, not-false}
 use Rattle.boxes.specs.Kinds.{ploc, surl}
 use Rattle.boxes.specs.declared.kinds.Container.the-variants.{Pseg}
 use Rattle.tallying.specs.Rules.{tallyOf}
-use Rattle.tallying.proofs.RuleLaws.{tally-fault, tally-sound}
+use Rattle.tallying.proofs.RuleLaws.{tally-fault, tally-sound, rule-kept}
 use Rattle.partial.specs.Entries.{plocHead}
-use Rattle.heading.proofs.FormLaws.{rule-kept}
 use Rattle.gathering.specs.Parts.{partsAnswer}
 use Rattle.gathering.proofs.PartsLaws.{parts-fault, parts-header, parts-lone, parts-source, parts-by, pshd-given, pshd-refused}
 use Rattle.fields.proofs.LocationLaws.{location-given, location-refused}

@@ -9,7 +9,7 @@ use Rattle.boxes.specs.Framing.{boxesIn, boxLimit}
 use Rattle.boxes.specs.Kinds.{pseg}
 use Rattle.boxes.specs.declared.kinds.Container.the-variants.{File}
 use Rattle.boxes.proofs.WalkLaws.{fewer, next-box, no-more, a-fault, walk-boxes, over-left}
-use Rattle.heading.proofs.FoundLaws.{is-kind, is-other}
+use Rattle.tallying.proofs.FoundLaws.{is-kind, is-other}
 use Rattle.partial.specs.Heading.{Heading}
 use Rattle.partial.specs.Limits.{chunkLimit}
 use Rattle.partial.specs.Segments.{chunksOf}

@@ -5,7 +5,8 @@ use borrow.Author.Needs.{needs}
 use Rattle.boxes.specs.Kinds.{boxAt}
 use Rattle.boxes.proofs.ToldLaws.{box-fields}
 use Rattle.boxes.proofs.WalkLaws.{fewer, next-box, no-more, a-fault}
-use Rattle.heading.proofs.FoundLaws.{Asked, asked-none, asked-more, asked-next, asked-end, asked-sound, number-here, number-later}
+use Rattle.tallying.proofs.FoundLaws.{Asked, asked-none, asked-more, asked-next, asked-end, asked-sound}
+use Rattle.heading.proofs.FoundLaws.{number-here, number-later}
 use Rattle.heading.proofs.FoundLaws.{number-none}
 use Rattle.heading.proofs.find.box_at.Statement.{statement}
 use Rattle.heading.proofs.find.box_at.Tie as tie

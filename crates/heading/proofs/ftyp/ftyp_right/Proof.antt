@@ -6,8 +6,9 @@ use borrow.Author.Needs.{needs}
 use borrow.Author.Tests.{le-leb, lt-leb, eq-eqb, ne-eqb}
 use Rattle.boxes.specs.Kinds.{ftyp}
 use Rattle.boxes.specs.declared.kinds.Container.the-variants.{File}
-use Rattle.heading.proofs.FormLaws.{rule-kept, ftyp-tests}
-use Rattle.heading.proofs.FoundLaws.{is-kind, is-other}
+use Rattle.tallying.proofs.RuleLaws.{rule-kept}
+use Rattle.heading.proofs.FormLaws.{ftyp-tests}
+use Rattle.tallying.proofs.FoundLaws.{is-kind, is-other}
 use Rattle.heading.proofs.ftyp.ftyp_right.Statement.{statement}
 use Rattle.heading.proofs.ftyp.ftyp_right.Tie as tie
 

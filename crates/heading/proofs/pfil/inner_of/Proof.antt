@@ -8,11 +8,11 @@ use Rattle.boxes.specs.Framing.{Box, boxesIn}
 use Rattle.boxes.specs.Kinds.{pfhd, surl, pseg}
 use Rattle.boxes.specs.declared.kinds.Container.the-variants.{Pfil}
 use Rattle.tallying.specs.Rules.{tallyOf}
-use Rattle.tallying.proofs.RuleLaws.{tally-fault, tally-given}
+use Rattle.tallying.proofs.RuleLaws.{tally-fault, tally-given, tally-known}
 use Rattle.partial.specs.Heading.{pfhdRight, surlRight, url, mime}
 use Rattle.heading.specs.Facts.{headedAnswer}
 use Rattle.heading.specs.Steps.{Within}
-use Rattle.heading.proofs.FormLaws.{refuted, upheld, tally-known}
+use Rattle.heading.proofs.FormLaws.{refuted, upheld}
 use Rattle.heading.proofs.FoundLaws.{first-within, further-within}
 use Rattle.heading.proofs.StageLaws.{inner-refused, pfhd-refused, surl-refused, all-right, found-told}
 use Rattle.heading.proofs.pfil.inner_of.Statement.{statement}

@@ -5,7 +5,8 @@ use borrow.Author.Needs.{needs}
 use Rattle.boxes.specs.Kinds.{pfhd, right}
 use Rattle.boxes.specs.declared.kinds.Container.the-variants.{Pfil}
 use Rattle.partial.specs.Heading.{pfhdRight}
-use Rattle.heading.proofs.FormLaws.{refuted, upheld, rule-kept}
+use Rattle.tallying.proofs.RuleLaws.{rule-kept}
+use Rattle.heading.proofs.FormLaws.{refuted, upheld}
 use Rattle.heading.proofs.pfil.pfhd_right.Statement.{statement}
 use Rattle.heading.proofs.pfil.pfhd_right.Tie as tie
 

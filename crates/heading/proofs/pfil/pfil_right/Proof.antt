@@ -3,8 +3,9 @@ use mathlib.Core.Path.{refl, sym, _∙_}
 use borrow.Author.Needs.{needs}
 use Rattle.boxes.specs.Kinds.{pfil}
 use Rattle.boxes.specs.declared.kinds.Container.the-variants.{File}
-use Rattle.heading.proofs.FormLaws.{rule-kept, pfil-tests}
-use Rattle.heading.proofs.FoundLaws.{is-kind, is-other}
+use Rattle.tallying.proofs.RuleLaws.{rule-kept}
+use Rattle.heading.proofs.FormLaws.{pfil-tests}
+use Rattle.tallying.proofs.FoundLaws.{is-kind, is-other}
 use Rattle.heading.proofs.pfil.pfil_right.Statement.{statement}
 use Rattle.heading.proofs.pfil.pfil_right.Tie as tie
 

@@ -5,7 +5,8 @@ use borrow.Author.Needs.{needs}
 use Rattle.boxes.specs.Kinds.{surl, right}
 use Rattle.boxes.specs.declared.kinds.Container.the-variants.{Pfil}
 use Rattle.partial.specs.Heading.{surlRight}
-use Rattle.heading.proofs.FormLaws.{refuted, upheld, rule-kept}
+use Rattle.tallying.proofs.RuleLaws.{rule-kept}
+use Rattle.heading.proofs.FormLaws.{refuted, upheld}
 use Rattle.heading.proofs.pfil.surl_right.Statement.{statement}
 use Rattle.heading.proofs.pfil.surl_right.Tie as tie
 

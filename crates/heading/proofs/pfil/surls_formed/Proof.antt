@@ -5,7 +5,7 @@ use borrow.Author.Needs.{needs}
 use Rattle.boxes.specs.Kinds.{surl}
 use Rattle.boxes.proofs.WalkLaws.{fewer, next-box, no-more, a-fault}
 use Rattle.heading.proofs.FormLaws.{refuted, upheld, allFormed, formed-none, formed-other, formed-one, formed-ill}
-use Rattle.heading.proofs.FoundLaws.{Asked, asked-none, asked-more, asked-next, asked-end, asked-sound, is-kind, is-other}
+use Rattle.tallying.proofs.FoundLaws.{Asked, asked-none, asked-more, asked-next, asked-end, asked-sound, is-kind, is-other}
 use Rattle.heading.proofs.FoundLaws.{met-within, further-within, end-kept}
 use Rattle.heading.proofs.pfil.surls_formed.Statement.{statement}
 use Rattle.heading.proofs.pfil.surls_formed.Tie as tie

@@ -1,14 +1,14 @@
--- `heading::find::first_of` meets its contract. The loop's invariant: the first of the kind is among the boxes that are left.
+-- `tallying::find::first_of` meets its contract. The loop's invariant: the first of the kind is among the boxes that are left.
 use mathlib.Core.Path.{sym, _∙_}
 use borrow.Author.Needs.{needs}
 use Rattle.boxes.specs.Kinds.{firstOf}
 use Rattle.boxes.proofs.KindLaws.{first-one, first-other}
 use Rattle.boxes.proofs.ToldLaws.{box-fields}
 use Rattle.boxes.proofs.WalkLaws.{fewer, next-box, no-more, a-fault}
-use Rattle.heading.proofs.FoundLaws.{Asked, asked-none, asked-more, asked-next, asked-end, asked-sound, first-none, is-kind}
-use Rattle.heading.proofs.FoundLaws.{is-other}
-use Rattle.heading.proofs.find.first_of.Statement.{statement}
-use Rattle.heading.proofs.find.first_of.Tie as tie
+use Rattle.tallying.proofs.FoundLaws.{Asked, asked-none, asked-more, asked-next, asked-end, asked-sound, first-none, is-kind}
+use Rattle.tallying.proofs.FoundLaws.{is-other}
+use Rattle.tallying.proofs.find.first_of.Statement.{statement}
+use Rattle.tallying.proofs.find.first_of.Tie as tie
 
 abbrev Inv-loop : tie.InvT-loop
 Inv-loop file kind walk₀ walk = Asked file (firstOf kind) walk₀ (firstOf kind) walk
