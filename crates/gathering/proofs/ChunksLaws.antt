@@ -13,7 +13,7 @@ use Rattle.partial.specs.Heading.{Heading}
 use Rattle.partial.specs.Limits.{sourceLimit}
 use Rattle.partial.specs.Segments.{Chunk}
 use Rattle.partial.specs.Sequences.{sum}
-use Rattle.partial.specs.Tables.{chunkRow, chunkRowsOf}
+use Rattle.partial.specs.Tables.{chunkRowLength, chunkRow, chunkRowsOf}
 use Rattle.partial.proofs.Reading.ReadingLaws.{step-told}
 use Rattle.fields.specs.Location.{plocOf}
 use Rattle.fields.specs.declared.location.Location.{Location}
@@ -87,7 +87,7 @@ module _ (f : List ℕ) (h : Heading) (pseg : ℕ) (l : Location) (first : Curso
       module _ {chunk : CodeChunk} (next : Cursor) {t′ : List ℕ}
           (step : chunkStep sourceLimit f h pseg (plocOf l) (cursorOf c) ≡ given (chunkOf chunk, cursorOf next))
           (known : Searched f (boxOf (next .last)) (h .boxes))
-          (row : Put t (6 * (before .chunks + i)) (chunkRow (before .segments) i (chunkOf chunk)) t′) where
+          (row : Put t (chunkRowLength * (before .chunks + i)) (chunkRow (before .segments) i (chunkOf chunk)) t′) where
         further : chunksBy f h pseg l first ≡ (from (l .count - (i + 1)) next >>= λ cs. given ((m .done ++ (chunkOf chunk ∷ [])) ++ cs))
         further =
             let now = ap (λ (n : ℕ). from n c) left-one ∙ chunks-more sourceLimit f h pseg (plocOf l) (cursorOf c) (l .count - (i + 1)) step in
@@ -97,13 +97,13 @@ module _ (f : List ℕ) (h : Heading) (pseg : ℕ) (l : Location) (first : Curso
             ∙ then-then later (λ cs. given (chunkOf chunk ∷ cs)) (λ cs. given (m .done ++ cs))
             ∙ (λ j. later >>= λ cs. given (sym (append-assoc (m .done) (chunkOf chunk ∷ []) cs) j))
 
-        behind : Put t₀ (6 * before .chunks) (chunkRowsOf (before .segments) 0 (m .done ++ (chunkOf chunk ∷ []))) t′
+        behind : Put t₀ (chunkRowLength * before .chunks) (chunkRowsOf (before .segments) 0 (m .done ++ (chunkOf chunk ∷ []))) t′
         behind =
             let rows = chunkRowsOf (before .segments) 0 (m .done) in
-            let long : 6 * (before .chunks + i) ≡ 6 * before .chunks + length rows = omega (arith, chunk-rows-long (before .segments) 0 (m .done), m .many) in
+            let long : chunkRowLength * (before .chunks + i) ≡ chunkRowLength * before .chunks + length rows = omega (arith, chunk-rows-long (before .segments) 0 (m .done), m .many) in
             let index : 0 + length (m .done) ≡ i = omega (arith, m .many) in
             let last = chunk-rows-last (before .segments) 0 (m .done) (chunkOf chunk) ∙ ap (λ (n : ℕ). rows ++ chunkRow (before .segments) n (chunkOf chunk)) index in
-            rw last (put-more (6 * before .chunks) rows _ (m .ran .rows) (rw long at row))
+            rw last (put-more (chunkRowLength * before .chunks) rows _ (m .ran .rows) (rw long at row))
 
         pub midway-more : Midway f h pseg l first before t₀ (i + 1) next t′
         midway-more =

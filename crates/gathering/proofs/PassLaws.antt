@@ -22,7 +22,7 @@ use Rattle.partial.specs.Heading.{Heading}
 use Rattle.partial.specs.Limits.{sourceLimit}
 use Rattle.partial.specs.Reading.{segment, segmentsFrom}
 use Rattle.partial.specs.Segments.{Segment, chunksOf}
-use Rattle.partial.specs.Tables.{segmentRow, segmentRows, chunkRows, chunkRowsFrom, chunkRowsOf}
+use Rattle.partial.specs.Tables.{segmentRowLength, chunkRowLength, segmentRow, segmentRows, chunkRows, chunkRowsFrom, chunkRowsOf}
 use Rattle.segment.specs.Data.{Searched}
 use Rattle.filling.specs.Rows.{Put}
 use Rattle.filling.proofs.RowLaws.{put-none, put-more, put-same}
@@ -47,16 +47,16 @@ searched-none b kindless known =
 
 -- the rows of segments with one more
 module _ (ss : List Segment) (s : Segment) where
-  pub segments-put : {t₀ t t′ : List ℕ} → Put t₀ 0 (segmentRows ss) t → Put t (7 * length ss) (segmentRow s) t′ → Put t₀ 0 (segmentRows (ss ++ (s ∷ []))) t′
+  pub segments-put : {t₀ t t′ : List ℕ} → Put t₀ 0 (segmentRows ss) t → Put t (segmentRowLength * length ss) (segmentRow s) t′ → Put t₀ 0 (segmentRows (ss ++ (s ∷ []))) t′
   segments-put p q =
-      let here : 7 * length ss ≡ 0 + length (segmentRows ss) = omega (arith, segment-rows-long ss) in
+      let here : segmentRowLength * length ss ≡ 0 + length (segmentRows ss) = omega (arith, segment-rows-long ss) in
       put-same refl (sym (segment-rows-last ss s)) (put-more 0 (segmentRows ss) (segmentRow s) p (put-same here refl q))
 
-  pub chunks-put : {t₀ t t′ : List ℕ} → Put t₀ 0 (chunkRows ss) t → Put t (6 * length (chunksOf ss)) (chunkRowsOf (length ss) 0 (s .chunks)) t′
+  pub chunks-put : {t₀ t t′ : List ℕ} → Put t₀ 0 (chunkRows ss) t → Put t (chunkRowLength * length (chunksOf ss)) (chunkRowsOf (length ss) 0 (s .chunks)) t′
       → Put t₀ 0 (chunkRows (ss ++ (s ∷ []))) t′
   unfolding chunkRows
   chunks-put p q =
-      let here : 6 * length (chunksOf ss) ≡ 0 + length (chunkRowsFrom 0 ss) = omega (arith, all-rows-long 0 ss) in
+      let here : chunkRowLength * length (chunksOf ss) ≡ 0 + length (chunkRowsFrom 0 ss) = omega (arith, all-rows-long 0 ss) in
       let number : length ss ≡ 0 + length ss = omega arith in
       put-same refl (sym (all-rows-last 0 ss s)) (put-more 0 (chunkRowsFrom 0 ss) _ p (put-same here (ap (λ (n : ℕ). chunkRowsOf n 0 (s .chunks)) number) q))
 

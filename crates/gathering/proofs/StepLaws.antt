@@ -20,7 +20,7 @@ use Rattle.partial.specs.Heading.{Heading}
 use Rattle.partial.specs.Limits.{chunkLimit, sourceLimit}
 use Rattle.partial.specs.Reading.{pshdRight, pshdFields, segment}
 use Rattle.partial.specs.Segments.{Chunk, Segment, chunksOf, endOf}
-use Rattle.partial.specs.Tables.{segmentRow, chunkRowsOf}
+use Rattle.partial.specs.Tables.{segmentRowLength, chunkRowLength, segmentRow, chunkRowsOf}
 use Rattle.partial.proofs.Meaning.SequenceLaws.{both}
 use Rattle.fields.specs.Fields.{valuesOf}
 use Rattle.fields.specs.declared.fields.Fields.{Fields}
@@ -124,7 +124,7 @@ module _ (f : List ℕ) (h : Heading) (ss : List Segment) (b : Framed) where
 
         pub segment-told : {before g : Gathered} {t₀ t u₀ u : List ℕ} {cs : List Chunk} {c : Cursor} → before ≡ gatheredOf ss
             → chunksBy f h (b .at .0) (p .location) first ≡ given cs → length cs ≡ p .location .count → Ran f (h .boxes) first before u₀ cs c u
-            → Put t₀ (7 * before .segments) (rowBy (b .at .0) (p .fields) (p .location .count) (boxOf (p .header))) t
+            → Put t₀ (segmentRowLength * before .segments) (rowBy (b .at .0) (p .fields) (p .location .count) (boxOf (p .header))) t
             → ((s : Segment) → p .fields .flags ≡ s .flags → p .location .count ≡ length (s .chunks) → c .start .0 ≡ endOf s → g ≡ gatheredOf (ss ++ (s ∷ [])))
             → Segmented f h ss (boxOf b) t₀ t u₀ u (Given g (c .last))
         unfolding Segmented endOf segmentRow
@@ -135,6 +135,6 @@ module _ (f : List ℕ) (h : Heading) (ss : List Segment) (b : Framed) where
               segment-read e,
               gathers s refl (sym many) (ran .ends),
               ran .known,
-              put-same (ap (λ (n : ℕ). 7 * n) number) (ap (λ (n : ℕ). rowBy (b .at .0) (p .fields) n (boxOf (p .header))) (sym many)) put,
-              put-same (ap (λ (n : ℕ). 6 * n) (gathered-chunks ss so-far)) (ap (λ (n : ℕ). chunkRowsOf n 0 cs) number) (ran .rows),
+              put-same (ap (λ (n : ℕ). segmentRowLength * n) number) (ap (λ (n : ℕ). rowBy (b .at .0) (p .fields) n (boxOf (p .header))) (sym many)) put,
+              put-same (ap (λ (n : ℕ). chunkRowLength * n) (gathered-chunks ss so-far)) (ap (λ (n : ℕ). chunkRowsOf n 0 cs) number) (ran .rows),
             )

@@ -10,7 +10,7 @@ use Rattle.partial.specs.Heading.{Heading}
 use Rattle.partial.specs.Limits.{sourceLimit}
 use Rattle.partial.specs.Segments.{Chunk}
 use Rattle.partial.specs.Sequences.{sum}
-use Rattle.partial.specs.Tables.{chunkRowsOf}
+use Rattle.partial.specs.Tables.{chunkRowLength, chunkRowsOf}
 use Rattle.fields.specs.Location.{plocOf}
 use Rattle.fields.specs.declared.location.Location.{Location}
 use Rattle.segment.specs.Chunk.{cursorOf}
@@ -30,7 +30,7 @@ chunksBy f h pseg l c = chunksFrom sourceLimit f h pseg (plocOf l) (l .count) (c
 pub record Ran (f : List ℕ) (bs : List Box) (first : Cursor) (before : Gathered) (t₀ : List ℕ) (cs : List Chunk) (c : Cursor) (t : List ℕ) : Type 0 where
   pub ends : c .start .0 ≡ first .start .0 + sum (map (λ c. c .size) cs)
   pub known : Searched f (boxOf (c .last)) bs
-  pub rows : Put t₀ (6 * before .chunks) (chunkRowsOf (before .segments) 0 cs) t
+  pub rows : Put t₀ (chunkRowLength * before .chunks) (chunkRowsOf (before .segments) 0 cs) t
 
 -- what an answer about them says: their refusal, or that they were read
 unfoldable pub Chunked : List ℕ → Heading → ℕ → Location → Cursor → Gathered → List ℕ → List ℕ → ChunksRead → Type 0

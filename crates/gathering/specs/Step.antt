@@ -9,7 +9,7 @@ use Rattle.partial.specs.Heading.{Heading}
 use Rattle.partial.specs.Limits.{chunkLimit, sourceLimit}
 use Rattle.partial.specs.Reading.{segment}
 use Rattle.partial.specs.Segments.{Segment, chunksOf}
-use Rattle.partial.specs.Tables.{segmentRow, chunkRowsOf}
+use Rattle.partial.specs.Tables.{segmentRowLength, chunkRowLength, segmentRow, chunkRowsOf}
 use Rattle.segment.specs.Data.{Searched}
 use Rattle.filling.specs.Rows.{Put}
 use Rattle.gathering.specs.Gathered.{gatheredOf}
@@ -30,5 +30,5 @@ Segmented f h ss b t₀ t u₀ u (Given g last) =
     × (segment sourceLimit f h ss b ≡ given s)
     × (g ≡ gatheredOf (ss ++ (s ∷ [])))
     × Searched f (boxOf last) (h .boxes)
-    × Put t₀ (7 * length ss) (segmentRow s) t
-    × Put u₀ (6 * length (chunksOf ss)) (chunkRowsOf (length ss) 0 (s .chunks)) u
+    × Put t₀ (segmentRowLength * length ss) (segmentRow s) t
+    × Put u₀ (chunkRowLength * length (chunksOf ss)) (chunkRowsOf (length ss) 0 (s .chunks)) u

@@ -9,7 +9,7 @@ use segment::chunk::Chunk;
 ghost use Prim.Native.Nat.{_*_, _≤_};
 ghost use Rattle.boxes.specs.Framing.{boxLimit, boxOf};
 ghost use Rattle.partial.specs.Limits.{chunkLimit};
-ghost use Rattle.partial.specs.Tables.{chunkRow};
+ghost use Rattle.partial.specs.Tables.{segmentRowLength, chunkRowLength, chunkRow};
 ghost use Rattle.segment.specs.Chunk.{chunkOf};
 ghost use Rattle.filling.specs.Rows.{Put};
 ghost use Rattle.gathering.specs.Rows.{rowBy};
@@ -17,7 +17,7 @@ ghost use Rattle.gathering.specs.Rows.{rowBy};
 // Writes the row of a chunk behind so many others: the number of its segment, its index there, its start, size, state and place.
 pub(crate) fn put_chunk(table: &mut [u64], before: u64, segment: u64, index: u64, c: Chunk)
     requires { ⌜ before ≤ chunkLimit ⌝ }
-    ensures { λ _. ⌜ Put (now (table .entry)) (6 * before) (chunkRow segment index (chunkOf c)) (now (table .exit)) ⌝ }
+    ensures { λ _. ⌜ Put (now (table .entry)) (chunkRowLength * before) (chunkRow segment index (chunkOf c)) (now (table .exit)) ⌝ }
 {
     let row = [segment, index, c.start.0, c.size, c.state, c.place.0];
     put_row(table, (CHUNK_ROW * before) as usize, &row);
@@ -34,7 +34,7 @@ pub(crate) fn put_segment(
     header: Framed,
 )
     requires { ⌜ (before ≤ boxLimit) × (header .body .0 ≤ header .end .0) ⌝ }
-    ensures { λ _. ⌜ Put (now (table .entry)) (7 * before) (rowBy (place .0) fields count (boxOf header)) (now (table .exit)) ⌝ }
+    ensures { λ _. ⌜ Put (now (table .entry)) (segmentRowLength * before) (rowBy (place .0) fields count (boxOf header)) (now (table .exit)) ⌝ }
 {
     let body = header.body;
     let end = header.end;

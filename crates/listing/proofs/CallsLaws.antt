@@ -8,14 +8,14 @@ use borrow.Author.Tests.{le-leb, lt-leb}
 use lib.ListN.{length}
 use Rattle.boxes.specs.Answer.{refused, given}
 use Rattle.partial.specs.Answers.{listedAnswer}
-use Rattle.partial.specs.Limits.{sourceLimit}
+use Rattle.partial.specs.Limits.{chunkLimit, sourceLimit}
 use Rattle.partial.specs.Meaning.{supplies, supplied, describedLength}
 use Rattle.partial.specs.Memory.{fits, filled, after}
 use Rattle.partial.specs.Ranges.{had, missing, ranges, classOf, rangesOf, hadList, missingList}
 use Rattle.partial.specs.Reading.{reading}
 use Rattle.partial.specs.Segments.{Chunk, Segment, good}
 use Rattle.partial.specs.Sequences.{someOf}
-use Rattle.partial.specs.Tables.{tabled, listed, segmentRows, chunkRows, hadRows, missingRows, totals}
+use Rattle.partial.specs.Tables.{chunkRowLength, rangeRowLength, tabled, listed, segmentRows, chunkRows, hadRows, missingRows, totals}
 use Rattle.partial.specs.declared.answers.Listed.{Listed}
 use Rattle.partial.specs.declared.answers.Listed.the-variants as Listed
 use Rattle.partial.proofs.Meaning.SupplyLaws.{supplied-some}
@@ -39,7 +39,7 @@ use Rattle.listing.specs.declared.lists.Totals.{Totals}
 use Rattle.listing.proofs.ListLaws.{range-rows-long}
 
 -- what is known of an accepted file whose rows were put into a table that has room for all
-pub known-by : {f : List ℕ} {j : Judged} (a : Accepted f j) {t₀ t : List ℕ} {described : ℕ} → RowsIn (reading sourceLimit f) t₀ t → 6144 ≤ length t₀
+pub known-by : {f : List ℕ} {j : Judged} (a : Accepted f j) {t₀ t : List ℕ} {described : ℕ} → RowsIn (reading sourceLimit f) t₀ t → chunkRowLength * chunkLimit ≤ length t₀
     → described ≡ describedLength (a .ss)
     → Known t (j .gathered .chunks) described (a .ss)
 known-by {f} a {t₀} rows room long =
@@ -89,11 +89,11 @@ of-file spanned s =
 
 -- ---- what each test decides
 
-had-long : (ss : List Segment) → length (hadRows ss) ≡ 2 * length (hadList ss)
+had-long : (ss : List Segment) → length (hadRows ss) ≡ rangeRowLength * length (hadList ss)
 unfolding hadRows
 had-long ss = range-rows-long (hadList ss)
 
-missing-long : (ss : List Segment) → length (missingRows ss) ≡ 2 * length (missingList ss)
+missing-long : (ss : List Segment) → length (missingRows ss) ≡ rangeRowLength * length (missingList ss)
 unfolding missingRows
 missing-long ss = range-rows-long (missingList ss)
 
@@ -103,15 +103,15 @@ module _ (f a b c d : List ℕ) where
   listed-refused e = rw e
 
   module _ (ss : List Segment) (read : tabled sourceLimit f a b ≡ given ss) where
-    pub had-short : length c < 2 * length (hadList ss) → listed sourceLimit f a b c d ≡ refused 26
+    pub had-short : length c < rangeRowLength * length (hadList ss) → listed sourceLimit f a b c d ≡ refused 26
     unfolding listed fits
     had-short short = rw (read, lt-leb (length (hadRows ss)) (length c) (omega (arith, had-long ss)))
 
-    pub missing-short : length d < 2 * length (missingList ss) → listed sourceLimit f a b c d ≡ refused 26
+    pub missing-short : length d < rangeRowLength * length (missingList ss) → listed sourceLimit f a b c d ≡ refused 26
     unfolding listed fits
     missing-short short = rw (read, lt-leb (length (missingRows ss)) (length d) (omega (arith, missing-long ss)), and-false)
 
-    pub listed-given : 2 * length (hadList ss) ≤ length c → 2 * length (missingList ss) ≤ length d → listed sourceLimit f a b c d ≡ given ss
+    pub listed-given : rangeRowLength * length (hadList ss) ≤ length c → rangeRowLength * length (missingList ss) ≤ length d → listed sourceLimit f a b c d ≡ given ss
     unfolding listed fits
     listed-given one two =
         rw (
@@ -128,7 +128,7 @@ module _ (f a b c d : List ℕ) where
   -- else they are filled
   pub lists-given : {a′ b′ c′ d′ : List ℕ} {t : Totals} (ss : List Segment) → listed sourceLimit f a b c d ≡ given ss → Counted ss t
       → a′ ≡ filled (segmentRows ss) a → b′ ≡ filled (chunkRows ss) b → Put c 0 (hadRows ss) c′ → Put d 0 (missingRows ss) d′
-      → 2 * length (hadList ss) ≤ length c → 2 * length (missingList ss) ≤ length d
+      → rangeRowLength * length (hadList ss) ≤ length c → rangeRowLength * length (missingList ss) ≤ length d
       → Listing f a a′ b b′ c c′ d d′ (Listed.Lists (t .had) (t .missing) (t .received) (t .missed))
   unfolding listedAnswer after totals
   lists-given ss e counts one two had missing room space =

@@ -9,7 +9,7 @@ use lib.Dec.{eqb}
 use lib.ListN.{length, length-append}
 use Rattle.partial.specs.Ranges.{Range as Stretch, had, missing, ranges, ofClass, total}
 use Rattle.partial.specs.Sequences.{sum}
-use Rattle.partial.specs.Tables.{rangeRows}
+use Rattle.partial.specs.Tables.{rangeRowLength, rangeRows}
 use Rattle.partial.proofs.Meaning.SequenceLaws.{which}
 use Rattle.filling.specs.Rows.{Put}
 use Rattle.filling.proofs.RowLaws.{put-none, put-more, put-same}
@@ -40,7 +40,7 @@ module _ (c : ℕ) (r : Stretch) where
         | inr other ↦ rw (ofClass, other) (last-out differ rs)
       ]
 
-pub range-rows-long : (rs : List Stretch) → length (rangeRows rs) ≡ 2 * length rs
+pub range-rows-long : (rs : List Stretch) → length (rangeRows rs) ≡ rangeRowLength * length rs
 unfolding rangeRows
 range-rows-long [] = refl
 range-rows-long (r ∷ rs) = omega (arith, range-rows-long rs)
@@ -57,9 +57,9 @@ total-last (x ∷ rs) r = omega (arith, total-last rs r)
 
 -- a list of one class, with one range more of that class
 module _ {t₀ t t′ : List ℕ} (rs : List Stretch) (r : Stretch) (n : ℕ) where
-  put-last : n ≡ length rs → Put t₀ 0 (rangeRows rs) t → Put t (2 * n) (r .first ∷ r .length ∷ []) t′ → Put t₀ 0 (rangeRows (rs ++ (r ∷ []))) t′
+  put-last : n ≡ length rs → Put t₀ 0 (rangeRows rs) t → Put t (rangeRowLength * n) (r .first ∷ r .length ∷ []) t′ → Put t₀ 0 (rangeRows (rs ++ (r ∷ []))) t′
   put-last many p q =
-      let here : 2 * n ≡ 0 + length (rangeRows rs) = omega (arith, range-rows-long rs) in
+      let here : rangeRowLength * n ≡ 0 + length (rangeRows rs) = omega (arith, range-rows-long rs) in
       put-same refl (sym (range-rows-last rs r)) (put-more 0 (rangeRows rs) (r .first ∷ r .length ∷ []) p (put-same here refl q))
 
 module _ (p : ℕ) (r : Range) (rs : List Stretch) {had₀ had₁ missing₀ missing₁ : List ℕ} {t : Totals} (s : Stands rs had₀ had₁ missing₀ missing₁ t) where
@@ -67,7 +67,7 @@ module _ (p : ℕ) (r : Range) (rs : List Stretch) {had₀ had₁ missing₀ mis
   abbrev listed : Stretch
   listed = record { class = r .class; first = p; length = r .length }
 
-  pub join-had : {had₂ : List ℕ} → r .class ≡ had → Put had₁ (2 * t .had) (p ∷ r .length ∷ []) had₂
+  pub join-had : {had₂ : List ℕ} → r .class ≡ had → Put had₁ (rangeRowLength * t .had) (p ∷ r .length ∷ []) had₂
       → Stands (rs ++ (listed ∷ [])) had₀ had₂ missing₀ missing₁ (record { had = t .had + 1; missing = t .missing; received = t .received + r .length; missed = t .missed })
   join-had kind put =
       let mine = last-in had listed kind rs in
@@ -81,7 +81,7 @@ module _ (p : ℕ) (r : Range) (rs : List Stretch) {had₀ had₁ missing₀ mis
         missingRows = rw others (s .missingRows);
       }
 
-  pub join-missing : {missing₂ : List ℕ} → r .class ≡ missing → Put missing₁ (2 * t .missing) (p ∷ r .length ∷ []) missing₂
+  pub join-missing : {missing₂ : List ℕ} → r .class ≡ missing → Put missing₁ (rangeRowLength * t .missing) (p ∷ r .length ∷ []) missing₂
       → Stands (rs ++ (listed ∷ [])) had₀ had₁ missing₀ missing₂ (record { had = t .had; missing = t .missing + 1; received = t .received; missed = t .missed + r .length })
   join-missing kind put =
       let mine = last-in missing listed kind rs in

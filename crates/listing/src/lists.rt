@@ -7,6 +7,7 @@ use sweeping::ranges::Range;
 use sweeping::ranges::range_at;
 ghost use Prim.Native.Nat.{_+_, _*_};
 ghost use mathlib.Core.List.{[], _∷_};
+ghost use Rattle.partial.specs.Tables.{rangeRowLength};
 ghost use Rattle.filling.specs.Rows.{Put};
 ghost use Rattle.sweeping.specs.Ranges.{classBy};
 ghost use Rattle.spans.specs.Spans.{Ordered};
@@ -22,7 +23,7 @@ pub struct Totals {
 
 // Writes a range into a list behind so many others, if there is room for it.
 fn put_range(list: &mut [u64], before: u64, first: Position, length: u64)
-    ensures { λ _. ⌜ Put (now (list .entry)) (2 * before) (first .0 ∷ length ∷ []) (now (list .exit)) ⌝ }
+    ensures { λ _. ⌜ Put (now (list .entry)) (rangeRowLength * before) (first .0 ∷ length ∷ []) (now (list .exit)) ⌝ }
 {
     if list.len() as u64 / RANGE_ROW <= before {
         return;

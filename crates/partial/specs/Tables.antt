@@ -13,6 +13,16 @@ use Rattle.partial.specs.Reading.{reading}
 use Rattle.partial.specs.Ranges.{Range, hadList, missingList, total}
 use Rattle.partial.specs.Memory.{fits}
 
+-- how many numbers there are in the row of a segment, of a chunk and of a range
+abbrev pub segmentRowLength : ℕ
+segmentRowLength = 7
+
+abbrev pub chunkRowLength : ℕ
+chunkRowLength = 6
+
+abbrev pub rangeRowLength : ℕ
+rangeRowLength = 2
+
 -- place of the box, source offset, flags, repair time, chunk count, place and length of the `pshd` body
 unfoldable pub segmentRow : Segment → List ℕ
 segmentRow s = s .place ∷ s .sourceOffset ∷ s .flags ∷ s .repairTime ∷ length (s .chunks) ∷ s .headerPlace ∷ s .headerLength ∷ []

@@ -13,7 +13,7 @@ use Rattle.partial.specs.Meaning.{describedLength}
 use Rattle.partial.specs.Memory.{fits, filled, after}
 use Rattle.partial.specs.Reading.{reading}
 use Rattle.partial.specs.Segments.{Segment, chunksOf}
-use Rattle.partial.specs.Tables.{tabled, segmentRows, chunkRows, summary}
+use Rattle.partial.specs.Tables.{segmentRowLength, chunkRowLength, tabled, segmentRows, chunkRows, summary}
 use Rattle.partial.specs.declared.answers.Read.{Read}
 use Rattle.partial.specs.declared.answers.Read.the-variants as Read
 use Rattle.filling.specs.Rows.{Put}
@@ -24,7 +24,7 @@ use Rattle.partial.proofs.Reading.RowLaws.{segment-rows-long, all-rows-long}
 use Rattle.gathering.proofs.RowLaws.{put-filled}
 use Rattle.reading.specs.Tables.{Reads}
 
-chunk-rows-all : (ss : List Segment) → length (chunkRows ss) ≡ 6 * length (chunksOf ss)
+chunk-rows-all : (ss : List Segment) → length (chunkRows ss) ≡ chunkRowLength * length (chunksOf ss)
 unfolding chunkRows
 chunk-rows-all ss = all-rows-long 0 ss
 
@@ -34,15 +34,15 @@ module _ (f a b : List ℕ) where
   tabled-refused e = rw e
 
   module _ (ss : List Segment) (read : reading sourceLimit f ≡ given ss) where
-    pub segments-short : length a < 7 * length ss → tabled sourceLimit f a b ≡ refused 26
+    pub segments-short : length a < segmentRowLength * length ss → tabled sourceLimit f a b ≡ refused 26
     unfolding tabled fits
     segments-short short = rw (read, lt-leb (length (segmentRows ss)) (length a) (omega (arith, segment-rows-long ss)))
 
-    pub chunks-short : length b < 6 * length (chunksOf ss) → tabled sourceLimit f a b ≡ refused 26
+    pub chunks-short : length b < chunkRowLength * length (chunksOf ss) → tabled sourceLimit f a b ≡ refused 26
     unfolding tabled fits
     chunks-short short = rw (read, lt-leb (length (chunkRows ss)) (length b) (omega (arith, chunk-rows-all ss)), and-false)
 
-    pub tabled-given : 7 * length ss ≤ length a → 6 * length (chunksOf ss) ≤ length b → tabled sourceLimit f a b ≡ given ss
+    pub tabled-given : segmentRowLength * length ss ≤ length a → chunkRowLength * length (chunksOf ss) ≤ length b → tabled sourceLimit f a b ≡ given ss
     unfolding tabled fits
     tabled-given one two =
         rw (
@@ -69,8 +69,8 @@ unfolding readAnswer summary gatheredOf sizesOf
 answered ss e length = λ i. given (record { segments = e i .segments; chunks = e i .chunks; described = length i; closed = e i .sizes .known })
 
 -- rows that fit fill a table
-pub segments-filled : (ss : List Segment) {a a′ : List ℕ} → Put a 0 (segmentRows ss) a′ → 7 * length ss ≤ length a → a′ ≡ filled (segmentRows ss) a
+pub segments-filled : (ss : List Segment) {a a′ : List ℕ} → Put a 0 (segmentRows ss) a′ → segmentRowLength * length ss ≤ length a → a′ ≡ filled (segmentRows ss) a
 segments-filled ss put room = put-filled (segmentRows ss) put (omega (arith, segment-rows-long ss))
 
-pub chunks-filled : (ss : List Segment) {b b′ : List ℕ} → Put b 0 (chunkRows ss) b′ → 6 * length (chunksOf ss) ≤ length b → b′ ≡ filled (chunkRows ss) b
+pub chunks-filled : (ss : List Segment) {b b′ : List ℕ} → Put b 0 (chunkRows ss) b′ → chunkRowLength * length (chunksOf ss) ≤ length b → b′ ≡ filled (chunkRows ss) b
 chunks-filled ss put room = put-filled (chunkRows ss) put (omega (arith, chunk-rows-all ss))

@@ -12,6 +12,7 @@ use lib.ListN.{length, getD}
 use Rattle.partial.specs.Meaning.{coversAs}
 use Rattle.partial.specs.Segments.{Chunk, noChunk, good}
 use Rattle.partial.specs.Sequences.{someOf}
+use Rattle.partial.specs.Tables.{chunkRowLength}
 use Rattle.partial.proofs.Meaning.RunLaws.{covers-true, does-cover}
 use Rattle.partial.proofs.Meaning.SequenceLaws.{which, some-append}
 use Rattle.supplying.specs.Rows.{chunkIn, chunksFrom, chunksIn}
@@ -209,11 +210,11 @@ module _ (state : ℕ) (rows : List ℕ) (end : ℕ) where
 -- ---- spans over rows
 
 -- a good chunk stands in a row that is there
-pub row-long : (t : List ℕ) (k : ℕ) → chunkIn t k .state ≡ good → 6 * k + 6 ≤ length t
+pub row-long : (t : List ℕ) (k : ℕ) → chunkIn t k .state ≡ good → chunkRowLength * k + chunkRowLength ≤ length t
 unfolding chunkIn
 row-long t k state =
-    elim (which (ltb k (length t / 6))) [
-      | inl there ↦ omega (arith, ltb-true k (length t / 6) there)
+    elim (which (ltb k (length t / chunkRowLength))) [
+      | inl there ↦ omega (arith, ltb-true k (length t / chunkRowLength) there)
       | inr none ↦
           let lost : chunkIn t k .state ≡ 0 = rw (chunkIn, none) in
           omega arith
@@ -222,7 +223,7 @@ row-long t k state =
 -- the rows of a table from one on are as they were
 pub record Left (t₀ : List ℕ) (k : ℕ) (t : List ℕ) : Type 0 where
   pub long : length t ≡ length t₀
-  pub rest : (i : ℕ) → 6 * k ≤ i → getD t i 0 ≡ getD t₀ i 0
+  pub rest : (i : ℕ) → chunkRowLength * k ≤ i → getD t i 0 ≡ getD t₀ i 0
 
 pub left-all : (t : List ℕ) → Left t 0 t
 left-all t = record { long = refl; rest = λ i from. refl }
@@ -232,11 +233,11 @@ module _ {t₀ t : List ℕ} {k : ℕ} (l : Left t₀ k t) where
   pub left-row : chunkIn t k ≡ chunkIn t₀ k
   unfolding chunkIn
   left-row =
-      let start = l .rest (6 * k + 2) (omega arith) in
-      let size = l .rest (6 * k + 3) (omega arith) in
-      let state = l .rest (6 * k + 4) (omega arith) in
-      let place = l .rest (6 * k + 5) (omega arith) in
-      λ j. elim (ltb k (l .long j / 6)) [ true ↦ record { start = start j; size = size j; state = state j; place = place j } | false ↦ noChunk ]
+      let start = l .rest (chunkRowLength * k + 2) (omega arith) in
+      let size = l .rest (chunkRowLength * k + 3) (omega arith) in
+      let state = l .rest (chunkRowLength * k + 4) (omega arith) in
+      let place = l .rest (chunkRowLength * k + 5) (omega arith) in
+      λ j. elim (ltb k (l .long j / chunkRowLength)) [ true ↦ record { start = start j; size = size j; state = state j; place = place j } | false ↦ noChunk ]
 
   -- a chunk more, taken into no more spans than rows are read
   pub left-more : {n : ℕ} → n ≤ k → {state end : ℕ} {c : Chunk} {t′ : List ℕ} {n′ : ℕ} → Taken state end c t n t′ n′ → Left t₀ (k + 1) t′

@@ -8,32 +8,32 @@ use lib.ListN.{length, getD, length-append, drop}
 use lib.Seq.{getD-append-add}
 use Rattle.partial.specs.Memory.{filled}
 use Rattle.partial.specs.Segments.{Chunk, Segment, chunksOf}
-use Rattle.partial.specs.Tables.{chunkRow, chunkRowsOf, chunkRowsFrom, chunkRows}
+use Rattle.partial.specs.Tables.{chunkRowLength, chunkRow, chunkRowsOf, chunkRowsFrom, chunkRows}
 use Rattle.partial.proofs.Reading.RowLaws.{chunk-rows-long}
 use Rattle.supplying.specs.Rows.{chunkIn, chunksFrom, chunksIn}
 
 -- the chunk of a row that is there
-pub row-there : (table : List ℕ) (n : ℕ) → n < length table / 6
-    → chunkIn table n ≡ record { start = getD table (6 * n + 2) 0; size = getD table (6 * n + 3) 0; state = getD table (6 * n + 4) 0; place = getD table (6 * n + 5) 0 }
+pub row-there : (table : List ℕ) (n : ℕ) → n < length table / chunkRowLength
+    → chunkIn table n ≡ record { start = getD table (chunkRowLength * n + 2) 0; size = getD table (chunkRowLength * n + 3) 0; state = getD table (chunkRowLength * n + 4) 0; place = getD table (chunkRowLength * n + 5) 0 }
 unfolding chunkIn
-row-there table n there = rw (chunkIn, lt-ltb n (length table / 6) there)
+row-there table n there = rw (chunkIn, lt-ltb n (length table / chunkRowLength) there)
 
 -- a row behind so many others
-row-behind : (front rest : List ℕ) (k n i : ℕ) (c : Chunk) → length front ≡ 6 * k → chunkIn (front ++ (chunkRow n i c ++ rest)) k ≡ c
+row-behind : (front rest : List ℕ) (k n i : ℕ) (c : Chunk) → length front ≡ chunkRowLength * k → chunkIn (front ++ (chunkRow n i c ++ rest)) k ≡ c
 unfolding chunkRow
 row-behind front rest k n i c long =
     let table = front ++ (chunkRow n i c ++ rest) in
-    let at : (j : ℕ) → getD table (6 * k + j) 0 ≡ getD (chunkRow n i c ++ rest) j 0 =
+    let at : (j : ℕ) → getD table (chunkRowLength * k + j) 0 ≡ getD (chunkRow n i c ++ rest) j 0 =
     λ j. ap (λ (m : ℕ). getD table (m + j) 0) (sym long) ∙ getD-append-add front (chunkRow n i c ++ rest) j 0 in
     row-there table k (omega (arith, length-append front (chunkRow n i c ++ rest)))
     ∙ (λ j. record { start = at 2 j; size = at 3 j; state = at 4 j; place = at 5 j })
 
-row-long : (front : List ℕ) (k n i : ℕ) (c : Chunk) → length front ≡ 6 * k → length (front ++ chunkRow n i c) ≡ 6 * suc k
+row-long : (front : List ℕ) (k n i : ℕ) (c : Chunk) → length front ≡ chunkRowLength * k → length (front ++ chunkRow n i c) ≡ chunkRowLength * suc k
 unfolding chunkRow
 row-long front k n i c long = omega (arith, length-append front (chunkRow n i c))
 
 -- the rows of one segment's chunks
-segment-rows : (front rest : List ℕ) (k n i : ℕ) (cs : List Chunk) → length front ≡ 6 * k → chunksFrom (front ++ (chunkRowsOf n i cs ++ rest)) (length cs) k ≡ cs
+segment-rows : (front rest : List ℕ) (k n i : ℕ) (cs : List Chunk) → length front ≡ chunkRowLength * k → chunksFrom (front ++ (chunkRowsOf n i cs ++ rest)) (length cs) k ≡ cs
 unfolding chunksFrom chunkRowsOf
 segment-rows front rest k n i [] long = refl
 segment-rows front rest k n i (c ∷ cs) long =
@@ -65,7 +65,7 @@ rows-last table k =
     let here : 0 + k ≡ k = omega arith in
     rows-both table k 1 0 ∙ ap (λ (n : ℕ). chunksIn table k ++ (chunkIn table n ∷ [])) here
 
-all-rows : (front rest : List ℕ) (k n : ℕ) (ss : List Segment) → length front ≡ 6 * k → chunksFrom (front ++ (chunkRowsFrom n ss ++ rest)) (length (chunksOf ss)) k ≡ chunksOf ss
+all-rows : (front rest : List ℕ) (k n : ℕ) (ss : List Segment) → length front ≡ chunkRowLength * k → chunksFrom (front ++ (chunkRowsFrom n ss ++ rest)) (length (chunksOf ss)) k ≡ chunksOf ss
 unfolding chunksFrom chunkRowsFrom chunksOf
 all-rows front rest k n [] long = refl
 all-rows front rest k n (s ∷ ss) long =
@@ -75,7 +75,7 @@ all-rows front rest k n (s ∷ ss) long =
     let here : table ≡ front ++ (mine ++ more) = ap (λ (rows : List ℕ). front ++ rows) (append-assoc mine (chunkRowsFrom (suc n) ss) rest) in
     let next : table ≡ (front ++ mine) ++ more = here ∙ sym (append-assoc front mine more) in
     let first = ap (λ (t : List ℕ). chunksFrom t (length (s .chunks)) k) here ∙ segment-rows front more k n 0 (s .chunks) long in
-    let behind : length (front ++ mine) ≡ 6 * (k + length (s .chunks)) = omega (arith, length-append front mine, chunk-rows-long n 0 (s .chunks)) in
+    let behind : length (front ++ mine) ≡ chunkRowLength * (k + length (s .chunks)) = omega (arith, length-append front mine, chunk-rows-long n 0 (s .chunks)) in
     let others = ap (λ (t : List ℕ). chunksFrom t (length (chunksOf ss)) (k + length (s .chunks))) next ∙ all-rows (front ++ mine) rest (k + length (s .chunks)) (suc n) ss behind in
     ap (λ (m : ℕ). chunksFrom table m k) (length-append (s .chunks) (chunksOf ss))
     ∙ rows-both table (length (s .chunks)) (length (chunksOf ss)) k

@@ -5,17 +5,18 @@ use mathlib.Core.List.{List, [], _∷_}
 use lib.Dec.{ltb}
 use lib.ListN.{length, getD}
 use Rattle.partial.specs.Segments.{Chunk, noChunk}
+use Rattle.partial.specs.Tables.{chunkRowLength}
 
 -- the chunk of a row: its start, size, state and place are the row's last four numbers; of a row that is not there, no chunk
 unfoldable pub chunkIn : List ℕ → ℕ → Chunk
 chunkIn table n =
-    elim (ltb n (length table / 6)) [
+    elim (ltb n (length table / chunkRowLength)) [
       | true ↦
           record {
-            start = getD table (6 * n + 2) 0;
-            size = getD table (6 * n + 3) 0;
-            state = getD table (6 * n + 4) 0;
-            place = getD table (6 * n + 5) 0;
+            start = getD table (chunkRowLength * n + 2) 0;
+            size = getD table (chunkRowLength * n + 3) 0;
+            state = getD table (chunkRowLength * n + 4) 0;
+            place = getD table (chunkRowLength * n + 5) 0;
           }
       | false ↦ noChunk
     ]

@@ -6,9 +6,9 @@ use native.Mathlib.Nat.{add-zero}
 use native.Mathlib.Omega.{arith}
 use lib.ListN.{length, length-append}
 use Rattle.partial.specs.Segments.{Chunk, Segment, chunksOf}
-use Rattle.partial.specs.Tables.{chunkRow, chunkRowsOf, chunkRowsFrom, segmentRow, segmentRows}
+use Rattle.partial.specs.Tables.{segmentRowLength, chunkRowLength, chunkRow, chunkRowsOf, chunkRowsFrom, segmentRow, segmentRows}
 
-pub chunk-rows-long : (n i : ℕ) (cs : List Chunk) → length (chunkRowsOf n i cs) ≡ 6 * length cs
+pub chunk-rows-long : (n i : ℕ) (cs : List Chunk) → length (chunkRowsOf n i cs) ≡ chunkRowLength * length cs
 unfolding chunkRowsOf chunkRow
 chunk-rows-long n i [] = refl
 chunk-rows-long n i (c ∷ cs) = omega (arith, chunk-rows-long n (suc i) cs)
@@ -30,7 +30,7 @@ all-rows-last n (x ∷ ss) s =
     ap (λ (rows : List ℕ). chunkRowsOf n 0 (x .chunks) ++ rows) (all-rows-last (suc n) ss s ∙ ap (λ (k : ℕ). chunkRowsFrom (suc n) ss ++ chunkRowsOf k 0 (s .chunks)) number)
     ∙ sym (append-assoc (chunkRowsOf n 0 (x .chunks)) (chunkRowsFrom (suc n) ss) (chunkRowsOf (n + length (x ∷ ss)) 0 (s .chunks)))
 
-pub all-rows-long : (n : ℕ) (ss : List Segment) → length (chunkRowsFrom n ss) ≡ 6 * length (chunksOf ss)
+pub all-rows-long : (n : ℕ) (ss : List Segment) → length (chunkRowsFrom n ss) ≡ chunkRowLength * length (chunksOf ss)
 unfolding chunkRowsFrom chunksOf
 all-rows-long n [] = refl
 all-rows-long n (s ∷ ss) =
@@ -42,7 +42,7 @@ all-rows-long n (s ∷ ss) =
       length-append (s .chunks) (chunksOf ss),
     )
 
-pub segment-rows-long : (ss : List Segment) → length (segmentRows ss) ≡ 7 * length ss
+pub segment-rows-long : (ss : List Segment) → length (segmentRows ss) ≡ segmentRowLength * length ss
 unfolding segmentRows segmentRow
 segment-rows-long [] = refl
 segment-rows-long (s ∷ ss) = omega (arith, segment-rows-long ss)
