@@ -44,7 +44,7 @@ pub const TABLE_TOO_SHORT: u64 = 26;
 pub const INPUT_TOO_LONG: u64 = 27;
 // The stated length of a file exceeds its lent buffer.
 pub const LENGTH_OVER_BUFFER: u64 = 30;
-// The chunk list is of odd length, or has a size 0 or a state that is not 0, 1 or 2.
+// The chunk list is of odd length, or has a size 0 or a state above 3.
 pub const CHUNK_LIST_WRONG: u64 = 31;
 // The data bytes are not equal in number to the sizes of states 1 and 2.
 pub const DATA_WRONG: u64 = 32;
