@@ -1,6 +1,7 @@
 # Builds the library's archive, which is proved first, and the command `paff` over it. `make test` holds the archive and the plain C program against the model, runs the
 # command as a person would, a build of it that stops at undefined behaviour and one over the plain C program under both sanitizers, passes the clerk's
-# evening, and keeps a real film in a mixed file. `make bench` measures the library beside the plain C program (docs/PERFORMANCE.md).
+# evening, and keeps a real film in a mixed file. `make bench` measures the library beside the plain C program, and `make
+# instructions` counts what both take (docs/PERFORMANCE.md).
 
 # Debian has this name for its own compiler on x86-64 and for its cross compiler elsewhere (gcc-x86-64-linux-gnu).
 CC := x86_64-linux-gnu-gcc
@@ -27,7 +28,7 @@ EMULATOR := $(shell sh command/emulator)
 # What `make test` runs, each by itself, so that `make -j2 test` runs two at a time.
 TESTS := test-scale test-scale-plain test-command test-command-undefined test-command-sanitized test-films
 
-.PHONY: all test bench $(TESTS)
+.PHONY: all test bench instructions $(TESTS)
 .DELETE_ON_ERROR:
 
 all: $(OUT)/paff
@@ -69,11 +70,16 @@ $(OUT)/plain.o: $(PLAIN) $(PLAIN_HEADERS) bench/calls.c bench/calls.h include/vr
 	x86_64-linux-gnu-objcopy --keep-global-symbol=plain $@
 
 $(OUT)/bench: bench/bench.c bench/timing.c bench/timing.h bench/calls.h $(OUT)/proved.o $(OUT)/plain.o
-	$(CC) $(CFLAGS) -static -o $@ bench/bench.c bench/timing.c $(OUT)/proved.o $(OUT)/plain.o
+	$(CC) $(CFLAGS) -static -Wl,-Map=$@.places -o $@ bench/bench.c bench/timing.c $(OUT)/proved.o $(OUT)/plain.o
 
 bench: $(OUT)/bench
 	python3 bench/films.py $(OUT)/films
 	$(EMULATOR) $(OUT)/bench $(OUT)/films
+
+# Instructions, not times: every processor that can emulate x86-64 counts the same.
+instructions: $(OUT)/bench
+	python3 bench/films.py $(OUT)/films
+	python3 bench/instructions.py $(OUT)/bench $(OUT)/films
 
 test: $(TESTS) $(OUT)/bench
 

@@ -1,4 +1,6 @@
-/* The proved library and the plain C one on the same films, and append against memcpy: `bench FOLDER`, with the films that bench/films.py makes there. */
+/* The proved library and the plain C one on the same films, and append against memcpy: `bench FOLDER`, with the films that
+   bench/films.py makes there. `bench FOLDER PROGRAM CALL FILM POSITION TIMES` makes one call so many times and prints nothing, for
+   bench/instructions.py to count. */
 #include "calls.h"
 #include "timing.h"
 
@@ -75,7 +77,15 @@ static void ask_once(int program, void *given)
     a->call(programs[program], a);
 }
 
-static void compare_on(const char *folder, const char *film, const char *what, void (*call)(const struct calls *, const struct asking *), uint64_t position)
+/* The calls that are compared, by name. */
+static const struct named {
+    const char *name;
+    void (*call)(const struct calls *program, const struct asking *asked);
+} named[] = {
+    {"read", read_film}, {"serve", serve_position}, {"ask", ask_position}, {"list", list_film}, {"map", map_film}, {"missmap", missmap_film},
+};
+
+static struct asking asking_of(const char *folder, const char *film, const char *what, uint64_t position)
 {
     static uint8_t bytes[LONGEST_FILM];
     char name[512];
@@ -85,10 +95,36 @@ static void compare_on(const char *folder, const char *film, const char *what, v
         perror(name);
         exit(2);
     }
-    struct asking asked = {bytes, fread(bytes, 1, sizeof bytes, in), position, call};
+    struct asking asked = {bytes, fread(bytes, 1, sizeof bytes, in), position, NULL};
     fclose(in);
+    for (size_t i = 0; i < sizeof named / sizeof named[0]; i++) {
+        if (strcmp(named[i].name, what) == 0) {
+            asked.call = named[i].call;
+        }
+    }
+    if (asked.call == NULL) {
+        fprintf(stderr, "no call %s\n", what);
+        exit(2);
+    }
+    return asked;
+}
+
+static void compare_on(const char *folder, const char *film, const char *what, uint64_t position)
+{
+    struct asking asked = asking_of(folder, film, what, position);
+    char name[512];
     snprintf(name, sizeof name, "%s %s", what, film);
     compare(name, ask_once, &asked, ROUNDS);
+}
+
+/* One call of one program, so many times. */
+static void repeat(char **words)
+{
+    struct asking asked = asking_of(words[1], words[4], words[3], strtoull(words[5], NULL, 10));
+    int program = strcmp(words[2], "plain") == 0;
+    for (int left = atoi(words[6]); left > 0; left--) {
+        ask_once(program, &asked);
+    }
 }
 
 static void append_once(int program, void *given)
@@ -123,18 +159,18 @@ static void compare_append(const char *name, const struct calls *program, size_t
 
 static void compare_calls(const char *folder)
 {
-    compare_on(folder, "ordinary", "read", read_film, 0);
-    compare_on(folder, "largest", "read", read_film, 0);
-    compare_on(folder, "far", "read", read_film, 0);
-    compare_on(folder, "refused", "read", read_film, 0);
-    compare_on(folder, "ordinary", "serve", serve_position, 1048575);
-    compare_on(folder, "ordinary", "ask", ask_position, 1048575);
-    compare_on(folder, "in_order", "ask", ask_position, 65535);
-    compare_on(folder, "overlapping", "list", list_film, 0);
-    compare_on(folder, "in_order", "list", list_film, 0);
-    compare_on(folder, "in_order", "map", map_film, 0);
-    compare_on(folder, "in_order", "missmap", missmap_film, 0);
-    compare_on(folder, "damaged", "map", map_film, 0);
+    compare_on(folder, "ordinary", "read", 0);
+    compare_on(folder, "largest", "read", 0);
+    compare_on(folder, "far", "read", 0);
+    compare_on(folder, "refused", "read", 0);
+    compare_on(folder, "ordinary", "serve", 1048575);
+    compare_on(folder, "ordinary", "ask", 1048575);
+    compare_on(folder, "in_order", "ask", 65535);
+    compare_on(folder, "overlapping", "list", 0);
+    compare_on(folder, "in_order", "list", 0);
+    compare_on(folder, "in_order", "map", 0);
+    compare_on(folder, "in_order", "missmap", 0);
+    compare_on(folder, "damaged", "map", 0);
 }
 
 static void compare_growth(const char *folder)
@@ -142,18 +178,22 @@ static void compare_growth(const char *folder)
     static const char *const by_chunks[] = {"chunks_16", "chunks_64", "chunks_256", "chunks_1024"};
     static const char *const by_boxes[] = {"boxes_8", "boxes_64", "boxes_512"};
     for (size_t i = 0; i < sizeof by_chunks / sizeof by_chunks[0]; i++) {
-        compare_on(folder, by_chunks[i], "read", read_film, 0);
-        compare_on(folder, by_chunks[i], "list", list_film, 0);
+        compare_on(folder, by_chunks[i], "read", 0);
+        compare_on(folder, by_chunks[i], "list", 0);
     }
     for (size_t i = 0; i < sizeof by_boxes / sizeof by_boxes[0]; i++) {
-        compare_on(folder, by_boxes[i], "read", read_film, 0);
+        compare_on(folder, by_boxes[i], "read", 0);
     }
 }
 
 int main(int count, char **words)
 {
+    if (count == 7) {
+        repeat(words);
+        return 0;
+    }
     if (count != 2) {
-        fprintf(stderr, "usage: bench FOLDER\n");
+        fprintf(stderr, "usage: bench FOLDER [PROGRAM CALL FILM POSITION TIMES]\n");
         return 2;
     }
     printf("case\tproved\tquartiles\tplain or memcpy\tquartiles\tratio\n");
