@@ -1,67 +1,31 @@
 -- Laws of listing: the lists of a file's chunks are those of the file, what each test decides, and what is left in the tables and lists.
 use Prim.Native.Nat.{ℕ, _*_, _<_, _≤_}
-use mathlib.Core.Bool.{true, false, and-false}
+use mathlib.Core.Bool.{and-false}
 use mathlib.Core.List.{List}
-use mathlib.Core.Path.{_≡_, refl, sym, ap, _∙_}
+use mathlib.Core.Path.{_≡_, refl, ap, _∙_}
 use native.Mathlib.Omega.{arith}
 use borrow.Author.Tests.{le-leb, lt-leb}
 use lib.ListN.{length}
 use Rattle.boxes.specs.Answer.{refused, given}
 use Rattle.partial.specs.Answers.{listedAnswer}
-use Rattle.partial.specs.Limits.{chunkLimit, sourceLimit}
-use Rattle.partial.specs.Meaning.{supplies, supplied, describedLength}
+use Rattle.partial.specs.Limits.{sourceLimit}
 use Rattle.partial.specs.Memory.{fits, filled, after}
 use Rattle.partial.specs.Ranges.{had, missing, ranges, classOf, rangesOf, hadList, missingList}
-use Rattle.partial.specs.Reading.{reading}
-use Rattle.partial.specs.Segments.{Chunk, Segment, good}
-use Rattle.partial.specs.Sequences.{someOf}
-use Rattle.partial.specs.Tables.{chunkRowLength, rangeRowLength, tabled, listed, segmentRows, chunkRows, hadRows, missingRows, totals}
+use Rattle.partial.specs.Segments.{Segment}
+use Rattle.partial.specs.Tables.{rangeRowLength, tabled, listed, segmentRows, chunkRows, hadRows, missingRows, totals}
 use Rattle.partial.specs.declared.answers.Listed.{Listed}
 use Rattle.partial.specs.declared.answers.Listed.the-variants as Listed
-use Rattle.partial.proofs.Meaning.SupplyLaws.{supplied-some}
-use Rattle.partial.proofs.Reading.LimitLaws.{chunks-few}
 use Rattle.filling.specs.Rows.{Put}
-use Rattle.gathering.proofs.GatheredLaws.{gathered-chunks}
 use Rattle.gathering.proofs.RowLaws.{put-filled}
-use Rattle.reading.specs.Judged.{Judged, RowsIn}
-use Rattle.reading.proofs.JudgedLaws.{Accepted, read-given}
-use Rattle.reading.proofs.TableLaws.{chunks-filled}
-use Rattle.supplying.specs.Rows.{chunksIn}
-use Rattle.supplying.proofs.RowsLaws.{filled-chunks}
-use Rattle.spans.specs.Chunks.{SpansOf}
-use Rattle.sweeping.specs.Ranges.{classBy}
-use Rattle.spans.specs.Spans.{coveredBy, Same}
+use Rattle.spans.specs.Files.{Spanned}
+use Rattle.spans.specs.Spans.{classBy}
 use Rattle.sweeping.proofs.RangeLaws.{ranges-same}
-use Rattle.spans.proofs.SpanLaws.{same-covered}
-use Rattle.listing.specs.Calls.{Known, Spanned, Counted, Listing}
+use Rattle.listing.specs.Calls.{Counted, Listing}
 use Rattle.listing.specs.Lists.{Lists}
 use Rattle.listing.specs.declared.lists.Totals.{Totals}
 use Rattle.listing.proofs.ListLaws.{range-rows-long}
 
--- what is known of an accepted file whose rows were put into a table that has room for all
-pub known-by : {f : List ℕ} {j : Judged} (a : Accepted f j) {t₀ t : List ℕ} {described : ℕ} → RowsIn (reading sourceLimit f) t₀ t → chunkRowLength * chunkLimit ≤ length t₀
-    → described ≡ describedLength (a .ss)
-    → Known t (j .gathered .chunks) described (a .ss)
-known-by {f} a {t₀} rows room long =
-    let few = chunks-few sourceLimit f (a .h) (a .all) in
-    let full = chunks-filled (a .ss) (rows (a .ss) (read-given f a)) (omega (arith, few)) in
-    let many = gathered-chunks (a .ss) (a .gathered) in
-    record { rows = (λ i. chunksIn (full i) (many i)) ∙ filled-chunks (a .ss) t₀; long = long }
-
 -- ---- the lists of a file
-
--- the ordered spans of the file's rows
-pub spanned-by : {count described : ℕ} {ss : List Segment} {t₀ t t′ : List ℕ} {n : ℕ} → Known t₀ count described ss → SpansOf good t₀ count described t n → Same n t t′
-    → Spanned ss t′ n described
-unfolding classBy classOf
-spanned-by {ss = ss} {t′ = t′} {n = n} k spans same =
-    record {
-      long = k .long;
-      class = λ q below.
-          let covered : coveredBy t′ n q ≡ supplied ss q =
-          same-covered same q ∙ spans .covers q below ∙ ap (λ (cs : List Chunk). someOf (supplies q) cs) (k .rows) ∙ sym (supplied-some ss q) in
-          λ i. elim (covered i) [ true ↦ had | false ↦ missing ];
-    }
 
 -- the ranges by the spans of a file are the file's
 pub spanned-ranges : {ss : List Segment} {t : List ℕ} {n described : ℕ} → Spanned ss t n described → ranges (classBy t n) described 0 ≡ rangesOf ss

@@ -1,7 +1,6 @@
 -- Each public call's contract determines its answer, and what it leaves in the lent tables and lists: two that it allows of the same arguments are equal.
--- The class of a position by the spans of a file is determined where the position is below the described length and the table holds the rows of the file; the totals
--- where the spans are ordered, and what is put into a list where all its ranges fit besides.
-use Prim.Native.Nat.{ℕ, _<_, _≤_}
+-- The totals are determined where the spans are ordered, and what is put into a list where all its ranges fit besides.
+use Prim.Native.Nat.{ℕ, _≤_}
 use mathlib.Core.List.{List}
 use mathlib.Core.Path.{_≡_, sym, _∙_}
 use denote.Ref.{now}
@@ -10,17 +9,12 @@ use Rattle.numerals.proofs.Determined.{OneResult, OneLeft, OneKnown}
 use Rattle.boxes.proofs.ToldLaws.{Tells}
 use Rattle.partial.specs.Answers.{listedAnswer}
 use Rattle.partial.specs.Ranges.{had, missing, ranges, ofClass}
-use Rattle.partial.specs.Segments.{Segment}
 use Rattle.partial.specs.Tables.{Totals, rangeRows}
 use Rattle.partial.specs.declared.answers.Listed.the-variants as Listed
 use Rattle.filling.specs.Rows.{Put}
 use Rattle.gathering.proofs.Determined.{OneLeftKnown}
 use Rattle.gathering.proofs.RowLaws.{put-filled}
-use Rattle.sweeping.specs.Ranges.{classBy}
-use Rattle.spans.specs.Spans.{Ordered}
-use Rattle.spans.proofs.Determined.{OneMade}
-use Rattle.listing.specs.Calls.{Known}
-use Rattle.listing.proofs.calls.file_spans.Reads as file-spans
+use Rattle.spans.specs.Spans.{classBy, Ordered}
 use Rattle.listing.proofs.calls.list.Reads as list
 use Rattle.listing.proofs.lists.put_lists.Reads as put-lists
 
@@ -57,11 +51,6 @@ put-lists-missing : OneLeftKnown put-lists.Post
     (λ κs args (_ : Unit {0}). Ordered (now (args .0)) (args .1 .0) (args .1 .1 .0 .0) × Fits missing (now (args .0)) (args .1 .0) (args .1 .1 .0 .0) (now (args .1 .1 .1 .1 .0)))
     (λ κs after. now (after .1 .1 .1 .1 .0))
 put-lists-missing κs args _ (o, room) x y after after′ p q = one-list room (p o .missingRows) (q o .missingRows)
-
-file-spans-class : OneMade file-spans.Post
-    (λ κs args ((ss, q) : List Segment × ℕ). Known (now (args .0)) (args .1 .0) (args .1 .1 .0 .0) ss × (q < args .1 .1 .0 .0))
-    (λ κs args n after (ss, q). classBy (now (after .0)) n q)
-file-spans-class κs args (ss, q) (known, below) x y after after′ a b = a .1 ss known .class q below ∙ sym (b .1 ss known .class q below)
 
 list-result : OneResult list.Post
 list-result κs args x y after after′ p q = listed-told x y (p .answer ∙ sym (q .answer))

@@ -1,16 +1,13 @@
 -- Laws of the two lists: with one range more, and that ranges found one after another are all of them.
 use Prim.Native.Nat.{ℕ, _+_, _-_, _*_, _<_, _≤_}
 use mathlib.Core.List.{List, [], _∷_, _++_, append-nil, append-assoc}
-use mathlib.Core.Logic.{inl, inr}
 use mathlib.Core.Path.{_≡_, refl, sym, ap, _∙_}
 use native.Mathlib.Omega.{arith}
-use borrow.Author.Tests.{eq-eqb, ne-eqb}
-use lib.Dec.{eqb}
 use lib.ListN.{length, length-append}
 use Rattle.partial.specs.Ranges.{Range as Stretch, had, missing, ranges, ofClass, total}
 use Rattle.partial.specs.Sequences.{sum}
 use Rattle.partial.specs.Tables.{rangeRowLength, rangeRows}
-use Rattle.partial.proofs.Meaning.SequenceLaws.{which}
+use Rattle.partial.proofs.Meaning.RangeLaws.{last-in, last-out, total-last}
 use Rattle.filling.specs.Rows.{Put}
 use Rattle.filling.proofs.RowLaws.{put-none, put-more, put-same}
 use Rattle.sweeping.specs.Ranges.{rangeIn}
@@ -21,25 +18,6 @@ use Rattle.listing.specs.declared.lists.Totals.{Totals}
 
 -- ---- one range more
 
-module _ (c : ℕ) (r : Stretch) where
-  pub last-in : r .class ≡ c → (rs : List Stretch) → ofClass c (rs ++ (r ∷ [])) ≡ ofClass c rs ++ (r ∷ [])
-  unfolding ofClass
-  last-in same [] = rw (ofClass, eq-eqb (r .class) c same)
-  last-in same (x ∷ rs) =
-      elim (which (eqb (x .class) c)) [
-        | inl here ↦ rw (ofClass, here) (ap (λ (xs : List Stretch). x ∷ xs) (last-in same rs))
-        | inr other ↦ rw (ofClass, other) (last-in same rs)
-      ]
-
-  pub last-out : (r .class ≡ c → ⊥) → (rs : List Stretch) → ofClass c (rs ++ (r ∷ [])) ≡ ofClass c rs
-  unfolding ofClass
-  last-out differ [] = rw (ofClass, ne-eqb (r .class) c differ)
-  last-out differ (x ∷ rs) =
-      elim (which (eqb (x .class) c)) [
-        | inl here ↦ rw (ofClass, here) (ap (λ (xs : List Stretch). x ∷ xs) (last-out differ rs))
-        | inr other ↦ rw (ofClass, other) (last-out differ rs)
-      ]
-
 pub range-rows-long : (rs : List Stretch) → length (rangeRows rs) ≡ rangeRowLength * length rs
 unfolding rangeRows
 range-rows-long [] = refl
@@ -49,11 +27,6 @@ range-rows-last : (rs : List Stretch) (r : Stretch) → rangeRows (rs ++ (r ∷ 
 unfolding rangeRows
 range-rows-last [] r = refl
 range-rows-last (x ∷ rs) r = ap (λ (xs : List ℕ). x .first ∷ x .length ∷ xs) (range-rows-last rs r)
-
-pub total-last : (rs : List Stretch) (r : Stretch) → total (rs ++ (r ∷ [])) ≡ total rs + r .length
-unfolding total sum
-total-last [] r = omega arith
-total-last (x ∷ rs) r = omega (arith, total-last rs r)
 
 -- a list of one class, with one range more of that class
 module _ {t₀ t t′ : List ℕ} (rs : List Stretch) (r : Stretch) (n : ℕ) where

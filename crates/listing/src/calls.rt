@@ -5,29 +5,18 @@ use gathering::pass::pass;
 use partial::answers::Listed;
 use partial::position::Position;
 use partial::refusals::TABLE_TOO_SHORT;
+use partial::rows::ALL_CHUNK_ROWS;
 use partial::rows::CHUNK_ROW;
 use partial::rows::RANGE_ROW;
 use partial::rows::SEGMENT_ROW;
 use reading::judging::Judgement;
 use reading::judging::judge_into;
-use spans::chunks::spans_of;
-use spans::ordering::order;
+use spans::files::file_spans;
 ghost use mathlib.Core.List.{List};
 ghost use Rattle.partial.specs.Segments.{Segment};
+ghost use Rattle.spans.specs.Files.{Spanned};
 ghost use Rattle.spans.specs.Spans.{Ordered};
-ghost use Rattle.listing.specs.Calls.{Known, Spanned, Counted, Listing};
-
-// The numbers of the rows of as many chunks as a file may have. A table of so many is a call's own, so that it is filled while the file is judged, in one pass.
-pub const ALL_ROWS: usize = 6144;
-
-// The rows of the chunks of a file become its spans, ordered; the answer is how many.
-pub fn file_spans(table: &mut [u64], count: u64, end: Position) -> usize
-    ensures { λ n. ⌜ Ordered (now (table .exit)) n (end .0) × ((ss : List Segment) → Known (now (table .entry)) count (end .0) ss → Spanned ss (now (table .exit)) n (end .0)) ⌝ }
-{
-    let n = spans_of(table, count, end);
-    order(table, n);
-    n
-}
+ghost use Rattle.listing.specs.Calls.{Counted, Listing};
 
 // What the lists will hold: they are put where there is no room for them, since nothing lent is touched before it is known that both lists have room.
 fn counted(spans: &[u64], n: usize, end: Position) -> Totals
@@ -48,7 +37,8 @@ pub fn list(
 ) -> Listed
     ensures { λ r. ⌜ Listing (now (file .entry)) (now (segments .entry)) (now (segments .exit)) (now (chunks .entry)) (now (chunks .exit)) (now (had .entry)) (now (had .exit)) (now (missing .entry)) (now (missing .exit)) r ⌝ }
 {
-    let mut spans = [0; ALL_ROWS];
+    // The table is the call's own, so that it is filled while the file is judged, in one pass.
+    let mut spans = [0; ALL_CHUNK_ROWS];
     match judge_into(file, &mut spans) {
         Judgement::Refused(n) => Listed::Refused(n),
         Judgement::Given(judged) => {

@@ -9,8 +9,7 @@ ghost use Prim.Native.Nat.{_+_, _*_};
 ghost use mathlib.Core.List.{[], _∷_};
 ghost use Rattle.partial.specs.Tables.{rangeRowLength};
 ghost use Rattle.filling.specs.Rows.{Put};
-ghost use Rattle.sweeping.specs.Ranges.{classBy};
-ghost use Rattle.spans.specs.Spans.{Ordered};
+ghost use Rattle.spans.specs.Spans.{classBy, Ordered};
 ghost use Rattle.listing.specs.Lists.{Bounded, Proper, Joins, Lists};
 
 // How many ranges each list has, and how many positions they hold.

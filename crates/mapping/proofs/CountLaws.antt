@@ -4,10 +4,10 @@ use mathlib.Core.List.{List, [], _∷_, _++_}
 use mathlib.Core.Path.{_≡_, refl, ap, _∙_}
 use native.Mathlib.Omega.{arith}
 use lib.ListN.{length, length-append}
-use Rattle.listing.proofs.ListLaws.{last-in, last-out, total-last}
 use Rattle.partial.specs.Naming.{held, lost}
 use Rattle.partial.specs.Ranges.{Range as Stretch, had, ofClass, total}
 use Rattle.partial.specs.Sequences.{sum}
+use Rattle.partial.proofs.Meaning.RangeLaws.{last-in, last-out, total-last}
 use Rattle.mapping.specs.Totals.{Counts}
 use Rattle.mapping.specs.declared.totals.Totals.{Totals}
 

@@ -7,7 +7,6 @@ use native.Mathlib.Omega.{arith}
 use lib.ListN.{length}
 use Rattle.ends.specs.Sizes.{sizesOf}
 use Rattle.ends.specs.declared.sizes.Sizes.{Sizes}
-use Rattle.listing.specs.Calls.{Known, Spanned}
 use Rattle.numerals.proofs.StoredLaws.{stored-none}
 use Rattle.partial.specs.Map.{ascii, decimal, line, sourceLine, rangeLines, totalLine, mapOf, missmapOf, textFor, mapText, missmapText}
 use Rattle.partial.specs.Meaning.{coversAs, supplied, describedLength, isClosed}
@@ -20,9 +19,9 @@ use Rattle.partial.specs.declared.answers.Written.{Written}
 use Rattle.partial.specs.declared.answers.Written.the-variants.{Refused}
 use Rattle.partial.proofs.Meaning.NamingLaws.{as-had}
 use Rattle.spans.specs.Chunks.{SpansOf}
+use Rattle.spans.specs.Files.{Known, Spanned}
 use Rattle.sweeping.specs.Naming.{nameBy}
-use Rattle.sweeping.specs.Ranges.{classBy}
-use Rattle.spans.specs.Spans.{coveredBy, Same}
+use Rattle.spans.specs.Spans.{coveredBy, classBy, Same}
 use Rattle.sweeping.proofs.RangeLaws.{ranges-same}
 use Rattle.spans.proofs.SpanLaws.{same-covered}
 use Rattle.texts.specs.Pieces.{PutsPiece}

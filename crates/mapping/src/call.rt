@@ -8,25 +8,25 @@ use crate::ranges::put_ranges;
 use crate::totals::Totals;
 use crate::totals::counted;
 use gathering::gathered::Gathered;
-use listing::calls::ALL_ROWS;
-use listing::calls::file_spans;
 use partial::answers::Written;
 use partial::position::Position;
 use partial::refusals::BUFFER_TOO_SHORT;
 use partial::refusals::INPUT_TOO_LONG;
+use partial::rows::ALL_CHUNK_ROWS;
 use reading::judging::Judgement;
 use reading::judging::judge_into;
+use spans::files::file_spans;
 use texts::lines::put_refused;
 ghost use Prim.Native.Nat.{_+_, _*_, _≤_};
 ghost use mathlib.Core.Bool.{true};
 ghost use mathlib.Core.List.{List};
 ghost use mathlib.Core.Path.{_≡_};
 ghost use Rattle.filling.specs.Rows.{Puts};
-ghost use Rattle.listing.specs.Calls.{Known};
 ghost use Rattle.partial.specs.Limits.{chunkLimit, sourceLimit};
 ghost use Rattle.partial.specs.Map.{textFor, mapText, missmapText, refusedLine};
 ghost use Rattle.partial.specs.Meaning.{isClosed};
 ghost use Rattle.partial.specs.Segments.{Segment};
+ghost use Rattle.spans.specs.Files.{Known};
 ghost use Rattle.texts.specs.Writes.{Writes};
 ghost use Rattle.mapping.specs.Outline.{textOf, Drawn, Outlined, rangesIn};
 ghost use Rattle.mapping.specs.Totals.{Counts};
@@ -113,7 +113,7 @@ fn write_map(file: &[u8], most: u64, buffer: &mut [u8], named: bool) -> Written
     if most < file.len() as u64 {
         return write_refused(buffer, INPUT_TOO_LONG);
     }
-    let mut rows = [0; ALL_ROWS];
+    let mut rows = [0; ALL_CHUNK_ROWS];
     match judge_into(file, &mut rows) {
         Judgement::Refused(n) => write_refused(buffer, n),
         Judgement::Given(judged) => {

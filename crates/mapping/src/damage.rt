@@ -5,8 +5,8 @@ use spans::ordering::order;
 ghost use Prim.Native.Nat.{_*_, _≤_};
 ghost use mathlib.Core.List.{List};
 ghost use lib.ListN.{length};
-ghost use Rattle.listing.specs.Calls.{Known};
 ghost use Rattle.partial.specs.Segments.{Segment};
+ghost use Rattle.spans.specs.Files.{Known};
 ghost use Rattle.spans.specs.Spans.{Ordered};
 ghost use Rattle.mapping.specs.Outline.{Damage};
 

@@ -8,7 +8,7 @@ use borrow.Author.Tests.{le-leb, lt-leb}
 use lib.ListN.{length}
 use Rattle.boxes.specs.Answer.{refused, given}
 use Rattle.partial.specs.Answers.{readAnswer}
-use Rattle.partial.specs.Limits.{sourceLimit}
+use Rattle.partial.specs.Limits.{chunkLimit, sourceLimit}
 use Rattle.partial.specs.Meaning.{describedLength}
 use Rattle.partial.specs.Memory.{fits, filled, after}
 use Rattle.partial.specs.Reading.{reading}
@@ -20,9 +20,13 @@ use Rattle.filling.specs.Rows.{Put}
 use Rattle.ends.specs.Sizes.{sizesOf}
 use Rattle.gathering.specs.Gathered.{gatheredOf}
 use Rattle.gathering.specs.declared.gathered.Gathered.{Gathered}
+use Rattle.partial.proofs.Reading.LimitLaws.{chunks-few}
 use Rattle.partial.proofs.Reading.RowLaws.{segment-rows-long, all-rows-long}
+use Rattle.gathering.proofs.GatheredLaws.{gathered-chunks}
 use Rattle.gathering.proofs.RowLaws.{put-filled}
+use Rattle.reading.specs.Judged.{Judged, RowsIn}
 use Rattle.reading.specs.Tables.{Reads}
+use Rattle.reading.proofs.JudgedLaws.{Accepted, read-given}
 
 chunk-rows-all : (ss : List Segment) → length (chunkRows ss) ≡ chunkRowLength * length (chunksOf ss)
 unfolding chunkRows
@@ -74,3 +78,10 @@ segments-filled ss put room = put-filled (segmentRows ss) put (omega (arith, seg
 
 pub chunks-filled : (ss : List Segment) {b b′ : List ℕ} → Put b 0 (chunkRows ss) b′ → chunkRowLength * length (chunksOf ss) ≤ length b → b′ ≡ filled (chunkRows ss) b
 chunks-filled ss put room = put-filled (chunkRows ss) put (omega (arith, chunk-rows-all ss))
+
+-- the rows of an accepted file fill a table that has room for those of as many chunks as a file may have
+pub all-filled : {f : List ℕ} {j : Judged} (a : Accepted f j) {t₀ t : List ℕ} → RowsIn (reading sourceLimit f) t₀ t → chunkRowLength * chunkLimit ≤ length t₀
+    → ((t₀ : List ℕ) × (t ≡ filled (chunkRows (a .ss)) t₀)) × (j .gathered .chunks ≡ length (chunksOf (a .ss)))
+all-filled {f} a {t₀} rows room =
+    let few = chunks-few sourceLimit f (a .h) (a .all) in
+    ((t₀, chunks-filled (a .ss) (rows (a .ss) (read-given f a)) (omega (arith, few))), gathered-chunks (a .ss) (a .gathered))

@@ -1,13 +1,17 @@
 -- Each public call's contract determines what the spans cover: of two that it allows of the same arguments it is equal. It leaves open which of the spans that
 -- start at one position comes first.
 use Prim.Native.Nat.{ℕ, _*_, _<_, _≤_}
+use mathlib.Core.List.{List}
 use mathlib.Core.Path.{_≡_, sym, _∙_}
 use denote.Ref.{now}
 use lib.ListN.{length}
-use Rattle.spans.specs.Spans.{coveredBy}
+use Rattle.partial.specs.Segments.{Segment}
+use Rattle.spans.specs.Files.{Known}
+use Rattle.spans.specs.Spans.{coveredBy, classBy}
 use Rattle.spans.proofs.SpanLaws.{same-covered}
 use Rattle.spans.proofs.chunks.damaged_spans.Reads as damaged-spans
 use Rattle.spans.proofs.chunks.spans_of.Reads as spans-of
+use Rattle.spans.proofs.files.file_spans.Reads as file-spans
 use Rattle.spans.proofs.ordering.order.Reads as order
 
 -- where something is known of the arguments, a contract allows one value of something of the result and of what the call leaves behind
@@ -29,3 +33,9 @@ damaged-spans-covered κs args q (room, below) x y after after′ a b = a .1 roo
 
 order-covered : OneMade order.Post (λ κs args (q : ℕ). 2 * args .1 .0 ≤ length (now (args .0))) (λ κs args r after q. coveredBy (now (after .0)) (args .1 .0) q)
 order-covered κs args q room x y after after′ a b = same-covered (a room .0) q ∙ sym (same-covered (b room .0) q)
+
+-- of the rows of a file, below its described length
+file-spans-class : OneMade file-spans.Post
+    (λ κs args ((ss, q) : List Segment × ℕ). Known (now (args .0)) (args .1 .0) (args .1 .1 .0 .0) ss × (q < args .1 .1 .0 .0))
+    (λ κs args n after (ss, q). classBy (now (after .0)) n q)
+file-spans-class κs args (ss, q) (known, below) x y after after′ a b = a .1 ss known .class q below ∙ sym (b .1 ss known .class q below)

@@ -2,3 +2,4 @@ pub mod SpanLaws
 pub mod ChunkLaws
 pub mod OrderLaws
 pub mod Determined
+pub mod FileLaws

@@ -1,10 +1,11 @@
--- Spans in a table: each is a first position and an end, two numbers, from the front; and the positions that they cover.
+-- Spans in a table: each is a first position and an end, two numbers, from the front; and the positions that they cover, with their classes.
 use Prim.Native.Nat.{ℕ, zero, suc, _+_, _*_, _<_, _≤_}
 use mathlib.Core.Bool.{Bool, true, false, _&&_, _||_}
 use mathlib.Core.List.{List}
 use mathlib.Core.Path.{_≡_}
 use lib.Dec.{leb, ltb}
 use lib.ListN.{length, getD}
+use Rattle.partial.specs.Ranges.{missing, had}
 
 -- the first position of a span, and its end
 abbrev pub firstAt : List ℕ → ℕ → ℕ
@@ -17,6 +18,10 @@ endAt t k = getD t (2 * k + 1) 0
 unfoldable pub coveredBy : List ℕ → ℕ → ℕ → Bool
 coveredBy t zero q = false
 coveredBy t (suc n) q = coveredBy t n q || (leb (firstAt t n) q && ltb q (endAt t n))
+
+-- the class of a position by the first n spans: had if one of them holds it, else missing
+unfoldable pub classBy : List ℕ → ℕ → ℕ → ℕ
+classBy t n q = elim (coveredBy t n q) [ true ↦ had | false ↦ missing ]
 
 -- the first n spans end at or before a position
 abbrev pub Within : List ℕ → ℕ → ℕ → Type 0

@@ -10,8 +10,8 @@ use Rattle.partial.specs.Naming.{held, lost}
 use Rattle.partial.specs.Ranges.{missing, had}
 use Rattle.partial.proofs.Meaning.SequenceLaws.{which}
 use Rattle.sweeping.specs.Naming.{nameBy, bothAtStart, BothReady, Names}
-use Rattle.sweeping.specs.Ranges.{classBy, rangeIn, OneClass}
-use Rattle.spans.specs.Spans.{coveredBy}
+use Rattle.sweeping.specs.Ranges.{rangeIn, OneClass}
+use Rattle.spans.specs.Spans.{coveredBy, classBy}
 use Rattle.sweeping.specs.Sweeps.{Ready}
 use Rattle.sweeping.specs.declared.naming.Sweeps.{Sweeps}
 use Rattle.sweeping.specs.declared.ranges.Range.{Range}

@@ -11,8 +11,8 @@ use Rattle.partial.specs.Ranges.{missing, had, ranges, joined}
 use Rattle.partial.specs.Sequences.{stretch}
 use Rattle.partial.proofs.Meaning.RangeLaws.{first-range}
 use Rattle.partial.proofs.Meaning.StretchLaws.{first-one, stretch-first}
-use Rattle.spans.specs.Spans.{firstAt, endAt, Within, coveredBy, Ordered}
-use Rattle.sweeping.specs.Ranges.{classBy, rangeIn, OneClass, Passed, Reaches, GoesOn, Finds}
+use Rattle.spans.specs.Spans.{firstAt, endAt, coveredBy, classBy, Within, Ordered}
+use Rattle.sweeping.specs.Ranges.{rangeIn, OneClass, Passed, Reaches, GoesOn, Finds}
 use Rattle.sweeping.specs.declared.ranges.Range.{Range}
 use Rattle.sweeping.specs.declared.ranges.Found.{Found}
 use Rattle.sweeping.specs.declared.ranges.Reach.{Reach}

@@ -2,7 +2,8 @@
 use Prim.Native.Nat.{ℕ, _+_, _<_, _≤_}
 use mathlib.Core.List.{List}
 use native.Mathlib.Omega.{arith}
-use Rattle.sweeping.specs.Ranges.{classBy, Passed, Finds}
+use Rattle.sweeping.specs.Ranges.{Passed, Finds}
+use Rattle.spans.specs.Spans.{classBy}
 use Rattle.sweeping.specs.Sweeps.{atStart, Ready}
 use Rattle.sweeping.specs.declared.ranges.Found.{Found}
 use Rattle.sweeping.specs.declared.sweep.Sweep.{Sweep}

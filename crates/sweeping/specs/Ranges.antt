@@ -1,19 +1,14 @@
 -- Document 01, "Lists": how far the positions from one on are of one class, and what a sweep over ordered spans tells of that.
 use Prim.Native.Nat.{ℕ, _+_, _-_, _<_, _≤_, _^_}
-use mathlib.Core.Bool.{true, false}
+use mathlib.Core.Bool.{true}
 use mathlib.Core.List.{List}
 use mathlib.Core.Path.{_≡_}
 use lib.Dec.{eqb}
-use Rattle.partial.specs.Ranges.{missing, had}
 use Rattle.partial.specs.Sequences.{stretch}
-use Rattle.spans.specs.Spans.{firstAt, Within, coveredBy}
+use Rattle.spans.specs.Spans.{firstAt, coveredBy, classBy, Within}
 use Rattle.sweeping.specs.declared.ranges.Range.{Range}
 use Rattle.sweeping.specs.declared.ranges.Found.{Found}
 use Rattle.sweeping.specs.declared.ranges.Reach.{Reach}
-
--- the class of a position by the first n spans: had if one of them holds it, else missing
-unfoldable pub classBy : List ℕ → ℕ → ℕ → ℕ
-classBy t n q = elim (coveredBy t n q) [ true ↦ had | false ↦ missing ]
 
 -- the class of a position, and how many from there on, below an end, are of that class
 unfoldable pub rangeIn : (ℕ → ℕ) → ℕ → ℕ → Range

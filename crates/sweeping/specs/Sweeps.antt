@@ -3,7 +3,8 @@ use Prim.Native.Nat.{ℕ, _<_, _≤_}
 use mathlib.Core.List.{List}
 use mathlib.Core.Path.{_≡_}
 use Rattle.partial.specs.Ranges.{missing}
-use Rattle.sweeping.specs.Ranges.{classBy, OneClass, Passed}
+use Rattle.sweeping.specs.Ranges.{OneClass, Passed}
+use Rattle.spans.specs.Spans.{classBy}
 use Rattle.sweeping.specs.declared.sweep.Sweep.{Sweep}
 
 -- a sweep over n spans that has not begun

@@ -2,8 +2,8 @@
 -- step by which a run of one class becomes a range.
 use Prim.Native.Nat.{ℕ, zero, suc, _+_, _-_, _≤_, _<_}
 use mathlib.Core.Bool.{Bool, true, false, _&&_, _||_, and-true, and-false, or-false}
-use mathlib.Core.List.{List, [], _∷_}
-use mathlib.Core.Logic.{_⊎_, ⊎-elim}
+use mathlib.Core.List.{List, [], _∷_, _++_}
+use mathlib.Core.Logic.{_⊎_, ⊎-elim, inl, inr}
 use mathlib.Core.Path.{_≡_, refl, sym, ap, _∙_}
 use native.Mathlib.Decide.{decLe, ℕ-discrete}
 use native.Mathlib.Nat.{zero-add, suc-add, add-suc, add-sub-of-le, eq-or-lt-of-le, le-antisymm, le-of-suc-le-suc, le-refl}
@@ -12,6 +12,7 @@ use borrow.Author.Tests.{le-leb, lt-leb, lt-ltb, le-ltb, eq-eqb, ne-eqb}
 use lib.Dec.{T, leb, ltb, eqb}
 use Rattle.partial.specs.Sequences.{someOf, sum, within}
 use Rattle.partial.specs.Ranges.{Range, joined, ranges, ofClass, total, among, apart, inRow}
+use Rattle.partial.proofs.Meaning.SequenceLaws.{which}
 
 -- the positions from p to an end, cut into maximal ranges of one class, the first of them from p to q
 pub data Cut (class : ℕ → ℕ) (end : ℕ) : ℕ → List Range → Type 0 where
@@ -202,3 +203,29 @@ module _ (class : ℕ → ℕ) where
   pub ranges-totals : (c d : ℕ) → (c ≡ d → ⊥) → ((i : ℕ) → (class i ≡ c) ⊎ (class i ≡ d)) → (k p : ℕ)
       → total (ofClass c (ranges class k p)) + total (ofClass d (ranges class k p)) ≡ k
   ranges-totals c d differ either k p = two-totals class (cut class k p) c d differ either ∙ ranges-total k p
+
+-- ---- one range more, behind the others
+
+module _ (c : ℕ) (r : Range) where
+  pub last-in : r .class ≡ c → (rs : List Range) → ofClass c (rs ++ (r ∷ [])) ≡ ofClass c rs ++ (r ∷ [])
+  unfolding ofClass
+  last-in same [] = rw (ofClass, eq-eqb (r .class) c same)
+  last-in same (x ∷ rs) =
+      elim (which (eqb (x .class) c)) [
+        | inl here ↦ rw (ofClass, here) (ap (λ (xs : List Range). x ∷ xs) (last-in same rs))
+        | inr other ↦ rw (ofClass, other) (last-in same rs)
+      ]
+
+  pub last-out : (r .class ≡ c → ⊥) → (rs : List Range) → ofClass c (rs ++ (r ∷ [])) ≡ ofClass c rs
+  unfolding ofClass
+  last-out differ [] = rw (ofClass, ne-eqb (r .class) c differ)
+  last-out differ (x ∷ rs) =
+      elim (which (eqb (x .class) c)) [
+        | inl here ↦ rw (ofClass, here) (ap (λ (xs : List Range). x ∷ xs) (last-out differ rs))
+        | inr other ↦ rw (ofClass, other) (last-out differ rs)
+      ]
+
+pub total-last : (rs : List Range) (r : Range) → total (rs ++ (r ∷ [])) ≡ total rs + r .length
+unfolding total sum
+total-last [] r = omega arith
+total-last (x ∷ rs) r = omega (arith, total-last rs r)

@@ -9,8 +9,9 @@ use Rattle.partial.specs.Tables.{segmentRowLength, chunkRowLength, rangeRowLeng
 use Rattle.gathering.proofs.GatheredLaws.{gathered-segments, gathered-chunks, gathered-sizes}
 use Rattle.gathering.proofs.PassLaws.{rows-put}
 use Rattle.reading.proofs.JudgedLaws.{facts-mixed, accepted, read-refused, read-given, read-segments, judgement-refused, judgement-given}
-use Rattle.reading.proofs.TableLaws.{tabled-refused, segments-short, chunks-short, tabled-given, segments-filled, chunks-filled}
-use Rattle.listing.proofs.CallsLaws.{known-by, of-file, listed-refused, had-short, missing-short, listed-given, lists-refused, lists-given}
+use Rattle.reading.proofs.TableLaws.{tabled-refused, segments-short, chunks-short, tabled-given, segments-filled, chunks-filled, all-filled}
+use Rattle.spans.proofs.FileLaws.{known-filled}
+use Rattle.listing.proofs.CallsLaws.{of-file, listed-refused, had-short, missing-short, listed-given, lists-refused, lists-given}
 use borrow.Author.Needs.{needs}
 use Rattle.listing.proofs.calls.list.Statement.{statement}
 use Rattle.listing.proofs.calls.list.Tie as tie
@@ -58,7 +59,8 @@ returns-3 : tie.Need-returns-3
 returns-3 c =
     let met = c .before .before .before .before .before .before .before .before .before .before .before .before .before .before .before in
     let a = accepted _ (judgement-given (met .before .before .before .judge-into .ensures .0) (met .judged .given .1)) in
-    let known = known-by a (met .before .before .before .judge-into .ensures .1) (omega arith) (c .before .before .before .before .before .before .before .before .before .before .before .described .ensures (a .ss) (gathered-sizes (a .ss) (a .gathered))) in
+    let (full, many) = all-filled a (met .before .before .before .judge-into .ensures .1) (omega arith) in
+    let known = known-filled (a .ss) full many (c .before .before .before .before .before .before .before .before .before .before .before .described .ensures (a .ss) (gathered-sizes (a .ss) (a .gathered))) in
     let (ordered, spans) = c .before .before .before .before .before .before .before .before .before .file-spans .ensures in
     let counts = c .before .before .before .before .before .before .counted .ensures ordered (a .ss) (spans (a .ss) known) in
     lists-refused _ _ _ _ _ (had-short _ _ _ _ _ (a .ss) (tabled-given _ _ _ (a .ss) (read-given _ a) (omega (arith, gathered-segments (a .ss) (a .gathered))) (omega (arith, gathered-chunks (a .ss) (a .gathered)))) (omega (arith, counts .hadMany)))
@@ -67,7 +69,8 @@ returns-4 : tie.Need-returns-4
 returns-4 c =
     let met = c .before .before .before .before .before .before .before .before .before .before .before .before .before .before .before .before .before in
     let a = accepted _ (judgement-given (met .before .before .before .judge-into .ensures .0) (met .judged .given .1)) in
-    let known = known-by a (met .before .before .before .judge-into .ensures .1) (omega arith) (c .before .before .before .before .before .before .before .before .before .before .before .before .before .described .ensures (a .ss) (gathered-sizes (a .ss) (a .gathered))) in
+    let (full, many) = all-filled a (met .before .before .before .judge-into .ensures .1) (omega arith) in
+    let known = known-filled (a .ss) full many (c .before .before .before .before .before .before .before .before .before .before .before .before .before .described .ensures (a .ss) (gathered-sizes (a .ss) (a .gathered))) in
     let (ordered, spans) = c .before .before .before .before .before .before .before .before .before .before .before .file-spans .ensures in
     let counts = c .before .before .before .before .before .before .before .before .counted .ensures ordered (a .ss) (spans (a .ss) known) in
     lists-refused _ _ _ _ _ (missing-short _ _ _ _ _ (a .ss) (tabled-given _ _ _ (a .ss) (read-given _ a) (omega (arith, gathered-segments (a .ss) (a .gathered))) (omega (arith, gathered-chunks (a .ss) (a .gathered)))) (omega (arith, counts .missingMany)))
@@ -100,7 +103,8 @@ returns-6 : tie.Need-returns-6
 returns-6 c =
     let met = c .before .before .before .before .before .before .before .before .before .before .before .before .before .before .before .before .before .before .before .before .before .before .before .before .before .before .before .before .before .before .before .before in
     let a = accepted _ (judgement-given (met .before .before .before .judge-into .ensures .0) (met .judged .given .1)) in
-    let known = known-by a (met .before .before .before .judge-into .ensures .1) (omega arith) (c .before .before .before .before .before .before .before .before .before .before .before .before .before .before .before .before .before .before .before .before .before .before .before .before .before .before .before .before .described .ensures (a .ss) (gathered-sizes (a .ss) (a .gathered))) in
+    let (full, many) = all-filled a (met .before .before .before .judge-into .ensures .1) (omega arith) in
+    let known = known-filled (a .ss) full many (c .before .before .before .before .before .before .before .before .before .before .before .before .before .before .before .before .before .before .before .before .before .before .before .before .before .before .before .before .described .ensures (a .ss) (gathered-sizes (a .ss) (a .gathered))) in
     let (ordered, spans) = c .before .before .before .before .before .before .before .before .before .before .before .before .before .before .before .before .before .before .before .before .before .before .before .before .before .before .file-spans .ensures in
     let spanned = spans (a .ss) known in
     let counts = c .before .before .before .before .before .before .before .before .before .before .before .before .before .before .before .before .before .before .before .before .before .before .before .counted .ensures ordered (a .ss) spanned in

@@ -3,8 +3,8 @@ use Prim.Native.Nat.{_-_, _≤_}
 use mathlib.Core.Path.{_≡_, refl}
 use native.Mathlib.Omega.{arith}
 use lib.ListN.{length}
-use Rattle.sweeping.specs.Ranges.{classBy, Passed}
-use Rattle.spans.specs.Spans.{Ordered}
+use Rattle.sweeping.specs.Ranges.{Passed}
+use Rattle.spans.specs.Spans.{classBy, Ordered}
 use Rattle.sweeping.proofs.RangeLaws.{found-most}
 use Rattle.listing.specs.Lists.{Bounded}
 use Rattle.listing.proofs.ListLaws.{Midway, midway-none, midway-more, midway-end}

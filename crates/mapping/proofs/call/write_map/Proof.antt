@@ -2,11 +2,12 @@
 use mathlib.Core.Path.{sym}
 use native.Mathlib.Omega.{arith}
 use Rattle.gathering.proofs.GatheredLaws.{gathered-chunks, gathered-sizes}
-use Rattle.listing.proofs.CallsLaws.{known-by}
 use Rattle.partial.specs.Limits.{sourceLimit}
 use Rattle.partial.proofs.Reading.LimitLaws.{chunks-few, described-low}
 use Rattle.partial.proofs.Reading.PrintedLaws.{printed}
 use Rattle.reading.proofs.JudgedLaws.{accepted, read-refused, read-given, judgement-refused, judgement-given}
+use Rattle.reading.proofs.TableLaws.{all-filled}
+use Rattle.spans.proofs.FileLaws.{known-filled}
 use Rattle.mapping.proofs.OutlineLaws.{known-closed, writes-same}
 use borrow.Author.Needs.{needs}
 use Rattle.mapping.proofs.call.write_map.Statement.{statement}
@@ -67,7 +68,8 @@ returns-3 c =
     let met = c .before .before .before .before .before .before .before .before .before in
     let a = accepted _ (judgement-given (met .before .before .before .judge-into .ensures .0) (met .judged .given .1)) in
     let sizes = gathered-sizes (a .ss) (a .gathered) in
-    let known = known-by a (met .before .before .before .judge-into .ensures .1) (omega arith) (c .before .before .before .before .before .before .described .ensures (a .ss) sizes) in
+    let (full, many) = all-filled a (met .before .before .before .judge-into .ensures .1) (omega arith) in
+    let known = known-filled (a .ss) full many (c .before .before .before .before .before .before .described .ensures (a .ss) sizes) in
     writes-same (sym (printed _ sourceLimit _ _ .lines (a .ss) (omega arith) (read-given _ a))) (c .before .before .before .write-rows .ensures (a .ss) known (known-closed (a .ss) sizes))
 
 pub write-map-spec : {M : Type 1} → statement M

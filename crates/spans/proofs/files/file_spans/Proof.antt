@@ -1,9 +1,9 @@
--- `listing::calls::file_spans` meets its contract.
+-- `spans::files::file_spans` meets its contract.
 use Rattle.spans.proofs.SpanLaws.{same-ordered}
-use Rattle.listing.proofs.CallsLaws.{spanned-by}
+use Rattle.spans.proofs.FileLaws.{spanned-by}
 use borrow.Author.Needs.{needs}
-use Rattle.listing.proofs.calls.file_spans.Statement.{statement}
-use Rattle.listing.proofs.calls.file_spans.Tie as tie
+use Rattle.spans.proofs.files.file_spans.Statement.{statement}
+use Rattle.spans.proofs.files.file_spans.Tie as tie
 
 spans-of-requires : tie.Need-spans-of-requires
 spans-of-requires c κs = search needs
