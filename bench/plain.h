@@ -133,6 +133,9 @@ static inline void close_ranges(struct ranges *ranges, uint32_t count)
     ranges->range[count] = (struct range){(source_position)-1, (source_position)-1};
 }
 
+/* Reads a file up to its segments, which are counted; ACCEPTED or its refusal, 1 to 11. */
+enum refusal plain_heading(const uint8_t *file, size_t file_length, struct partial *partial);
+
 /* Reads a file; ACCEPTED or its refusal, 1 to 25. */
 enum refusal plain_read(const uint8_t *file, size_t file_length, struct partial *partial);
 

@@ -376,7 +376,7 @@ static enum refusal read_segments(struct partial *partial)
     return partial->described > partial->size ? SIZES_DISAGREE : ACCEPTED;
 }
 
-enum refusal plain_read(const uint8_t *file, size_t file_length, struct partial *partial)
+enum refusal plain_heading(const uint8_t *file, size_t file_length, struct partial *partial)
 {
     struct opening opening = {{0, 0, 0, 0}, {0, 0, 0, 0}, 0, 0};
     enum refusal refusal;
@@ -395,6 +395,13 @@ enum refusal plain_read(const uint8_t *file, size_t file_length, struct partial 
         refusal = check_opening(partial, &opening);
     if (refusal == ACCEPTED)
         refusal = read_pfil(partial, &opening.second);
+    return refusal;
+}
+
+enum refusal plain_read(const uint8_t *file, size_t file_length, struct partial *partial)
+{
+    enum refusal refusal = plain_heading(file, file_length, partial);
+
     if (refusal != ACCEPTED)
         return refusal;
     if (partial->segment_count == 0)

@@ -83,6 +83,23 @@ uint64_t vrazhupa_read(const uint8_t *file, size_t file_length, uint64_t *segmen
     return ACCEPTED;
 }
 
+uint64_t vrazhupa_heading(const uint8_t *file, size_t file_length, uint64_t told[7])
+{
+    struct partial partial;
+    enum refusal refusal = plain_heading(file, file_length, &partial);
+
+    if (refusal != ACCEPTED)
+        return refusal;
+    told[0] = partial.mixed;
+    told[1] = partial.boxes;
+    told[2] = partial.segment_count;
+    told[3] = partial.url.place;
+    told[4] = partial.url.length;
+    told[5] = partial.mime.place;
+    told[6] = partial.mime.length;
+    return ACCEPTED;
+}
+
 /* Tells where a part of an accepted file lies. */
 static uint64_t say_part(enum refusal refusal, const struct part *part, uint64_t told[2])
 {

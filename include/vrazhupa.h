@@ -36,6 +36,11 @@ enum { VRAZHUPA_LOST = 0, VRAZHUPA_DAMAGED = 1, VRAZHUPA_GOOD = 2, VRAZHUPA_ELSE
 /* The kinds of answers about a position. */
 enum { VRAZHUPA_SERVED = 0, VRAZHUPA_MISSING = 1, VRAZHUPA_NOT_BELOW = 2 };
 
+/* The heading of a file, also of one that was only begun. told: 1 where the file is mixed and else 0, how many boxes it has,
+   how many of them are segments, the place and the length of the URL, the place and the length of the MIME text. Refuses
+   with 1 to 11. */
+uint64_t vrazhupa_heading(const uint8_t *file, size_t file_length, uint64_t told[7]);
+
 /* Reads a file into both tables, from the front; the rest of a table keeps its contents. Lengths of tables and lists are in numbers, not rows.
    told: rows of segments, rows of chunks, the described length, 1 where the size of the source is known and else 0. Refuses with 1 to 20 or 22 to 26. */
 uint64_t vrazhupa_read(const uint8_t *file, size_t file_length, uint64_t *segments, size_t segments_length, uint64_t *chunks, size_t chunks_length,

@@ -589,6 +589,16 @@ def lists(file, segment_room=None, chunk_room=None, had_room=None, missing_room=
     return ("lists", had, missing, total(had), total(missing))
 
 
+# The heading.
+
+def heading(file):
+    """Whether the file is mixed, how many boxes and how many segments it has, and where both texts stand."""
+    number, head = attempt(read_head, file)
+    if number:
+        return ("refused", number)
+    return ("heading", int(head.mixed), len(head.boxes), len(of_kind(head.boxes, b"pseg")), *head.url, *head.mime)
+
+
 # Rows.
 
 def read(file, segment_room=None, chunk_room=None):

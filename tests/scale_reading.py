@@ -67,6 +67,11 @@ def read_case(stream, file, rooms):
     stream.call("read", refusal, (), memories(stream, refusal, rooms), told)
 
 
+def heading_case(stream, file):
+    answer = model.heading(file)
+    stream.call("heading", number_of(answer), (), [stream.whole(FILE)], answer[1:])
+
+
 def texts_cases(stream, file):
     refusal = number_of(model.read(file))
     stream.call("url", refusal, (), [stream.whole(FILE)], model.url(file))
@@ -162,6 +167,7 @@ def file_cases(stream, rng, file):
     few = short or needed[1] > MANY_NUMBERS or len(file) > MANY_BYTES
     for rooms in some(rng, each_awkward(rng, needed[:2]), 3 if few else 12):
         read_case(stream, file, rooms)
+    heading_case(stream, file)
     texts_cases(stream, file)
     for p in some(rng, edges(file), 2 if short else 12) if few else edges(file):
         serve_case(stream, file, p, some_rooms(rng, needed[:2]))

@@ -1,6 +1,6 @@
 """Writes the stream that tests/scale/driver.c reads: blocks of bytes, and calls with what the model says must come of them.
 
-A record opens with a byte. 0 is a block that the driver holds from then on: its index in a byte, its length, its bytes. 1 to 11 are the calls, in the order of
+A record opens with a byte. 0 is a block that the driver holds from then on: its index in a byte, its length, its bytes. 1 to 12 are the calls, in the order of
 FORMS: a byte that says how memory is lent; the answer; the call's numbers; for each memory its length in elements, the index of the block that it starts with
 and of the block that it must start with afterwards, a byte each, 255 for none; then how many numbers are told, in a byte, and these, none after a refusal.
 254 is a block of zeros that is too large to be sent: its index in a byte, its length. 255 ends the stream, with how many calls it has. Numbers have eight
@@ -13,7 +13,8 @@ from collections import Counter, namedtuple
 # How many numbers and memories a call takes.
 Form = namedtuple("Form", "kind numbers memories")
 FORMS = {"read": Form(1, 0, 3), "url": Form(2, 0, 1), "mime": Form(3, 0, 1), "serve": Form(4, 1, 3), "ask": Form(5, 1, 3), "list": Form(6, 0, 5),
-         "map": Form(7, 1, 2), "begin": Form(8, 1, 3), "append": Form(9, 5, 3), "boxes": Form(10, 1, 2), "missmap": Form(11, 1, 2)}
+         "map": Form(7, 1, 2), "begin": Form(8, 1, 3), "append": Form(9, 5, 3), "boxes": Form(10, 1, 2), "missmap": Form(11, 1, 2),
+         "heading": Form(12, 0, 1)}
 BLOCK, ZEROS, END = 0, 254, 255
 # A block from this length on is all zeros, and is not sent.
 TOO_LARGE = 1 << 29

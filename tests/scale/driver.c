@@ -14,10 +14,13 @@
 #include <string.h>
 #include <unistd.h>
 
-/* An implementation from before request 1 lacks the first of these calls, and one from before request 6 both; so may its header. */
+/* An implementation from before request 1 lacks the first of these calls, one from before request 6 the second too, and one
+   from before request 7 the last; so may its header. */
 extern __typeof__(vrazhupa_map) vrazhupa_missmap;
+extern uint64_t vrazhupa_heading(const uint8_t *file, size_t file_length, uint64_t told[7]);
 #pragma weak vrazhupa_boxes
 #pragma weak vrazhupa_missmap
+#pragma weak vrazhupa_heading
 
 /* An argument that came with request 2. */
 #ifdef BEFORE_MIXED
@@ -26,7 +29,7 @@ extern __typeof__(vrazhupa_map) vrazhupa_missmap;
 #define SINCE_MIXED(number) (number) != 0,
 #endif
 
-enum { BLOCK, READ, URL, MIME, SERVE, ASK, LIST, MAP, BEGIN, APPEND, BOXES, MISSMAP, KINDS, ZEROS = 254, END = 255 };
+enum { BLOCK, READ, URL, MIME, SERVE, ASK, LIST, MAP, BEGIN, APPEND, BOXES, MISSMAP, HEADING, KINDS, ZEROS = 254, END = 255 };
 enum { ANSWERS = 64 };
 
 /* What a kind of call takes: its numbers, its memories with their width in bytes, and how many numbers it tells. */
@@ -54,6 +57,7 @@ static const struct shape shapes[KINDS] = {
     [APPEND] = {"append", {5, 3}, 1, {{"buffer", 1}, {"list", 8}, {"data", 1}}},
     [BOXES] = {"boxes", {1, 2}, 1, {{"file", 1}, {"buffer", 1}}},
     [MISSMAP] = {"missmap", {1, 2}, 1, {{"file", 1}, {"buffer", 1}}},
+    [HEADING] = {"heading", {0, 1}, 7, {{"file", 1}}},
 };
 
 static struct lent lent[MEMORIES];
@@ -107,6 +111,8 @@ static uint64_t make(const uint64_t *numbers)
         return call_for_text(vrazhupa_boxes, numbers[0]);
     case MISSMAP:
         return call_for_text(vrazhupa_missmap, numbers[0]);
+    case HEADING:
+        return vrazhupa_heading(lent[0].at, lent[0].length, numbers_of(&told));
     default:
         return call_on_tables(numbers[0]);
     }
@@ -167,7 +173,8 @@ static void run_case(void)
 
 static bool is_there(unsigned call)
 {
-    return call > BLOCK && call < KINDS && (call != BOXES || vrazhupa_boxes != NULL) && (call != MISSMAP || vrazhupa_missmap != NULL);
+    return call > BLOCK && call < KINDS && (call != BOXES || vrazhupa_boxes != NULL) && (call != MISSMAP || vrazhupa_missmap != NULL) &&
+           (call != HEADING || vrazhupa_heading != NULL);
 }
 
 static int say_calls(void)

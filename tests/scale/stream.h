@@ -7,7 +7,7 @@
 #include <stdint.h>
 
 /* The most that one call is given: numbers, memories, and numbers that it tells. */
-enum { NUMBERS = 5, MEMORIES = 5, TOLD = 4 };
+enum { NUMBERS = 5, MEMORIES = 5, TOLD = 7 };
 
 /* `zeros` is a block of zeros that has no bytes here, as it may be larger than memory is. */
 struct block {

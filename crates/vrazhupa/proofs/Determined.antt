@@ -5,6 +5,7 @@ use Rattle.numerals.proofs.Determined.{OneResult, OneLeft}
 use Rattle.vrazhupa.proofs.reading_calls.vrazhupa_ask.Reads as ask
 use Rattle.vrazhupa.proofs.reading_calls.vrazhupa_list.Reads as list
 use Rattle.vrazhupa.proofs.reading_calls.vrazhupa_boxes.Reads as boxes
+use Rattle.vrazhupa.proofs.reading_calls.vrazhupa_heading.Reads as heading
 use Rattle.vrazhupa.proofs.reading_calls.vrazhupa_map.Reads as map
 use Rattle.vrazhupa.proofs.reading_calls.vrazhupa_mime.Reads as mime
 use Rattle.vrazhupa.proofs.reading_calls.vrazhupa_missmap.Reads as missmap
@@ -13,6 +14,12 @@ use Rattle.vrazhupa.proofs.reading_calls.vrazhupa_serve.Reads as serve
 use Rattle.vrazhupa.proofs.reading_calls.vrazhupa_url.Reads as url
 use Rattle.vrazhupa.proofs.writing_calls.vrazhupa_append.Reads as append
 use Rattle.vrazhupa.proofs.writing_calls.vrazhupa_begin.Reads as begin
+
+heading-result : OneResult heading.Post
+heading-result κs args x y after after′ p q = p .said .number ∙ sym (q .said .number)
+
+heading-told : OneLeft heading.Post (λ κs after. now (after .1 .0))
+heading-told κs args x y after after′ p q = p .said .values ∙ sym (q .said .values)
 
 read-result : OneResult read.Post
 read-result κs args x y after after′ p q = p .said .number ∙ sym (q .said .number)

@@ -7,14 +7,19 @@ use Rattle.boxes.specs.Framing.{Box}
 use Rattle.partial.specs.Addition.{Addition}
 use Rattle.partial.specs.Append.{appended, result}
 use Rattle.partial.specs.Begin.{begun, beginning}
-use Rattle.partial.specs.Heading.{Part}
+use Rattle.heading.specs.Facts.{told}
+use Rattle.partial.specs.Heading.{Part, heading}
 use Rattle.partial.specs.Limits.{sourceLimit}
 use Rattle.partial.specs.Memory.{after, written, textWritten}
 use Rattle.partial.specs.Reading.{reading}
 use Rattle.partial.specs.declared.brand.Brand.{Brand}
 use Rattle.partial.specs.Tables.{tabled, listed, summary, totals, servedPart, asked, textOf, hadRows, missingRows}
 use Rattle.reading.specs.Tables.{Filled}
-use Rattle.vrazhupa.specs.Says.{Says, summaryNumbers, totalsNumbers, replyNumbers, partNumbers, lengthNumbers}
+use Rattle.vrazhupa.specs.Says.{Says, headingNumbers, summaryNumbers, totalsNumbers, replyNumbers, partNumbers, lengthNumbers}
+
+-- the heading alone, so that a file that was only begun is told of too
+pub record SaysHeaded (f before after : List ℕ) (r : ℕ) : Type 0 where
+  pub said : Says headingNumbers (told f (heading f)) before after r
 
 pub record SaysRead (f segments segments′ chunks chunks′ told told′ : List ℕ) (r : ℕ) : Type 0 where
   pub said : Says summaryNumbers (tabled sourceLimit f segments chunks >>= λ ss. given (summary ss)) told told′ r

@@ -1,9 +1,10 @@
 -- What an exported call says: 0 or the number of its refusal, and the values of its answer as numbers in a lent array.
 use Prim.Native.Nat.{ℕ}
-use mathlib.Core.Bool.{true, false}
-use mathlib.Core.List.{List, [], _∷_}
+use mathlib.Core.Bool.{Bool, true, false}
+use mathlib.Core.List.{List, [], _∷_, _++_}
 use mathlib.Core.Path.{_≡_}
 use Rattle.boxes.specs.Answer.{Answer, refused, given}
+use Rattle.heading.specs.Facts.{Facts}
 use Rattle.partial.specs.Heading.{Part}
 use Rattle.partial.specs.Meaning.{Reply, servedFor, missingFor, notBelow}
 use Rattle.partial.specs.Tables.{Summary, Totals}
@@ -22,9 +23,13 @@ pub record Says {A : Type 0} (numbers : A → List ℕ) (answer : Answer A) (tol
   pub number : r ≡ numberOf answer
   pub values : told′ ≡ numbersAfter numbers answer told
 
+-- 1 for yes, 0 for no
+abbrev pub flag : Bool → ℕ
+flag b = elim b [ true ↦ 1 | false ↦ 0 ]
+
 -- how many rows each table has, the described length, and 1 where the size is known
 unfoldable pub summaryNumbers : Summary → List ℕ
-summaryNumbers s = s .segments ∷ s .chunks ∷ s .described ∷ elim (s .closed) [ true ↦ 1 | false ↦ 0 ] ∷ []
+summaryNumbers s = s .segments ∷ s .chunks ∷ s .described ∷ flag (s .closed) ∷ []
 
 -- how many ranges each list has, and the totals
 unfoldable pub totalsNumbers : Totals → List ℕ
@@ -39,6 +44,10 @@ replyNumbers notBelow = 2 ∷ 0 ∷ []
 -- the place of a part of the file, and its length
 unfoldable pub partNumbers : Part → List ℕ
 partNumbers p = p .place ∷ p .size ∷ []
+
+-- 1 where the file is mixed, how many boxes it has and how many of them are `pseg`, then its URL and its MIME text
+unfoldable pub headingNumbers : Facts → List ℕ
+headingNumbers h = flag (h .mixed) ∷ h .boxes ∷ h .segments ∷ (partNumbers (h .url) ++ partNumbers (h .mime))
 
 -- the length of what was written
 unfoldable pub lengthNumbers : ℕ → List ℕ

@@ -1,10 +1,12 @@
 // What an exported call answers and leaves in the lent numbers, by the answer of the call below it. After a refusal the numbers are as they were.
+use heading::answers::Headed;
 use partial::answers::Asked;
 use partial::answers::Listed;
 use partial::answers::Read;
 use partial::answers::Written;
+ghost use Rattle.heading.specs.Facts.{headedAnswer};
 ghost use Rattle.partial.specs.Answers.{readAnswer, askedAnswer, listedAnswer, writtenAnswer};
-ghost use Rattle.vrazhupa.specs.Says.{Says, summaryNumbers, replyNumbers, totalsNumbers, lengthNumbers};
+ghost use Rattle.vrazhupa.specs.Says.{Says, headingNumbers, summaryNumbers, replyNumbers, totalsNumbers, lengthNumbers};
 
 // The kinds of answers about a position.
 const SERVED: u64 = 0;
@@ -12,6 +14,29 @@ const SERVED: u64 = 0;
 const MISSING: u64 = 1;
 
 const NOT_BELOW: u64 = 2;
+
+// Whether the file is mixed, how many boxes and segments it has, and the places and lengths of both texts.
+pub(crate) fn say_headed(r: Headed, told: &mut [u64; 7]) -> u64
+    ensures { λ n. ⌜ Says headingNumbers (headedAnswer r) (now (told .entry)) (now (told .exit)) n ⌝ }
+{
+    match r {
+        Headed::Refused(n) => n,
+        Headed::Found(head) => {
+            let url = head.url;
+            let mime = head.mime;
+            *told = [
+                head.mixed as u64,
+                head.boxes,
+                head.segments,
+                url.place.0,
+                url.size,
+                mime.place.0,
+                mime.size,
+            ];
+            0
+        }
+    }
+}
 
 // How many rows each table has, the described length, and 1 where the size is known.
 pub(crate) fn say_read(r: Read, told: &mut [u64; 4]) -> u64

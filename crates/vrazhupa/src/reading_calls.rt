@@ -1,9 +1,11 @@
-// The exported calls that read a file: its tables and texts, positions, lists, both maps and the list of its boxes.
+// The exported calls that read a file: its heading, tables and texts, positions, lists, both maps and the list of its boxes.
 use crate::answers::say_asked;
+use crate::answers::say_headed;
 use crate::answers::say_listed;
 use crate::answers::say_read;
 use crate::answers::say_written;
 use boxlisting::call::boxes;
+use heading::stages::heading_of;
 use listing::calls::list;
 use mapping::call::map;
 use mapping::call::missmap;
@@ -19,7 +21,15 @@ ghost use Rattle.partial.specs.BoxList.{boxesText};
 ghost use Rattle.partial.specs.Heading.{url, mime};
 ghost use Rattle.partial.specs.Limits.{sourceLimit};
 ghost use Rattle.partial.specs.Map.{mapText, missmapText};
-ghost use Rattle.vrazhupa.specs.Calls.{SaysRead, SaysText, SaysServed, SaysAsked, SaysListed, SaysPrinted};
+ghost use Rattle.vrazhupa.specs.Calls.{SaysHeaded, SaysRead, SaysText, SaysServed, SaysAsked, SaysListed, SaysPrinted};
+
+// Tells the heading of a file, also of one that was only begun.
+#[no_mangle]
+pub extern "C" fn vrazhupa_heading(file: &[u8], told: &mut [u64; 7]) -> u64
+    ensures { λ r. ⌜ SaysHeaded (now (file .entry)) (now (told .entry)) (now (told .exit)) r ⌝ }
+{
+    say_headed(heading_of(file), told)
+}
 
 // Reads a file into both tables.
 #[no_mangle]
