@@ -58,7 +58,7 @@ unfolding
     Append.insideData Append.outsideData Append.anyInside Append.dataBox Append.stored Append.addedBoxes Append.back Append.placedWith Append.placed Append.lengthSize Append.offsetSize Append.flagByte Append.entryBytes
     Append.plocBody Append.versionFor Append.pshdBody Append.psegBody Append.added Append.psegPlace Append.newChunks
     Append.newSegment Append.admission Append.appended Append.result
-    Runs.fileIn Runs.sizeAfter Runs.begin Runs.append Runs.appendAll
+    Runs.bufferIn Runs.fileIn Runs.sizeAfter Runs.begin Runs.append Runs.appendAll
     Again.dataOf Again.listFor Again.someOutside Again.again Again.writeAgain
     Carried.carriedBy Carried.carried Carried.orElse
 computing = tt
