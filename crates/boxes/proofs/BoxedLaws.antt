@@ -68,13 +68,13 @@ module _ (p q : List ℕ) (kind : ℕ) (body : List ℕ) where
       let size : List ℕ = bytesOf 4 (frontSize + length body) in
       simp append-assoc (simp (append-assoc, length-append, length-bytesOf) at (number-bytesOf (p ++ size) (body ++ q) 4 kind fits))
 
-  pub header-boxed : (end : ℕ) → kind < 2 ^ 32 → eqb kind uuid ≡ false → frontSize + length body < 2 ^ 32 → length p + (frontSize + length body) ≤ end
-      → header (p ++ (boxed kind body ++ q)) (length p) end ≡ given (boxedAt (length p) kind (length body))
+  pub header-boxed : (c : Container) (end : ℕ) → kind < 2 ^ 32 → eqb kind uuid ≡ false → frontSize + length body < 2 ^ 32 → length p + (frontSize + length body) ≤ end
+      → header c (p ++ (boxed kind body ++ q)) (length p) end ≡ given (boxedAt (length p) kind (length body))
   unfolding boxed-in frontSize
-  header-boxed end code known fits inside =
+  header-boxed c end code known fits inside =
       let size = size-boxed fits in
       let none = user-none kind (eqb-false kind uuid known) in
-      header-short boxed-in (length p) end (omega arith) (sym size) (omega arith) (omega arith)
+      header-short c boxed-in (length p) end (omega arith) (sym size) (omega arith) (omega arith)
       ∙ sized-fits boxed-in (length p) end 8 (8 + length body) (sym (kind-boxed code)) (omega (arith, none)) (omega arith) inside
 
 -- such a box so many bytes further on
@@ -82,12 +82,12 @@ pub moved-boxedAt : (m at kind n : ℕ) → moved m (boxedAt at kind n) ≡ boxe
 moved-boxedAt m at kind n = simp add-assoc
 
 -- a box that was written is the one box of its own bytes
-pub boxed-alone : (kind : ℕ) (body : List ℕ) → kind < 2 ^ 32 → eqb kind uuid ≡ false → frontSize + length body < 2 ^ 32
-    → Filled (boxed kind body) (length (boxed kind body)) 0 (boxedAt 0 kind (length body) ∷ [])
+pub boxed-alone : {c : Container} (kind : ℕ) (body : List ℕ) → kind < 2 ^ 32 → eqb kind uuid ≡ false → frontSize + length body < 2 ^ 32
+    → Filled c (boxed kind body) (length (boxed kind body)) 0 (boxedAt 0 kind (length body) ∷ [])
 unfolding frontSize
-boxed-alone kind body code known fits =
+boxed-alone {c} kind body code known fits =
     let end : ℕ = frontSize + length body in
-    rw length-boxed (next {at = 0} (omega arith) (simp append-nil at (header-boxed [] [] kind body end code known fits (omega arith))) (full {at = 0 + end} (omega arith)))
+    rw length-boxed (next {at = 0} (omega arith) (simp append-nil at (header-boxed [] [] kind body c end code known fits (omega arith))) (full {at = 0 + end} (omega arith)))
 
 -- two boxes, one after the other, where they stand in a list, at a place
 module _ (c : Container) (first second : ℕ) (one two : List ℕ) (code : first < 2 ^ 32) (code′ : second < 2 ^ 32) (known : eqb first uuid ≡ false) (known′ : eqb second uuid ≡ false) (fits : length (boxed first one ++ boxed second two) < 2 ^ 32) where
@@ -97,6 +97,6 @@ module _ (c : Container) (first second : ℕ) (one two : List ℕ) (code : first
   boxed-stand g at stands =
       let size = simp (length-append, length-boxed) at fits in
       let two-filled = filled-appended (boxed-alone first one code known (omega arith)) (boxed-alone second two code′ known′ (omega arith)) in
-      let there = simp add-zero at (filled-moved (boxed first one ++ boxed second two) g at _ stands two-filled) in
+      let there = simp add-zero at (filled-moved (boxed first one ++ boxed second two) g at _ stands {c = c} two-filled) in
       filled-boxes c there (rw box-limit (omega arith))
       ∙ simp (length-boxed, zero-add, add-assoc)

@@ -29,30 +29,30 @@ module _ (c : Container) (s : List ℕ) (end at : ℕ) where
     unfolding boxesFrom
     boxes-over = simp (boxesFrom, lt-leb end at short)
 
-    pub boxes-next : (more : ℕ) → boxesFrom c s end (suc more) at ≡ (header s at end >>= λ b. boxesFrom c s end more (b .end) >>= λ bs. given (b ∷ bs))
+    pub boxes-next : (more : ℕ) → boxesFrom c s end (suc more) at ≡ (header c s at end >>= λ b. boxesFrom c s end more (b .end) >>= λ bs. given (b ∷ bs))
     unfolding boxesFrom
     boxes-next more = simp (boxesFrom, lt-leb end at short)
 
 -- the boxes that fill a container from a place to its end
-pub data Filled (s : List ℕ) (end : ℕ) : ℕ → List Box → Type 0 where
-  full : {at : ℕ} → end ≤ at → Filled s end at []
-  next : {at : ℕ} {b : Box} {bs : List Box} → at < end → header s at end ≡ given b → Filled s end (b .end) bs → Filled s end at (b ∷ bs)
+pub data Filled (c : Container) (s : List ℕ) (end : ℕ) : ℕ → List Box → Type 0 where
+  full : {at : ℕ} → end ≤ at → Filled c s end at []
+  next : {at : ℕ} {b : Box} {bs : List Box} → at < end → header c s at end ≡ given b → Filled c s end (b .end) bs → Filled c s end at (b ∷ bs)
 
 -- a container whose boxes were given is filled by them, and they are no more than were allowed
-pub record Fills (s : List ℕ) (end more at : ℕ) (bs : List Box) : Type 0 where
-  pub boxes : Filled s end at bs
+pub record Fills (c : Container) (s : List ℕ) (end more at : ℕ) (bs : List Box) : Type 0 where
+  pub boxes : Filled c s end at bs
   pub within : length bs ≤ more
 
 module _ (c : Container) (s : List ℕ) (end : ℕ) where
-  fills-none : (more at : ℕ) → end ≤ at → {bs : List Box} → boxesFrom c s end more at ≡ given bs → Fills s end more at bs
+  fills-none : (more at : ℕ) → end ≤ at → {bs : List Box} → boxesFrom c s end more at ≡ given bs → Fills c s end more at bs
   fills-none more at e h =
-      subst (Fills s end more at) (given-same (sym (boxes-end c s end at more e) ∙ h)) (record { boxes = full e; within = omega arith })
+      subst (Fills c s end more at) (given-same (sym (boxes-end c s end at more e) ∙ h)) (record { boxes = full e; within = omega arith })
 
-  fills-more : (more at : ℕ) → at < end → {b : Box} {bs cs : List Box} → header s at end ≡ given b → Fills s end more (b .end) bs → given (b ∷ bs) ≡ given cs → Fills s end (suc more) at cs
+  fills-more : (more at : ℕ) → at < end → {b : Box} {bs cs : List Box} → header c s at end ≡ given b → Fills c s end more (b .end) bs → given (b ∷ bs) ≡ given cs → Fills c s end (suc more) at cs
   fills-more more at short read f e =
-      subst (Fills s end (suc more) at) (given-same e) (record { boxes = next short read (f .boxes); within = omega arith })
+      subst (Fills c s end (suc more) at) (given-same e) (record { boxes = next short read (f .boxes); within = omega arith })
 
-  pub fills : (more at : ℕ) {bs : List Box} → boxesFrom c s end more at ≡ given bs → Fills s end more at bs
+  pub fills : (more at : ℕ) {bs : List Box} → boxesFrom c s end more at ≡ given bs → Fills c s end more at bs
   fills zero at h =
       elim (decLe end at) [
         | yes e ↦ fills-none zero at e h
@@ -62,21 +62,21 @@ module _ (c : Container) (s : List ℕ) (end : ℕ) where
       elim (decLe end at) [
         | yes e ↦ fills-none (suc more) at e h
         | no short ↦
-            let a = both-given (header s at end) _ (sym (boxes-next c s end at (omega arith) more) ∙ h) in
+            let a = both-given (header c s at end) _ (sym (boxes-next c s end at (omega arith) more) ∙ h) in
             let r = both-given (boxesFrom c s end more (a .0 .end)) _ (a .2) in
             fills-more more at (omega arith) (a .1) (fills more (a .0 .end) (r .1)) (r .2)
       ]
 
 -- a box of a container: it lies between the container's start and end, and is read at its own place
-pub record Standing (s : List ℕ) (start end : ℕ) (b : Box) : Type 0 where
+pub record Standing (c : Container) (s : List ℕ) (start end : ℕ) (b : Box) : Type 0 where
   pub low : start ≤ b .at
   pub inside : Inside (b .at) end b
-  pub read : header s (b .at) end ≡ given b
+  pub read : header c s (b .at) end ≡ given b
 
 -- the box that was read at a place stands there, and what stands further on stands in the container too
-box-standing : (s : List ℕ) (at end : ℕ) {b : Box} → header s at end ≡ given b → Standing s at end b
-box-standing s at end {b} read =
-    let inside = header-inside s at end read in
+box-standing : (c : Container) (s : List ℕ) (at end : ℕ) {b : Box} → header c s at end ≡ given b → Standing c s at end b
+box-standing c s at end {b} read =
+    let inside = header-inside c s at end read in
     let place : at ≡ b .at = sym (inside .starts) in
     record {
       low = omega arith;
@@ -84,20 +84,20 @@ box-standing s at end {b} read =
       read = rw place at read;
     }
 
-further : {s : List ℕ} {start start′ end : ℕ} {b : Box} → start ≤ start′ → Standing s start′ end b → Standing s start end b
+further : {c : Container} {s : List ℕ} {start start′ end : ℕ} {b : Box} → start ≤ start′ → Standing c s start′ end b → Standing c s start end b
 further h t = record { low = omega arith; inside = t .inside; read = t .read }
 
 -- the boxes that fill a container stand in it
-filled-standing : {s : List ℕ} {end at : ℕ} {bs : List Box} → Filled s end at bs → (k : ℕ) → k < length bs → Standing s at end (boxAt k bs)
+filled-standing : {c : Container} {s : List ℕ} {end at : ℕ} {bs : List Box} → Filled c s end at bs → (k : ℕ) → k < length bs → Standing c s at end (boxAt k bs)
 unfolding boxAt
 filled-standing (full e) k h = absurd (omega arith)
-filled-standing (next short read rest) zero h = box-standing _ _ _ read
+filled-standing (next short read rest) zero h = box-standing _ _ _ _ read
 filled-standing (next short read rest) (suc k) h =
-    let inside = header-inside _ _ _ read in
+    let inside = header-inside _ _ _ _ read in
     further (omega arith) (filled-standing rest k (omega arith))
 
 -- a box that comes later starts where an earlier one ends, or further on
-filled-apart : {s : List ℕ} {end at : ℕ} {bs : List Box} → Filled s end at bs → (j k : ℕ) → j < k → k < length bs → boxAt j bs .end ≤ boxAt k bs .at
+filled-apart : {c : Container} {s : List ℕ} {end at : ℕ} {bs : List Box} → Filled c s end at bs → (j k : ℕ) → j < k → k < length bs → boxAt j bs .end ≤ boxAt k bs .at
 unfolding boxAt
 filled-apart (full e) j k h l = absurd (omega arith)
 filled-apart (next short read rest) j zero h l = absurd (omega arith)
@@ -105,26 +105,26 @@ filled-apart (next short read rest) zero (suc k) h l = filled-standing rest k (o
 filled-apart (next short read rest) (suc j) (suc k) h l = filled-apart rest j k (omega arith) (omega arith)
 
 -- each has a header of eight bytes at least, so there are no more boxes than bytes
-pub filled-few : {s : List ℕ} {end at : ℕ} {bs : List Box} → Filled s end at bs → at ≤ end → at + 8 * length bs ≤ end
+pub filled-few : {c : Container} {s : List ℕ} {end at : ℕ} {bs : List Box} → Filled c s end at bs → at ≤ end → at + 8 * length bs ≤ end
 filled-few (full e) h = omega arith
 filled-few (next short read rest) h =
-    let inside = header-inside _ _ _ read in
+    let inside = header-inside _ _ _ _ read in
     omega (arith, filled-few rest (inside .ends))
 
 -- boxes that fill a container up to a place, and those that fill it from there
-filled-on : {s : List ℕ} {mid end at : ℕ} {bs cs : List Box} → at ≤ mid → mid ≤ end → Filled s mid at bs → Filled s end mid cs → Filled s end at (bs ++ cs)
-filled-on {s} {end = end} {cs = cs} h on (full e) then = subst (λ (at : ℕ). Filled s end at cs) (omega arith) then
-filled-on {s} {mid} {end} h on (next {at = at} short read rest) then =
-    next {at = at} (omega arith) (header-further s at mid end on read) (filled-on (header-inside s at mid read .ends) on rest then)
+filled-on : {c : Container} {s : List ℕ} {mid end at : ℕ} {bs cs : List Box} → at ≤ mid → mid ≤ end → Filled c s mid at bs → Filled c s end mid cs → Filled c s end at (bs ++ cs)
+filled-on {c} {s} {end = end} {cs = cs} h on (full e) then = subst (λ (at : ℕ). Filled c s end at cs) (omega arith) then
+filled-on {c} {s} {mid} {end} h on (next {at = at} short read rest) then =
+    next {at = at} (omega arith) (header-further s at mid end on c read) (filled-on (header-inside c s at mid read .ends) on rest then)
 
 module _ (c : Container) where
   -- where as many boxes are allowed as fill the container, they are given; where fewer are, it is 6
-  pub within : {s : List ℕ} {end at : ℕ} {bs : List Box} → Filled s end at bs → (more : ℕ) → length bs ≤ more → boxesFrom c s end more at ≡ given bs
+  pub within : {s : List ℕ} {end at : ℕ} {bs : List Box} → Filled c s end at bs → (more : ℕ) → length bs ≤ more → boxesFrom c s end more at ≡ given bs
   within (full e) more h = boxes-end c _ _ _ more e
   within (next short read rest) zero h = absurd (omega arith)
   within (next short read rest) (suc more) h = boxes-next c _ _ _ short more ∙ rw (read, within rest more (omega arith))
 
-  pub over : {s : List ℕ} {end at : ℕ} {bs : List Box} → Filled s end at bs → (more : ℕ) → more < length bs → boxesFrom c s end more at ≡ refused 6
+  pub over : {s : List ℕ} {end at : ℕ} {bs : List Box} → Filled c s end at bs → (more : ℕ) → more < length bs → boxesFrom c s end more at ≡ refused 6
   over (full e) more h = absurd (omega arith)
   over (next short read rest) zero h = boxes-over c _ _ _ short
   over (next short read rest) (suc more) h = boxes-next c _ _ _ short more ∙ rw (read, over rest more (omega arith))
@@ -138,7 +138,7 @@ module _ (c : Container) where
   numbers-from s end zero at = only-either Faults (leb end at) (only-given Faults _) (only-refused Faults 6 (omega arith))
   numbers-from s end (suc more) at =
       only-either Faults (leb end at) (only-given Faults _)
-      (only-then Faults (header s at end) _ (λ n e. let (low, high) = header-numbers s at end n e in (low, omega arith))
+      (only-then Faults (header c s at end) _ (λ n e. let (low, high) = header-numbers s at end c n e in (low, omega arith))
       (λ b. only-then Faults (boxesFrom c s end more (b .end)) _ (numbers-from s end more (b .end)) (λ bs. only-given Faults _)))
 
 -- ---- the boxes of a whole container
@@ -149,7 +149,7 @@ unfolding boxLimit
 box-limit = refl
 
 -- boxes that fill it are given where they are not too many
-pub filled-boxes : (c : Container) {s : List ℕ} {start end : ℕ} {bs : List Box} → Filled s end start bs → length bs ≤ boxLimit → boxesIn c s start end ≡ given bs
+pub filled-boxes : (c : Container) {s : List ℕ} {start end : ℕ} {bs : List Box} → Filled c s end start bs → length bs ≤ boxLimit → boxesIn c s start end ≡ given bs
 unfolding boxesIn
 filled-boxes c all few = within c all boxLimit few
 
@@ -166,7 +166,7 @@ module _ (c : Container) (s : List ℕ) (start end : ℕ) where
 
   module _ {bs : List Box} (known : boxesIn c s start end ≡ given bs) where
     -- they fill it
-    pub boxes-filled : Filled s end start bs
+    pub boxes-filled : Filled c s end start bs
     unfolding boxesIn
     boxes-filled = fills c s end boxLimit start known .boxes
 
@@ -176,16 +176,16 @@ module _ (c : Container) (s : List ℕ) (start end : ℕ) where
     boxes-few = fills c s end boxLimit start known .within
 
     -- the first is read where it starts
-    pub boxes-first : 0 < length bs → header s start end ≡ given (boxAt 0 bs)
+    pub boxes-first : 0 < length bs → header c s start end ≡ given (boxAt 0 bs)
     unfolding boxAt
     boxes-first some = go boxes-filled some
       where
-        go : {at : ℕ} {cs : List Box} → Filled s end at cs → 0 < length cs → header s at end ≡ given (boxAt 0 cs)
+        go : {at : ℕ} {cs : List Box} → Filled c s end at cs → 0 < length cs → header c s at end ≡ given (boxAt 0 cs)
         go (full e) some = absurd (omega arith)
         go (next short read rest) some = read
 
     -- each stands in it
-    pub boxes-standing : (k : ℕ) → k < length bs → Standing s start end (boxAt k bs)
+    pub boxes-standing : (k : ℕ) → k < length bs → Standing c s start end (boxAt k bs)
     boxes-standing = filled-standing boxes-filled
 
     -- and one that comes later starts where an earlier one ends, or further on
@@ -194,8 +194,8 @@ module _ (c : Container) (s : List ℕ) (start end : ℕ) where
 
 -- the boxes are the same where the same bytes stand at the same places
 module _ (s t : List ℕ) (end : ℕ) (same : (i : ℕ) → i < end → getD t i 0 ≡ getD s i 0) where
-  pub header-same : (at : ℕ) → header t at end ≡ header s at end
-  header-same at = simp (zero-add, then-given) at (header-moved s t 0 at end (λ i h. simp zero-add (same i h)))
+  pub header-same : (c : Container) (at : ℕ) → header c t at end ≡ header c s at end
+  header-same c at = simp (zero-add, then-given) at (header-moved s t 0 at end (λ i h. simp zero-add (same i h)) c)
 
   same-from : (c : Container) (more at : ℕ) → boxesFrom c t end more at ≡ boxesFrom c s end more at
   unfolding boxesFrom
@@ -216,7 +216,7 @@ module _ (f g : List ℕ) (end : ℕ) (inside : end ≤ length f) where
   kept : (i : ℕ) → i < end → getD (f ++ g) i 0 ≡ getD f i 0
   kept i h = List·getD-append f g 0 i (omega arith)
 
-  pub header-kept : (at : ℕ) → header (f ++ g) at end ≡ header f at end
+  pub header-kept : (c : Container) (at : ℕ) → header c (f ++ g) at end ≡ header c f at end
   header-kept = header-same f (f ++ g) end kept
 
   pub boxes-kept : (c : Container) (start : ℕ) → boxesIn c (f ++ g) start end ≡ boxesIn c f start end
@@ -224,25 +224,25 @@ module _ (f g : List ℕ) (end : ℕ) (inside : end ≤ length f) where
 
 -- boxes fill a container where the same bytes stand so many bytes further on
 module _ (s t : List ℕ) (n end : ℕ) (same : (i : ℕ) → i < end → getD t (n + i) 0 ≡ getD s i 0) where
-  pub filled-moved : {at : ℕ} {bs : List Box} → Filled s end at bs → Filled t (n + end) (n + at) (map (moved n) bs)
+  pub filled-moved : {c : Container} {at : ℕ} {bs : List Box} → Filled c s end at bs → Filled c t (n + end) (n + at) (map (moved n) bs)
   filled-moved (full {at = at} e) = full {at = n + at} (omega arith)
-  filled-moved (next {at = at} {b = b} short read rest) =
-      next {at = n + at} {b = moved n b} (omega arith) (header-moved s t n at end same ∙ rw read) (filled-moved rest)
+  filled-moved {c} (next {at = at} {b = b} short read rest) =
+      next {at = n + at} {b = moved n b} (omega arith) (header-moved s t n at end same c ∙ rw read) (filled-moved rest)
 
-filled-kept : {f : List ℕ} (g : List ℕ) {at : ℕ} {bs : List Box} → Filled f (length f) at bs → Filled (f ++ g) (length f) at bs
+filled-kept : {c : Container} {f : List ℕ} (g : List ℕ) {at : ℕ} {bs : List Box} → Filled c f (length f) at bs → Filled c (f ++ g) (length f) at bs
 filled-kept g (full e) = full e
-filled-kept {f} g (next {at = at} short read rest) = next short (header-kept f g (length f) (le-refl (length f)) at ∙ read) (filled-kept g rest)
+filled-kept {c} {f} g (next {at = at} short read rest) = next short (header-kept f g (length f) (le-refl (length f)) c at ∙ read) (filled-kept g rest)
 
 -- the boxes of f ++ g are those of f and then those of g
-pub filled-appended : {f g : List ℕ} {bs cs : List Box} → Filled f (length f) 0 bs → Filled g (length g) 0 cs
-    → Filled (f ++ g) (length (f ++ g)) 0 (bs ++ map (moved (length f)) cs)
-filled-appended {f} {g} first second =
+pub filled-appended : {c : Container} {f g : List ℕ} {bs cs : List Box} → Filled c f (length f) 0 bs → Filled c g (length g) 0 cs
+    → Filled c (f ++ g) (length (f ++ g)) 0 (bs ++ map (moved (length f)) cs)
+filled-appended {f = f} {g = g} first second =
     rw length-append
     (filled-on {mid = length f} (omega arith) (omega arith) (filled-kept g first)
     (simp add-zero at (filled-moved g (f ++ g) (length f) (length g) (λ i h. getD-append-add f g i 0) second)))
 
-module _ (c : Container) (f g : List ℕ) {bs cs : List Box} (first : boxesIn c f 0 (length f) ≡ given bs) (second : Filled g (length g) 0 cs) where
-  all-filled : Filled (f ++ g) (length (f ++ g)) 0 (bs ++ map (moved (length f)) cs)
+module _ (c : Container) (f g : List ℕ) {bs cs : List Box} (first : boxesIn c f 0 (length f) ≡ given bs) (second : Filled c g (length g) 0 cs) where
+  all-filled : Filled c (f ++ g) (length (f ++ g)) 0 (bs ++ map (moved (length f)) cs)
   all-filled = filled-appended (boxes-filled c f 0 (length f) first) second
 
   all-many : length (bs ++ map (moved (length f)) cs) ≡ length bs + length cs

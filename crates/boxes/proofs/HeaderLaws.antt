@@ -12,6 +12,7 @@ use lib.ListN.{getD}
 use Rattle.boxes.specs.Answer.{refused, given, _>>=_}
 use Rattle.numerals.specs.Numbers.{number}
 use Rattle.boxes.specs.Framing.{Box, uuid, userSize, sized, large, header}
+use Rattle.boxes.specs.declared.kinds.Container.{Container}
 use Rattle.boxes.proofs.AnswerLaws.{held, given-same, Only, only-given, only-held, only-either}
 use Rattle.numerals.proofs.NumberLaws.{number-same}
 
@@ -58,20 +59,21 @@ module _ (s : List ℕ) (at end : ℕ) where
   unfolding large
   large-whole h e = simp (le-leb (at + 16) end h, e)
 
-  pub header-cut : end < at + 8 → header s at end ≡ refused 2
+module _ (c : Container) (s : List ℕ) (at end : ℕ) where
+  pub header-cut : end < at + 8 → header c s at end ≡ refused 2
   unfolding header
   header-cut h = simp (lt-leb (at + 8) end h)
 
   module _ (whole : at + 8 ≤ end) {size : ℕ} (read : size ≡ number s at 4) where
-    pub header-zero : size ≡ 0 → header s at end ≡ refused 3
+    pub header-zero : size ≡ 0 → header c s at end ≡ refused 3
     unfolding header
     header-zero zero = simp (le-leb (at + 8) end whole, ← read, zero)
 
-    pub header-large : size ≡ 1 → header s at end ≡ large s at end
+    pub header-large : size ≡ 1 → header c s at end ≡ large s at end
     unfolding header
     header-large one = simp (le-leb (at + 8) end whole, ← read, one)
 
-    pub header-short : (size ≡ 0 → ⊥) → (size ≡ 1 → ⊥) → header s at end ≡ sized s at end 8 size
+    pub header-short : (size ≡ 0 → ⊥) → (size ≡ 1 → ⊥) → header c s at end ≡ sized s at end 8 size
     unfolding header
     header-short not-zero not-one = simp (le-leb (at + 8) end whole, ← read, ne-eqb size 0 not-zero, ne-eqb size 1 not-one)
 
@@ -102,8 +104,9 @@ module _ (s : List ℕ) (at end : ℕ) {b : Box} where
   unfolding large
   large-inside h = sized-inside 16 (number s (at + 8) 8) (lit≤ tt) (held 2 (leb (at + 16) end) _ h .1)
 
+module _ (c : Container) (s : List ℕ) (at end : ℕ) {b : Box} where
   -- a box was read in one of the two forms
-  by-form : {P : Type 0} → header s at end ≡ given b
+  by-form : {P : Type 0} → header c s at end ≡ given b
       → (at + 8 ≤ end → number s at 4 ≡ 1 → large s at end ≡ given b → P)
       → (at + 8 ≤ end → (number s at 4 ≡ 0 → ⊥) → (number s at 4 ≡ 1 → ⊥) → sized s at end 8 (number s at 4) ≡ given b → P)
       → P
@@ -118,8 +121,8 @@ module _ (s : List ℕ) (at end : ℕ) {b : Box} where
       ] in
       go (eqb (number s at 4) 1) refl (none .1)
 
-  pub header-inside : header s at end ≡ given b → Inside at end b
-  header-inside h = by-form h (λ _ _. large-inside) (λ _ _ _. sized-inside 8 (number s at 4) (lit≤ tt))
+  pub header-inside : header c s at end ≡ given b → Inside at end b
+  header-inside h = by-form h (λ _ _. large-inside s at end) (λ _ _ _. sized-inside s at end 8 (number s at 4) (lit≤ tt))
 
 -- a box that was read is read the same where its container ends further on
 module _ (s : List ℕ) (at end end′ : ℕ) (on : end ≤ end′) {b : Box} where
@@ -135,10 +138,10 @@ module _ (s : List ℕ) (at end end′ : ℕ) (on : end ≤ end′) {b : Box} wh
       let whole : at + 16 ≤ end = leb-true _ _ (cut .0) in
       large-whole s at end′ (omega arith) refl ∙ sized-further 16 _ (cut .1)
 
-  pub header-further : header s at end ≡ given b → header s at end′ ≡ given b
-  header-further h =
-      by-form s at end h (λ whole one g. header-large s at end′ (omega arith) refl one ∙ large-further g)
-      (λ whole not-zero not-one g. header-short s at end′ (omega arith) refl not-zero not-one ∙ sized-further 8 _ g)
+  pub header-further : (c : Container) → header c s at end ≡ given b → header c s at end′ ≡ given b
+  header-further c h =
+      by-form c s at end h (λ whole one g. header-large c s at end′ (omega arith) refl one ∙ large-further g)
+      (λ whole not-zero not-one g. header-short c s at end′ (omega arith) refl not-zero not-one ∙ sized-further 8 _ g)
 
 -- a box so many bytes further on
 abbrev pub moved : ℕ → Box → Box
@@ -177,22 +180,22 @@ module _ (s t : List ℕ) (n at end : ℕ) (same : (i : ℕ) → i < end → get
             ∙ sized-moved 16 (number s (at + 8) 8) whole ∙ rw (large-whole s at end room refl)
       ]
 
-  pub header-moved : header t (n + at) (n + end) ≡ (header s at end >>= λ b. given (moved n b))
-  header-moved =
+  pub header-moved : (c : Container) → header c t (n + at) (n + end) ≡ (header c s at end >>= λ b. given (moved n b))
+  header-moved c =
       elim (decLe (at + 8) end) [
-        | no cut ↦ header-cut t (n + at) (n + end) (omega arith) ∙ rw (header-cut s at end (omega arith))
+        | no cut ↦ header-cut c t (n + at) (n + end) (omega arith) ∙ rw (header-cut c s at end (omega arith))
         | yes whole ↦
             let read : number s at 4 ≡ number t (n + at) 4 = sym (number-moved at 4 (omega arith)) in
             elim (ℕ-discrete (number s at 4) 0) [
               | yes none ↦
-                  header-zero t (n + at) (n + end) (omega arith) read none ∙ rw (header-zero s at end whole refl none)
+                  header-zero c t (n + at) (n + end) (omega arith) read none ∙ rw (header-zero c s at end whole refl none)
               | no not-zero ↦
                   elim (ℕ-discrete (number s at 4) 1) [
                     | yes one ↦
-                        header-large t (n + at) (n + end) (omega arith) read one ∙ large-moved whole ∙ rw (header-large s at end whole refl one)
+                        header-large c t (n + at) (n + end) (omega arith) read one ∙ large-moved whole ∙ rw (header-large c s at end whole refl one)
                     | no not-one ↦
-                        header-short t (n + at) (n + end) (omega arith) read not-zero not-one
-                        ∙ sized-moved 8 (number s at 4) whole ∙ rw (header-short s at end whole refl not-zero not-one)
+                        header-short c t (n + at) (n + end) (omega arith) read not-zero not-one
+                        ∙ sized-moved 8 (number s at 4) whole ∙ rw (header-short c s at end whole refl not-zero not-one)
                   ]
             ]
       ]
@@ -207,9 +210,9 @@ module _ (s : List ℕ) (at end : ℕ) where
   sized-numbers width size =
       only-held Faults 4 (leb (width + userSize (number s (at + 4) 4)) size) _ (omega arith) (only-held Faults 5 (leb (at + size) end) _ (omega arith) (only-given Faults _))
 
-  pub header-numbers : (n : ℕ) → header s at end ≡ refused n → (2 ≤ n) × (n ≤ 5)
+  pub header-numbers : (c : Container) (n : ℕ) → header c s at end ≡ refused n → (2 ≤ n) × (n ≤ 5)
   unfolding header large
-  header-numbers =
+  header-numbers c =
       only-held Faults 2 (leb (at + 8) end) _ (omega arith)
       (only-held Faults 3 (not (eqb (number s at 4) 0)) _ (omega arith)
       (only-either Faults (eqb (number s at 4) 1)

@@ -47,7 +47,7 @@ steps-from s c at end (suc left) = go (leb (end .0) (at .0)) refl
 
     go : (t : Bool) → leb (end .0) (at .0) ≡ t → boxesFrom c s (end .0) (suc left) (at .0) ≡ (stepped s (record { container = c; at = at; end = end; left = suc left }) >>= after s)
     go true e = simp (boxesFrom, stepped, e)
-    go false e = simp (boxesFrom, stepped, e, le-leb 1 (suc left) (omega arith), sub-one) (box (header s (at .0) (end .0)))
+    go false e = simp (boxesFrom, stepped, e, le-leb 1 (suc left) (omega arith), sub-one) (box (header c s (at .0) (end .0)))
 
 -- the walk over a container is its step, again and again
 pub walk-steps : (s : List ℕ) (w : Walk) → ahead s w ≡ (stepped s w >>= after s)
@@ -67,7 +67,7 @@ module _ (s : List ℕ) (w : Walk) where
     unfolding stepped
     step-over none-left = simp (stepped, lt-leb (w .end .0) (w .at .0) short, none-left)
 
-    pub step-header : (w .left ≡ 0 → ⊥) → stepped s w ≡ (header s (w .at .0) (w .end .0) >>= λ b. given (some (b, past w b)))
+    pub step-header : (w .left ≡ 0 → ⊥) → stepped s w ≡ (header (w .container) s (w .at .0) (w .end .0) >>= λ b. given (some (b, past w b)))
     unfolding stepped
     step-header some-left = simp (stepped, lt-leb (w .end .0) (w .at .0) short, le-leb 1 (w .left) (omega arith))
 
@@ -75,7 +75,7 @@ module _ (s : List ℕ) (w : Walk) where
 pub record Met (s : List ℕ) (w : Walk) (b : Box) (w′ : Walk) : Type 0 where
   pub short : w .at .0 < w .end .0
   pub allowed : 1 ≤ w .left
-  pub read : header s (w .at .0) (w .end .0) ≡ given b
+  pub read : header (w .container) s (w .at .0) (w .end .0) ≡ given b
   pub inside : Inside (w .at .0) (w .end .0) b
   pub onward : w′ ≡ past w b
 
@@ -96,8 +96,8 @@ met s w {b} {w′} h = go (leb (w .end .0) (w .at .0)) refl
         absurd (omega arith)
     go false e =
         let r = held 6 (leb 1 (w .left)) _ (simp (stepped, e) at h) in
-        let q = box-read (header s (w .at .0) (w .end .0)) (past w) (r .1) in
-        record { short = leb-false _ _ e; allowed = leb-true 1 (w .left) (r .0); read = q .0; inside = header-inside s _ _ (q .0); onward = q .1 }
+        let q = box-read (header (w .container) s (w .at .0) (w .end .0)) (past w) (r .1) in
+        record { short = leb-false _ _ e; allowed = leb-true 1 (w .left) (r .0); read = q .0; inside = header-inside (w .container) s _ _ (q .0); onward = q .1 }
 
 -- a walk whose boxes are known meets them one by one and no fault
 module _ (s : List ℕ) (w : Walk) {bs : List Box} (known : ahead s w ≡ given bs) where

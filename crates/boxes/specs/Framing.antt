@@ -42,20 +42,21 @@ large s at end = do
   _ ← hold 2 (leb (at + 16) end)
   sized s at end 16 (number s (at + 8) 8)
 
--- a 32-bit size, then the type; size 1 means that a 64-bit size follows
-unfoldable pub header : List ℕ → ℕ → ℕ → Answer Box
-header s at end = do
+-- a 32-bit size, then the type; size 1 means that a 64-bit size follows. A header knows the container that it stands in;
+-- all containers are framed alike
+unfoldable pub header : Container → List ℕ → ℕ → ℕ → Answer Box
+header c s at end = do
   _ ← hold 2 (leb (at + 8) end)
   _ ← hold 3 (not (eqb (number s at 4) 0))
   elim (eqb (number s at 4) 1) [ true ↦ large s at end | false ↦ sized s at end 8 (number s at 4) ]
 
--- the boxes from a place to the end of their container, of which so many more are allowed; all containers are framed alike
+-- the boxes from a place to the end of their container, of which so many more are allowed
 unfoldable pub boxesFrom : Container → List ℕ → ℕ → ℕ → ℕ → Answer (List Box)
 boxesFrom c s end zero at = elim (leb end at) [ true ↦ given [] | false ↦ refused 6 ]
 boxesFrom c s end (suc more) at =
     elim (leb end at) [
       | true ↦ given []
-      | false ↦ header s at end >>= λ b. boxesFrom c s end more (b .end) >>= λ bs. given (b ∷ bs)
+      | false ↦ header c s at end >>= λ b. boxesFrom c s end more (b .end) >>= λ bs. given (b ∷ bs)
     ]
 
 -- boxes in one container: at most 512

@@ -23,7 +23,7 @@ stepped s w =
       | true ↦ given none
       | false ↦ do
         _ ← hold 6 (leb 1 (w .left))
-        b ← header s (w .at .0) (w .end .0)
+        b ← header (w .container) s (w .at .0) (w .end .0)
         given (some (b, record { container = w .container; at = record { 0 = b .end }; end = w .end; left = w .left - 1 }))
     ]
 

@@ -1,4 +1,5 @@
 // Box headers, read and written: where a box starts, where its user type and its body start and where it ends.
+use crate::kinds::Container;
 use crate::refusals::BOX_PAST_END;
 use crate::refusals::HEADER_CUT;
 use crate::refusals::SIZE_UNDER_HEADER;
@@ -95,8 +96,8 @@ fn large_at(s: &[u8], at: Place, end: Place) -> Header
 }
 
 // The box at a place of a container that ends at `end`, or the fault in its header.
-pub fn header_at(s: &[u8], at: Place, end: Place) -> Header
-    ensures { λ r. ⌜ headerAnswer r ≡ header (now (s .entry)) (at .0) (end .0) ⌝ }
+pub fn header_at(s: &[u8], container: Container, at: Place, end: Place) -> Header
+    ensures { λ r. ⌜ headerAnswer r ≡ header container (now (s .entry)) (at .0) (end .0) ⌝ }
 {
     if between(at, end) < FRONT_SIZE {
         return Header::Refused(HEADER_CUT);

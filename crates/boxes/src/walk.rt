@@ -50,7 +50,7 @@ impl Walk {
         if self.left == 0 {
             return Step::Refused(TOO_MANY_BOXES);
         }
-        match header_at(s, at, end) {
+        match header_at(s, container, at, end) {
             Header::Found(b) => {
                 let next = b.end;
                 Step::Next(

@@ -1,12 +1,13 @@
 // Headers of every form and size, at the ends of containers and of the numbers themselves.
 use crate::report::header;
 use boxes::framing::header_at;
+use boxes::kinds::Container;
 use numerals::place::Place;
 
 const LAST: u64 = 0xffff_ffff_ffff_ffff;
 
 fn read(asked: &[u8], s: &[u8], at: u64, end: u64) {
-    header(asked, header_at(s, Place(at), Place(end)));
+    header(asked, header_at(s, Container::File, Place(at), Place(end)));
 }
 
 // A box of 8 bytes and one of 16 with a large size, in containers that end after so many bytes.

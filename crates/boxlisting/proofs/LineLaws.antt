@@ -10,6 +10,7 @@ use lib.ListN.{length, take, drop, length-take}
 use Rattle.boxes.specs.Answer.{given}
 use Rattle.boxes.specs.Framing.{uuid, userSize, header, boxOf}
 use Rattle.boxes.specs.declared.framing.Framed.{Framed}
+use Rattle.boxes.specs.declared.kinds.Container.the-variants.{File}
 use Rattle.boxes.proofs.HeaderLaws.{user-vendor, user-none, user-most, header-inside}
 use Rattle.filling.specs.Rows.{Puts}
 use Rattle.filling.proofs.PutsLaws.{puts-more}
@@ -29,10 +30,10 @@ pub record Lies (f : List ℕ) (b : Framed) : Type 0 where
   pub ends : b .end .0 ≤ length f
 
 module _ (f : List ℕ) (b : Framed) where
-  pub lies : header f (b .at .0) (length f) ≡ given (boxOf b) → Lies f b
+  pub lies : header File f (b .at .0) (length f) ≡ given (boxOf b) → Lies f b
   unfolding boxOf
   lies read =
-      let inside = header-inside f (b .at .0) (length f) read in
+      let inside = header-inside File f (b .at .0) (length f) read in
       record { front = inside .front; typed = inside .typed; most = user-most (b .kind); whole = inside .whole; ends = inside .ends }
 
   module _ (l : Lies f b) where

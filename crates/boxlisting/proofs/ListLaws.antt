@@ -9,7 +9,7 @@ use Rattle.boxes.specs.Answer.{refused, given}
 use Rattle.boxes.specs.Framing.{Box, boxLimit, header, boxOf}
 use Rattle.boxes.specs.Walk.{walkOver, stepped}
 use Rattle.boxes.specs.declared.framing.Framed.{Framed}
-use Rattle.boxes.specs.declared.kinds.Container.{Container}
+use Rattle.boxes.specs.declared.kinds.Container.the-variants.{File}
 use Rattle.boxes.specs.declared.walk.Walk.{Walk}
 use Rattle.boxes.proofs.WalkLaws.{met}
 use Rattle.filling.specs.Rows.{Puts}
@@ -25,16 +25,18 @@ pub record Midway (f s t : List ℕ) (next : ℕ) (w : Walk) : Type 0 where
   pub done : List ℕ
   pub put : Puts s 0 done t next
   pub rest : boxLines f boxLimit 0 ≡ done ++ boxLines f (w .left) (w .at .0)
+  pub over : w .container ≡ File
   pub file : w .end .0 ≡ length f
   pub low : next + 200 * w .left ≤ 102_400
 
-pub midway-none : (f s : List ℕ) {c : Container} {end : Place} {w : Walk} → w ≡ walkOver c (record { 0 = 0 }) end → end .0 ≡ length f → Midway f s s 0 w
+pub midway-none : (f s : List ℕ) {end : Place} {w : Walk} → w ≡ walkOver File (record { 0 = 0 }) end → end .0 ≡ length f → Midway f s s 0 w
 unfolding boxLimit
 midway-none f s new file =
     record {
       done = [];
       put = record { put = put-none s 0; end = refl };
       rest = rw new;
+      over = ap (λ w. w .container) new;
       file = rw new file;
       low = omega (arith, ap (λ w. w .left) new);
     }
@@ -42,7 +44,7 @@ midway-none f s new file =
 module _ {f s t : List ℕ} {next : ℕ} {w : Walk} (m : Midway f s t next w) where
   -- the walk's step says what comes next
   goes-on : boxLines f boxLimit 0 ≡ m .done ++ linesAfter f (stepped f w)
-  goes-on = m .rest ∙ ap (m .done ++_) (line-steps f w (m .file))
+  goes-on = m .rest ∙ ap (m .done ++_) (line-steps f w (m .over) (m .file))
 
   pub midway-more : {b : Box} {w′ : Walk} → stepped f w ≡ given (some (b, w′)) → {t′ : List ℕ} {next′ : ℕ} → Puts t next (boxLine f b) t′ next′ → next′ ≤ next + 200
       → Midway f s t′ next′ w′
@@ -52,16 +54,17 @@ module _ {f s t : List ℕ} {next : ℕ} {w : Walk} (m : Midway f s t next w) wh
         done = m .done ++ boxLine f b;
         put = puts-more (m .put) puts;
         rest = goes-on ∙ ap (λ x. m .done ++ linesAfter f x) step ∙ sym (append-assoc (m .done) (boxLine f b) (boxLines f (w′ .left) (w′ .at .0)));
+        over = ap (λ w. w .container) (on .onward) ∙ m .over;
         file = ap (λ w. w .end .0) (on .onward) ∙ m .file;
         low = omega (arith, m .low, on .allowed, ap (λ w. w .left) (on .onward));
       }
 
   -- a box that the walk meets is read at its own place
-  pub framed-read : (b : Framed) {w′ : Walk} → stepped f w ≡ given (some (boxOf b, w′)) → header f (b .at .0) (length f) ≡ given (boxOf b)
+  pub framed-read : (b : Framed) {w′ : Walk} → stepped f w ≡ given (some (boxOf b, w′)) → header File f (b .at .0) (length f) ≡ given (boxOf b)
   unfolding boxOf
   framed-read b step =
       let on = met f w step in
-      ap (λ (at : ℕ). header f at (length f)) (on .inside .starts) ∙ ap (header f (w .at .0)) (sym (m .file)) ∙ on .read
+      (λ i. header (sym (m .over) i) f (on .inside .starts i) (sym (m .file) i)) ∙ on .read
 
   pub midway-end : stepped f w ≡ given none → Puts s 0 (boxLines f boxLimit 0) t next
   midway-end step = puts-same (sym (goes-on ∙ ap (λ x. m .done ++ linesAfter f x) step ∙ append-nil (m .done))) (m .put)

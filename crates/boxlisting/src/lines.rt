@@ -13,13 +13,14 @@ ghost use mathlib.Core.Path.{_≡_};
 ghost use lib.ListN.{length};
 ghost use Rattle.boxes.specs.Answer.{given};
 ghost use Rattle.boxes.specs.Framing.{header, boxOf, boxLimit};
+ghost use Rattle.boxes.specs.declared.kinds.Container.the-variants.{File};
 ghost use Rattle.filling.specs.Rows.{Puts};
 ghost use Rattle.partial.specs.BoxList.{boxLine, boxLines};
 ghost use Rattle.boxlisting.specs.Fields.{userField};
 
 // Puts a tab and the user type of a box that has one.
 fn put_user(buffer: &mut [u8], at: u64, file: &[u8], b: Framed) -> u64
-    requires { ⌜ (at < 2 ^ 58) × (header (now file) (b .at .0) (length (now file)) ≡ given (boxOf b)) ⌝ }
+    requires { ⌜ (at < 2 ^ 58) × (header File (now file) (b .at .0) (length (now file)) ≡ given (boxOf b)) ⌝ }
     ensures { λ r. ⌜ Puts (now (buffer .entry)) at (userField (now (file .entry)) (boxOf b)) (now (buffer .exit)) r × (r ≤ at + 65) ⌝ }
 {
     let user = b.user;
@@ -38,7 +39,7 @@ fn put_user(buffer: &mut [u8], at: u64, file: &[u8], b: Framed) -> u64
 
 // Place, size, type and, for `uuid`, the user type.
 fn put_box(buffer: &mut [u8], at: u64, file: &[u8], b: Framed) -> u64
-    requires { ⌜ (at < 2 ^ 57) × (header (now file) (b .at .0) (length (now file)) ≡ given (boxOf b)) ⌝ }
+    requires { ⌜ (at < 2 ^ 57) × (header File (now file) (b .at .0) (length (now file)) ≡ given (boxOf b)) ⌝ }
     ensures { λ r. ⌜ Puts (now (buffer .entry)) at (boxLine (now (file .entry)) (boxOf b)) (now (buffer .exit)) r × (r ≤ at + 200) ⌝ }
 {
     let start = b.at;

@@ -52,13 +52,13 @@ module _ (f : List ℕ) (bs : List Box) where
 
 -- the first box of a segment's box that has one `pshd`, as it is read where the body starts
 module _ (f : List ℕ) (start end : ℕ) (bs : List Box) (known : boxesIn Pseg f start end ≡ given bs) (single : right Pseg pshd bs ≡ true) where
-  first-read : header f start end ≡ given (boxAt 0 bs)
+  first-read : header Pseg f start end ≡ given (boxAt 0 bs)
   first-read = boxes-first Pseg f start end known (header-there f bs single)
 
-  pub first-sound : {n : ℕ} → header f start end ≡ refused n → ⊥
+  pub first-sound : {n : ℕ} → header Pseg f start end ≡ refused n → ⊥
   first-sound e = not-both (sym e ∙ first-read)
 
-  module _ (b : Framed) (found : header f start end ≡ given (boxOf b)) where
+  module _ (b : Framed) (found : header Pseg f start end ≡ given (boxOf b)) where
     first-same : boxOf b ≡ boxAt 0 bs
     first-same = given-same (sym found ∙ first-read)
 

@@ -53,7 +53,7 @@ fn header_of(file: &[u8], b: Framed, inner: Tally) -> HeaderRead
     if !keeps(Container::Pseg, PSHD, inner.of(PSHD)) {
         return HeaderRead::Refused(PSHD_WRONG);
     }
-    let Header::Found(first) = header_at(file, b.body, b.end) else {
+    let Header::Found(first) = header_at(file, Container::Pseg, b.body, b.end) else {
         return HeaderRead::Refused(PSHD_WRONG);
     };
     if first.kind != PSHD.code {

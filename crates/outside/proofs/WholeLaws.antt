@@ -118,7 +118,7 @@ whole-given bytes right = go (boxesOf bytes) refl
     go (given bs) e = (bs, e, sym (are-given bytes e) ∙ right)
 
 -- they fill the bytes
-whole-fills : (bytes : List ℕ) {bs : List Box} → boxesOf bytes ≡ given bs → Fills bytes (length bytes) (length bytes) 0 bs
+whole-fills : (bytes : List ℕ) {bs : List Box} → boxesOf bytes ≡ given bs → Fills File bytes (length bytes) (length bytes) 0 bs
 unfolding boxesOf
 whole-fills bytes read = fills File bytes (length bytes) (length bytes) 0 read
 

@@ -7,6 +7,7 @@ use lib.Dec.{leb, eqb}
 use Rattle.io.specs.Digits.{digits}
 use Rattle.boxes.specs.Answer.{refused, given, _>>=_, hold}
 use Rattle.boxes.specs.Framing.{Box, uuid, header, boxLimit}
+use Rattle.boxes.specs.declared.kinds.Container.the-variants.{File}
 use Rattle.partial.specs.Limits.{fileLimit}
 use Rattle.partial.specs.Map.{ascii, decimal, line, refusedLine}
 use Rattle.partial.specs.Tables.{bytesIn}
@@ -51,7 +52,7 @@ boxLines f zero at = elim (leb (length f) at) [ true ↦ [] | false ↦ refusedL
 boxLines f (suc more) at =
     elim (leb (length f) at) [
       | true ↦ []
-      | false ↦ elim (header f at (length f)) [ refused n ↦ refusedLine n | given b ↦ boxLine f b ++ boxLines f more (b .end) ]
+      | false ↦ elim (header File f at (length f)) [ refused n ↦ refusedLine n | given b ↦ boxLine f b ++ boxLines f more (b .end) ]
     ]
 
 -- what a program prints that takes an input of at most so many bytes; 27 and 1 come first

@@ -12,6 +12,7 @@ use Rattle.boxes.specs.Answer.{Answer, refused, given, _>>=_, hold}
 use Rattle.numerals.specs.Numbers.{number, bytesOf, valueOf, signed, holdsOffset, leastWidth}
 use Rattle.boxes.specs.Framing.{uuid, header, boxed}
 use Rattle.boxes.specs.Kinds.{ftyp, pdat, pseg, pshd, ploc, is}
+use Rattle.boxes.specs.declared.kinds.Container.the-variants.{File, Pseg}
 use Rattle.numerals.specs.declared.numbers.Offset.the-variants.{Back}
 use Rattle.partial.specs.declared.brand.Brand.{Brand}
 use Rattle.partial.specs.declared.brand.Brand.the-variants.{Paff, Pmff}
@@ -43,7 +44,7 @@ says (given ns) = ns
 -- of a `ploc` with one chunk: chunk count, state, size, offset, and how many bytes are left over
 abbrev oneChunk : List ℕ → Answer (List ℤ)
 oneChunk f = do
-  b ← header f 0 (length f)
+  b ← header Pseg f 0 (length f)
   _ ← hold 15 (is ploc b)
   l ← plocHead f b
   e ← entry f l (l .first)
@@ -372,7 +373,7 @@ largeVendor size = bytesOf 4 1 ++ (bytesOf 4 uuid ++ bytesOf 8 size)
 
 -- of a box in a container that ends there: the places of its user type, of its body and of its end
 abbrev placesIn : List ℕ → ℕ → List ℤ
-placesIn f end = says (header f 0 end >>= λ b. given (pos (b .user) ∷ pos (b .body) ∷ pos (b .end) ∷ []))
+placesIn f end = says (header File f 0 end >>= λ b. given (pos (b .user) ∷ pos (b .body) ∷ pos (b .end) ∷ []))
 
 -- document 02, [1]: the user type counts as header; 4 below 24, in the large form below 32; 5 where the container ends inside the user type
 abbrev vendorForms : Example

@@ -138,11 +138,11 @@ module _ (f : List ℕ) {bs : List Box} (known : boxesIn File f 0 (length f) ≡
         ]
 
     -- what is read where it stands is one of the file's boxes
-    pub last-among : {b : Box} → header f (getD tops k 0) (length f) ≡ given b → Among bs b
+    pub last-among : {b : Box} → header File f (getD tops k 0) (length f) ≡ given b → Among bs b
     last-among {b} read =
         elim (decLe (length bs) k) [
           | yes past ↦
-              let inside = header-inside f (getD tops k 0) (length f) read in
+              let inside = header-inside File f (getD tops k 0) (length f) read in
               absurd (omega (arith, t .beyond k past (last .there)))
           | no there ↦
               let stands = boxes-standing File f 0 (length f) known k (omega arith) in
@@ -154,7 +154,7 @@ module _ (f : List ℕ) {bs : List Box} (known : boxesIn File f 0 (length f) ≡
         ]
 
     -- where it does not hold the chunk no box does
-    pub last-other : (size : ℕ) → ((j : ℕ) → j < length bs → header f (getD tops k 0) (length f) ≡ given (boxAt j bs) → holdsChunk place size (boxAt j bs) ≡ true → ⊥) → someOf (holdsChunk place size) bs ≡ false
+    pub last-other : (size : ℕ) → ((j : ℕ) → j < length bs → header File f (getD tops k 0) (length f) ≡ given (boxAt j bs) → holdsChunk place size (boxAt j bs) ≡ true → ⊥) → someOf (holdsChunk place size) bs ≡ false
     last-other size none =
         elim (which (someOf (holdsChunk place size) bs)) [
           | inr e ↦ e
@@ -164,5 +164,5 @@ module _ (f : List ℕ) {bs : List Box} (known : boxesIn File f 0 (length f) ≡
               let here = only-last size j there holds in
               let stands = boxes-standing File f 0 (length f) known j there in
               let starts : boxAt j bs .at ≡ getD tops k 0 = sym (t .listed j there) ∙ ap (λ (n : ℕ). getD tops n 0) here in
-              absurd (none j there (subst (λ (n : ℕ). header f n (length f) ≡ given (boxAt j bs)) starts (stands .read)) holds)
+              absurd (none j there (subst (λ (n : ℕ). header File f n (length f) ≡ given (boxAt j bs)) starts (stands .read)) holds)
         ]

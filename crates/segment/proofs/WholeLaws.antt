@@ -39,25 +39,25 @@ module _ (b : Box) (bs : List Box) (end : ℕ) where
     fill-end most = rw (good, le-ltb (b .end) end most)
 
 -- the first of the boxes that fill a container from a place on is read there
-filled-first : {s : List ℕ} {end at : ℕ} {bs : List Box} {b : Box} → Filled s end at bs → header s at end ≡ given b → (cs : List Box) × Filled s end (b .end) cs × (bs ≡ b ∷ cs)
+filled-first : {s : List ℕ} {end at : ℕ} {bs : List Box} {b : Box} → Filled File s end at bs → header File s at end ≡ given b → (cs : List Box) × Filled File s end (b .end) cs × (bs ≡ b ∷ cs)
 filled-first (full e) read =
-    let inside = header-inside _ _ _ read in
+    let inside = header-inside _ _ _ _ read in
     absurd (omega arith)
 filled-first {s} {end} (next {b = a} {bs = cs} short first rest) read =
     let same = given-same (sym first ∙ read) in
-    (cs, subst (λ (b : Box). Filled s end (b .end) cs) same rest, ap (λ (b : Box). b ∷ cs) same)
+    (cs, subst (λ (b : Box). Filled File s end (b .end) cs) same rest, ap (λ (b : Box). b ∷ cs) same)
 
 -- what the header at a place decides of the boxes that fill a file from there on
-module _ {s : List ℕ} {len at : ℕ} {bs : List Box} (filled : Filled s len at bs) (end : ℕ) where
-  pub fill-fault : {n : ℕ} → header s at len ≡ refused n → fillUp bs end ≡ false
+module _ {s : List ℕ} {len at : ℕ} {bs : List Box} (filled : Filled File s len at bs) (end : ℕ) where
+  pub fill-fault : {n : ℕ} → header File s at len ≡ refused n → fillUp bs end ≡ false
   unfolding fillUp
   fill-fault fault = go filled fault
     where
-      go : {at n : ℕ} {bs : List Box} → Filled s len at bs → header s at len ≡ refused n → fillUp bs end ≡ false
+      go : {at n : ℕ} {bs : List Box} → Filled File s len at bs → header File s at len ≡ refused n → fillUp bs end ≡ false
       go (full e) fault = refl
       go (next short read rest) fault = absurd (not-both (sym fault ∙ read))
 
-  module _ {b : Box} (read : header s at len ≡ given b) where
+  module _ {b : Box} (read : header File s at len ≡ given b) where
     pub fill-bad : allowed b ≡ false → fillUp bs end ≡ false
     fill-bad bad =
         let (cs, rest, same) = filled-first filled read in
@@ -69,7 +69,7 @@ module _ {s : List ℕ} {len at : ℕ} {bs : List Box} (filled : Filled s len at
           let (cs, rest, same) = filled-first filled read in
           rw same (fill-end b cs end good most)
 
-      pub fill-next : b .end < end → (cs : List Box) × Filled s len (b .end) cs × (fillUp bs end ≡ fillUp cs end)
+      pub fill-next : b .end < end → (cs : List Box) × Filled File s len (b .end) cs × (fillUp bs end ≡ fillUp cs end)
       fill-next less =
           let (cs, rest, same) = filled-first filled read in
           (cs, rest, ap (λ (bs : List Box). fillUp bs end) same ∙ fill-on b cs end good less)
@@ -92,30 +92,30 @@ whole-none (b ∷ bs) place end none =
     whole-on b bs place end (none 0 (omega arith)) ∙ whole-none bs place end (λ k h. none (suc k) (omega arith))
 
 -- from one at which a box starts they are those that fill the file from there on
-whole-some : {s : List ℕ} {len at : ℕ} {bs : List Box} → Filled s len at bs → (k : ℕ) → k < length bs → (end : ℕ)
-    → (cs : List Box) × Filled s len (boxAt k bs .at) cs × (at ≤ boxAt k bs .at) × (wholeBoxes bs (boxAt k bs .at) end ≡ fillUp cs end)
+whole-some : {s : List ℕ} {len at : ℕ} {bs : List Box} → Filled File s len at bs → (k : ℕ) → k < length bs → (end : ℕ)
+    → (cs : List Box) × Filled File s len (boxAt k bs .at) cs × (at ≤ boxAt k bs .at) × (wholeBoxes bs (boxAt k bs .at) end ≡ fillUp cs end)
 unfolding boxAt
 whole-some (full e) k h end = absurd (omega arith)
 whole-some {s} {len} (next {b = b} {bs = bs} short read rest) zero h end =
-    let inside = header-inside _ _ _ read in
-    (b ∷ bs, subst (λ (at : ℕ). Filled s len at (b ∷ bs)) (sym (inside .starts)) (next short read rest), omega arith, whole-here b bs end)
+    let inside = header-inside _ _ _ _ read in
+    (b ∷ bs, subst (λ (at : ℕ). Filled File s len at (b ∷ bs)) (sym (inside .starts)) (next short read rest), omega arith, whole-here b bs end)
 whole-some (next {b = b} {bs = bs} short read rest) (suc k) h end =
     let (cs, filled, low, same) = whole-some rest k (omega arith) end in
-    let inside = header-inside _ _ _ read in
+    let inside = header-inside _ _ _ _ read in
     (cs, filled, omega arith, whole-on b bs (boxAt k bs .at) end (λ e. omega arith) ∙ same)
 
 -- none end past the file
-fill-short : {s : List ℕ} {len at : ℕ} {bs : List Box} → Filled s len at bs → (end : ℕ) → len < end → fillUp bs end ≡ false
+fill-short : {s : List ℕ} {len at : ℕ} {bs : List Box} → Filled File s len at bs → (end : ℕ) → len < end → fillUp bs end ≡ false
 unfolding fillUp
 fill-short (full e) end far = refl
 fill-short (next {b = b} {bs = bs} short read rest) end far =
-    let inside = header-inside _ _ _ read in
+    let inside = header-inside _ _ _ _ read in
     elim (which (allowed b)) [
       | inr bad ↦ fill-other b bs end bad
       | inl good ↦ fill-on b bs end good (omega arith) ∙ fill-short rest end far
     ]
 
-whole-short : {s : List ℕ} {len at : ℕ} {bs : List Box} → Filled s len at bs → (place end : ℕ) → len < end → wholeBoxes bs place end ≡ false
+whole-short : {s : List ℕ} {len at : ℕ} {bs : List Box} → Filled File s len at bs → (place end : ℕ) → len < end → wholeBoxes bs place end ≡ false
 unfolding wholeBoxes
 whole-short (full e) place end far = refl
 whole-short (next {b = b} {bs = bs} short read rest) place end far =

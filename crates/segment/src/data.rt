@@ -4,6 +4,7 @@ use crate::tops::top_before;
 use boxes::framing::Framed;
 use boxes::framing::Header;
 use boxes::framing::header_at;
+use boxes::kinds::Container;
 use boxes::kinds::PDAT;
 use numerals::order::ends_by;
 use numerals::place::Place;
@@ -42,7 +43,7 @@ pub fn held_at(s: &[u8], tops: &[u64; TOPS], last: Framed, place: Place, size: u
     }
     let number = top_before(tops, place);
     let top = tops[number];
-    let Header::Found(b) = header_at(s, Place(top), Place(s.len() as u64)) else {
+    let Header::Found(b) = header_at(s, Container::File, Place(top), Place(s.len() as u64)) else {
         return Held::Nowhere;
     };
     if holds(b, place, size) {

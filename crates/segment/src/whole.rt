@@ -3,6 +3,7 @@ use crate::tops::TOPS;
 use crate::tops::top_before;
 use boxes::framing::Header;
 use boxes::framing::header_at;
+use boxes::kinds::Container;
 use fields::allowed::may_stand;
 use numerals::place::Place;
 ghost use Prim.Native.Nat.{ℕ};
@@ -21,7 +22,7 @@ fn fill_up(s: &[u8], place: Place, end: Place) -> bool
 {
     let mut at = place;
     loop {
-        let Header::Found(b) = header_at(s, at, Place(s.len() as u64)) else {
+        let Header::Found(b) = header_at(s, Container::File, at, Place(s.len() as u64)) else {
             return false;
         };
         if !may_stand(b) {

@@ -12,7 +12,6 @@ use lib.ListN.{length}
 use Rattle.boxes.specs.Answer.{Answer, refused, given, _>>=_}
 use Rattle.boxes.specs.Framing.{Box, header, boxLimit, boxesFrom, boxesIn}
 use Rattle.boxes.specs.Walk.{stepped}
-use Rattle.boxes.specs.declared.kinds.Container.{Container}
 use Rattle.boxes.specs.declared.kinds.Container.the-variants.{File}
 use Rattle.boxes.specs.declared.walk.Walk.{Walk}
 use Rattle.numerals.specs.declared.place.Place.{Place}
@@ -28,9 +27,9 @@ module _ (f : List ℕ) where
   linesAfter (given none) = []
   linesAfter (given (some n)) = boxLine f (n .0) ++ boxLines f (n .1 .left) (n .1 .at .0)
 
-  module _ (c : Container) (at : Place) where
+  module _ (at : Place) where
     abbrev standing : ℕ → Walk
-    standing left = record { container = c; at = at; end = record { 0 = length f }; left = left }
+    standing left = record { container = File; at = at; end = record { 0 = length f }; left = left }
 
     lines-from : (left : ℕ) → boxLines f left (at .0) ≡ linesAfter (stepped f (standing left))
     unfolding boxLines stepped
@@ -43,20 +42,18 @@ module _ (f : List ℕ) where
       where
         box : (h : Answer Box)
             → (elim h [ refused n ↦ refusedLine n | given b ↦ boxLine f b ++ boxLines f left (b .end) ])
-            ≡ linesAfter (h >>= λ b. given (some (b, record { container = c; at = record { 0 = b .end }; end = record { 0 = length f }; left = left })))
+            ≡ linesAfter (h >>= λ b. given (some (b, record { container = File; at = record { 0 = b .end }; end = record { 0 = length f }; left = left })))
         box (refused n) = refl
         box (given b) = refl
 
         go : (t : Bool) → leb (length f) (at .0) ≡ t → boxLines f (suc left) (at .0) ≡ linesAfter (stepped f (standing (suc left)))
         go true e = simp (boxLines, stepped, e)
-        go false e = simp (boxLines, stepped, e, le-leb 1 (suc left) (omega arith), sub-one) (box (header f (at .0) (length f)))
+        go false e = simp (boxLines, stepped, e, le-leb 1 (suc left) (omega arith), sub-one) (box (header File f (at .0) (length f)))
 
   -- the lines before a walk up to the end of the file are those of its step and of what comes after it
-  pub line-steps : (w : Walk) → w .end .0 ≡ length f → boxLines f (w .left) (w .at .0) ≡ linesAfter (stepped f w)
-  line-steps w end =
-      let e : w .end ≡ record { 0 = length f } = λ i. record { 0 = end i } in
-      lines-from (w .container) (w .at) (w .left)
-      ∙ sym (ap (λ (e : Place). linesAfter (stepped f (record { container = w .container; at = w .at; end = e; left = w .left }))) e)
+  pub line-steps : (w : Walk) → w .container ≡ File → w .end .0 ≡ length f → boxLines f (w .left) (w .at .0) ≡ linesAfter (stepped f w)
+  line-steps w over end =
+      lines-from (w .at) (w .left) ∙ λ i. linesAfter (stepped f (record { container = sym over i; at = w .at; end = record { 0 = sym end i }; left = w .left }))
 
   -- the lines of boxes that were all given are theirs; where there is a fault, the line of its refusal is the last
   abbrev Lined : List ℕ → Answer (List Box) → Type 0
@@ -68,22 +65,21 @@ module _ (f : List ℕ) where
   lined-next b lines (refused n) (before, e) = (boxLine f b ++ before, ap (boxLine f b ++_) e ∙ sym (append-assoc (boxLine f b) before (refusedLine n)))
   lined-next b lines (given bs) e = ap (boxLine f b ++_) e
 
-  module _ (c : Container) where
-    lined : (more at : ℕ) → Lined (boxLines f more at) (boxesFrom c f (length f) more at)
-    unfolding boxLines boxesFrom each
-    lined zero at = go (leb (length f) at)
-      where
-        go : (t : Bool) → Lined (elim t [ true ↦ [] | false ↦ refusedLine 6 ]) (elim t [ true ↦ given [] | false ↦ refused 6 ])
-        go true = refl
-        go false = ([], refl)
-    lined (suc more) at = go (lined more) (leb (length f) at) (header f at (length f))
-      where
-        go : ((at : ℕ) → Lined (boxLines f more at) (boxesFrom c f (length f) more at)) → (t : Bool) (h : Answer Box)
-            → Lined (elim t [ true ↦ [] | false ↦ elim h [ refused n ↦ refusedLine n | given b ↦ boxLine f b ++ boxLines f more (b .end) ] ])
-            (elim t [ true ↦ given [] | false ↦ h >>= λ b. boxesFrom c f (length f) more (b .end) >>= λ bs. given (b ∷ bs) ])
-        go rest true h = refl
-        go rest false (refused n) = ([], refl)
-        go rest false (given b) = lined-next b (boxLines f more (b .end)) (boxesFrom c f (length f) more (b .end)) (rest (b .end))
+  lined : (more at : ℕ) → Lined (boxLines f more at) (boxesFrom File f (length f) more at)
+  unfolding boxLines boxesFrom each
+  lined zero at = go (leb (length f) at)
+    where
+      go : (t : Bool) → Lined (elim t [ true ↦ [] | false ↦ refusedLine 6 ]) (elim t [ true ↦ given [] | false ↦ refused 6 ])
+      go true = refl
+      go false = ([], refl)
+  lined (suc more) at = go (lined more) (leb (length f) at) (header File f at (length f))
+    where
+      go : ((at : ℕ) → Lined (boxLines f more at) (boxesFrom File f (length f) more at)) → (t : Bool) (h : Answer Box)
+          → Lined (elim t [ true ↦ [] | false ↦ elim h [ refused n ↦ refusedLine n | given b ↦ boxLine f b ++ boxLines f more (b .end) ] ])
+          (elim t [ true ↦ given [] | false ↦ h >>= λ b. boxesFrom File f (length f) more (b .end) >>= λ bs. given (b ∷ bs) ])
+      go rest true h = refl
+      go rest false (refused n) = ([], refl)
+      go rest false (given b) = lined-next b (boxLines f more (b .end)) (boxesFrom File f (length f) more (b .end)) (rest (b .end))
 
 -- a file that is taken has its lines
 pub text-lines : (most : ℕ) (input : List ℕ) → length input ≤ most → length input ≤ fileLimit → boxesText most input ≡ boxLines input boxLimit 0
@@ -96,6 +92,6 @@ boxes-printed most input =
     record {
       overLong = λ over. rw (boxesText, lt-leb (length input) most over);
       overLimit = λ small over. rw (boxesText, le-leb (length input) most small, lt-leb (length input) fileLimit over);
-      whole = λ bs small short e. rw (text-lines most input small short) (rw e at (lined input File boxLimit 0));
-      fault = λ n small short e. rw (text-lines most input small short) (rw e at (lined input File boxLimit 0));
+      whole = λ bs small short e. rw (text-lines most input small short) (rw e at (lined input boxLimit 0));
+      fault = λ n small short e. rw (text-lines most input small short) (rw e at (lined input boxLimit 0));
     }

@@ -185,7 +185,7 @@ module _ (f g : List ℕ) (h : Heading) (cs : List Box) where
   pfil-second t = is-there pfil (lit< tt) 1 (h .boxes) (both (is pfil (boxAt 1 (h .boxes))) (right File pfil (h .boxes)) (t .pfil) .0)
 
   pub headed-appended : Headed f h → length (f ++ g) ≤ fileLimit
-      → Filled g (length g) 0 cs
+      → Filled File g (length g) 0 cs
       → length (h .boxes) + length cs ≤ boxLimit
       → those ftyp (map (moved (length f)) cs) ≡ []
       → those pfil (map (moved (length f)) cs) ≡ []

@@ -11,6 +11,7 @@ use lib.Dec.{eqb, lit<}
 use lib.ListN.{length, length-append, length-map}
 use Rattle.boxes.specs.Framing.{Box, frontSize, boxed}
 use Rattle.boxes.specs.Kinds.{pseg, pdat, is, those}
+use Rattle.boxes.specs.declared.kinds.Container.the-variants.{File}
 use Rattle.boxes.specs.declared.kinds.Kind.{Kind}
 use Rattle.boxes.proofs.HeaderLaws.{moved}
 use Rattle.boxes.proofs.ContainerLaws.{Filled, full, filled-appended}
@@ -60,14 +61,14 @@ module _ (n : ℕ) (a : Addition) where
 
 -- ---- which they are
 
-data-filled : (a : Addition) → length (dataBox a) < 2 ^ 32 → Filled (dataBox a) (length (dataBox a)) 0 (dataBoxes (anyInside a) 0 (length (insideData a)))
+data-filled : (a : Addition) → length (dataBox a) < 2 ^ 32 → Filled File (dataBox a) (length (dataBox a)) 0 (dataBoxes (anyInside a) 0 (length (insideData a)))
 unfolding dataBox
 data-filled a = go (anyInside a)
   where
     go : (there : Bool)
         → let box : List ℕ = elim there [ true ↦ boxed (pdat .code) (insideData a) | false ↦ [] ] in
         length box < 2 ^ 32
-        → Filled box (length box) 0 (dataBoxes there 0 (length (insideData a)))
+        → Filled File box (length box) 0 (dataBoxes there 0 (length (insideData a)))
     go true fits = boxed-alone (pdat .code) (insideData a) (lit< tt) refl (rw length-boxed at fits)
     go false fits = full {at = 0} (omega arith)
 
@@ -126,7 +127,7 @@ module _ (a : Addition) where
       ]
 
 module _ (h : Heading) (a : Addition) (list : listRight (a .list) ≡ true) (carried : dataRight a ≡ true) (right : outsideRight h a ≡ true) where
-  pub boxes-added : length (added a) < 2 ^ 32 → Filled (added a) (length (added a)) 0 (newBoxes 0 a)
+  pub boxes-added : length (added a) < 2 ^ 32 → Filled File (added a) (length (added a)) 0 (newBoxes 0 a)
   unfolding added stored psegPlace
   boxes-added fits =
       let size = length-added a in

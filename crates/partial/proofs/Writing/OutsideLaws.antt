@@ -11,6 +11,7 @@ use lib.ListN.{length, take, drop, length-drop}
 use lib.Seq.{length-take-le}
 use Rattle.boxes.specs.Answer.{Answer, refused, given}
 use Rattle.boxes.specs.Framing.{Box}
+use Rattle.boxes.specs.declared.kinds.Container.the-variants.{File}
 use Rattle.boxes.proofs.HeaderLaws.{moved}
 use Rattle.boxes.proofs.ContainerLaws.{Filled, full, filled-appended}
 use Rattle.partial.specs.Sequences.{someOf, allOf}
@@ -43,7 +44,7 @@ module _ (o : Bool) where
   -- the boxes of the data outside: they fill it, they are allowed, and in a mixed file that has them from a place on each chunk lies there whole
   pub record Outer (is : List Item) (bytes : List ℕ) : Type 0 where
     pub boxes : List Box
-    pub fill : Filled (dataFor (goesOut o) is bytes) (length (dataFor (goesOut o) is bytes)) 0 boxes
+    pub fill : Filled File (dataFor (goesOut o) is bytes) (length (dataFor (goesOut o) is bytes)) 0 boxes
     pub free : allOf allowed boxes ≡ true
     pub lie : (h : Heading) (before rest : List Box) (at end : ℕ)
         → h .mixed ≡ true
@@ -161,7 +162,7 @@ module _ (h : Heading) (a : Addition) (list : listRight (a .list) ≡ true) (car
   unfolding outBoxes outsideData
   out-same = rw (outBoxes, filled-of (outsideData a) (outer-of .fill))
 
-  pub out-filled : Filled (outsideData a) (length (outsideData a)) 0 (outBoxes a)
+  pub out-filled : Filled File (outsideData a) (length (outsideData a)) 0 (outBoxes a)
   unfolding outsideData
   out-filled = rw out-same (outer-of .fill)
 

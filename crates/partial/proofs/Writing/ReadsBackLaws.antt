@@ -184,7 +184,7 @@ module _ (limit : ℕ) (f : List ℕ) (h : Heading) (ss : List Segment) (a : Add
     heading-large over = rw (lt-leb (length (f ++ added a)) fileLimit (rw length-append over))
 
     module _ (small : length f + length (added a) ≤ fileLimit) where
-      new-filled : Filled (added a) (length (added a)) 0 (newBoxes 0 a)
+      new-filled : Filled File (added a) (length (added a)) 0 (newBoxes 0 a)
       new-filled = boxes-added h a (t .list) (t .carried) (t .outside) (omega arith)
 
       heading-crowded : boxLimit < length (h .boxes) + addedBoxes a → heading (f ++ added a) ≡ refused 6

@@ -53,10 +53,10 @@ abbrev pub Row : ℕ → ℕ → List Box → Type 0
 Row at end [] = at ≡ end
 Row at end (b ∷ bs) = (b .at ≡ at) × (at < b .body) × (b .body ≤ b .end) × Row (b .end) end bs
 
-pub filled-row : {s : List ℕ} {end at : ℕ} {bs : List Box} → at ≤ end → Filled s end at bs → Row at end bs
+pub filled-row : {s : List ℕ} {end at : ℕ} {bs : List Box} → at ≤ end → Filled File s end at bs → Row at end bs
 filled-row h (full e) = omega arith
 filled-row h (next short read rest) =
-    let inside = header-inside _ _ _ read in
+    let inside = header-inside _ _ _ _ read in
     (inside .starts, omega arith, inside .whole, filled-row (inside .ends) rest)
 
 pub row-moved : (n at end : ℕ) (bs : List Box) → Row at end bs → Row (n + at) (n + end) (map (moved n) bs)
@@ -143,19 +143,19 @@ module _ (rest : List Box) where
 -- ---- bytes that are boxes
 
 module _ (bytes : List ℕ) {bs : List Box} where
-  of-filled : boxesOf bytes ≡ given bs → Filled bytes (length bytes) 0 bs
+  of-filled : boxesOf bytes ≡ given bs → Filled File bytes (length bytes) 0 bs
   unfolding boxesOf
   of-filled known = fills File bytes (length bytes) (length bytes) 0 known .boxes
 
-  pub filled-of : Filled bytes (length bytes) 0 bs → boxesOf bytes ≡ given bs
+  pub filled-of : Filled File bytes (length bytes) 0 bs → boxesOf bytes ≡ given bs
   unfolding boxesOf
   filled-of all = within File all (length bytes) (omega (arith, filled-few all (omega arith)))
 
-pub are-boxes : (bytes : List ℕ) → areBoxes bytes ≡ true → (bs : List Box) × Filled bytes (length bytes) 0 bs × (allOf allowed bs ≡ true)
+pub are-boxes : (bytes : List ℕ) → areBoxes bytes ≡ true → (bs : List Box) × Filled File bytes (length bytes) 0 bs × (allOf allowed bs ≡ true)
 unfolding areBoxes
 are-boxes bytes h = go (boxesOf bytes) refl h
   where
     go : (x : Answer (List Box)) → boxesOf bytes ≡ x → (elim x [ refused _ ↦ false | given bs ↦ allOf allowed bs ]) ≡ true
-        → (bs : List Box) × Filled bytes (length bytes) 0 bs × (allOf allowed bs ≡ true)
+        → (bs : List Box) × Filled File bytes (length bytes) 0 bs × (allOf allowed bs ≡ true)
     go (refused n) e h = absurd (true≢false (sym h))
     go (given bs) e h = (bs, of-filled bytes e, h)

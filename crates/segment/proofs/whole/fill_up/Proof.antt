@@ -19,7 +19,7 @@ use Rattle.segment.proofs.whole.fill_up.Tie as tie
 
 abbrev Inv-loop : tie.InvT-loop
 Inv-loop s end at₀ at =
-    (bs : List Box) → Filled s (length s) (at₀ .0) bs → (cs : List Box) × Filled s (length s) (at .0) cs × (fillUp bs (end .0) ≡ fillUp cs (end .0))
+    (bs : List Box) → Filled File s (length s) (at₀ .0) bs → (cs : List Box) × Filled File s (length s) (at .0) cs × (fillUp bs (end .0) ≡ fillUp cs (end .0))
 
 abbrev μ-loop : tie.MeasureT-loop
 μ-loop s end at₀ at = length s - at .0
@@ -64,7 +64,7 @@ loop-less : tie.Need-loop-less Inv-loop μ-loop
 unfolding boxOf
 loop-less c =
     let met = c .before .before .before .before .before .before .before in
-    let inside = header-inside _ _ _ (header-found (met .before .before .header-at .ensures) (met .b .given .1)) in
+    let inside = header-inside _ _ _ _ (header-found (met .before .before .header-at .ensures) (met .b .given .1)) in
     omega arith
 
 loop-again : tie.Need-loop-again Inv-loop μ-loop
