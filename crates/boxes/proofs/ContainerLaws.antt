@@ -1,37 +1,63 @@
 -- Laws of the boxes of a container: which they are and where they lie, what does not change them, and how two runs of boxes join.
 use Prim.Native.Nat.{ℕ, zero, suc, _+_, _*_, _≤_, _<_}
 use mathlib.Core.List.{List, [], _∷_, _++_, map}
-use mathlib.Core.Path.{_≡_, refl, sym, subst, _∙_}
+use mathlib.Core.Option.{Option, none, some}
+use mathlib.Core.Path.{_≡_, refl, sym, ap, subst, _∙_}
 use native.Mathlib.Decide.{decLe}
 use native.Mathlib.Nat.{zero-add, add-zero, le-refl}
 use native.Mathlib.Omega.{arith}
 use borrow.Author.Tests.{le-leb, lt-leb}
-use lib.Dec.{leb}
 use lib.ListN.{length, getD, length-append, length-map, List·getD-append}
 use lib.Seq.{getD-append-add}
-use Rattle.boxes.specs.Answer.{refused, given, _>>=_}
-use Rattle.boxes.specs.Framing.{Box, header, boxesFrom, boxesIn, boxLimit}
+use Rattle.boxes.specs.Answer.{Answer, refused, given, _>>=_}
+use Rattle.boxes.specs.Framing.{Box, Fault, Walked, header, ended, broken, followed, walked, faultless, boxesFrom, walkedIn, boxesIn, boxLimit}
 use Rattle.boxes.specs.Kinds.{boxAt}
 use Rattle.boxes.specs.declared.kinds.Container.{Container}
 use Rattle.boxes.proofs.AnswerLaws.{not-both, given-same, both-given, then-given, Only, only-given, only-refused}
-use Rattle.boxes.proofs.AnswerLaws.{only-then, only-either}
+use Rattle.boxes.proofs.AnswerLaws.{only-then}
 use Rattle.boxes.proofs.HeaderLaws.{Inside, header-inside, header-further, header-numbers, header-moved, moved}
+
+-- a walk that goes on behind a box gives that box before those that it gives behind it
+pub faultless-followed : (b : Box) (w : Walked) → faultless (followed b w) ≡ (faultless w >>= λ bs. given (b ∷ bs))
+unfolding faultless
+faultless-followed b w = go (w .fault)
+  where
+    go : (x : Option Fault) → faultless (record { boxes = b ∷ w .boxes; fault = x }) ≡ (faultless (record { boxes = w .boxes; fault = x }) >>= λ bs. given (b ∷ bs))
+    go none = refl
+    go (some x) = refl
 
 -- what the tests decide
 module _ (c : Container) (s : List ℕ) (end at : ℕ) where
+  pub walked-end : (more : ℕ) → end ≤ at → walked c s end more at ≡ ended
+  unfolding walked
+  walked-end zero h = simp (walked, le-leb end at h)
+  walked-end (suc more) h = simp (walked, le-leb end at h)
+
   pub boxes-end : (more : ℕ) → end ≤ at → boxesFrom c s end more at ≡ given []
-  unfolding boxesFrom
-  boxes-end zero h = simp (boxesFrom, le-leb end at h)
-  boxes-end (suc more) h = simp (boxesFrom, le-leb end at h)
+  unfolding boxesFrom faultless
+  boxes-end more h = ap faultless (walked-end more h)
 
   module _ (short : at < end) where
+    pub walked-over : walked c s end zero at ≡ broken at 6
+    unfolding walked
+    walked-over = simp (walked, lt-leb end at short)
+
+    pub walked-next : (more : ℕ) → walked c s end (suc more) at ≡ elim (header c s at end) [ refused n ↦ broken at n | given b ↦ followed b (walked c s end more (b .end)) ]
+    unfolding walked
+    walked-next more = simp (walked, lt-leb end at short)
+
     pub boxes-over : boxesFrom c s end zero at ≡ refused 6
-    unfolding boxesFrom
-    boxes-over = simp (boxesFrom, lt-leb end at short)
+    unfolding boxesFrom faultless
+    boxes-over = ap faultless walked-over
 
     pub boxes-next : (more : ℕ) → boxesFrom c s end (suc more) at ≡ (header c s at end >>= λ b. boxesFrom c s end more (b .end) >>= λ bs. given (b ∷ bs))
-    unfolding boxesFrom
-    boxes-next more = simp (boxesFrom, lt-leb end at short)
+    unfolding boxesFrom faultless
+    boxes-next more = ap faultless (walked-next more) ∙ go (header c s at end)
+      where
+        go : (x : Answer Box) → faultless (elim x [ refused n ↦ broken at n | given b ↦ followed b (walked c s end more (b .end)) ])
+            ≡ (x >>= λ b. boxesFrom c s end more (b .end) >>= λ bs. given (b ∷ bs))
+        go (refused n) = refl
+        go (given b) = faultless-followed b (walked c s end more (b .end))
 
 -- the boxes that fill a container from a place to its end
 pub data Filled (c : Container) (s : List ℕ) (end : ℕ) : ℕ → List Box → Type 0 where
@@ -134,12 +160,19 @@ module _ (c : Container) where
   Faults n = (2 ≤ n) × (n ≤ 6)
 
   numbers-from : (s : List ℕ) (end more at : ℕ) → Only Faults (boxesFrom c s end more at)
-  unfolding boxesFrom
-  numbers-from s end zero at = only-either Faults (leb end at) (only-given Faults _) (only-refused Faults 6 (omega arith))
+  numbers-from s end zero at =
+      elim (decLe end at) [
+        | yes e ↦ subst (Only Faults) (sym (boxes-end c s end at zero e)) (only-given Faults [])
+        | no short ↦ subst (Only Faults) (sym (boxes-over c s end at (omega arith))) (only-refused Faults 6 (omega arith))
+      ]
   numbers-from s end (suc more) at =
-      only-either Faults (leb end at) (only-given Faults _)
-      (only-then Faults (header c s at end) _ (λ n e. let (low, high) = header-numbers s at end c n e in (low, omega arith))
-      (λ b. only-then Faults (boxesFrom c s end more (b .end)) _ (numbers-from s end more (b .end)) (λ bs. only-given Faults _)))
+      elim (decLe end at) [
+        | yes e ↦ subst (Only Faults) (sym (boxes-end c s end at (suc more) e)) (only-given Faults [])
+        | no short ↦
+            subst (Only Faults) (sym (boxes-next c s end at (omega arith) more))
+            (only-then Faults (header c s at end) _ (λ n e. let (low, high) = header-numbers s at end c n e in (low, omega arith))
+            (λ b. only-then Faults (boxesFrom c s end more (b .end)) _ (numbers-from s end more (b .end)) (λ bs. only-given Faults _)))
+      ]
 
 -- ---- the boxes of a whole container
 
@@ -150,39 +183,39 @@ box-limit = refl
 
 -- boxes that fill it are given where they are not too many
 pub filled-boxes : (c : Container) {s : List ℕ} {start end : ℕ} {bs : List Box} → Filled c s end start bs → length bs ≤ boxLimit → boxesIn c s start end ≡ given bs
-unfolding boxesIn
+unfolding boxesIn walkedIn boxesFrom
 filled-boxes c all few = within c all boxLimit few
 
 module _ (c : Container) (s : List ℕ) (start end : ℕ) where
   -- there are none where it ends before it starts
   pub boxes-none : end ≤ start → boxesIn c s start end ≡ given []
-  unfolding boxesIn
+  unfolding boxesIn walkedIn boxesFrom
   boxes-none h = boxes-end c s end start boxLimit h
 
   -- it is refused with 2 to 6
   pub boxes-numbers : (n : ℕ) → boxesIn c s start end ≡ refused n → (2 ≤ n) × (n ≤ 6)
-  unfolding boxesIn
+  unfolding boxesIn walkedIn boxesFrom
   boxes-numbers = numbers-from c s end boxLimit start
 
   module _ {bs : List Box} (known : boxesIn c s start end ≡ given bs) where
     -- they fill it
     pub boxes-filled : Filled c s end start bs
-    unfolding boxesIn
+    unfolding boxesIn walkedIn boxesFrom
     boxes-filled = fills c s end boxLimit start known .boxes
 
     -- there are at most as many as are allowed
     pub boxes-few : length bs ≤ boxLimit
-    unfolding boxesIn
+    unfolding boxesIn walkedIn boxesFrom
     boxes-few = fills c s end boxLimit start known .within
 
     -- the first is read where it starts
     pub boxes-first : 0 < length bs → header c s start end ≡ given (boxAt 0 bs)
     unfolding boxAt
-    boxes-first some = go boxes-filled some
+    boxes-first there = go boxes-filled there
       where
         go : {at : ℕ} {cs : List Box} → Filled c s end at cs → 0 < length cs → header c s at end ≡ given (boxAt 0 cs)
-        go (full e) some = absurd (omega arith)
-        go (next short read rest) some = read
+        go (full e) there = absurd (omega arith)
+        go (next short read rest) there = read
 
     -- each stands in it
     pub boxes-standing : (k : ℕ) → k < length bs → Standing c s start end (boxAt k bs)
@@ -197,19 +230,25 @@ module _ (s t : List ℕ) (end : ℕ) (same : (i : ℕ) → i < end → getD t i
   pub header-same : (c : Container) (at : ℕ) → header c t at end ≡ header c s at end
   header-same c at = simp (zero-add, then-given) at (header-moved s t 0 at end (λ i h. simp zero-add (same i h)) c)
 
-  same-from : (c : Container) (more at : ℕ) → boxesFrom c t end more at ≡ boxesFrom c s end more at
-  unfolding boxesFrom
+  same-from : (c : Container) (more at : ℕ) → walked c t end more at ≡ walked c s end more at
+  unfolding walked
   same-from c zero at = refl
   same-from c (suc more) at =
       elim (decLe end at) [
-        | yes e ↦ boxes-end c t end at (suc more) e ∙ sym (boxes-end c s end at (suc more) e)
+        | yes e ↦ walked-end c t end at (suc more) e ∙ sym (walked-end c s end at (suc more) e)
         | no short ↦
-            boxes-next c t end at (omega arith) more ∙ simp (header-same, same-from c more) (sym (boxes-next c s end at (omega arith) more))
+            walked-next c t end at (omega arith) more ∙ rw header-same (go (same-from c more) (header c s at end)) ∙ sym (walked-next c s end at (omega arith) more)
       ]
+    where
+      go : ((at : ℕ) → walked c t end more at ≡ walked c s end more at) → (x : Answer Box)
+          → _≡_ {A = Walked} (elim x [ refused n ↦ broken at n | given b ↦ followed b (walked c t end more (b .end)) ])
+          (elim x [ refused n ↦ broken at n | given b ↦ followed b (walked c s end more (b .end)) ])
+      go rest (refused n) = refl
+      go rest (given b) = ap (followed b) (rest (b .end))
 
   pub boxes-same : (c : Container) (start : ℕ) → boxesIn c t start end ≡ boxesIn c s start end
-  unfolding boxesIn
-  boxes-same c = same-from c boxLimit
+  unfolding boxesIn walkedIn
+  boxes-same c start = ap faultless (same-from c boxLimit start)
 
 -- what is appended after the end of a container changes nothing in it
 module _ (f g : List ℕ) (end : ℕ) (inside : end ≤ length f) where
@@ -253,5 +292,5 @@ module _ (c : Container) (f g : List ℕ) {bs cs : List Box} (first : boxesIn c 
 
   -- where they are too many it is 6
   pub boxes-crowded : boxLimit < length bs + length cs → boxesIn c (f ++ g) 0 (length (f ++ g)) ≡ refused 6
-  unfolding boxesIn
+  unfolding boxesIn walkedIn boxesFrom
   boxes-crowded many = over c all-filled boxLimit (rw all-many many)

@@ -2,6 +2,7 @@ pub mod AnswerLaws
 pub mod BoxedLaws
 pub mod ContainerLaws
 pub mod Determined
+pub mod FaultLaws
 pub mod HeaderLaws
 pub mod KindLaws
 pub mod ToldLaws

@@ -10,7 +10,7 @@ use borrow.Author.Tests.{le-leb, lt-leb, leb-true, leb-false}
 use lib.Dec.{leb}
 use lib.ListN.{length, length-append}
 use Rattle.boxes.specs.Answer.{Answer, refused, given, _>>=_}
-use Rattle.boxes.specs.Framing.{Box, boxOf, header, boxesFrom, boxesIn, boxLimit}
+use Rattle.boxes.specs.Framing.{Box, Walked, boxOf, header, ended, broken, followed, walked, faultless, boxesFrom, walkedIn, boxesIn, boxLimit}
 use Rattle.boxes.specs.Walk.{walkOver, stepped, stepAnswer}
 use Rattle.boxes.specs.declared.framing.Framed.{Framed}
 use Rattle.boxes.specs.declared.kinds.Container.{Container}
@@ -19,39 +19,62 @@ use Rattle.boxes.specs.declared.walk.Step.{Step}
 use Rattle.boxes.specs.declared.walk.Step.the-variants as Step
 use Rattle.boxes.specs.declared.walk.Walk.{Walk}
 use Rattle.boxes.proofs.AnswerLaws.{not-both, given-same, both-given, held, then-given}
+use Rattle.boxes.proofs.ContainerLaws.{faultless-followed}
 use Rattle.boxes.proofs.HeaderLaws.{Inside, header-inside}
 
--- the boxes that a walk has before it
+-- what a walk has before it, and the boxes of that
+abbrev pub onward : List ℕ → Walk → Walked
+onward s w = walked (w .container) s (w .end .0) (w .left) (w .at .0)
+
 abbrev pub ahead : List ℕ → Walk → Answer (List Box)
 ahead s w = boxesFrom (w .container) s (w .end .0) (w .left) (w .at .0)
 
--- the boxes after a step: none at the container's end, else the box and those that the walk after it has before it
+-- the same by the walk's step: a fault where it stands, the container's end, or a box and what the walk after it has before it
+abbrev pub stepping : List ℕ → Walk → Answer (Option (Box × Walk)) → Walked
+stepping s w (refused n) = broken (w .at .0) n
+stepping s w (given none) = ended
+stepping s w (given (some n)) = followed (n .0) (onward s (n .1))
+
 abbrev pub after : List ℕ → Option (Box × Walk) → Answer (List Box)
 after s none = given []
 after s (some n) = ahead s (n .1) >>= λ bs. given (n .0 ∷ bs)
 
-steps-from : (s : List ℕ) (c : Container) (at end : Place) (left : ℕ) → let w : Walk = record { container = c; at = at; end = end; left = left } in ahead s w ≡ (stepped s w >>= after s)
-unfolding boxesFrom stepped
-steps-from s c at end zero = go (leb (end .0) (at .0)) refl
-  where
-    go : (t : Bool) → leb (end .0) (at .0) ≡ t → boxesFrom c s (end .0) zero (at .0) ≡ (stepped s (record { container = c; at = at; end = end; left = zero }) >>= after s)
-    go true e = simp (boxesFrom, stepped, e)
-    go false e = simp (boxesFrom, stepped, e)
-steps-from s c at end (suc left) = go (leb (end .0) (at .0)) refl
-  where
-    box : (h : Answer Box)
-        → (h >>= λ b. boxesFrom c s (end .0) left (b .end) >>= λ bs. given (b ∷ bs))
-        ≡ (h >>= (λ b. given (some (b, record { container = c; at = record { 0 = b .end }; end = end; left = left }))) >>= after s)
-    box (refused n) = refl
-    box (given b) = refl
+module _ (s : List ℕ) (c : Container) (at end : Place) where
+  abbrev standing : ℕ → Walk
+  standing left = record { container = c; at = at; end = end; left = left }
 
-    go : (t : Bool) → leb (end .0) (at .0) ≡ t → boxesFrom c s (end .0) (suc left) (at .0) ≡ (stepped s (record { container = c; at = at; end = end; left = suc left }) >>= after s)
-    go true e = simp (boxesFrom, stepped, e)
-    go false e = simp (boxesFrom, stepped, e, le-leb 1 (suc left) (omega arith), sub-one) (box (header c s (at .0) (end .0)))
+  steps-from : (left : ℕ) → onward s (standing left) ≡ stepping s (standing left) (stepped s (standing left))
+  unfolding walked stepped
+  steps-from zero = go (leb (end .0) (at .0)) refl
+    where
+      go : (t : Bool) → leb (end .0) (at .0) ≡ t → walked c s (end .0) zero (at .0) ≡ stepping s (standing zero) (stepped s (standing zero))
+      go true e = simp (walked, stepped, e)
+      go false e = simp (walked, stepped, e)
+  steps-from (suc left) = go (leb (end .0) (at .0)) refl
+    where
+      box : (h : Answer Box)
+          → (elim h [ refused n ↦ broken (at .0) n | given b ↦ followed b (walked c s (end .0) left (b .end)) ])
+          ≡ stepping s (standing (suc left)) (h >>= λ b. given (some (b, record { container = c; at = record { 0 = b .end }; end = end; left = left })))
+      box (refused n) = refl
+      box (given b) = refl
+
+      go : (t : Bool) → leb (end .0) (at .0) ≡ t → walked c s (end .0) (suc left) (at .0) ≡ stepping s (standing (suc left)) (stepped s (standing (suc left)))
+      go true e = simp (walked, stepped, e)
+      go false e = simp (walked, stepped, e, le-leb 1 (suc left) (omega arith), sub-one) (box (header c s (at .0) (end .0)))
 
 -- the walk over a container is its step, again and again
-pub walk-steps : (s : List ℕ) (w : Walk) → ahead s w ≡ (stepped s w >>= after s)
-walk-steps s w = steps-from s (w .container) (w .at) (w .end) (w .left)
+module _ (s : List ℕ) (w : Walk) where
+  pub onward-steps : onward s w ≡ stepping s w (stepped s w)
+  onward-steps = steps-from s (w .container) (w .at) (w .end) (w .left)
+
+  pub walk-steps : ahead s w ≡ (stepped s w >>= after s)
+  unfolding boxesFrom faultless
+  walk-steps = ap faultless onward-steps ∙ go (stepped s w)
+    where
+      go : (x : Answer (Option (Box × Walk))) → faultless (stepping s w x) ≡ (x >>= after s)
+      go (refused n) = refl
+      go (given none) = refl
+      go (given (some n)) = faultless-followed (n .0) (onward s (n .1))
 
 -- the walk after a box
 abbrev pub past : Walk → Box → Walk
@@ -139,16 +162,16 @@ passed-more {s} {w₀} {w} {w′} {bs} {b} p h =
 -- a walk that began at a container's start: at its end the boxes passed are the container's, and its fault is the container's first
 module _ {s : List ℕ} {c : Container} {start end : Place} {w₀ w : Walk} {bs : List Box} (new : w₀ ≡ walkOver c start end) (p : Passed s w₀ bs w) where
   pub all-boxes : stepped s w ≡ given none → boxesIn c s (start .0) (end .0) ≡ given bs
-  unfolding boxesIn
+  unfolding boxesIn walkedIn boxesFrom
   all-boxes h = rw new at (p .rest) ∙ rw (walk-steps s w, h) (ap given (append-nil bs))
 
   pub first-fault : {n : ℕ} → stepped s w ≡ refused n → boxesIn c s (start .0) (end .0) ≡ refused n
-  unfolding boxesIn
+  unfolding boxesIn walkedIn boxesFrom
   first-fault h = rw new at (p .rest) ∙ rw (walk-steps s w, h)
 
 -- the boxes of a container are those that a walk from its start has before it
 pub walk-boxes : (s : List ℕ) {c : Container} {start end : Place} {w : Walk} → w ≡ walkOver c start end → boxesIn c s (start .0) (end .0) ≡ ahead s w
-unfolding boxesIn
+unfolding boxesIn walkedIn boxesFrom
 walk-boxes s new = rw new
 
 pub over-left : {c : Container} {start end : Place} {w : Walk} → w ≡ walkOver c start end → w .left ≡ 512

@@ -1,7 +1,8 @@
--- Document 01, "Framing" and refusals 2 to 6: a box header, and the boxes of one container or its first fault.
+-- Document 01, "Framing" and refusals 2 to 6: a box header, and the boxes of one container up to its end or its first fault.
 use Prim.Native.Nat.{ℕ, zero, suc, _+_}
 use mathlib.Core.Bool.{true, false, not}
 use mathlib.Core.List.{List, [], _∷_, _++_}
+use mathlib.Core.Option.{Option, none, some}
 use lib.ListN.{length}
 use lib.Dec.{leb, eqb}
 use Rattle.boxes.specs.Answer.{Answer, refused, given, _>>=_, hold}
@@ -50,22 +51,54 @@ header c s at end = do
   _ ← hold 3 (not (eqb (number s at 4) 0))
   elim (eqb (number s at 4) 1) [ true ↦ large s at end | false ↦ sized s at end 8 (number s at 4) ]
 
+-- where a walk met a fault, and its number
+pub record Fault : Type 0 where
+  pub at : ℕ
+  pub number : ℕ
+
+-- the boxes that a walk met, and the fault, if it met one
+pub record Walked : Type 0 where
+  pub boxes : List Box
+  pub fault : Option Fault
+
+-- the container's end; a fault; a box, and what comes behind it
+abbrev pub ended : Walked
+ended = record { boxes = []; fault = none }
+
+abbrev pub broken : ℕ → ℕ → Walked
+broken at n = record { boxes = []; fault = some (record { at = at; number = n }) }
+
+abbrev pub followed : Box → Walked → Walked
+followed b rest = record { boxes = b ∷ rest .boxes; fault = rest .fault }
+
+-- the walk from a place to the end of its container, of which so many more boxes are allowed
+unfoldable pub walked : Container → List ℕ → ℕ → ℕ → ℕ → Walked
+walked c s end zero at = elim (leb end at) [ true ↦ ended | false ↦ broken at 6 ]
+walked c s end (suc more) at =
+    elim (leb end at) [
+      | true ↦ ended
+      | false ↦ elim (header c s at end) [ refused n ↦ broken at n | given b ↦ followed b (walked c s end more (b .end)) ]
+    ]
+
+-- the boxes of a walk that met no fault; else it is refused with the fault's number
+unfoldable pub faultless : Walked → Answer (List Box)
+faultless w = elim (w .fault) [ none ↦ given (w .boxes) | some x ↦ refused (x .number) ]
+
 -- the boxes from a place to the end of their container, of which so many more are allowed
 unfoldable pub boxesFrom : Container → List ℕ → ℕ → ℕ → ℕ → Answer (List Box)
-boxesFrom c s end zero at = elim (leb end at) [ true ↦ given [] | false ↦ refused 6 ]
-boxesFrom c s end (suc more) at =
-    elim (leb end at) [
-      | true ↦ given []
-      | false ↦ header c s at end >>= λ b. boxesFrom c s end more (b .end) >>= λ bs. given (b ∷ bs)
-    ]
+boxesFrom c s end more at = faultless (walked c s end more at)
 
 -- boxes in one container: at most 512
 unfoldable pub boxLimit : ℕ
 boxLimit = 512
 
--- the boxes of the container that starts and ends at these places, or its first fault
+-- the walk over the container that starts and ends at these places
+unfoldable pub walkedIn : Container → List ℕ → ℕ → ℕ → Walked
+walkedIn c s start end = walked c s end boxLimit start
+
+-- its boxes, or the number of its first fault
 unfoldable pub boxesIn : Container → List ℕ → ℕ → ℕ → Answer (List Box)
-boxesIn c s start end = boxesFrom c s end boxLimit start
+boxesIn c s start end = faultless (walkedIn c s start end)
 
 -- what a box that was read says
 unfoldable pub boxOf : Framed → Box

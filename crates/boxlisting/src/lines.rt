@@ -12,10 +12,10 @@ ghost use Prim.Native.Nat.{_+_, _<_, _≤_, _^_};
 ghost use mathlib.Core.Path.{_≡_};
 ghost use lib.ListN.{length};
 ghost use Rattle.boxes.specs.Answer.{given};
-ghost use Rattle.boxes.specs.Framing.{header, boxOf, boxLimit};
+ghost use Rattle.boxes.specs.Framing.{header, walkedIn, boxOf};
 ghost use Rattle.boxes.specs.declared.kinds.Container.the-variants.{File};
 ghost use Rattle.filling.specs.Rows.{Puts};
-ghost use Rattle.partial.specs.BoxList.{boxLine, boxLines};
+ghost use Rattle.partial.specs.BoxList.{boxLine, walkLines};
 ghost use Rattle.boxlisting.specs.Fields.{userField};
 
 // Puts a tab and the user type of a box that has one.
@@ -60,7 +60,7 @@ fn put_box(buffer: &mut [u8], at: u64, file: &[u8], b: Framed) -> u64
 
 // Puts a line for each box of a file, and after the first framing fault that of its refusal.
 pub(crate) fn put_boxes(buffer: &mut [u8], file: &[u8]) -> u64
-    ensures { λ r. ⌜ Puts (now (buffer .entry)) 0 (boxLines (now (file .entry)) boxLimit 0) (now (buffer .exit)) r ⌝ }
+    ensures { λ r. ⌜ Puts (now (buffer .entry)) 0 (walkLines (now (file .entry)) (walkedIn File (now (file .entry)) 0 (length (now (file .entry))))) (now (buffer .exit)) r ⌝ }
 {
     let mut walk = Walk::new(Container::File, Place(0), Place(file.len() as u64));
     let mut next = 0;

@@ -26,7 +26,8 @@ unfoldable pub computing : Unit {0}
 unfolding
     Numbers.number Numbers.bytesOf Numbers.valueOf Numbers.signed Numbers.twosComplement Numbers.holds Numbers.holdsOffset Numbers.least
     Numbers.leastWidth
-    Framing.userSize Framing.sized Framing.large Framing.header Framing.boxesFrom Framing.boxLimit Framing.boxesIn Framing.boxOf
+    Framing.userSize Framing.sized Framing.large Framing.header Framing.walked Framing.faultless Framing.boxesFrom Framing.boxLimit Framing.walkedIn
+    Framing.boxesIn Framing.boxOf
     Framing.headerAnswer Framing.frontSize Framing.front Framing.boxed
     Kinds.is Kinds.those Kinds.keeps Kinds.containerNo Kinds.rightCount Kinds.right Kinds.boxAt Kinds.firstOf
     Sequences.someOf Sequences.allOf Sequences.sum Sequences.largest Sequences.within Sequences.stretch
@@ -51,7 +52,7 @@ unfolding
     Naming.damagedAt Naming.namedClass Naming.namedRanges Naming.heldList Naming.lostList
     Map.ascii Map.decimal Map.line Map.refusedLine Map.sourceLine Map.rangeLine Map.rangeLines Map.totalLine Map.mapWord Map.mapOf Map.missWord Map.missmapOf
     Map.textFor Map.mapText Map.missmapText
-    BoxList.hex BoxList.prints BoxList.shown BoxList.each BoxList.typeBytes BoxList.userBytes BoxList.boxLine BoxList.boxLines BoxList.boxesText
+    BoxList.hex BoxList.prints BoxList.shown BoxList.each BoxList.typeBytes BoxList.userBytes BoxList.boxLine BoxList.faultLine BoxList.walkLines BoxList.boxesText
     Begin.brandCode Begin.beginning Begin.isText Begin.begun
     Addition.asks Addition.items Addition.listRight Addition.dataSize Addition.dataRight Addition.goesOut Addition.goesIn Addition.dataFor Addition.boxesFor
     Addition.outsideRight Addition.sayable

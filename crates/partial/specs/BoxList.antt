@@ -1,12 +1,13 @@
 -- Document 02, [1]: the list of a file's top-level boxes, with whose a vendor's box is, as the bytes that a program prints.
-use Prim.Native.Nat.{ℕ, zero, suc, _+_, _-_}
+use Prim.Native.Nat.{ℕ, _+_, _-_}
 use mathlib.Core.Bool.{Bool, true, false, _&&_}
 use mathlib.Core.List.{List, [], _∷_, _++_}
+use mathlib.Core.Option.{none, some}
 use lib.ListN.{length}
 use lib.Dec.{leb, eqb}
 use Rattle.io.specs.Digits.{digits}
 use Rattle.boxes.specs.Answer.{refused, given, _>>=_, hold}
-use Rattle.boxes.specs.Framing.{Box, uuid, header, boxLimit}
+use Rattle.boxes.specs.Framing.{Box, Fault, Walked, uuid, walkedIn}
 use Rattle.boxes.specs.declared.kinds.Container.the-variants.{File}
 use Rattle.partial.specs.Limits.{fileLimit}
 use Rattle.partial.specs.Map.{ascii, decimal, line, refusedLine}
@@ -46,19 +47,18 @@ boxLine f b =
     ∷ each shown (typeBytes f b)
     ∷ elim (eqb (b .kind) uuid) [ true ↦ each hex (userBytes f b) ∷ [] | false ↦ [] ])
 
--- a line for each box from a place on, of which so many more are allowed; after the first framing fault the line of its refusal
-unfoldable pub boxLines : List ℕ → ℕ → ℕ → List ℕ
-boxLines f zero at = elim (leb (length f) at) [ true ↦ [] | false ↦ refusedLine 6 ]
-boxLines f (suc more) at =
-    elim (leb (length f) at) [
-      | true ↦ []
-      | false ↦ elim (header File f at (length f)) [ refused n ↦ refusedLine n | given b ↦ boxLine f b ++ boxLines f more (b .end) ]
-    ]
+-- the line of a framing fault is that of its refusal
+unfoldable pub faultLine : Fault → List ℕ
+faultLine x = refusedLine (x .number)
+
+-- a line for each box that a walk over a file met, and behind them that of the fault, if it met one
+unfoldable pub walkLines : List ℕ → Walked → List ℕ
+walkLines f w = each (boxLine f) (w .boxes) ++ elim (w .fault) [ none ↦ [] | some x ↦ faultLine x ]
 
 -- what a program prints that takes an input of at most so many bytes; 27 and 1 come first
 unfoldable pub boxesText : ℕ → List ℕ → List ℕ
 boxesText most input =
     elim (hold 27 (leb (length input) most) >>= λ _. hold 1 (leb (length input) fileLimit)) [
       | refused n ↦ refusedLine n
-      | given _ ↦ boxLines input boxLimit 0
+      | given _ ↦ walkLines input (walkedIn File input 0 (length input))
     ]

@@ -1,22 +1,24 @@
 -- Laws of whole boxes: what a walk from box to box decides, and that one that starts at a place is found by the table.
 use Prim.Native.Nat.{ℕ, zero, suc, _^_, _≤_, _<_}
-use mathlib.Core.Bool.{Bool, true, false, not, _||_}
+use mathlib.Core.Bool.{Bool, true, false}
 use mathlib.Core.List.{List, [], _∷_}
 use mathlib.Core.Logic.{inl, inr}
+use mathlib.Core.Option as Option
 use mathlib.Core.Path.{_≡_, refl, sym, ap, subst, _∙_}
 use native.Mathlib.Decide.{decLe, ℕ-discrete}
-use native.Mathlib.Nat.{le-refl}
 use native.Mathlib.Omega.{arith}
 use borrow.Author.Tests.{lt-ltb, le-ltb, eq-eqb, ne-eqb}
 use lib.Dec.{eqb}
 use lib.ListN.{length}
 use Rattle.boxes.specs.Answer.{refused, given}
-use Rattle.boxes.specs.Framing.{Box, header, boxesFrom, boxesIn}
-use Rattle.boxes.specs.Kinds.{ftyp, pfil, pseg, pdat, is, boxAt}
+use Rattle.boxes.specs.Framing.{Box, boxesIn}
+use Rattle.boxes.specs.Kinds.{boxAt}
+use Rattle.boxes.specs.Walk.{stepped}
 use Rattle.boxes.specs.declared.kinds.Container.the-variants.{File}
-use Rattle.boxes.proofs.AnswerLaws.{not-both, given-same}
-use Rattle.boxes.proofs.ContainerLaws.{Filled, full, next, boxes-filled, boxes-standing, boxes-end, within}
+use Rattle.boxes.specs.declared.walk.Walk.{Walk}
+use Rattle.boxes.proofs.ContainerLaws.{Filled, full, next, filled-boxes, boxes-none, boxes-filled, boxes-few, boxes-standing}
 use Rattle.boxes.proofs.HeaderLaws.{header-inside}
+use Rattle.boxes.proofs.WalkLaws.{ahead, known-next, known-end, known-sound}
 use Rattle.partial.specs.Mixed.{allowed, fillUp, wholeBoxes}
 use Rattle.partial.proofs.Meaning.SequenceLaws.{which}
 use Rattle.segment.specs.Tops.{Tops, Listed}
@@ -24,8 +26,12 @@ use Rattle.segment.proofs.TopsLaws.{few, tops-ascend}
 
 -- ---- boxes that follow each other, from the first on
 
+fill-none : (end : ℕ) → fillUp [] end ≡ false
+unfolding fillUp
+fill-none end = refl
+
 module _ (b : Box) (bs : List Box) (end : ℕ) where
-  fill-other : allowed b ≡ false → fillUp (b ∷ bs) end ≡ false
+  pub fill-other : allowed b ≡ false → fillUp (b ∷ bs) end ≡ false
   unfolding fillUp
   fill-other bad = rw bad
 
@@ -34,45 +40,42 @@ module _ (b : Box) (bs : List Box) (end : ℕ) where
     unfolding fillUp
     fill-on less = rw (good, lt-ltb (b .end) end less)
 
-    fill-end : end ≤ b .end → fillUp (b ∷ bs) end ≡ eqb (b .end) end
+    pub fill-end : end ≤ b .end → fillUp (b ∷ bs) end ≡ eqb (b .end) end
     unfolding fillUp
     fill-end most = rw (good, le-ltb (b .end) end most)
 
--- the first of the boxes that fill a container from a place on is read there
-filled-first : {s : List ℕ} {end at : ℕ} {bs : List Box} {b : Box} → Filled File s end at bs → header File s at end ≡ given b → (cs : List Box) × Filled File s end (b .end) cs × (bs ≡ b ∷ cs)
-filled-first (full e) read =
-    let inside = header-inside _ _ _ _ read in
-    absurd (omega arith)
-filled-first {s} {end} (next {b = a} {bs = cs} short first rest) read =
-    let same = given-same (sym first ∙ read) in
-    (cs, subst (λ (b : Box). Filled File s end (b .end) cs) same rest, ap (λ (b : Box). b ∷ cs) same)
+-- boxes that a walk began with are allowed up to an end where those that it has before it are
+pub record Filling (s : List ℕ) (end : ℕ) (w₀ w : Walk) : Type 0 where
+  pub rest : (bs : List Box) → ahead s w₀ ≡ given bs → (cs : List Box) × (ahead s w ≡ given cs) × (fillUp bs end ≡ fillUp cs end)
 
--- what the header at a place decides of the boxes that fill a file from there on
-module _ {s : List ℕ} {len at : ℕ} {bs : List Box} (filled : Filled File s len at bs) (end : ℕ) where
-  pub fill-fault : {n : ℕ} → header File s at len ≡ refused n → fillUp bs end ≡ false
-  unfolding fillUp
-  fill-fault fault = go filled fault
-    where
-      go : {at n : ℕ} {bs : List Box} → Filled File s len at bs → header File s at len ≡ refused n → fillUp bs end ≡ false
-      go (full e) fault = refl
-      go (next short read rest) fault = absurd (not-both (sym fault ∙ read))
+module _ {s : List ℕ} {end : ℕ} {w₀ w : Walk} (fills : Filling s end w₀ w) {bs : List Box} (known : ahead s w₀ ≡ given bs) where
+  -- a box that it meets is the first of them
+  pub fill-met : {b : Box} {w′ : Walk} → stepped s w ≡ given (Option.some (b, w′)) → (cs : List Box) × (ahead s w′ ≡ given cs) × (fillUp bs end ≡ fillUp (b ∷ cs) end)
+  fill-met met =
+      let (cs, ahead-of, same) = fills .rest bs known in
+      let (rest, behind, all) = known-next s w ahead-of met in
+      (rest, behind, same ∙ ap (λ cs. fillUp cs end) all)
 
-  module _ {b : Box} (read : header File s at len ≡ given b) where
-    pub fill-bad : allowed b ≡ false → fillUp bs end ≡ false
-    fill-bad bad =
-        let (cs, rest, same) = filled-first filled read in
-        rw same (fill-other b cs end bad)
+  -- at the file's end there are none, and it meets no fault
+  pub fill-over : stepped s w ≡ given Option.none → fillUp bs end ≡ false
+  fill-over over =
+      let (cs, ahead-of, same) = fills .rest bs known in
+      same ∙ ap (λ cs. fillUp cs end) (known-end s w ahead-of over) ∙ fill-none end
 
-    module _ (good : allowed b ≡ true) where
-      pub fill-last : end ≤ b .end → fillUp bs end ≡ eqb (b .end) end
-      fill-last most =
-          let (cs, rest, same) = filled-first filled read in
-          rw same (fill-end b cs end good most)
+  pub fill-sound : {n : ℕ} → stepped s w ≡ refused n → ⊥
+  fill-sound fault =
+      let (cs, ahead-of, same) = fills .rest bs known in
+      known-sound s w ahead-of fault
 
-      pub fill-next : b .end < end → (cs : List Box) × Filled File s len (b .end) cs × (fillUp bs end ≡ fillUp cs end)
-      fill-next less =
-          let (cs, rest, same) = filled-first filled read in
-          (cs, rest, ap (λ (bs : List Box). fillUp bs end) same ∙ fill-on b cs end good less)
+-- behind one that is allowed and ends before the end it goes on
+pub fill-more : {s : List ℕ} {end : ℕ} {w₀ w w′ : Walk} {b : Box} → Filling s end w₀ w → stepped s w ≡ given (Option.some (b, w′)) → allowed b ≡ true → b .end < end
+    → Filling s end w₀ w′
+fill-more {b = b} fills met good less =
+    record {
+      rest = λ bs known.
+          let (cs, behind, same) = fill-met fills known met in
+          (cs, behind, same ∙ fill-on b cs _ good less);
+    }
 
 -- ---- whole boxes among those of a file
 
@@ -93,16 +96,16 @@ whole-none (b ∷ bs) place end none =
 
 -- from one at which a box starts they are those that fill the file from there on
 whole-some : {s : List ℕ} {len at : ℕ} {bs : List Box} → Filled File s len at bs → (k : ℕ) → k < length bs → (end : ℕ)
-    → (cs : List Box) × Filled File s len (boxAt k bs .at) cs × (at ≤ boxAt k bs .at) × (wholeBoxes bs (boxAt k bs .at) end ≡ fillUp cs end)
+    → (cs : List Box) × Filled File s len (boxAt k bs .at) cs × (length cs ≤ length bs) × (at ≤ boxAt k bs .at) × (wholeBoxes bs (boxAt k bs .at) end ≡ fillUp cs end)
 unfolding boxAt
 whole-some (full e) k h end = absurd (omega arith)
 whole-some {s} {len} (next {b = b} {bs = bs} short read rest) zero h end =
     let inside = header-inside _ _ _ _ read in
-    (b ∷ bs, subst (λ (at : ℕ). Filled File s len at (b ∷ bs)) (sym (inside .starts)) (next short read rest), omega arith, whole-here b bs end)
+    (b ∷ bs, subst (λ (at : ℕ). Filled File s len at (b ∷ bs)) (sym (inside .starts)) (next short read rest), omega arith, omega arith, whole-here b bs end)
 whole-some (next {b = b} {bs = bs} short read rest) (suc k) h end =
-    let (cs, filled, low, same) = whole-some rest k (omega arith) end in
+    let (cs, filled, few, low, same) = whole-some rest k (omega arith) end in
     let inside = header-inside _ _ _ _ read in
-    (cs, filled, omega arith, whole-on b bs (boxAt k bs .at) end (λ e. omega arith) ∙ same)
+    (cs, filled, omega arith, omega arith, whole-on b bs (boxAt k bs .at) end (λ e. omega arith) ∙ same)
 
 -- none end past the file
 fill-short : {s : List ℕ} {len at : ℕ} {bs : List Box} → Filled File s len at bs → (end : ℕ) → len < end → fillUp bs end ≡ false
@@ -135,17 +138,17 @@ module _ (f : List ℕ) {bs : List Box} (known : boxesIn File f 0 (length f) ≡
         whole-none bs place end
         (λ k there here. listed .missing none (tops-ascend f known short t) k (omega (arith, few f known short t)) (t .listed k there ∙ here))
 
-    pub whole-listed : r ≡ true → {w : Bool} → ((more : ℕ) (cs : List Box) → boxesFrom File f (length f) more place ≡ given cs → w ≡ fillUp cs end) → w ≡ wholeBoxes bs place end
-    unfolding fillUp
+    pub whole-listed : r ≡ true → {w : Bool} → ((cs : List Box) → boxesIn File f place (length f) ≡ given cs → w ≡ fillUp cs end) → w ≡ wholeBoxes bs place end
     whole-listed there {w} fills =
         let (k, inner, at) = listed .there there in
         elim (decLe (length bs) k) [
           | yes past ↦
               let far : place ≡ 0xffffffffffffffff = sym at ∙ t .beyond k past inner in
-              fills 0 [] (boxes-end File f (length f) place 0 (omega arith))
+              fills [] (boxes-none File f place (length f) (omega arith))
+              ∙ fill-none end
               ∙ sym (whole-none bs place end (λ j there here. omega (arith, boxes-standing File f 0 (length f) known j there .inside)))
           | no less ↦
               let here : boxAt k bs .at ≡ place = sym (t .listed k (omega arith)) ∙ at in
-              let (cs, filled, _, same) = whole-some (boxes-filled File f 0 (length f) known) k (omega arith) end in
-              fills (length cs) cs (within File (rw here at filled) (length cs) (le-refl (length cs))) ∙ sym (rw here at same)
+              let (cs, filled, less-many, _, same) = whole-some (boxes-filled File f 0 (length f) known) k (omega arith) end in
+              fills cs (filled-boxes File (rw here at filled) (omega (arith, boxes-few File f 0 (length f) known))) ∙ sym (rw here at same)
         ]

@@ -1,36 +1,39 @@
 // Whole boxes, as which a good chunk of a mixed file may lie outside `pdat`.
 use crate::tops::TOPS;
 use crate::tops::top_before;
-use boxes::framing::Header;
-use boxes::framing::header_at;
 use boxes::kinds::Container;
+use boxes::walk::Step;
+use boxes::walk::Walk;
 use fields::allowed::may_stand;
 use numerals::place::Place;
-ghost use Prim.Native.Nat.{ℕ};
 ghost use mathlib.Core.List.{List};
 ghost use mathlib.Core.Path.{_≡_};
 ghost use lib.ListN.{length};
 ghost use Rattle.boxes.specs.Answer.{given};
-ghost use Rattle.boxes.specs.Framing.{Box, boxesFrom, boxesIn};
+ghost use Rattle.boxes.specs.Framing.{Box, boxesIn};
 ghost use Rattle.boxes.specs.declared.kinds.Container.the-variants.{File};
 ghost use Rattle.partial.specs.Mixed.{fillUp, wholeBoxes};
 ghost use Rattle.segment.specs.Tops.{Tops, Listed};
 
 // Whether the boxes of a file from the one at a place on are allowed up to one that ends there.
 fn fill_up(s: &[u8], place: Place, end: Place) -> bool
-    ensures { λ r. ⌜ ((more : ℕ) (bs : List Box) → boxesFrom File (now (s .entry)) (length (now (s .entry))) more (place .0) ≡ given bs → r ≡ fillUp bs (end .0)) ⌝ }
+    ensures { λ r. ⌜ ((bs : List Box) → boxesIn File (now (s .entry)) (place .0) (length (now (s .entry))) ≡ given bs → r ≡ fillUp bs (end .0)) ⌝ }
 {
-    let mut at = place;
+    let mut walk = Walk::new(Container::File, place, Place(s.len() as u64));
     loop {
-        let Header::Found(b) = header_at(s, Container::File, at, Place(s.len() as u64)) else {
-            return false;
-        };
-        if !may_stand(b) {
-            return false;
-        }
-        at = b.end;
-        if end.0 <= at.0 {
-            return at.0 == end.0;
+        match walk.step(s) {
+            Step::Next(b, next) => {
+                let at = b.end;
+                if !may_stand(b) {
+                    return false;
+                }
+                if end.0 <= at.0 {
+                    return at.0 == end.0;
+                }
+                walk = next;
+            }
+            Step::End => return false,
+            Step::Refused(_) => return false,
         }
     }
 }
