@@ -1,10 +1,13 @@
 /* Partial files (ISO/IEC 23001-14): reading, serving, listing, beginning and appending, by proved code.
 
-   Build the archive with `rt staticlib vrazhupa`; it is target/staticlib/libvrazhupa.a, for x86-64.
+   Build the archive with `rt staticlib vrazhupa`; it is target/staticlib/libvrazhupa.a, for x86-64. `make install` puts it where
+   `pkg-config --cflags --libs vrazhupa` finds it.
 
    Each call answers 0, or the number of its refusal (README.md, "Refusals"), and leaves its values in `told`. After a refusal all lent memory, `told`
-   too, holds what it held. Nothing is required of the bytes and numbers that a call is given; a pointer may be anything where its length is 0. Memory that a call
-   writes to may not overlap other memory that it is given. Nothing is kept between calls, and two threads may call at once, each with memory of its own
+   too, holds what it held. Nothing is required of the values of the bytes and numbers that a call is given; of the memory that holds them this is:
+   memory of the stated length is there, and a pointer may be anything where its length is 0; numbers of 64 bits are aligned as such; `told` is no null
+   pointer and has room for as many numbers as its array has; a length in bytes is below 2^63. Memory that a call writes to may not overlap other memory
+   that it is given. Nothing is kept between calls, and two threads may call at once, each with memory of its own
    to write to. No call allocates, blocks or fails in another way. `vrazhupa_list` needs about 54 KiB of stack,
    `vrazhupa_map` and `vrazhupa_missmap` about 70 KiB, the others under 6 KiB. */
 #ifndef VRAZHUPA_H
@@ -14,12 +17,16 @@
 #include <stddef.h>
 #include <stdint.h>
 
+/* The version: its second number says how many change requests are in it. */
+#define VRAZHUPA_VERSION "1.6"
+
 #ifdef __cplusplus
 extern "C" {
 #endif
 
 /* The numbers of a row: of a segment (place of the box, source offset, flags, repair time, chunk count, place and length of the `pshd` body), of a chunk (segment
-   number from 0, index, source start, size, state, file place) and of a range (first position, length); the most rows that a file fills, and its most bytes. */
+   number from 0, index, source start, size, state, file place) and of a range (first position, length); the most rows that a file fills, the most boxes of a
+   container, and the most bytes of a file. */
 enum {
     VRAZHUPA_SEGMENT_ROW = 7,
     VRAZHUPA_CHUNK_ROW = 6,
@@ -27,11 +34,55 @@ enum {
     VRAZHUPA_SEGMENTS = 64,
     VRAZHUPA_CHUNKS = 1024,
     VRAZHUPA_RANGES = 1025,
+    VRAZHUPA_BOXES = 512,
     VRAZHUPA_FILE = 1073741824
 };
 
 /* The states of a chunk: lost, damaged but kept, good, held elsewhere. */
 enum { VRAZHUPA_LOST = 0, VRAZHUPA_DAMAGED = 1, VRAZHUPA_GOOD = 2, VRAZHUPA_ELSEWHERE = 3 };
+
+/* The flag of a segment row that makes the end of the segment the end of the source, where the segment is not open. */
+enum { VRAZHUPA_LAST_SEGMENT = 1 };
+
+/* The longest text of either map and of the list of boxes; what a new file has beside both texts; and what an addition that is taken adds at most
+   beside its data. A buffer of so many bytes is never too short. */
+enum { VRAZHUPA_MAP_TEXT = 67693, VRAZHUPA_BOXES_TEXT = 30733, VRAZHUPA_BEGUN = 54, VRAZHUPA_ADDED = 10297 };
+
+/* The refusals, by their numbers. */
+enum {
+    VRAZHUPA_FILE_OVER_LIMIT = 1,
+    VRAZHUPA_HEADER_CUT_SHORT = 2,
+    VRAZHUPA_SIZE_ZERO = 3,
+    VRAZHUPA_SIZE_UNDER_HEADER = 4,
+    VRAZHUPA_BOX_PAST_CONTAINER = 5,
+    VRAZHUPA_TOO_MANY_BOXES = 6,
+    VRAZHUPA_FTYP_WRONG = 7,
+    VRAZHUPA_NO_BRAND = 8,
+    VRAZHUPA_PFIL_WRONG = 9,
+    VRAZHUPA_PFHD_WRONG = 10,
+    VRAZHUPA_SURL_WRONG = 11,
+    VRAZHUPA_NO_SEGMENT = 12,
+    VRAZHUPA_TOO_MANY_SEGMENTS = 13,
+    VRAZHUPA_PSHD_WRONG = 14,
+    VRAZHUPA_NOT_ONE_PLOC = 15,
+    VRAZHUPA_SURL_IN_SEGMENT = 16,
+    VRAZHUPA_PLOC_WRONG = 17,
+    VRAZHUPA_WIDTH_OVER_EIGHT = 18,
+    VRAZHUPA_DATA_REFERENCE = 19,
+    VRAZHUPA_RESERVED_BIT = 20,
+    VRAZHUPA_TOO_MANY_CHUNKS = 22,
+    VRAZHUPA_POSITION_OVER_LIMIT = 23,
+    VRAZHUPA_CHUNK_MISPLACED = 24,
+    VRAZHUPA_SIZES_DISAGREE = 25,
+    VRAZHUPA_TABLE_TOO_SHORT = 26,
+    VRAZHUPA_INPUT_OVER_LIMIT = 27,
+    VRAZHUPA_LENGTH_OVER_BUFFER = 30,
+    VRAZHUPA_CHUNK_LIST_WRONG = 31,
+    VRAZHUPA_DATA_NOT_AS_SIZES = 32,
+    VRAZHUPA_BUFFER_TOO_SHORT = 33,
+    VRAZHUPA_ZERO_IN_TEXT = 34,
+    VRAZHUPA_NOT_TO_GO_OUTSIDE = 35
+};
 
 /* The kinds of answers about a position. */
 enum { VRAZHUPA_SERVED = 0, VRAZHUPA_MISSING = 1, VRAZHUPA_NOT_BELOW = 2 };
