@@ -1,59 +1,77 @@
-/* Files of the system: mapped, locked, made and written at a place. */
+/* Files that are there: opened, locked, mapped and read. */
 #include "files.h"
 
 #include "say.h"
+#include "vrazhupa.h"
 
 #include <errno.h>
 #include <fcntl.h>
-#include <libgen.h>
-#include <signal.h>
-#include <stdlib.h>
+#include <stdbool.h>
 #include <string.h>
 #include <sys/file.h>
 #include <sys/mman.h>
 #include <sys/stat.h>
 #include <unistd.h>
 
-/* Bytes that one call writes. */
-enum { SLICE = 1 << 20 };
+static bool waiting = true;
 
-static int open_file(const char *name, int flags)
+void do_not_wait(void)
+{
+    waiting = false;
+}
+
+static int open_regular(const char *name, int flags, const char **why)
 {
     /* A pipe would wait for its other end before it could be told from a file. */
     int fd = open(name, flags | O_NONBLOCK | O_CLOEXEC);
     struct stat about;
-    if (fd < 0 || fstat(fd, &about) != 0) {
-        failed(name);
+    if (fd >= 0 && fstat(fd, &about) == 0 && S_ISREG(about.st_mode)) {
+        return fd;
     }
-    if (!S_ISREG(about.st_mode)) {
-        failed_for(name, "Not a regular file");
+    *why = fd < 0 ? strerror(errno) : "Not a regular file";
+    if (fd >= 0) {
+        close(fd);
     }
-    return fd;
+    return -1;
 }
 
-static void lock_file(int fd, const char *name, int operation)
+/* Has the lock of a file, or answers why not. */
+static const char *lock_file(int fd, const char *name, int operation)
 {
-    while (flock(fd, operation) != 0) {
-        if (errno != EINTR) {
-            failed(name);
+    int answer = flock(fd, operation | LOCK_NB);
+    if (answer != 0 && errno == EWOULDBLOCK) {
+        if (!waiting) {
+            return "Another command holds its lock";
         }
+        note(name, operation == LOCK_SH ? "waits until another command has changed it" : "waits until no other command reads or changes it");
+        answer = flock(fd, operation);
     }
+    return answer == 0 ? NULL : strerror(errno);
 }
 
-int open_locked(const char *name, int flags, int operation)
+/* Whether a name is still that of an open file. */
+static bool names(const char *name, int fd)
+{
+    struct stat held, named;
+    return fstat(fd, &held) == 0 && stat(name, &named) == 0 && held.st_dev == named.st_dev && held.st_ino == named.st_ino;
+}
+
+int open_locked(const char *name, int flags, int operation, const char **why)
 {
     for (;;) {
-        struct stat held, named;
-        int fd = open_file(name, flags);
-        lock_file(fd, name, operation);
-        if (fstat(fd, &held) != 0 || stat(name, &named) != 0) {
-            failed(name);
+        int fd = open_regular(name, flags, why);
+        if (fd < 0) {
+            return -1;
         }
-        if (held.st_dev == named.st_dev && held.st_ino == named.st_ino) {
+        *why = lock_file(fd, name, operation);
+        if (*why == NULL && names(name, fd)) {
             return fd;
         }
-        /* While the lock was waited for another file took the name: it is the one that is meant. */
         close(fd);
+        if (*why != NULL) {
+            return -1;
+        }
+        /* While the lock was waited for another file took the name: it is the one that is meant. */
     }
 }
 
@@ -89,81 +107,77 @@ struct bytes map_with_room(int fd, const char *name, size_t room)
     return (struct bytes){at, length};
 }
 
+/* The file in memory, to be read only. */
+static struct bytes map_to_read(int fd, const char *name)
+{
+    static uint8_t nothing[1];
+    size_t length = length_of(fd, name);
+    void *at = length == 0 ? nothing : mmap(NULL, length, PROT_READ, MAP_PRIVATE, fd, 0);
+    if (at == MAP_FAILED) {
+        failed(name);
+    }
+    return (struct bytes){at, length};
+}
+
+struct held hold(const char *name)
+{
+    struct held held = {.why = NULL};
+    held.fd = open_locked(name, O_RDONLY, LOCK_SH, &held.why);
+    if (held.fd >= 0) {
+        held.bytes = map_to_read(held.fd, name);
+    }
+    return held;
+}
+
+void let_go(const struct held *held)
+{
+    if (held->bytes.length > 0) {
+        munmap(held->bytes.at, held->bytes.length);
+    }
+    close(held->fd);
+}
+
 struct bytes map_locked(const char *name)
 {
-    return map_with_room(open_locked(name, O_RDONLY, LOCK_SH), name, 0);
+    struct held held = hold(name);
+    if (held.why != NULL) {
+        failed_for(name, held.why);
+    }
+    return held.bytes;
+}
+
+/* All that a pipe has, or one byte more than any file has room for. */
+static struct bytes read_all(int fd, const char *name)
+{
+    size_t most = (size_t)VRAZHUPA_FILE + 1;
+    struct bytes bytes = {lend(most), 0};
+    while (bytes.length < most) {
+        ssize_t n = read(fd, bytes.at + bytes.length, most - bytes.length);
+        if (n < 0 && errno != EINTR) {
+            failed(name);
+        }
+        if (n == 0) {
+            break;
+        }
+        bytes.length += n > 0 ? (size_t)n : 0;
+    }
+    return bytes;
 }
 
 struct bytes map_data(const char *name)
 {
-    int fd = open_file(name, O_RDONLY);
-    struct bytes mapped = map_with_room(fd, name, 0);
-    close(fd);
-    return mapped;
-}
-
-static volatile sig_atomic_t signalled;
-
-static void on_signal(int number)
-{
-    (void)number;
-    signalled = 1;
-}
-
-void end_writes_by_signal(void)
-{
-    static const int ending[] = {SIGINT, SIGTERM, SIGHUP, SIGQUIT, SIGALRM, SIGVTALRM, SIGPROF, SIGXCPU, SIGUSR1, SIGUSR2};
-    for (size_t i = 0; i < sizeof ending / sizeof ending[0]; i++) {
-        if (signal(ending[i], on_signal) == SIG_IGN) {
-            signal(ending[i], SIG_IGN);
-        }
+    bool standard = strcmp(name, "-") == 0;
+    struct stat about;
+    int fd = standard ? STDIN_FILENO : open(name, O_RDONLY | O_CLOEXEC);
+    if (fd < 0 || fstat(fd, &about) != 0) {
+        failed(standard ? "standard input" : name);
     }
-}
-
-int write_at(int fd, const uint8_t *bytes, size_t length, size_t place)
-{
-    while (length > 0) {
-        if (signalled) {
-            errno = EINTR;
-            return -1;
-        }
-        ssize_t n = pwrite(fd, bytes, length < SLICE ? length : SLICE, (off_t)place);
-        if (n == 0) {
-            errno = ENOSPC;
-        }
-        if (n <= 0 && errno != EINTR) {
-            return -1;
-        }
-        if (n > 0) {
-            bytes += n;
-            place += (size_t)n;
-            length -= (size_t)n;
-        }
+    if (!standard && !S_ISREG(about.st_mode) && !S_ISFIFO(about.st_mode)) {
+        failed_for(name, "Neither a regular file nor a pipe");
     }
-    return 0;
-}
-
-/* A new name is on the disk when its folder is. */
-static int sync_folder(const char *name)
-{
-    char *copy = strdup(name);
-    int folder = copy == NULL ? -1 : open(dirname(copy), O_RDONLY | O_DIRECTORY | O_CLOEXEC);
-    free(copy);
-    return folder < 0 ? -1 : fsync(folder);
-}
-
-void make_file(const char *name, const uint8_t *bytes, size_t length)
-{
-    end_writes_by_signal();
-    int fd = open(name, O_WRONLY | O_CREAT | O_EXCL | O_CLOEXEC, 0666);
-    if (fd < 0) {
-        failed(name);
+    struct bytes bytes = standard || !S_ISREG(about.st_mode) ? read_all(fd, standard ? "standard input" : name) : map_to_read(fd, name);
+    if (!standard) {
+        close(fd);
     }
-    lock_file(fd, name, LOCK_EX);
-    if (write_at(fd, bytes, length, 0) != 0 || fsync(fd) != 0 || sync_folder(name) != 0) {
-        int why = errno;
-        unlink(name);
-        errno = why;
-        failed(name);
-    }
+    return bytes;
 }

@@ -1,4 +1,4 @@
-/* Files of the system: mapped into memory, locked, made and written at a place. A failure ends the command. */
+/* Files that are there: opened, locked and mapped into memory, or read from a pipe. */
 #ifndef FILES_H
 #define FILES_H
 
@@ -11,8 +11,12 @@ struct bytes {
     size_t length;
 };
 
-/* Opens a regular file that is there, and waits for its lock: LOCK_SH to read it, LOCK_EX to change it. The lock is free when the command ends, in whatever way. */
-int open_locked(const char *name, int flags, int operation);
+/* From then on a lock that another command holds is not waited for. */
+void do_not_wait(void);
+
+/* Opens a regular file, and waits for its lock: LOCK_SH to read it, LOCK_EX to change it. The lock is free when the file is closed or the command ends, in
+   whatever way. Answers its descriptor, or -1 with the reason. */
+int open_locked(const char *name, int flags, int operation, const char **why);
 
 /* Memory of our own. Only pages that are written take room. */
 void *lend(size_t length);
@@ -20,17 +24,19 @@ void *lend(size_t length);
 /* The file in memory, with room behind it; what is written there stays in memory. */
 struct bytes map_with_room(int fd, const char *name, size_t room);
 
-/* A whole file in memory, to be read; locked against changes where it is a partial file. */
+/* A file in memory, to be read, locked against changes until it is let go; the reason is NULL where it was opened. */
+struct held {
+    int fd;
+    struct bytes bytes;
+    const char *why;
+};
+struct held hold(const char *name);
+void let_go(const struct held *held);
+
+/* The same to the end of the command, which ends where it cannot be opened. */
 struct bytes map_locked(const char *name);
+
+/* Data to be appended: a regular file in memory, or what a pipe or, for `-`, standard input has; of what no file has room for a part. */
 struct bytes map_data(const char *name);
-
-/* From now on a signal that would end the command ends the next write instead, so that what was written can be taken back. */
-void end_writes_by_signal(void);
-
-/* Writes all bytes at a place; 0, or -1 with errno. */
-int write_at(int fd, const uint8_t *bytes, size_t length, size_t place);
-
-/* Makes a new file with these bytes, on the disk when it returns; never over one that is there. */
-void make_file(const char *name, const uint8_t *bytes, size_t length);
 
 #endif

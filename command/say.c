@@ -1,30 +1,28 @@
 /* What the command says, and how it ends. */
 #include "say.h"
 
+#include "refusals.h"
+
 #include <errno.h>
 #include <fcntl.h>
 #include <inttypes.h>
 #include <signal.h>
+#include <stdarg.h>
 #include <stdio.h>
 #include <stdlib.h>
 #include <string.h>
 #include <unistd.h>
+
+static const char *usage = "";
 
 /* A word of the user on standard error, so that it neither ends the line nor does anything to the terminal. */
 static void say_word(const char *word)
 {
     for (const char *c = word; *c != '\0'; c++) {
         unsigned char byte = (unsigned char)*c;
-        fprintf(stderr, byte < ' ' || byte == 0x7f ? "\\x%02x" : "%c", byte);
+        fprintf(stderr, byte < ' ' || byte > '~' ? "\\x%02x" : "%c", byte);
     }
 }
-
-static const char usage[] = "usage: paff map [--missing] FILE\n"
-                            "       paff boxes FILE\n"
-                            "       paff rows FILE\n"
-                            "       paff get FILE FIRST LENGTH\n"
-                            "       paff begin [--brand paff|pmff] FILE URL [MIME]\n"
-                            "       paff append FILE --offset N [--last] [--time T] [--outside] (--good DATA | --damaged DATA | --lost SIZE | --elsewhere SIZE)...\n";
 
 /* A mapped file that another program cut, or a disk that cannot be read, comes as this signal. */
 static void on_lost_page(int signal_number)
@@ -48,39 +46,63 @@ static void keep_standard_descriptors(void)
 
 void say_failures(void)
 {
+    static char line[BUFSIZ];
     keep_standard_descriptors();
     signal(SIGPIPE, SIG_IGN);
     signal(SIGXFSZ, SIG_IGN);
     signal(SIGBUS, on_lost_page);
+    /* A line is written whole, so that those of two commands do not mix. */
+    setvbuf(stderr, line, _IOLBF, sizeof line);
 }
 
-void refused(uint64_t number)
+void say_usage(const char *text)
+{
+    usage = text;
+}
+
+void note(const char *file, const char *format, ...)
+{
+    va_list values;
+    fprintf(stderr, "paff: ");
+    say_word(file);
+    fprintf(stderr, ": ");
+    va_start(values, format);
+    vfprintf(stderr, format, values);
+    va_end(values);
+    fprintf(stderr, "\n");
+}
+
+void say_why(const char *file, uint64_t number)
+{
+    const char *sentence = sentence_of(number);
+    note(file, "%s (%" PRIu64 ")", sentence == NULL ? "refused" : sentence, number);
+}
+
+void refused(const char *file, uint64_t number)
 {
     printf("refused\t%" PRIu64 "\n", number);
+    say_why(file, number);
     end(REFUSED);
 }
 
-void not_served(const char *file, uint64_t position, const char *why)
+void refused_aside(const char *file, uint64_t number)
 {
-    fprintf(stderr, "paff: ");
-    say_word(file);
-    fprintf(stderr, ": position %" PRIu64 " %s\n", position, why);
+    fprintf(stderr, "refused\t%" PRIu64 "\n", number);
+    say_why(file, number);
     exit(REFUSED);
 }
 
 void misused(const char *why, const char *word)
 {
-    fprintf(stderr, "paff: %s%s", why, word ? ": " : "");
-    say_word(word ? word : "");
+    fprintf(stderr, "paff: %s%s", why, word == NULL ? "" : ": ");
+    say_word(word == NULL ? "" : word);
     fprintf(stderr, "\n%s", usage);
     exit(FAILED);
 }
 
 void failed_for(const char *what, const char *why)
 {
-    fprintf(stderr, "paff: ");
-    say_word(what);
-    fprintf(stderr, ": %s\n", why);
+    note(what, "%s", why);
     exit(FAILED);
 }
 

@@ -1,4 +1,5 @@
-/* What the command says: a refusal on standard output, a wrong use or a failure of the system on standard error, and that its output came through. */
+/* What the command says: a refusal on standard output, and in a sentence on standard error, where a wrong use and a failure of the system are said too;
+   and that its output came through. */
 #ifndef SAY_H
 #define SAY_H
 
@@ -9,11 +10,20 @@ enum { DONE = 0, REFUSED = 1, FAILED = 2 };
 /* Makes each failure of the system an error that is said: a closed pipe, a full disk, a mapped file that is cut short, a standard output that is closed. */
 void say_failures(void);
 
-/* The line of a refusal; the status is 1. */
-_Noreturn void refused(uint64_t number);
+/* What a wrong use is told with from then on: how the command, or a subcommand of it, is used. */
+void say_usage(const char *text);
 
-/* The line on standard error about a position that is not served; the status is 1. */
-_Noreturn void not_served(const char *file, uint64_t position, const char *why);
+/* A line about a file on standard error. */
+__attribute__((format(printf, 2, 3))) void note(const char *file, const char *format, ...);
+
+/* The sentence of a refusal on standard error. */
+void say_why(const char *file, uint64_t number);
+
+/* The line of a refusal, and its sentence; the status is 1. */
+_Noreturn void refused(const char *file, uint64_t number);
+
+/* The same where standard output is for the bytes of a film: both on standard error. */
+_Noreturn void refused_aside(const char *file, uint64_t number);
 
 /* A wrong use: what is wrong with which word, and how the command is used; the status is 2. */
 _Noreturn void misused(const char *why, const char *word);

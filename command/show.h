@@ -1,13 +1,14 @@
-/* What is shown of a partial file: its map, with or without names for what is missing, its boxes, its tables, its bytes. */
+/* What is shown of a partial file as text: its map, with or without names for what is missing, its boxes, and its tables. */
 #ifndef SHOW_H
 #define SHOW_H
 
-#include <stdint.h>
+#include <stdbool.h>
 
 _Noreturn void show_map(const char *name);
 _Noreturn void show_missing_map(const char *name);
 _Noreturn void show_boxes(const char *name);
-_Noreturn void show_rows(const char *name);
-_Noreturn void show_bytes(const char *name, uint64_t first, uint64_t length);
+
+/* Texts with each byte that does not print as \xNN, or, of the URL, as it is handed to a program that fetches, in its percent form. */
+_Noreturn void show_rows(const char *name, bool percent);
 
 #endif

@@ -10,6 +10,8 @@ import tempfile
 import time
 
 import command_failing
+import command_help
+import command_info
 import command_killed
 import command_large
 import command_show
@@ -21,8 +23,8 @@ import expecting
 from command_run import Command
 
 GROUPS = [
-    ("usage", command_usage), ("map, boxes, rows and get", command_show), ("begin and append", command_write), ("failing", command_failing),
-    ("together", command_together), ("traced", command_traced), ("killed", command_killed), ("1 GiB", command_large)]
+    ("usage", command_usage), ("help", command_help), ("map, boxes, rows and get", command_show), ("info", command_info), ("begin and append", command_write),
+    ("failing", command_failing), ("together", command_together), ("traced", command_traced), ("killed", command_killed), ("1 GiB", command_large)]
 
 
 def run_group(name, group, words):

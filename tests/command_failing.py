@@ -12,9 +12,10 @@ from model import PMFF
 DATA = bytes(at % 251 for at in range(300_000))
 FILM = film_of((0, [good(DATA), lost(6)], True))
 PRINTING = [("map", "film"), ("map", "--missing", "film"), ("boxes", "film"), ("rows", "film"), ("get", "film", "0", "1"), ("get", "film", "0", "300000"), ("get", "film", "5", "70000")]
-REFUSED = [("map", "spoiled"), ("map", "--missing", "spoiled"), ("boxes", "spoiled"), ("rows", "spoiled"), ("get", "spoiled", "0", "1"), ("append", "spoiled", "--offset", "0", "--lost", "1"),
+REFUSED = [("map", "spoiled"), ("map", "--missing", "spoiled"), ("boxes", "spoiled"), ("rows", "spoiled"), ("append", "spoiled", "--offset", "0", "--lost", "1"),
            ("append", "film", "--offset", "0", "--lost", "0")]
 SILENT = [("get", "film", "9", "0")]
+ASIDE = [("get", "spoiled", "0", "1"), ("get", "spoiled"), ("get", "film"), ("get", "film", "0", "300001")]
 
 
 def closing(*numbers):
@@ -50,6 +51,8 @@ def full_output(command):
             claim_unwritten(f"{' '.join(words)} to a full disk", command.run(*words, stdout=full))
         for words in SILENT:
             claim(f"{' '.join(words)} to a full disk", command.run(*words, stdout=full), 0)
+        for words in ASIDE:
+            expect(f"{' '.join(words)} to a full disk", command.run(*words, stdout=full).status, 1)
         claim("begin, standard output full", command.run("begin", "new", "u", stdout=full), 0)
     claim_held("the file begun", command, "new", begun(b"u"))
     untouched("a full disk", command)

@@ -4,13 +4,13 @@ import os
 import signal
 import time
 
-from command_run import SOON, claim, claim_held, difference, ended, good, told
+from command_run import SOON, claim, claim_held, difference, ended, good
 from command_traced import HEADER, INSIDE, MOST_CALLS, OUTSIDE, SYNCING, traceable, traced, words_of
 from command_wanted import appended, claim_map, map_text
 from expecting import expect
 
 TIMED_KILLS = 12
-SIGNALS = ["SIGTERM", "SIGINT", "SIGHUP", "SIGQUIT", "SIGUSR1", "SIGALRM", "SIGXCPU"]
+SIGNALS = ["SIGINT", "SIGTERM", "SIGHUP", "SIGQUIT", "SIGALRM", "SIGVTALRM", "SIGPROF", "SIGXCPU", "SIGUSR1", "SIGUSR2"]
 
 # What may be read of a file after a kill beside what was read before: a refusal.
 UNREAD = [b"refused\t2\n", b"refused\t3\n", b"refused\t5\n"]
@@ -59,18 +59,38 @@ def hang_up_ignored():
     signal.signal(signal.SIGHUP, signal.SIG_IGN)
 
 
+# The calls of an append at which a signal comes, and what is said of the film then; a signal before the first write ends the command at once.
+AS_IT_WAS, APPENDED = b"it is as it was\n", b"after the segment was appended\n"
+CALLS = [("flock", 1, b""), ("pwrite64", 1, AS_IT_WAS), ("pwrite64", 3, AS_IT_WAS), ("pwrite64", 5, AS_IT_WAS), ("fdatasync", 1, AS_IT_WAS), ("pwrite64", 6, APPENDED),
+         ("fsync", 1, APPENDED)]
+
+
 def ended_by_signals(command, case):
-    """A signal that can be caught, at any call: the file is cut to its old length, or it came too late and all is done."""
+    """A signal that can be caught, at any call: the film is cut to its old length, or it came too late and all is done; the command ends by the signal."""
     for name in SIGNALS:
-        for call, count in [("flock", 1), ("pwrite64", 1), ("pwrite64", 3), ("pwrite64", 5), ("fdatasync", 1), ("pwrite64", 6), ("fsync", 1)]:
+        for call, count, said in CALLS:
             command.put("film", case.film)
             answer, calls = traced(command, case, f"{call}:signal={name}:when={count}")
-            done = answer.status == 0
-            expect(f"{name} at {call} {count}", difference(command.held("film"), case.new if done else case.film), None)
-            expect(f"the answer to {name} at {call} {count}", done or answer.status < 0 or (answer.status == 2 and told(answer)) or answer)
+            expect(f"{name} at {call} {count}", difference(command.held("film"), case.new if said == APPENDED else case.film), None)
+            said_so = answer.err.startswith(b"paff: film: ") and answer.err.endswith(b", " + said) and answer.err.count(b"\n") == 1
+            expect(f"the answer to {name} at {call} {count}", (answer.status, answer.err == said or said_so or answer.err), (-getattr(signal, name), True))
     command.put("film", case.film)
     claim("append under nohup", traced(command, case, "pwrite64:signal=SIGHUP:when=3", preexec_fn=hang_up_ignored)[0], 0)
     claim_held("the film after nohup", command, "film", case.new)
+
+
+def new_files_ended(command):
+    """A signal while a file is made: nothing of it is left."""
+    before = sorted(os.listdir(command.folder))
+    for words in [("begin", "new", "u"), ("get", "film", "0", "4", "--output", "new")]:
+        for call, count, said in [("pwrite64", 1, b"it was not made\n"), ("fsync", 1, b"it was not made\n"), ("fsync", 2, b"after it was made\n")]:
+            command.put("film", INSIDE.film)
+            answer = command.run(*words, before=["strace", "-f", "-o", "/dev/null", "-e", f"inject={call}:signal=SIGINT:when={count}"])
+            expect(f"{words} ended at {call} {count}", (answer.status, answer.err), (-signal.SIGINT, b"paff: new: Interrupt, " + said))
+            made = sorted(set(os.listdir(command.folder)) - set(before))
+            expect(f"what is there after {words} ended at {call} {count}", made, ["new"] if b"after" in said else [])
+            if made:
+                command.remove("new")
 
 
 def killed_at_any_time(command, case):
@@ -96,3 +116,4 @@ def check(command):
         killed_at_any_time(command, case)
     if traceable(command):
         ended_by_signals(command, INSIDE)
+        new_files_ended(command)

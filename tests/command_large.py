@@ -4,7 +4,7 @@ import os
 import sys
 
 from boxes import box, entry, ploc, pshd
-from command_run import claim, claim_held, claim_missing, claim_refused, ended, good, lost
+from command_run import claim, claim_each_refused, claim_held, claim_missing, claim_refused, ended, good, lost
 from command_wanted import begun, film_of
 from corpus import ROOT
 from expecting import expect
@@ -77,7 +77,7 @@ def reading(command):
     boxes = b"0\t20\tftyp\n20\t35\tpfil\n55\t%d\tpdat\n%d\t%d\tpseg\n" % (8 + SIZE, 63 + SIZE, SEGMENT)
     claim("boxes of 1 GiB", ended(measured(command, "boxes", "film")), 0, boxes)
     claim_measure("boxes of 1 GiB", command)
-    rows = b"url\tu\nmime\t\nsegment\tplace\toffset\tflags\ttime\tchunks\theader\tlength\n0\t%d\t0\t0\t0\t1\t%d\t16\n"
+    rows = b"url\tu\nmime\t\nsegment\tplace\toffset\tflags\ttime\tchunks\theader\tlength\trepaired\n0\t%d\t0\t0\t0\t1\t%d\t16\tunknown\n"
     rows += b"segment\tindex\tstart\tsize\tstate\tplace\n0\t0\t0\t%d\tgood\t%d\n"
     place = len(FRONT) + 8
     claim("rows of 1 GiB", command.run("rows", "film"), 0, rows % (place + SIZE, place + SIZE + 16, SIZE, place))
@@ -125,12 +125,12 @@ def adding(command):
 def over_the_limit(command):
     os.truncate(command.path("film"), LIMIT + 1)
     for words in [("map", "film"), ("map", "--missing", "film"), ("boxes", "film"), ("rows", "film"), ("get", "film", "0", "1"), ("append", "film", "--offset", "0", "--lost", "1")]:
-        claim_refused(f"{words[0]} of a file over the limit", command.run(*words), 1)
+        claim_each_refused(f"{words[0]} of a file over the limit", command, words, 1)
     expect("the length of that file", os.path.getsize(command.path("film")), LIMIT + 1)
     command.put("far", b"")
     os.truncate(command.path("far"), 2 ** 40)
     for words in [("map", "far"), ("boxes", "far"), ("rows", "far"), ("get", "far", "0", "0"), ("append", "far", "--offset", "0", "--lost", "1")]:
-        claim_refused(f"{words[0]} of a file of 1 TiB", command.run(*words), 1)
+        claim_each_refused(f"{words[0]} of a file of 1 TiB", command, words, 1)
     command.remove("far")
 
 

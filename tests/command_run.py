@@ -6,6 +6,7 @@ import subprocess
 import time
 from collections import namedtuple
 
+from corpus import ROOT
 from expecting import expect
 
 LONGEST = 30
@@ -94,6 +95,17 @@ def elsewhere(size):
 
 # What is wanted of an answer.
 
+def sentences():
+    """The sentences of the refusals, by their numbers, as README.md has them."""
+    with open(os.path.join(ROOT, "README.md"), encoding="utf-8") as file:
+        table = file.read().split("\n## Refusals\n")[1].split("\n## ")[0]
+    cells = re.findall(r"(?<=\| )(\d+) \| ([^|]+?) (?=\|)", table)
+    return {int(number): sentence for number, sentence in cells}
+
+
+SENTENCES = sentences()
+
+
 def in_form(err):
     """Whether each line names the program, or is a line of usage behind one that does."""
     lines = err.split(b"\n")
@@ -108,25 +120,43 @@ def in_form(err):
 
 
 def told(answer):
-    """Whether standard error is in its form, and says nothing with status 0 and something with 2."""
-    if answer.status == 0:
-        return answer.err == b""
-    return in_form(answer.err) and (answer.err != b"" or answer.status != 2)
+    """Whether standard error is in its form, and says nothing with status 0 and something with another."""
+    return answer.err == b"" if answer.status == 0 else in_form(answer.err) and answer.err != b""
 
 
-def claim(name, answer, status, out=b""):
-    """One claim on the status, every byte of standard output, and the form of standard error."""
-    expect(name, (answer.status, answer.out, told(answer) or answer.err), (status, out, True))
+def claim(name, answer, status, out=b"", err=None):
+    """One claim on the status, every byte of standard output, and standard error, its form where no bytes are wanted."""
+    found = answer.err if err is not None else told(answer) or answer.err
+    expect(name, (answer.status, answer.out, found), (status, out, True if err is None else err))
 
 
-def claim_refused(name, answer, number):
-    claim(name, answer, 1, b"refused\t%d\n" % number)
+def why(film, number):
+    """The line on standard error that says a refusal in a sentence."""
+    return b"paff: %s: %s (%d)\n" % (os.fsencode(film), SENTENCES[number].encode("ascii"), number)
 
 
-def claim_missing(name, answer, position):
-    """One line on standard error that has the position's number, and nothing else."""
-    lines = answer.err.splitlines()
-    named = len(lines) == 1 and re.search(rb"(?<!\d)%d(?!\d)" % position, lines[0]) is not None
+def claim_refused(name, answer, number, film="film"):
+    claim(name, answer, 1, b"refused\t%d\n" % number, why(film, number))
+
+
+def claim_not_got(name, answer, number, film="film"):
+    """A refusal of get, whose standard output is for the bytes of the film."""
+    claim(name, answer, 1, b"", b"refused\t%d\n" % number + why(film, number))
+
+
+def claim_each_refused(name, command, words, number):
+    """A refusal, whatever the subcommand."""
+    film = next(word for word in words[1:] if not word.startswith("-"))
+    (claim_not_got if words[0] == "get" else claim_refused)(name, command.run(*words), number, film)
+
+
+def claim_missing(name, answer, position, described=None):
+    """One line on standard error that has the position's number and why it is not served, by the described length where that is given, and nothing else."""
+    whys = [b"is missing", b"is not below the described length"]
+    if described is not None:
+        whys = whys[:1] if position < described else whys[1:]
+    lines = [b": position %d %s\n" % (position, why) for why in whys]
+    named = answer.err.count(b"\n") == 1 and answer.err.endswith(tuple(lines))
     expect(name, (answer.status, answer.out, told(answer), named or answer.err), (1, b"", True, True))
 
 

@@ -6,9 +6,10 @@ import random
 import generate
 import model
 from boxes import box, head, lost_segment, open_segment, sized, sized_large
-from command_run import claim, claim_held, claim_missing, damaged, elsewhere, good, lost
+from command_run import claim, claim_held, claim_missing, claim_not_got, damaged, elsewhere, ended, good, lost
 from command_wanted import appended, claim_boxes, claim_get, claim_map, claim_rows, film_of, number_of
 from corpus import ROOT
+from expecting import expect
 from foreign import LIMIT, WIDE
 
 SEED = 23_001_140
@@ -19,9 +20,9 @@ TOP = 2 ** 64 - 1
 SAMPLE_MAP = b"source\t10\tclosed\nhave\t0\t7\nlost\t7\t3\ntotal\t7\t0\t3\n"
 SAMPLE_MISSMAP = b"source\t10\tclosed\nhave\t0\t7\nmiss\t7\t3\ntotal\t7\t3\n"
 SAMPLE_BOXES = b"0\t20\tftyp\n20\t35\tpfil\n55\t12\tpdat\n67\t54\tpseg\n121\t13\tpdat\n134\t52\tpseg\n"
-SEGMENT_HEADING = b"segment\tplace\toffset\tflags\ttime\tchunks\theader\tlength\n"
+SEGMENT_HEADING = b"segment\tplace\toffset\tflags\ttime\tchunks\theader\tlength\trepaired\n"
 CHUNK_HEADING = b"segment\tindex\tstart\tsize\tstate\tplace\n"
-SAMPLE_ROWS = (b"url\ta\nmime\t\n" + SEGMENT_HEADING + b"0\t67\t0\t1\t0\t2\t83\t16\n1\t134\t2\t0\t0\t1\t150\t16\n"
+SAMPLE_ROWS = (b"url\ta\nmime\t\n" + SEGMENT_HEADING + b"0\t67\t0\t1\t0\t2\t83\t16\tunknown\n1\t134\t2\t0\t0\t1\t150\t16\tunknown\n"
                + CHUNK_HEADING + b"0\t0\t0\t4\tgood\t63\n0\t1\t4\t6\tlost\t0\n1\t0\t2\t5\tgood\t129\n")
 SAMPLE_BYTES = bytes([11, 12, 13, 14, 23, 24, 25])
 
@@ -82,14 +83,66 @@ def missing(command):
             (0, 5, 4), (3, 2, 4), (4, 1, 4), (5, 5, 5), (6, 1, 6), (7, 3, 7), (8, 3, 10), (10, 1, 10), (10, TOP, 10), (19, 1, 19), (24, 1, 24),
             (25, 1, 25), (26, 9, 26), (0, TOP, 4), (8, TOP, 10), (8, TOP - 8, 10), (2 ** 32, 1, 2 ** 32), (LIMIT, 1, LIMIT), (2 ** 40, 9, 2 ** 40),
             (TOP, 1, TOP), (TOP, TOP, TOP)]:
-        claim_missing(f"get {first} {length}", command.run("get", "film", str(first), str(length)), position)
+        claim_missing(f"get {first} {length}", command.run("get", "film", str(first), str(length)), position, 25)
     for first in (0, 4, 6, 25, 26, TOP):
         claim(f"no byte from {first}", command.run("get", "film", str(first), "0"), 0)
     claim("across no gap", command.run("get", "film", "8", "2"), 0, b"ij")
     claim_held("the film after it was read", command, "film", file)
     command.put("spoiled", file + b"\0")
     for first, length in [(0, 0), (0, 4), (4, 1), (TOP, TOP)]:
-        claim(f"get {first} {length} of a refused file", command.run("get", "spoiled", str(first), str(length)), 1, b"refused\t2\n")
+        claim_not_got(f"get {first} {length} of a refused file", command.run("get", "spoiled", str(first), str(length)), 2, "spoiled")
+
+
+def whole(command):
+    """The film without numbers is all of it, where its end is known; one that is still open is not."""
+    for number, (additions, content) in enumerate([
+            ([(0, [good(b"abcd")], True)], b"abcd"), ([(0, [good(b"ab")]), (2, [good(b"cd")], True)], b"abcd"), ([(0, [good(b"abcd"), lost(2)], True), (3, [good(b"xyz")])], b"abcdyz")]):
+        command.put("film", film_of(*additions))
+        claim(f"the whole film, {number}", command.run("get", "film"), 0, content)
+    command.put("film", film_of((0, [good(b"abcd"), lost(2)], True)))
+    claim_missing("a film with a gap", command.run("get", "film"), 4, 6)
+    command.put("film", film_of((0, [good(b"abcd")])))
+    claim("an open film", command.run("get", "film"), 1, err=b"paff: film: the end of the film is not known yet: name the first position and the length\n")
+    command.put("film", head() + lost_segment(0, [0], flags=1))
+    claim("a film of no bytes", command.run("get", "film"), 0)
+
+
+def outputs(command):
+    """A new file with the bytes, never over one that is there, and none where they cannot be had."""
+    film = film_of((0, [good(b"abcd"), lost(2)], True), (5, [good(b"z")]))
+    command.put("film", film)
+    before = sorted(os.listdir(command.folder))
+    claim("get --output", command.run("get", "--output", "new", "film", "1", "3"), 0)
+    claim_held("the new file", command, "new", b"bcd")
+    mask = os.umask(0)
+    os.umask(mask)
+    expect("who may read it", os.stat(command.path("new")).st_mode & 0o777, 0o666 & ~mask)
+    claim("get over it", command.run("get", "--output", "new", "film", "0", "2"), 2, err=b"paff: new: File exists\n")
+    claim_held("the file that was there", command, "new", b"bcd")
+    command.remove("new")
+    os.symlink("nowhere", command.path("new"))
+    claim("get over a link to nothing", command.run("get", "film", "0", "2", "--output=new"), 2, err=b"paff: new: File exists\n")
+    command.remove("new")
+    claim_missing("get of what is missing to a file", command.run("get", "--output", "new", "film"), 4, 6)
+    claim("get into a folder that is not there", command.run("get", "--output", "no/new", "film", "0", "2"), 2)
+    claim("get of no bytes to a file", command.run("get", "--output", "new", "film", "9", "0"), 0)
+    claim_held("a file of no bytes", command, "new", b"")
+    command.remove("new")
+    expect("the folder after that", sorted(os.listdir(command.folder)), before)
+
+
+def cut_short(command):
+    """A film that another program cuts while its bytes are written is what is told, and not standard output; no part of a new file is left."""
+    size = 3_000_000
+    film = film_of((0, [good(bytes(size))], True))
+    for turn in range(3):
+        command.put("film", film)
+        process = command.start("get", "film")
+        os.read(process.stdout.fileno(), 1)
+        os.truncate(command.path("film"), 5_000)
+        answer = ended(process)
+        told_so = answer.err in (b"paff: film: It was cut short or could not be read\n", b"paff: a file was cut short or could not be read\n")
+        expect(f"get of a film that is cut, {turn}", (answer.status, told_so or answer.err), (2, True))
 
 
 def texts(command):
@@ -100,9 +153,13 @@ def texts(command):
             ("f\u00fcr".encode(), b"\xc3", rb"f\xc3\xbcr", rb"\xc3"), (b"%s%n'\"", b"!}", b"%s%n'\"", b"!}")]:
         command.put("film", film_of((0, [lost(1)]), url=url, mime=mime))
         place = 54 + len(url) + len(mime)
-        wanted = b"url\t" + shown_url + b"\nmime\t" + shown_mime + b"\n" + SEGMENT_HEADING + b"0\t%d\t0\t0\t0\t1\t%d\t16\n" % (place, place + 16)
+        wanted = b"url\t" + shown_url + b"\nmime\t" + shown_mime + b"\n" + SEGMENT_HEADING + b"0\t%d\t0\t0\t0\t1\t%d\t16\tunknown\n" % (place, place + 16)
         wanted += CHUNK_HEADING + b"0\t0\t0\t1\tlost\t0\n"
         claim(f"the texts {url} and {mime}", command.run("rows", "film"), 0, wanted)
+    for url, wanted in [(b"http://films.example/a b?c=%20&d=~[1]#e", b"http://films.example/a%20b?c=%20&d=~[1]#e"), ("f\u00fcr".encode(), b"f%C3%BCr"),
+                        (b"\x01\x1f !\"<>\\^`{|}~\x7f\x80\xff", b"%01%1F%20!%22%3C%3E%5C%5E%60%7B%7C%7D~%7F%80%FF")]:
+        command.put("film", film_of((0, [lost(1)]), url=url, mime=b"a b\xff"))
+        expect(f"the percent form of {url}", command.run("rows", "--percent", "film").out.startswith(b"url\t" + wanted + b"\nmime\ta b\\xff\nsegment\t"))
     every = bytes(range(1, 256))
     claim_all("every byte in a text", command, film_of((0, [lost(1)]), url=every, mime=every[::-1]))
     claim_all("long texts", command, film_of((0, [lost(1)]), url=every * 300, mime=b"m" * 70_000))
@@ -113,7 +170,7 @@ def states(command):
     film = film_of((3, [good(b"ab"), elsewhere(5), damaged(b"hijk"), lost(1)], True))
     command.put("film", film)
     rows = CHUNK_HEADING + b"0\t0\t3\t2\tgood\t63\n0\t1\t5\t5\telsewhere\t0\n0\t2\t10\t4\tdamaged\t65\n0\t3\t14\t1\tlost\t0\n"
-    claim("rows of each state", command.run("rows", "film"), 0, b"url\tu\nmime\t\n" + SEGMENT_HEADING + b"0\t69\t3\t1\t0\t4\t85\t16\n" + rows)
+    claim("rows of each state", command.run("rows", "film"), 0, b"url\tu\nmime\t\n" + SEGMENT_HEADING + b"0\t69\t3\t1\t0\t4\t85\t16\tunknown\n" + rows)
     claim("the map of each state", command.run("map", "film"), 0,
           b"source\t15\tclosed\nlost\t0\t3\nhave\t3\t2\nlost\t5\t5\nheld\t10\t4\nlost\t14\t1\ntotal\t2\t4\t9\n")
     claim("the map of each state without names", command.run("map", "--missing", "film"), 0, b"source\t15\tclosed\nmiss\t0\t3\nhave\t3\t2\nmiss\t5\t10\ntotal\t2\t13\n")
@@ -150,12 +207,12 @@ def vendors(command):
 def names(command):
     """A file is read whatever its name is."""
     file = film_of((0, [good(b"abcd"), lost(6)]))
-    for name in ["--last", "--missing", "-", "a film", "film\n", b"\xff\\\x1b", "n" * 255, "./film", os.path.join(command.folder, "film")]:
+    for name in ["--last", "--missing", "--help", "--", "-", "a film", "film\n", b"\xff\\\x1b", "n" * 255, "./film", os.path.join(command.folder, "film")]:
         command.put(name, file)
-        claim(f"map of {name!r}", command.run("map", name), 0, b"source\t10\topen\nhave\t0\t4\nlost\t4\t6\ntotal\t4\t0\t6\n")
-        claim(f"map --missing of {name!r}", command.run("map", "--missing", name), 0, b"source\t10\topen\nhave\t0\t4\nmiss\t4\t6\ntotal\t4\t6\n")
-        claim(f"get of {name!r}", command.run("get", name, "1", "3"), 0, b"bcd")
-        claim_missing(f"get too much of {name!r}", command.run("get", name, "1", "4"), 4)
+        claim(f"map of {name!r}", command.run("map", "--", name), 0, b"source\t10\topen\nhave\t0\t4\nlost\t4\t6\ntotal\t4\t0\t6\n")
+        claim(f"map --missing of {name!r}", command.run("map", "--missing", "--", name), 0, b"source\t10\topen\nhave\t0\t4\nmiss\t4\t6\ntotal\t4\t6\n")
+        claim(f"get of {name!r}", command.run("get", "--", name, "1", "3"), 0, b"bcd")
+        claim_missing(f"get too much of {name!r}", command.run("get", "--", name, "1", "4"), 4)
 
 
 # By the model.
@@ -234,5 +291,5 @@ def generated(command):
 
 
 def check(command):
-    for part in (clerk, fitter, missing, texts, states, vendors, names, refusals, limits, generated):
+    for part in (clerk, fitter, missing, whole, outputs, cut_short, texts, states, vendors, names, refusals, limits, generated):
         part(command)

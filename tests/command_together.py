@@ -2,9 +2,10 @@
 
 import fcntl
 import os
+import signal
 import time
 
-from command_run import claim, claim_held, ended, good, lost, wait_until
+from command_run import claim, claim_held, ended, good, lost, wait_until, why
 from command_wanted import appended, begun, boxes_text, film_of, map_text, missmap_text
 from expecting import expect
 
@@ -12,6 +13,10 @@ ROUNDS = 6
 MANY = 5
 A_WHILE = 0.25
 FILM = film_of((0, [good(b"abcd"), lost(90)]))
+
+# What is said while a lock is waited for, to read the film and to change it.
+WAITS = b"paff: film: waits until another command has changed it\n"
+WAITS_ALONE = b"paff: film: waits until no other command reads or changes it\n"
 
 
 class Locked:
@@ -61,7 +66,7 @@ def append_waits(command):
             lock = Locked(command, kind)
             process = command.start("append", "film", "--offset", "4", "--good", "piece")
             answer = claim_waits(f"append under {name}", command, process, lock, file)
-            claim(f"append after {name}", answer, 0)
+            claim(f"append after {name}", answer, 0, err=WAITS_ALONE)
             claim_held(f"the film after {name}", command, "film", appended(file, 4, [good(b"xyz")])[1])
             expect(f"no lock is left after {name}", unlocked(command))
 
@@ -72,7 +77,8 @@ def refused_append_waits(command):
     closed = appended(FILM, 94, [good(b"end")], True)[1]
     lock = Locked(command, fcntl.LOCK_EX)
     process = command.start("append", "film", "--offset", "95", "--good", "piece")
-    claim("append to a film that was closed meanwhile", claim_waits("append", command, process, lock, closed), 1, b"refused\t25\n")
+    answer = claim_waits("append", command, process, lock, closed)
+    claim("append to a film that was closed meanwhile", answer, 1, b"refused\t25\n", WAITS_ALONE + why("film", 25))
     claim_held("the film closed meanwhile", command, "film", closed)
     expect("no lock is left after a refusal", unlocked(command))
 
@@ -86,8 +92,8 @@ def readers_wait(command):
         lock = Locked(command, fcntl.LOCK_EX)
         answer = claim_waits(" ".join(words), command, command.start(*words), lock, grown)
         if wanted is not None:
-            claim(f"{words} of the film as it was left", answer, 0, wanted)
-        expect(f"no lock is left after {words}", (answer.status, unlocked(command)), (0, True))
+            claim(f"{words} of the film as it was left", answer, 0, wanted, WAITS)
+        expect(f"no lock is left after {words}", (answer.status, answer.err, unlocked(command)), (0, WAITS, True))
 
 
 def readers_go_on(command):
@@ -114,11 +120,62 @@ def reader_holds(command):
     expect("append waits for a reader", (appending.poll(), command.held("film") == file), (None, True))
     answer = ended(reader)
     expect("what the reader got", (answer.status, front + answer.out == data), (0, True))
-    claim("append after the reader", ended(appending), 0)
+    claim("append after the reader", ended(appending), 0, err=WAITS_ALONE)
     claim_held("the film after both", command, "film", appended(file, 400_000, [good(b"xyz")])[1])
 
 
+def no_waiting(command):
+    """With --no-wait a lock that another holds is told at once, and nothing is done."""
+    command.put("film", FILM)
+    held = b"paff: film: Another command holds its lock\n"
+    for kind, readers_go_on in [(fcntl.LOCK_EX, False), (fcntl.LOCK_SH, True)]:
+        lock = Locked(command, kind)
+        for words in [("map", "film"), ("map", "--missing", "film"), ("boxes", "film"), ("rows", "film"), ("get", "film", "0", "4"), ("info", "film"), ("info", "--json", "film")]:
+            answer = command.run(*words, "--no-wait")
+            expect(f"{words} --no-wait", (answer.status, answer.err), (0, b"") if readers_go_on else (2, held))
+        claim("append --no-wait", command.run("append", "film", "--no-wait", "--offset", "4", "--good", "piece"), 2, err=held)
+        claim_held("the film after append --no-wait", command, "film", FILM)
+        lock.release()
+    claim("append --no-wait, no lock held", command.run("append", "film", "--no-wait", "--offset", "4", "--good", "piece"), 0)
+
+
+def film_replaced(command):
+    """A film that takes the name while the lock of another is waited for is the one that is meant; where none does there is none."""
+    grown = appended(FILM, 4, [good(b"xyz")])[1]
+    for wanted in (grown, None):
+        command.put("film", FILM)
+        lock = Locked(command, fcntl.LOCK_EX)
+        process = command.start("map", "film")
+        time.sleep(A_WHILE)
+        command.remove("film")
+        if wanted is not None:
+            command.put("film", wanted)
+        lock.release()
+        if wanted is not None:
+            claim("the map of the film that took the name", ended(process), 0, map_text(wanted), WAITS)
+        else:
+            claim("the map where the name is gone", ended(process), 2, err=WAITS + b"paff: film: No such file or directory\n")
+
+
+def interrupted_waiting(command):
+    """A signal ends a command that waits."""
+    command.put("film", FILM)
+    lock = Locked(command, fcntl.LOCK_EX)
+    for words in [("map", "film"), ("append", "film", "--offset", "4", "--good", "piece")]:
+        process = command.start(*words)
+        time.sleep(A_WHILE)
+        process.send_signal(signal.SIGINT)
+        expect(f"{words} interrupted", ended(process).status, -signal.SIGINT)
+    lock.release()
+    claim_held("the film after that", command, "film", FILM)
+
+
 # Commands at once.
+
+def claim_after_others(name, answer):
+    """Done, whether it had to wait or not."""
+    expect(name, (answer.status, answer.out, answer.err in (b"", WAITS_ALONE) or answer.err), (0, b"", True))
+
 
 def two_appends(command):
     """Both are in the file, and it is that of one of the two orders."""
@@ -128,7 +185,7 @@ def two_appends(command):
         command.put("film", begun(b"u"))
         processes = [command.start("append", "film", "--offset", "4", "--good", name) for name in names]
         for process in processes:
-            claim(f"one of two appends, {turn}", ended(process), 0)
+            claim_after_others(f"one of two appends, {turn}", ended(process))
         orders = [film_of(*[(4, [good(piece)]) for piece in order]) for order in (pieces, pieces[::-1])]
         expect(f"the film of one order, {turn}", command.held("film") in orders)
 
@@ -140,7 +197,7 @@ def many_appends(command):
     command.put("film", begun(b"u"))
     processes = [command.start("append", "film", "--offset", "0", "--good", name) for name in pieces.values()]
     for process in processes:
-        claim("one of many appends", ended(process), 0)
+        claim_after_others("one of many appends", ended(process))
     content = command.held("film")
     order = sorted(pieces, key=content.find)
     expect("the film of some order", content == film_of(*[(0, [good(piece)]) for piece in order]))
@@ -159,5 +216,5 @@ def two_begins(command):
 
 def check(command):
     command.put("piece", b"xyz")
-    for part in (append_waits, refused_append_waits, readers_wait, readers_go_on, reader_holds, two_appends, many_appends, two_begins):
+    for part in (append_waits, refused_append_waits, readers_wait, readers_go_on, reader_holds, no_waiting, film_replaced, interrupted_waiting, two_appends, many_appends, two_begins):
         part(command)

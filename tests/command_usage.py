@@ -2,27 +2,28 @@
 
 import os
 
-from command_run import claim, claim_held, claim_missing, claim_refused, good, in_form, lost
-from command_wanted import film_of
+from command_run import claim, claim_each_refused, claim_held, claim_missing, claim_refused, elsewhere, good, in_form, lost
+from command_wanted import appended, begun, film_of, missmap_text
 from expecting import expect
 from foreign import LIMIT
+from model import PMFF
 
 FILM = film_of((0, [good(b"abcd"), lost(6)], True))
 NO_NUMBERS = ["", "-1", "+1", " 1", "1 ", "1\n", "0x1", "1e3", "1.0", "1,000", "one", "--last", "\u0661", "18446744073709551616",
               "18446744073709551617", "36893488147419103232", "99999999999999999999", "184467440737095516150", "1" + 60 * "0"]
-FEW_OR_MANY_WORDS = ["", "map", "map film other", "map film --missing", "map --missing film other", "map --missing --missing film", "map --miss film", "boxes", "boxes film other",
-                     "boxes --missing film", "rows", "rows film other", "rows --missing film", "get", "get film", "get film 0", "get film 0 1 2", "begin", "begin new", "begin new u m x", "begin --brand", "begin --brand pmff", "begin --brand pmff new", "begin --brand pmff new u m x", "append", "append film"]
+FEW_OR_MANY_WORDS = ["", "map", "map film other", "map --missing film other", "map --missing --missing film", "map --miss film", "boxes", "boxes film other",
+                     "boxes --missing film", "rows", "rows film other", "rows --missing film", "get", "get film 0", "get film 0 1 2", "begin", "begin new", "begin new u m x", "begin --brand", "begin --brand pmff", "begin --brand pmff new", "begin --brand pmff new u m x", "append", "append film"]
 NO_COMMANDS = ["show film", "Map film", "maps film", "ma film", "box film", "boxlist film", "film", "film map", "-map film", "--map film", "append-film"]
 OPTIONS = [
     "--offset", "--offset 0", "--lost 1", "--good piece", "--last --lost 1", "--offset 0 --last", "--offset 0 --time 4", "--time 4 --lost 1",
-    "--offset 0 --lost", "--offset 0 --elsewhere", "--elsewhere 1", "--offset 0 --elsewhere piece", "--offset 0 --elsewhere 1 2", "--offset 0 --elsewhere=1",
+    "--offset 0 --lost", "--offset 0 --elsewhere", "--elsewhere 1", "--offset 0 --elsewhere piece", "--offset 0 --elsewhere 1 2",
     "--offset 0 --elsewher 1", "--offset 0 --elsewhere --lost 1", "--offset 0 --good", "--offset 0 --damaged", "--offset 0 --lost 1 --time", "--offset 0 --lost 1 --offset",
     "--offset 0 --offset 0 --lost 1", "--offset 0 --lost 1 --offset 4", "--offset 0 --time 1 --time 1 --lost 1",
     "--offset 0 --last --last --lost 1", "--offset 0 --last --lost 1 --last", "--offset 0 --outside --outside --lost 1", "--offset 0 --outside", "--outside --lost 1",
     "--offset 0 --lost 1 --outside 1", "--offset 0 --inside --lost 1", "--offset 0 --lost 1 --outsid", "--offset 0 --brand pmff --lost 1", "--offset 0 --first --lost 1", "--offset 0 --lost 1 --state 2",
-    "--offset 0 -l --lost 1", "--off 0 --lost 1", "--offset=0 --lost 1", "--offset 0 --lost=1", "-offset 0 --lost 1", "--offset 0 lost 1",
+    "--offset 0 -l --lost 1", "--off 0 --lost 1", "-offset 0 --lost 1", "--offset 0 lost 1",
     "--offset 0 --lost 1 2", "--offset 0 --good piece piece", "0 --lost 1", "other --offset 0 --lost 1", "--offset 0 - --lost 1",
-    "--offset 0 -- --lost 1", "--offset 0 --lost 1 --", "--offset 0 --lost 1 -"]
+    "--offset 0 -- --lost 1", "--offset 0 --lost 1 -"]
 
 
 def claim_usage(command, *words):
@@ -36,12 +37,33 @@ def words(command):
     for text in FEW_OR_MANY_WORDS + NO_COMMANDS:
         claim_usage(command, *text.split())
     claim_usage(command, "")
+    for name in ("map", "info", "boxes", "rows", "get", "begin", "append", "why"):
+        answer = command.run(name)
+        lines = [line for line in answer.err.splitlines() if b"paff " in line]
+        expect(f"the usage of {name} alone", all(b"paff " + name.encode() + b" " in line for line in lines) and len(lines) > 0 or answer.err)
     answer = command.run()
     named = all(word in answer.err for word in (b"usage: ", b"map", b"--missing", b"boxes", b"rows", b"get", b"begin", b"append"))
     expect("usage names each subcommand", named and in_form(answer.err) or answer.err)
     named = all(word in answer.err for word in (b"--good DATA", b"--damaged DATA", b"--lost SIZE", b"--elsewhere SIZE"))
     expect("usage names each chunk", named or answer.err)
 
+
+# Words that begin with a dash: none is a name unless `--` stands before it, and none makes a file.
+DASHED = ["begin --brand=isom new u", "begin --brand= new u", "begin -- new", "begin --unknown=pmff new u", "begin --help= new u", "begin -new u", "begin - u", "begin new -u",
+          "begin new u -", "begin --no-wait new u", "begin -- --brand=pmff", "map -", "map --missing=1 film", "map --missing= film", "map --json film", "boxes --percent film", "info -film",
+          "info --json=1 film", "rows --raw film", "get --output film", "get film --output", "get film --output=new --output=other", "get film --output -- 0 1", "get --percent film",
+          "why", "why 1 2", "why --help=1", "why -1", "why 0", "why 21", "why 28", "why 29", "why 36", "why 18446744073709551615", "why one", "help map film", "help film", "--version map",
+          "append film --offset=4 --last=1 --lost 1", "append film --offset=4 --good -piece", "append film --offset=4 --good --lost 1", "append film --offset=4 --open=1",
+          "append film --offset= --lost 1", "append film --offset 4 --lost=", "append film --offset 4 --no-wait=1 --lost 1", "append --offset 4 --lost 1 -- film other",
+          "append --offset 4 --lost 1 -film"]
+
+# The words for a place, a size and an open segment, at odds with the others.
+AT_ODDS = ["--at 4", "--at 4 --offset 0", "--at 4 --at 5 --lost 1", "--at 4 --lost 1 --at 9", "--lost 1 --at 4 --lost 1", "--offset 5 --at 4 --lost 1", "--at 4 --lost 2 --at 5 --lost 1",
+           "--at 4 --good piece --at 9 --lost 1", "--at 4 --lost 18446744073709551615 --at 9 --lost 1", "--at x --lost 1", "--offset 4 --size 6", "--offset 4 --size 6 --lost 6",
+           "--offset 4 --size 6 --elsewhere 6", "--offset 4 --size 6 --size 6 --good piece", "--offset 4 --size x --good piece", "--offset 4 --size 5 --good piece",
+           "--offset 4 --size 7 --damaged piece", "--offset 4 --size 0 --good piece", "--offset 4 --size 18446744073709551615 --good piece", "--offset 4 --good piece --size 6",
+           "--offset 4 --size 6 --good piece --size 5 --good piece", "--open", "--offset 4 --open --open", "--offset 4 --open --lost 1", "--at 4 --open", "--offset 4 --size 1 --open",
+           "--offset 4 --good - --good -", "--offset 4 --good - --damaged -"]
 
 BRANDS = ["isom new u", "Pmff new u", "paf new u", "pmfff new u", "pmff --brand paff new u", "pmff --brand pmff new u", "pmff --brand"]
 
@@ -52,8 +74,31 @@ def options(command):
     for text in BRANDS:
         claim_usage(command, "begin", "--brand", *text.split())
     claim_usage(command, "begin", "--brand", "", "new", "u")
-    claim_usage(command, "begin", "--brand=pmff", "new", "u", "m")
-    claim_usage(command, "begin", "new", "--brand", "pmff", "u")
+    for text in DASHED:
+        claim_usage(command, *text.split())
+    for text in AT_ODDS:
+        claim_usage(command, "append", "film", *text.split())
+    answer = command.run("append", "film", "--offset", "4", "--size", "5", "--good", "piece")
+    expect("both sizes are told", b"there are 6 bytes, and --size says 5: piece\n" in answer.err or answer.err)
+
+
+def values(command):
+    """A value stands behind its option or its `=`, options stand before, between and behind the operands, and `--` ends them."""
+    for text in ["append film --offset=4 --lost=1", "append --offset=4 --lost=1 film", "append --offset 4 film --lost 1", "append film --offset 4 --lost=1 --",
+                 "append --offset 4 --lost 1 -- film", "append film --offset=4 --elsewhere=1", "append film --at=4 --lost=1", "append film --offset=4 --size=6 --good=piece"]:
+        command.put("film", FILM)
+        claim(" ".join(text.split()), command.run(*text.split()), 0)
+        chunk = lost(1) if "lost" in text else elsewhere(1) if "elsewhere" in text else good(b"efghij")
+        claim_held(f"the film after {text}", command, "film", appended(FILM, 4, [chunk])[1])
+    command.put("film", FILM)
+    claim("map FILE --missing", command.run("map", "film", "--missing"), 0, missmap_text(FILM))
+    command.put("-piece", b"xy")
+    claim("a value with a dash", command.run("append", "film", "--offset=4", "--good=-piece"), 0)
+    claim_held("the film after a value with a dash", command, "film", appended(FILM, 4, [good(b"xy")])[1])
+    command.put("film", FILM)
+    for number, text in enumerate(["--brand=pmff new%d u", "new%d --brand pmff u", "new%d u --brand=pmff", "--brand=pmff -- new%d u"]):
+        claim(f"begin {text}", command.run("begin", *(text % number).split()), 0)
+        claim_held(f"the file of begin {text}", command, f"new{number}", begun(b"u", brand=PMFF))
 
 
 def numbers(command):
@@ -66,7 +111,7 @@ def numbers(command):
         claim_usage(command, "append", "film", "--offset", "4", "--lost", "1", "--time", text)
     claim("zeros in front of a number", command.run("get", "film", 30 * "0" + "1", "02"), 0, b"bc")
     for text in ("4294967295", "4294967296", "1099511627775", "1099511627776", "18446744073709551615"):
-        claim_missing(f"a number of {len(text)} digits", command.run("get", "film", text, "1"), int(text))
+        claim_missing(f"a number of {len(text)} digits", command.run("get", "film", text, "1"), int(text), len("abcd") + 6)
         claim_refused(f"an offset of {len(text)} digits", command.run("append", "film", "--offset", text, "--lost", "1"), 25 if int(text) < LIMIT else 23)
         claim_refused(f"a size of {len(text)} digits", command.run("append", "film", "--offset", "0", "--lost", text), 25 if int(text) <= LIMIT else 23)
     claim("only zeros", command.run("get", "film", 30 * "0", "00"), 0)
@@ -126,7 +171,7 @@ def empty(command):
     command.put("empty", b"")
     for given in reading_words("empty"):
         if given[0] != "boxes":
-            claim_refused(f"{' '.join(given)} of an empty file", command.run(*given), 7)
+            claim_each_refused(f"{' '.join(given)} of an empty file", command, given, 7)
     claim("boxes of an empty file", command.run("boxes", "empty"), 0)
     claim_held("the empty file", command, "empty", b"")
 
@@ -134,6 +179,6 @@ def empty(command):
 def check(command):
     command.put("film", FILM)
     command.put("piece", b"efghij")
-    for part in (words, options, numbers, absent, directories, devices, empty):
+    for part in (words, options, values, numbers, absent, directories, devices, empty):
         part(command)
     claim_held("the film after all bad usage", command, "film", FILM)

@@ -1,12 +1,13 @@
 """Says what the command is to answer, by its manual page and the independent model."""
 
+import time as clock
+
 import model
-from command_run import KEPT, claim, claim_missing
-from maps import refusal_in
+from command_run import KEPT, claim, claim_missing, claim_not_got, claim_refused, why
 
 STATES = {"lost": model.LOST, "damaged": model.DAMAGED, "good": model.GOOD, "elsewhere": model.ELSEWHERE}
 WORDS = {state: word for word, state in STATES.items()}
-SEGMENT_HEADING = ("segment", "place", "offset", "flags", "time", "chunks", "header", "length")
+SEGMENT_HEADING = ("segment", "place", "offset", "flags", "time", "chunks", "header", "length", "repaired")
 CHUNK_HEADING = ("segment", "index", "start", "size", "state", "place")
 
 
@@ -28,6 +29,12 @@ def boxes_text(file):
     return model.boxes_text(file, most=len(file))
 
 
+def fault_in(text):
+    """The number in the last line of a text, where that has two fields and so tells of a fault; 0 where it does not."""
+    fields = text[:-1].split(b"\n")[-1].split(b"\t")
+    return int(fields[1]) if len(fields) == 2 else 0
+
+
 def shown(text):
     """A text with each byte that is no printing character, and the backslash, in two digits."""
     return b"".join(bytes([byte]) if 0x20 <= byte <= 0x7E and byte != 0x5C else b"\\x%02x" % byte for byte in text)
@@ -38,14 +45,24 @@ def part(file, text):
     return file[place:place + length]
 
 
+# Seconds from 1900, where the times of RFC 5905 begin, to 1970; times lie from half of their first era of 2^32 seconds to half of the next.
+TO_1970 = 2_208_988_800
+HALF_AN_ERA = 2 ** 31
+
+
+def repaired(timestamp):
+    """A repair time as a date and a time of day."""
+    seconds = timestamp >> 32
+    seconds += 2 ** 32 if seconds < HALF_AN_ERA else 0
+    return clock.strftime("%Y-%m-%dT%H:%M:%SZ", clock.gmtime(seconds - TO_1970)) if timestamp else "unknown"
+
+
 def rows_text(file):
     answer = model.read(file)
-    if answer[0] == "refused":
-        return model.line("refused", answer[1])
     text = b"url\t" + shown(part(file, model.url(file))) + b"\nmime\t" + shown(part(file, model.mime(file))) + b"\n"
     text += model.line(*SEGMENT_HEADING)
     for number, row in enumerate(answer[1]):
-        text += model.line(number, *row)
+        text += model.line(number, *row, repaired(row[3]))
     text += model.line(*CHUNK_HEADING)
     return text + b"".join(model.line(*row[:4], WORDS[row[4]], row[5]) for row in answer[2])
 
@@ -59,6 +76,13 @@ def got(file, first, length):
             return b"", p
         content.append(file[chunk.place + p - chunk.start])
     return bytes(content), None
+
+
+def left(film, file):
+    """What append says on standard error once it left this file: of what an eighth or less is left."""
+    segments, chunks = model.read(file)[1:3]
+    counts = [(len(segments), 64, "segments"), (len(chunks), 1_024, "chunks"), (boxes_text(file).count(b"\n"), 512, "boxes")]
+    return "".join(f"paff: {film}: {most - used} of {most} {what} are left\n" for used, most, what in counts if 8 * (most - used) <= most).encode("ascii")
 
 
 def appended(file, offset, chunks, last=False, time=None, outside=False):
@@ -90,30 +114,41 @@ def film_of(*additions, url=b"u", mime=b"", brand=model.PAFF):
 
 # Claims of what reads a file.
 
+def said_of(film, number):
+    """What standard error says of a file with this refusal, 0 where it has none."""
+    return why(film, number) if number else b""
+
+
 def claim_map(name, command, film, file):
     """Both maps."""
-    status = 1 if number_of(file) else 0
-    claim(f"map of {name}", command.run("map", film), status, map_text(file))
-    claim(f"map --missing of {name}", command.run("map", "--missing", film), status, missmap_text(file))
+    number = number_of(file)
+    status, err = (1 if number else 0), said_of(film, number)
+    claim(f"map of {name}", command.run("map", film), status, map_text(file), err)
+    claim(f"map --missing of {name}", command.run("map", "--missing", film), status, missmap_text(file), err)
 
 
 def claim_boxes(name, command, film, file):
     text = boxes_text(file)
-    claim(f"boxes of {name}", command.run("boxes", film), 1 if refusal_in(text) else 0, text)
+    number = fault_in(text)
+    claim(f"boxes of {name}", command.run("boxes", film), 1 if number else 0, text, said_of(film, number))
 
 
 def claim_rows(name, command, film, file):
-    claim(f"rows of {name}", command.run("rows", film), 1 if number_of(file) else 0, rows_text(file))
+    number, answer = number_of(file), command.run("rows", film)
+    if number:
+        claim_refused(f"rows of {name}", answer, number, film)
+    else:
+        claim(f"rows of {name}", answer, 0, rows_text(file))
 
 
 def claim_get(name, command, film, file, first, length):
     name = f"get {first} {length} of {name}"
     answer, number = command.run("get", film, str(first), str(length)), number_of(file)
     if number:
-        claim(name, answer, 1, model.line("refused", number))
+        claim_not_got(name, answer, number, film)
         return
     content, missing = got(file, first, length)
     if missing is None:
         claim(name, answer, 0, content)
     else:
-        claim_missing(name, answer, missing)
+        claim_missing(name, answer, missing, model.length(file)[1])

@@ -2,12 +2,15 @@
 
 import os
 import random
+import subprocess
+import time as clock
 
 import additions
 import generate
+import model
 from boxes import box, head, lost_segment, open_segment
-from command_run import KEPT, Chunk, claim, claim_held, claim_missing, claim_refused, damaged, elsewhere, good, lost
-from command_wanted import appended, begun, claim_boxes, claim_map, claim_rows, film_of
+from command_run import KEPT, Chunk, claim, claim_held, claim_missing, claim_refused, damaged, elsewhere, ended, good, lost
+from command_wanted import appended, begun, claim_boxes, claim_map, claim_rows, film_of, left
 from expecting import expect
 from foreign import LIMIT, WIDE
 from model import PMFF
@@ -24,7 +27,10 @@ def claim_append(name, command, file, offset, chunks, last=False, time=None, out
     command.put("film", file)
     number, wanted = appended(file, offset, chunks, last, time, outside)
     answer = command.append("film", offset, chunks, last, time, outside)
-    claim(name, answer, 1 if number else 0, b"refused\t%d\n" % number if number else b"")
+    if number:
+        claim_refused(name, answer, number)
+    else:
+        claim(name, answer, 0, err=left("film", wanted))
     claim_held(f"the file after {name}", command, "film", wanted)
     return wanted
 
@@ -36,13 +42,13 @@ def beginnings(command):
                             "00000026 7066696c 0000000c 70666864 00000000 00000012 7375726c 00000000 6100 6d6e6f00")
     claim("begin by hand", command.run("begin", "hand", "a", "mno"), 0)
     claim_held("the file begun by hand", command, "hand", by_hand)
-    claim_refused("its map", command.run("map", "hand"), 12)
-    claim_refused("its rows", command.run("rows", "hand"), 12)
+    claim_refused("its map", command.run("map", "hand"), 12, "hand")
+    claim_refused("its rows", command.run("rows", "hand"), 12, "hand")
     every = bytes(range(1, 256))
     for number, texts in enumerate([
             (b"",), (b"", b""), (b"http://films.example/lesson",), (b"u", b"video/mp4"), (every,), (b"", every), (every, every[::-1]),
             (b"u" * 100_000, b"m" * 100_000), (b" ", b"\t\n"), (b"--last", b"--offset"), (b"-", b"--")]):
-        claim(f"begin {number}", command.run("begin", f"new{number}", *texts), 0)
+        claim(f"begin {number}", command.run("begin", "--", f"new{number}", *texts), 0)
         claim_held(f"the file begun, {number}", command, f"new{number}", begun(*texts))
 
 
@@ -51,10 +57,10 @@ def brands(command):
     for number, (brand, words) in enumerate([(b"paff", []), (b"paff", ["--brand", "paff"]), (b"pmff", ["--brand", "pmff"])]):
         for texts in (["u"], ["u", "--brand"], ["--brand", "pmff"], ["", ""]):
             name = f"branded{number}{len(texts)}{len(texts[0])}"
-            claim(f"begin {words} {texts}", command.run("begin", *words, name, *texts), 0)
+            claim(f"begin {words} {texts}", command.run("begin", *words, "--", name, *texts), 0)
             wanted = bytes.fromhex("00000014") + b"ftyp" + brand + bytes(4) + brand + begun(*map(str.encode, texts))[20:]
             claim_held(f"the file begun by {words} {texts}", command, name, wanted)
-            claim_refused("its map", command.run("map", name), 12)
+            claim_refused("its map", command.run("map", name), 12, name)
     claim("begin of a file named as an option", command.run("begin", "--brand", "pmff", "./--brand", "u"), 0)
     claim_held("the file of that name", command, "--brand", begun(b"u", brand=PMFF))
 
@@ -182,8 +188,71 @@ def words_in_any_order(command):
         claim_held(f"the file after {words}", command, "film", appended(file, 0, order, True, 4, "--outside" in words)[1])
 
 
+def sizes_stated(command):
+    """A piece is appended where it has the stated size, which is of the next piece alone."""
+    file = film_of((0, [lost(90)]))
+    command.put("piece", b"xyz")
+    command.put("long", b"0123456789")
+    for words, chunks in [("--size 3 --good piece", [good(b"xyz")]), ("--size 3 --damaged piece --good long", [damaged(b"xyz"), good(b"0123456789")]),
+                          ("--lost 1 --size 10 --good long --size 3 --good piece", [lost(1), good(b"0123456789"), good(b"xyz")])]:
+        command.put("film", file)
+        claim(f"append {words}", command.run("append", "film", "--offset", "7", *words.split()), 0)
+        claim_held(f"the file after {words}", command, "film", appended(file, 7, chunks)[1])
+
+
+def places(command):
+    """Each chunk where --at says, and what lies between as lost; one segment."""
+    file = film_of((0, [lost(900)]))
+    command.put("piece", b"xyz")
+    for words, offset, chunks in [
+            ("--at 7 --good piece --at 200 --good piece", 7, [good(b"xyz"), lost(190), good(b"xyz")]), ("--offset 2 --at 7 --good piece", 2, [lost(5), good(b"xyz")]),
+            ("--at 7 --good piece --at 10 --damaged piece", 7, [good(b"xyz"), damaged(b"xyz")]), ("--offset 7 --at 7 --lost 4 --good piece", 7, [lost(4), good(b"xyz")]),
+            ("--at 7 --lost 4 --at 20 --elsewhere 3 --at 30 --size 3 --good piece", 7, [lost(4), lost(9), elsewhere(3), lost(7), good(b"xyz")]),
+            ("--good piece --at 20 --good piece --offset 1", 1, [good(b"xyz"), lost(16), good(b"xyz")])]:
+        command.put("film", file)
+        claim(f"append {words}", command.run("append", "film", *words.split()), 0)
+        claim_held(f"the file after {words}", command, "film", appended(file, offset, chunks)[1])
+    command.put("film", file)
+    claim_refused("a place beyond the limit", command.run("append", "film", "--at", "7", "--good", "piece", "--at", str(TOP), "--good", "piece"), 23)
+    gaps = " ".join(f"--at {9 * at} --good piece" for at in range(200)).split()
+    claim("two hundred gaps at once", command.run("append", "film", *gaps, "--last"), 0)
+    wanted = [chunk for at in range(200) for chunk in (good(b"xyz"), lost(6))][:-1]
+    claim_held("the file after two hundred gaps", command, "film", appended(file, 0, wanted, True)[1])
+
+
+def open_segments(command):
+    """A segment without chunks says where something begins, and nothing of how much."""
+    for words, offset, last, time in [("--offset 100 --open", 100, False, None), ("--open --last --offset 0", 0, True, None), ("--time 7 --offset 5 --open --outside", 5, False, 7)]:
+        claim(f"append {words}", command.run("append", command.put("film", begun(b"u")), *words.split()), 0)
+        claim_held(f"the file after {words}", command, "film", appended(begun(b"u"), offset, [], last, time)[1])
+    command.put("film", begun(b"u"))
+    claim("an open segment at 100", command.run("append", "film", "--offset", "100", "--open"), 0)
+    claim("its map", command.run("map", "film"), 0, b"source\t100\topen\nlost\t0\t100\ntotal\t0\t0\t100\n")
+
+
+def times(command):
+    """By hand: a date and time of day as a timestamp of RFC 5905, whose second era begins in 2036; and the time of the test itself."""
+    for text, timestamp in [
+            ("1970-01-01T00:00:00Z", 2_208_988_800 << 32), ("2026-11-16T03:00:00Z", 4_003_786_800 << 32), ("1968-01-20T03:14:08Z", 2 ** 63), ("2036-02-07T06:28:15Z", (2 ** 32 - 1) << 32),
+            ("2036-02-07T06:28:17Z", 1 << 32), ("2104-02-26T09:42:23Z", (2 ** 31 - 1) << 32), ("2024-02-29T23:59:59Z", 3_918_239_999 << 32)]:
+        command.put("film", begun(b"u"))
+        claim(f"append --time {text}", command.run("append", "film", "--offset", "0", "--lost", "1", "--time", text), 0)
+        claim_held(f"the file after --time {text}", command, "film", appended(begun(b"u"), 0, [lost(1)], False, timestamp)[1])
+        expect(f"the row of {text}", b"\t%d\t1\t71\t16\t%s\n" % (timestamp, text.encode("ascii")) in command.run("rows", "film").out)
+    command.put("film", begun(b"u"))
+    before = clock.time()
+    claim("append --time now", command.run("append", "film", "--offset", "0", "--lost", "1", "--time=now"), 0)
+    seconds = model.read(command.held("film"))[1][0][3] / 2 ** 32 - 2_208_988_800
+    expect("the time now", before - 0.01 <= seconds <= clock.time() + 0.01 or seconds)
+    for text in ["Now", "yesterday", "2026-11-16", "2026-11-16T03:00:00", "2026-11-16T03:00:00z", "2026-11-16 03:00:00Z", "2026-02-30T03:00:00Z", "2026-11-16T24:00:00Z", "2026-11-16T03:00:60Z",
+                 "2026-11-16T03:00:00Z ", "2026-11-16T3:00:00Z", "26-11-16T03:00:00Z", "1968-01-20T03:14:07Z", "2104-02-26T09:42:24Z", "2036-02-07T06:28:16Z", "2026-11-16T03:00:00+00:00"]:
+        command.put("film", begun(b"u"))
+        claim(f"append --time {text}", command.run("append", "film", "--offset", "0", "--lost", "1", f"--time={text}"), 2)
+        claim_held(f"the file after --time {text}", command, "film", begun(b"u"))
+
+
 def data_anywhere(command):
-    """One piece twice, the film itself as data, data by a link, in a folder, and from a pipe."""
+    """One piece twice, the film itself as data, data by a link, in a folder, and from pipes."""
     file = film_of((0, [good(b"abcd")]))
     command.put("piece", b"xy")
     os.mkdir(command.path("pieces"))
@@ -195,15 +264,47 @@ def data_anywhere(command):
         command.put("film", file)
         claim(f"append {words}", command.run("append", "film", "--offset", "4", *words.split()), 0)
         claim_held(f"the file after {words}", command, "film", appended(file, 4, chunks)[1])
+    long = bytes(at % 251 for at in range(300_000))
+    for words, content, chunks in [("--good -", b"xy", [good(b"xy")]), ("--good /dev/stdin", b"xy", [good(b"xy")]), ("--size 300000 --damaged -", long, [damaged(long)]),
+                                   ("--good piece --lost 4 --good - --good piece", long, [good(b"xy"), lost(4), good(long), good(b"xy")])]:
+        command.put("film", file)
+        process = command.start("append", "film", "--offset", "4", *words.split(), stdin=subprocess.PIPE)
+        process.stdin.write(content)
+        claim(f"append {words} from a pipe", ended(process), 0)
+        claim_held(f"the file after {words} from a pipe", command, "film", appended(file, 4, chunks)[1])
     command.put("film", file)
-    piped_in, piped_out = os.pipe()
-    os.write(piped_out, b"xy")
-    os.close(piped_out)
-    answer = command.run("append", "film", "--offset", "4", "--good", "/dev/stdin", stdin=piped_in)
-    os.close(piped_in)
-    taken = answer.status == 0 and command.held("film") == appended(file, 4, [good(b"xy")])[1]
-    left = answer.status == 2 and command.held("film") == file and answer.err != b""
-    expect("data from a pipe is taken whole, or nothing is changed", taken or left or answer)
+    with open(command.path("piece"), "rb") as piece:
+        claim("standard input from a file", command.run("append", "film", "--offset", "4", "--good", "-", stdin=piece), 0)
+    claim_held("the file after that", command, "film", appended(file, 4, [good(b"xy")])[1])
+    named_pipe(command, file)
+
+
+def named_pipe(command, file):
+    """A pipe with a name, which is waited for, and a device, which is no data."""
+    command.put("film", file)
+    os.mkfifo(command.path("fifo"))
+    process = command.start("append", "film", "--offset", "4", "--good", "fifo")
+    with open(command.path("fifo"), "wb") as pipe:
+        pipe.write(b"xy")
+    claim("append of a named pipe", ended(process), 0)
+    claim_held("the file after a named pipe", command, "film", appended(file, 4, [good(b"xy")])[1])
+    command.put("film", file)
+    for device in ("/dev/null", "/dev/zero"):
+        claim(f"append of {device}", command.run("append", "film", "--offset", "4", "--good", device), 2, err=b"paff: %s: Neither a regular file nor a pipe\n" % device.encode())
+    claim_held("the file after devices", command, "film", file)
+    claim_refused("no data from standard input", command.run("append", "film", "--offset", "4", "--good", "-"), 31)
+
+
+def few_left(command):
+    """By hand: what is said when an eighth or less is left, of a file that is appended to all the same."""
+    for name, file, said in [
+            ("nine segments", head() + 54 * open_segment(5), b""), ("eight segments", head() + 55 * open_segment(5), b"paff: film: 8 of 64 segments are left\n"),
+            ("no segment", head() + 63 * open_segment(5), b"paff: film: 0 of 64 segments are left\n"), ("129 chunks", head() + lost_segment(0, [1] * 894), b""),
+            ("128 chunks", head() + lost_segment(0, [1] * 895), b"paff: film: 128 of 1024 chunks are left\n"),
+            ("65 boxes", head() + 443 * box(b"free") + open_segment(0), b""), ("64 boxes", head() + 444 * box(b"free") + open_segment(0), b"paff: film: 64 of 512 boxes are left\n")]:
+        command.put("film", file)
+        claim(f"append that leaves {name}", command.run("append", "film", "--offset", "0", "--lost", "1"), 0, err=said)
+        claim_held(f"the file that leaves {name}", command, "film", appended(file, 0, [lost(1)])[1])
 
 
 # Refusals.
@@ -292,7 +393,7 @@ def random_runs(command):
         file = generate.foreign_file(rng)
         if rng.random() < 0.7:
             texts, brand = additions.texts(rng), rng.choice(additions.BRANDS)
-            claim(f"begin of run {index}", command.run("begin", "--brand", brand, f"run{index}", *texts), 0)
+            claim(f"begin of run {index}", command.run("begin", "--brand", brand, "--", f"run{index}", *texts), 0)
             file = begun(*texts, brand)
             claim_held(f"the file of run {index}", command, f"run{index}", file)
         for turn in range(rng.randint(2, 6)):
@@ -300,6 +401,6 @@ def random_runs(command):
 
 
 def check(command):
-    for part in (beginnings, brands, appends, appends_far, appends_elsewhere, appends_outside, words_in_any_order, data_anywhere, files_refused, lists_refused, outside_refused, counts_refused,
+    for part in (beginnings, brands, appends, appends_far, appends_elsewhere, appends_outside, words_in_any_order, sizes_stated, places, open_segments, times, data_anywhere, few_left, files_refused, lists_refused, outside_refused, counts_refused,
                  sizes_refused, random_runs, beginnings_in_the_way):
         part(command)

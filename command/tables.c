@@ -1,0 +1,53 @@
+/* The memory that the command lends to the library, and what the library leaves there. */
+#include "tables.h"
+
+struct tables tables;
+
+uint64_t read_tables(struct bytes file)
+{
+    uint64_t told[4];
+    uint64_t number = vrazhupa_read(file.at, file.length, tables.segments, sizeof tables.segments / sizeof tables.segments[0], tables.chunks,
+                                    sizeof tables.chunks / sizeof tables.chunks[0], told);
+    if (number == 0) {
+        tables.segment_count = told[0];
+        tables.chunk_count = told[1];
+        tables.described = told[2];
+        tables.closed = told[3] == 1;
+    }
+    return number;
+}
+
+/* The number in the last line of a text, where that line has two fields; a line of a map or of a box has more. */
+static uint64_t fault_in(const uint8_t *text, size_t length)
+{
+    uint64_t number = 0, unit = 1;
+    size_t tabs = 0;
+    for (size_t at = length; at > 1 && text[at - 2] != '\n'; at--) {
+        uint8_t byte = text[at - 2];
+        if (byte == '\t') {
+            tabs++;
+        } else if (tabs == 0 && byte >= '0' && byte <= '9') {
+            number += (uint64_t)(byte - '0') * unit;
+            unit *= 10;
+        }
+    }
+    return tabs == 1 ? number : 0;
+}
+
+struct text text_of(struct bytes file, text_call call)
+{
+    static uint8_t text[VRAZHUPA_MAP_TEXT];
+    uint64_t told[1];
+    uint64_t number = call(file.at, file.length, UINT64_MAX, text, sizeof text, told);
+    return number != 0 ? (struct text){text, 0, number} : (struct text){text, told[0], fault_in(text, told[0])};
+}
+
+uint64_t boxes_of(struct bytes file)
+{
+    struct text text = text_of(file, vrazhupa_boxes);
+    uint64_t lines = 0;
+    for (size_t i = 0; i < text.length; i++) {
+        lines += text.at[i] == '\n';
+    }
+    return text.fault == 0 ? lines : lines - (lines > 0);
+}
