@@ -1,7 +1,8 @@
 # Builds the library's archive, which is proved first, and the command `paff` over it. `make test` holds the archive and the plain C program against the model, runs the
 # command as a person would, a build of it that stops at undefined behaviour and one over the plain C program under both sanitizers, passes the clerk's
-# evening, and keeps a real film in a mixed file. `make bench` measures the library beside the plain C program, and `make
-# instructions` counts what both take (docs/PERFORMANCE.md).
+# evening, types the lines of README.md, keeps a real film in a mixed file, and builds a program over what `make install`
+# installs. `make bench` measures the library beside the plain C program, and `make instructions` counts what both take
+# (docs/PERFORMANCE.md).
 
 # Debian has this name for its own compiler on x86-64 and for its cross compiler elsewhere (gcc-x86-64-linux-gnu).
 CC := x86_64-linux-gnu-gcc
@@ -26,9 +27,15 @@ LIBRARY := crates.txt $(shell find crates -type f \( -name '*.rt' -o -name '*.an
 EMULATOR := $(shell sh command/emulator)
 
 # What `make test` runs, each by itself, so that `make -j2 test` runs two at a time.
-TESTS := test-scale test-scale-plain test-command test-command-undefined test-command-sanitized test-films
+TESTS := test-scale test-scale-plain test-command test-command-undefined test-command-sanitized test-films test-readme test-installed
 
-.PHONY: all test bench instructions $(TESTS)
+# Where `make install` puts things, as they are used, and the folder that stands before that where a package is made.
+PREFIX := /usr/local
+DESTDIR :=
+VERSION := $(shell sed -n 's/^.define VRAZHUPA_VERSION "\(.*\)"$$/\1/p' include/vrazhupa.h)
+INSTALLED := $(DESTDIR)$(PREFIX)
+
+.PHONY: all install uninstall test bench instructions $(TESTS)
 .DELETE_ON_ERROR:
 
 all: $(OUT)/paff
@@ -39,6 +46,17 @@ $(ARCHIVE): $(LIBRARY)
 $(OUT)/paff: $(SOURCES) $(HEADERS) $(ARCHIVE)
 	mkdir -p $(OUT)
 	$(CC) $(CFLAGS) -static -o $@ $(SOURCES) $(ARCHIVE)
+
+install: $(OUT)/paff
+	install -D -m 755 $(OUT)/paff $(INSTALLED)/bin/paff
+	install -D -m 644 command/paff.1 $(INSTALLED)/share/man/man1/paff.1
+	install -D -m 644 include/vrazhupa.h $(INSTALLED)/include/vrazhupa.h
+	install -D -m 644 $(ARCHIVE) $(INSTALLED)/lib/libvrazhupa.a
+	sed -e 's|@PREFIX@|$(PREFIX)|' -e 's|@VERSION@|$(VERSION)|' include/vrazhupa.pc.in >$(OUT)/vrazhupa.pc
+	install -D -m 644 $(OUT)/vrazhupa.pc $(INSTALLED)/lib/pkgconfig/vrazhupa.pc
+
+uninstall:
+	rm -f $(INSTALLED)/bin/paff $(INSTALLED)/share/man/man1/paff.1 $(INSTALLED)/include/vrazhupa.h $(INSTALLED)/lib/libvrazhupa.a $(INSTALLED)/lib/pkgconfig/vrazhupa.pc
 
 $(OUT)/paff-undefined: $(SOURCES) $(HEADERS) $(ARCHIVE)
 	mkdir -p $(OUT)
@@ -102,3 +120,9 @@ test-command-sanitized: $(OUT)/paff-sanitized
 test-films: $(OUT)/paff
 	sh tests/evening.sh $(EMULATOR) $(OUT)/paff
 	sh tests/film.sh $(EMULATOR) $(OUT)/paff
+
+test-readme: $(OUT)/paff
+	python3 tests/readme.py
+
+test-installed: $(OUT)/paff
+	CC=$(CC) sh tests/installed.sh $(EMULATOR)

@@ -72,7 +72,7 @@ receive() {
     append 1200000 --good "$(right 1200000 300000)" --lost 200000 --good "$(right 1700000 100000)"
     append 0 --lost 1000 --good "$(right 1000 299000)" --lost 1 --good "$(right 300001 299999)" --damaged "$(wrong 600000 150000)"
     append 1499000 --damaged "$(wrong 1499000 2000)" --lost 9000 --good "$(right 1510000 10000)"
-    append 590000 --time 1700000000 --good "$(mixed 590000 50000 600000)" --lost 60000 --good "$(right 700000 50000)" --damaged "$(wrong 750000 10000)"
+    append 590000 --time 2026-11-16T03:00:00Z --good "$(mixed 590000 50000 600000)" --lost 60000 --good "$(right 700000 50000)" --damaged "$(wrong 750000 10000)"
     append 1790000 --last --good "$(mixed 1790000 710000 1800000)" --damaged "$(wrong 2500000 300000)" --good "$(right 2800000 345740)" --lost 1
 }
 
@@ -95,8 +95,9 @@ order() {
     paff map --missing "$file"; mv "$folder/said" "$folder/map"
     while read -r word first length; do
         [ "$word" = miss ] || continue
+        rm -f "$folder/piece"
         same "the status for $length bytes at $first" 206 "$(ask --range "$first-$((first + length - 1))")"
-        append "$first" --good "$folder/piece"
+        append "$first" --time now --size "$length" --good "$folder/piece"
         ranges=$((ranges + 1)) bytes=$((bytes + length))
     done <"$folder/map"
 }
@@ -108,12 +109,13 @@ serve
 receive
 paff map "$file"; same "the map before the evening" "$(night_map)" "$(cat "$folder/said")"
 paff map --missing "$file"; same "what is missing before the evening" "$(night_missing)" "$(cat "$folder/said")"
-paff rows "$file"; same "the URL to order from" "$url" "$(sed -n 's/^url	//p' "$folder/said")"
+paff rows --percent "$file"; same "the URL to order from" "$url" "$(sed -n 's/^url	//p' "$folder/said")"
+same "the time of the one repair" 2026-11-16T03:00:00Z "$(cut -f 9 "$folder/said" | grep '^2')"
 ranges=0 bytes=0
 for _ in 1 2 3; do order; done
 same "ranges and bytes fetched, each once" "8 1001002" "$ranges $bytes"
 paff map "$file"; same "the map after the evening" "$(map_of source $size closed have 0 $size; total_of $size 0 0)" "$(cat "$folder/said")"
 same "the status for the whole film" 200 "$(ask)"
 same "the checksum of the film as nginx serves it" "$(sum "$film")" "$(sum "$folder/piece")"
-paff get "$file" 0 $size; same "the checksum of the film as paff serves it" "$(sum "$folder/piece")" "$(sum "$folder/said")"
+paff get "$file" --output "$folder/whole"; same "the checksum of the film as paff serves it" "$(sum "$folder/piece")" "$(sum "$folder/whole")"
 echo "the clerk's evening: $ranges ranges fetched, $bytes bytes, the film is whole"

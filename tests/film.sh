@@ -16,8 +16,8 @@ paff_ends() {
     wanted=$1 status=0
     shift
     # shellcheck disable=SC2086 # The words are parted on purpose.
-    timeout 60 $program "$@" >"$folder/said" || status=$?
-    same "the status of paff $*, which said $(head -c 200 "$folder/said" | tr -cd '\t -~')" "$wanted" $status
+    timeout 60 $program "$@" >"$folder/said" 2>"$folder/noted" || status=$?
+    same "the status of paff $*, which said $(head -c 200 "$folder/said" | tr -cd '\t -~') and noted $(cat "$folder/noted")" "$wanted" $status
 }
 paff() { paff_ends 0 "$@"; }
 

@@ -1,0 +1,65 @@
+"""Types the lines of README.md on `paff`, as they stand there, and holds what is printed against what README.md says.
+
+usage: python3 tests/readme.py
+
+In an indented block the lines up to the first empty one are typed, and those behind it are printed. They are typed in a folder of their own, which has links to
+what a reader has in this one; the port that README.md names is taken by one such run at a time.
+"""
+
+import fcntl
+import os
+import re
+import subprocess
+import tempfile
+
+import expecting
+from corpus import ROOT
+from expecting import expect
+
+FIRST, LAST = "### Whose box is it?", "### Chunks held elsewhere"
+LONGEST = 300
+SERVER = "target/nginx.pid"
+
+
+def blocks(text):
+    """The indented blocks, each as what is typed and what is printed."""
+    for block in re.findall(r"(?:^(?: {4}.*)?\n)+", text, re.MULTILINE):
+        lines = [line[4:] for line in block.strip("\n").split("\n")]
+        if block.strip():
+            typed, _, printed = "\n".join(lines).partition("\n\n")
+            yield typed, printed + "\n" if printed else ""
+
+
+def type_in(folder, typed, printed):
+    """What is typed as lines of a shell, each of which has to succeed."""
+    env = {name: value for name, value in os.environ.items() if name != "COLUMNS" and not name.lower().endswith("_proxy")}
+    answer = subprocess.run(["sh", "-eu", "-c", typed], cwd=folder, env=env, stdin=subprocess.DEVNULL, capture_output=True, timeout=LONGEST, check=False)
+    expect(typed, (answer.returncode, answer.stdout.decode("utf-8", "replace"), answer.stderr), (0, printed, b""))
+
+
+def stop_server(folder):
+    """Ends nginx where a line that failed left it."""
+    pid = os.path.join(folder, SERVER)
+    if os.path.exists(pid):
+        with open(pid, encoding="ascii") as file:
+            os.kill(int(file.read()), 15)
+
+
+def main():
+    with open(os.path.join(ROOT, "README.md"), encoding="utf-8") as file:
+        text = file.read().split(FIRST)[1].split(LAST)[0]
+    with open(os.path.join(tempfile.gettempdir(), "vrazhupa-readme.lock"), "w", encoding="ascii") as lock, tempfile.TemporaryDirectory() as folder:
+        fcntl.flock(lock, fcntl.LOCK_EX)
+        for name in ("paff", "samples"):
+            os.symlink(os.path.join(ROOT, name), os.path.join(folder, name))
+        os.mkdir(os.path.join(folder, "target"))
+        try:
+            for typed, printed in blocks(text):
+                type_in(folder, typed, printed)
+        finally:
+            stop_server(folder)
+    return expecting.close()
+
+
+if __name__ == "__main__":
+    raise SystemExit(main())
