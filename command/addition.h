@@ -5,7 +5,8 @@
 #include "files.h"
 #include "words.h"
 
-/* A chunk by its words: its state, and the name of what has its bytes or, where that is NULL, a size of which no byte is kept. */
+/* A chunk by its words: its state, and the name of what has its bytes or, where that is NULL, a size of which no
+   byte is kept. */
 struct chunk {
     int state;
     uint64_t size;
@@ -29,7 +30,8 @@ struct addition {
 
 struct addition addition_in(struct words *words);
 
-/* The chunks with what lies between them, as the library takes them: two numbers for each, and all bytes behind each other. */
+/* The chunks with what lies between them, as the library takes them: two numbers for each, and all bytes behind each
+   other. */
 struct pieces {
     size_t count;
     uint64_t *list;

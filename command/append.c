@@ -19,8 +19,8 @@ enum { BOX_HEADER = 8 };
 /* Of what a file has so much it is said when an eighth of it or less is left. */
 enum { FEW = 8 };
 
-/* What append answers about data that no file has room for, of which the library was shown no byte: 35 if it is that for one of the good chunks alone, as
-   each is mapped, and else that the file would be over its limit. */
+/* What append answers about data that no file has room for, of which the library was shown no byte: 35 if it is that
+   for one of the good chunks alone, as each is mapped, and else that the file would be over its limit. */
 static uint64_t answer_by_chunk(struct bytes file, const struct pieces *pieces)
 {
     for (size_t i = 0; i < pieces->count; i++) {
@@ -60,8 +60,9 @@ static size_t last_segment_place(const char *name, struct bytes file)
     return tables.segments[(tables.segment_count - 1) * VRAZHUPA_SEGMENT_ROW + SEGMENT_PLACE];
 }
 
-/* Brings what stands behind the old end to the disk, the header of the segment's box last: until it is there nobody reads the segment, and when it is there
-   so are the entries and the data that it tells of, in whatever order the system writes. */
+/* Brings what stands behind the old end to the disk, the header of the segment's box last: until it is there nobody
+   reads the segment, and when it is there so are the entries and the data that it tells of, in whatever order the
+   system writes. */
 static int write_behind(int fd, const uint8_t *file, size_t old_end, size_t box, size_t new_end)
 {
     size_t body = box + BOX_HEADER;

@@ -21,7 +21,8 @@ static unsigned width_of_terminal(void)
     return width == 0 ? USUAL_WIDTH : width > MOST_WIDTH ? MOST_WIDTH : (unsigned)width;
 }
 
-/* The sign of a cell by the classes in it: one of its own where they are several, so that the shortest range is seen. */
+/* The sign of a cell by the classes in it: one of its own where they are several, so that the shortest range is
+   seen. */
 static char sign_of(unsigned classes)
 {
     return classes == RECEIVED ? '#' : classes == HELD ? '~' : classes == LOST ? '.' : '%';

@@ -6,8 +6,8 @@
 #include "heading.h"
 #include "tables.h"
 
-/* A range of a map begins at 0, or where a chunk begins or ends. */
-enum { RANGES = 2 * VRAZHUPA_CHUNKS + 1 };
+/* A range of a map begins at 0, where a segment begins, or where a chunk ends. */
+enum { RANGES = 1 + VRAZHUPA_SEGMENTS + VRAZHUPA_CHUNKS };
 
 struct facts {
     const char *name;

@@ -14,8 +14,8 @@ struct bytes {
 /* From then on a lock that another command holds is not waited for. */
 void do_not_wait(void);
 
-/* Opens a regular file, and waits for its lock: LOCK_SH to read it, LOCK_EX to change it. The lock is free when the file is closed or the command ends, in
-   whatever way. Answers its descriptor, or -1 with the reason. */
+/* Opens a regular file, and waits for its lock: LOCK_SH to read it, LOCK_EX to change it. The lock is free when the
+   file is closed or the command ends, in whatever way. Answers its descriptor, or -1 with the reason. */
 int open_locked(const char *name, int flags, int operation, const char **why);
 
 /* Memory of our own. Only pages that are written take room. */
@@ -36,7 +36,8 @@ void let_go(const struct held *held);
 /* The same to the end of the command, which ends where it cannot be opened. */
 struct bytes map_locked(const char *name);
 
-/* Data to be appended: a regular file in memory, or what a pipe or, for `-`, standard input has; of what no file has room for a part. */
+/* Data to be appended: a regular file in memory, or what a pipe or, for `-`, standard input has; of what no file has
+   room for a part. */
 struct bytes map_data(const char *name);
 
 #endif

@@ -1,4 +1,5 @@
-/* Bytes of the film that a partial file serves. What is said of it goes to standard error, as standard output may be the film. */
+/* Bytes of the film that a partial file serves. What is said of it goes to standard error, as standard output may be
+   the film. */
 #include "get.h"
 
 #include "say.h"
@@ -27,7 +28,8 @@ static uint64_t served_from(const char *name, struct bytes file, uint64_t p)
     return told[1];
 }
 
-/* The part of the file that serves p and the positions after it, as long as one chunk supplies them, `most` of them at most. */
+/* The part of the file that serves p and the positions after it, as long as one chunk supplies them, `most` of them
+   at most. */
 static struct bytes part_from(const char *name, struct bytes file, uint64_t p, uint64_t most)
 {
     uint64_t told[2];
@@ -38,7 +40,8 @@ static struct bytes part_from(const char *name, struct bytes file, uint64_t p, u
     return (struct bytes){file.at + told[0], told[1] < most ? told[1] : most};
 }
 
-/* Why bytes of a file could not be written, and where: a page that is not there is the fault of the file that they are of. */
+/* Why bytes of a file could not be written, and where: a page that is not there is the fault of the file that they
+   are of. */
 static const char *of_file(const char *file, const char *output, const char **why)
 {
     *why = errno == EFAULT ? "It was cut short or could not be read" : NULL;

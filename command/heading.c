@@ -1,5 +1,6 @@
-/* The heading of a partial file. The library has no call for it alone, and tells texts only of files with a segment: it is asked about a copy in memory,
-   to which an open segment is appended, which changes none of it. A call for the heading takes the place of this file. */
+/* The heading of a partial file. The library has no call for it alone, and tells texts only of files with a segment:
+   it is asked about a copy in memory, to which an open segment is appended, which changes none of it. A call for the
+   heading takes the place of this file. */
 #include "heading.h"
 
 #include "vrazhupa.h"

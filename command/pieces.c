@@ -50,7 +50,8 @@ static uint64_t add_gap(struct pieces *pieces, uint64_t end, uint64_t at)
     return at;
 }
 
-/* The data in one piece: a single part as it is mapped, several copied behind each other. Data that no file has room for are not copied. */
+/* The data in one piece: a single part as it is mapped, several copied behind each other. Data that no file has room
+   for are not copied. */
 static const uint8_t *joined(const struct pieces *pieces)
 {
     uint8_t *data = lend(pieces->total);

@@ -34,7 +34,8 @@ static void on_lost_page(int signal_number)
     _exit(FAILED);
 }
 
-/* A closed descriptor would be given to the next file that is opened, and the output would go into it: it is taken by one that output fails on. */
+/* A closed descriptor would be given to the next file that is opened, and the output would go into it: it is taken
+   by one that output fails on. */
 static void keep_standard_descriptors(void)
 {
     for (int fd = STDIN_FILENO; fd <= STDERR_FILENO; fd++) {

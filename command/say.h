@@ -1,5 +1,5 @@
-/* What the command says: a refusal on standard output, and in a sentence on standard error, where a wrong use and a failure of the system are said too;
-   and that its output came through. */
+/* What the command says: a refusal on standard output, and in a sentence on standard error, where a wrong use and a
+   failure of the system are said too; and that its output came through. */
 #ifndef SAY_H
 #define SAY_H
 
@@ -7,7 +7,8 @@
 
 enum { DONE = 0, REFUSED = 1, FAILED = 2 };
 
-/* Makes each failure of the system an error that is said: a closed pipe, a full disk, a mapped file that is cut short, a standard output that is closed. */
+/* Makes each failure of the system an error that is said: a closed pipe, a full disk, a mapped file that is cut
+   short, a standard output that is closed. */
 void say_failures(void);
 
 /* What a wrong use is told with from then on: how the command, or a subcommand of it, is used. */

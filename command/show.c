@@ -1,4 +1,5 @@
-/* What is shown of a partial file as text: its map, with or without names for what is missing, its boxes, and its tables. */
+/* What is shown of a partial file as text: its map, with or without names for what is missing, its boxes, and its
+   tables. */
 #include "show.h"
 
 #include "files.h"

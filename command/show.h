@@ -1,4 +1,5 @@
-/* What is shown of a partial file as text: its map, with or without names for what is missing, its boxes, and its tables. */
+/* What is shown of a partial file as text: its map, with or without names for what is missing, its boxes, and its
+   tables. */
 #ifndef SHOW_H
 #define SHOW_H
 
@@ -8,7 +9,8 @@ _Noreturn void show_map(const char *name);
 _Noreturn void show_missing_map(const char *name);
 _Noreturn void show_boxes(const char *name);
 
-/* Texts with each byte that does not print as \xNN, or, of the URL, as it is handed to a program that fetches, in its percent form. */
+/* Texts with each byte that does not print as \xNN, or, of the URL, as it is handed to a program that fetches, in
+   its percent form. */
 _Noreturn void show_rows(const char *name, bool percent);
 
 #endif

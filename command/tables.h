@@ -1,4 +1,5 @@
-/* The memory that the command lends to the library, and what the library leaves there of a file: its tables, and the texts of its maps and boxes. */
+/* The memory that the command lends to the library, and what the library leaves there of a file: its tables, and the
+   texts of its maps and boxes. */
 #ifndef TABLES_H
 #define TABLES_H
 
@@ -22,8 +23,8 @@ extern struct tables tables;
 /* Reads a file into the tables; 0, or the number of its refusal. */
 uint64_t read_tables(struct bytes file);
 
-/* A text that a call wrote of a file, good until the next one is written; the fault is the number that its last line has where the file was refused, or its
-   framing broke off, and else 0. */
+/* A text that a call wrote of a file, good until the next one is written; the fault is the number that its last line
+   has where the file was refused, or its framing broke off, and else 0. */
 struct text {
     const uint8_t *at;
     size_t length;

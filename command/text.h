@@ -1,4 +1,5 @@
-/* Texts of a file on standard output, so that no byte of them does anything to a terminal or to a program that reads them. */
+/* Texts of a file on standard output, so that no byte of them does anything to a terminal or to a program that reads
+   them. */
 #ifndef TEXT_H
 #define TEXT_H
 

@@ -1,4 +1,5 @@
-/* Times of repair: 64-bit NTP timestamps (RFC 5905), the seconds since 1900 in the upper half, of which 0 says that the time is not known. */
+/* Times of repair: 64-bit NTP timestamps (RFC 5905), the seconds since 1900 in the upper half, of which 0 says that
+   the time is not known. */
 #ifndef TIMES_H
 #define TIMES_H
 

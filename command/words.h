@@ -1,4 +1,5 @@
-/* The words that a subcommand is given: its options, with their values, and its operands. A wrong use ends the command. */
+/* The words that a subcommand is given: its options, with their values, and its operands. A wrong use ends the
+   command. */
 #ifndef WORDS_H
 #define WORDS_H
 
@@ -23,7 +24,8 @@ const char *next_option(struct words *words);
 
 bool is(const char *option, const char *name);
 
-/* The value of the option that was met last: behind its `=`, or else the next word, which may then not begin with a dash unless it is one alone. */
+/* The value of the option that was met last: behind its `=`, or else the next word, which may then not begin with a
+   dash unless it is one alone. */
 const char *value_of(struct words *words);
 
 /* A number in decimal digits, below 2^64. */

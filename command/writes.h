@@ -1,11 +1,13 @@
-/* What is written to files: at a place of one that is there, and new ones, which have their name once they are complete. */
+/* What is written to files: at a place of one that is there, and new ones, which have their name once they are
+   complete. */
 #ifndef WRITES_H
 #define WRITES_H
 
 #include <stddef.h>
 #include <stdint.h>
 
-/* From then on a signal that would end the command ends the next write instead, so that what was written can be taken back. */
+/* From then on a signal that would end the command ends the next write instead, so that what was written can be
+   taken back. */
 void end_writes_by_signal(void);
 
 /* Ends the command by the signal that came, if one did, so that a shell sees it too. */

@@ -1,15 +1,16 @@
 /* Partial files (ISO/IEC 23001-14): reading, serving, listing, beginning and appending, by proved code.
 
-   Build the archive with `rt staticlib vrazhupa`; it is target/staticlib/libvrazhupa.a, for x86-64. `make install` puts it where
-   `pkg-config --cflags --libs vrazhupa` finds it.
+   Build the archive with `rt staticlib vrazhupa`; it is target/staticlib/libvrazhupa.a, for x86-64. `make install` puts
+   it where `pkg-config --cflags --libs vrazhupa` finds it.
 
-   Each call answers 0, or the number of its refusal (README.md, "Refusals"), and leaves its values in `told`. After a refusal all lent memory, `told`
-   too, holds what it held. Nothing is required of the values of the bytes and numbers that a call is given; of the memory that holds them this is:
-   memory of the stated length is there, and a pointer may be anything where its length is 0; numbers of 64 bits are aligned as such; `told` is no null
-   pointer and has room for as many numbers as its array has; a length in bytes is below 2^63. Memory that a call writes to may not overlap other memory
-   that it is given. Nothing is kept between calls, and two threads may call at once, each with memory of its own
-   to write to. No call allocates, blocks or fails in another way. `vrazhupa_list` needs about 54 KiB of stack,
-   `vrazhupa_map` and `vrazhupa_missmap` about 70 KiB, the others under 6 KiB. */
+   Each call answers 0, or the number of its refusal (README.md, "Refusals"), and leaves its values in `told`. After
+   a refusal all lent memory, `told` too, holds what it held. Nothing is required of the values of the bytes and
+   numbers that a call is given; of the memory that holds them this is: memory of the stated length is there, and a
+   pointer may be anything where its length is 0; numbers of 64 bits are aligned as such; `told` is no null pointer
+   and has room for as many numbers as its array has; a length in bytes is below 2^63. Memory that a call writes to
+   may not overlap other memory that it is given. Nothing is kept between calls, and two threads may call at once,
+   each with memory of its own to write to. No call allocates, blocks or fails in another way. `vrazhupa_list` needs
+   about 54 KiB of stack, `vrazhupa_map` and `vrazhupa_missmap` about 70 KiB, the others under 6 KiB. */
 #ifndef VRAZHUPA_H
 #define VRAZHUPA_H
 
@@ -24,9 +25,10 @@
 extern "C" {
 #endif
 
-/* The numbers of a row: of a segment (place of the box, source offset, flags, repair time, chunk count, place and length of the `pshd` body), of a chunk (segment
-   number from 0, index, source start, size, state, file place) and of a range (first position, length); the most rows that a file fills, the most boxes of a
-   container, and the most bytes of a file. */
+/* The numbers of a row: of a segment (place of the box, source offset, flags, repair time, chunk count, place and
+   length of the `pshd` body), of a chunk (segment number from 0, index, source start, size, state, file place) and
+   of a range (first position, length); the most rows that a file fills, the most boxes of a container, and the most
+   bytes of a file. */
 enum {
     VRAZHUPA_SEGMENT_ROW = 7,
     VRAZHUPA_CHUNK_ROW = 6,
@@ -44,9 +46,9 @@ enum { VRAZHUPA_LOST = 0, VRAZHUPA_DAMAGED = 1, VRAZHUPA_GOOD = 2, VRAZHUPA_ELSE
 /* The flag of a segment row that makes the end of the segment the end of the source, where the segment is not open. */
 enum { VRAZHUPA_LAST_SEGMENT = 1 };
 
-/* The longest text of either map and of the list of boxes; what a new file has beside both texts; and what an addition that is taken adds at most
-   beside its data. A buffer of so many bytes is never too short. */
-enum { VRAZHUPA_MAP_TEXT = 67693, VRAZHUPA_BOXES_TEXT = 30733, VRAZHUPA_BEGUN = 54, VRAZHUPA_ADDED = 10297 };
+/* The longest text of either map and of the list of boxes; what a new file has beside both texts; and what an
+   addition that is taken adds at most beside its data. A buffer of so many bytes is never too short. */
+enum { VRAZHUPA_MAP_TEXT = 36013, VRAZHUPA_BOXES_TEXT = 30733, VRAZHUPA_BEGUN = 54, VRAZHUPA_ADDED = 10297 };
 
 /* The refusals, by their numbers. */
 enum {

@@ -1,8 +1,8 @@
 """Runs the tests of the command: every subcommand, refusal and failure that a person can meet.
 
-usage: python3 tests/command.py WORDS...
+usage: python3 tests/command.py [--first] WORDS...
 
-WORDS start the program, as target/command/paff, or qemu-x86_64 target/command/paff where the processor is no x86-64.
+WORDS start the program, as target/command/paff, or qemu-x86_64 target/command/paff where the processor is no x86-64. With --first it ends at the first claim that fails.
 """
 
 import sys
@@ -23,8 +23,8 @@ import expecting
 from command_run import Command
 
 GROUPS = [
-    ("usage", command_usage), ("help", command_help), ("map, boxes, rows and get", command_show), ("info", command_info), ("begin and append", command_write),
-    ("failing", command_failing), ("together", command_together), ("traced", command_traced), ("killed", command_killed), ("1 GiB", command_large)]
+    ("usage", command_usage), ("help", command_help), ("info", command_info), ("begin and append", command_write), ("failing", command_failing),
+    ("traced", command_traced), ("killed", command_killed), ("together", command_together), ("1 GiB", command_large), ("map, boxes, rows and get", command_show)]
 
 
 def run_group(name, group, words):
@@ -35,11 +35,13 @@ def run_group(name, group, words):
 
 
 def main():
-    if len(sys.argv) < 2:
+    expecting.end_at_first = sys.argv[1:2] == ["--first"]
+    words = sys.argv[2:] if expecting.end_at_first else sys.argv[1:]
+    if not words:
         print(__doc__.strip(), file=sys.stderr)
         return 2
     for name, group in GROUPS:
-        run_group(name, group, sys.argv[1:])
+        run_group(name, group, words)
     print(f"{expecting.claims()} claims, {expecting.failed} failed")
     return 1 if expecting.failed else 0
 

@@ -4,6 +4,7 @@ import os
 import re
 
 from command_run import SENTENCES, claim
+from command_wanted import begun
 from corpus import ROOT
 from expecting import expect
 
@@ -53,6 +54,20 @@ def names(command):
     expect("the refusals in the header", [int(number) for number in re.findall(r" = (\d+)", numbers)], NUMBERS)
 
 
+def limits(command):
+    """The header's numbers for buffers: what a new file and the largest addition take beside their texts and data."""
+    stated = dict(re.findall(r"VRAZHUPA_(\w+) = (\d+)", text_of("include", "vrazhupa.h")))
+    expect("what a new file has beside its texts", int(stated["BEGUN"]), len(begun(b"")))
+    long, far = command.put("long", bytes(8_400_000)), str(2 ** 33)
+    command.put("film", begun(b"u"))
+    answer = command.run("append", "film", "--offset", far, "--lost", far, "--good", long, *["--good", command.put("piece", b"x")] * 1_022)
+    claim("the largest addition", answer, 0, err=b"paff: film: 0 of 1024 chunks are left\n")
+    expect("what it adds beside its data", os.path.getsize(command.path("film")) - len(begun(b"u")) - 8_400_000 - 1_022, int(stated["ADDED"]))
+    expect("the longest texts", (int(stated["MAP_TEXT"]), int(stated["BOXES_TEXT"])),
+           ((1 + 64 + 1_024) * len("held\t1099511627775\t1099511627775\n") + len("source\t1099511627775\tclosed\n") + len("total" + 3 * "\t1099511627775" + "\n"),
+            512 * len("1073741824\t1073741824\tuuid\t" + 32 * "f" + "\n") + len("1073741824\t5\n")))
+
+
 def manual(command):
     """The manual page and README.md know each option that the help knows."""
     options = set(re.findall(r"--([\w-]+)", command.run("--help").out.decode("ascii")))
@@ -62,5 +77,5 @@ def manual(command):
 
 
 def check(command):
-    for part in (helping, version, sentences, names, manual):
+    for part in (helping, version, sentences, names, limits, manual):
         part(command)

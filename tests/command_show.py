@@ -254,6 +254,8 @@ def limits(command):
     claim_all("1,024 ranges", command, film_of((0, pairs)), [(0, 1), (1_022, 1), (0, 2), (1_023, 1)])
     wide = [chunk for at in range(512) for chunk in (good(bytes([at % 256])), lost(1_000_000_000))]
     claim_all("1,025 ranges in long lines", command, film_of((500_000_000_000, wide, True)), [(500_000_000_000, 1), (501_000_000_001, 2)])
+    turns = 8 * [good(b"g"), damaged(b"d")]
+    claim_all("1,088 ranges, the most", command, film_of(*[(LIMIT - 100_000 + 1_000 * at, turns) for at in range(64)]), [(LIMIT - 100_000, 1), (LIMIT - 99_999, 1)])
     claim_all("1,024 chunks in 64 segments", command, film_of(*[(at, pairs[:16], False) for at in range(64)]), [(0, 3), (0, 79)])
     twos = [good(bytes([at % 256, at // 256])) for at in range(1_024)]
     claim_all("1,024 good chunks", command, film_of((0, twos)), [(0, 2_048), (1_023, 700), (2_047, 2)])

@@ -170,6 +170,19 @@ def interrupted_waiting(command):
     claim_held("the film after that", command, "film", FILM)
 
 
+def data_cut(command):
+    """Data that another program cuts while the lock is waited for: told, and nothing is appended."""
+    command.put("film", FILM)
+    command.put("cut", bytes(50))
+    lock = Locked(command, fcntl.LOCK_EX)
+    process = command.start("append", "film", "--offset", "4", "--good", "cut")
+    time.sleep(A_WHILE)
+    os.truncate(command.path("cut"), 0)
+    lock.release()
+    claim("append of data that is cut", ended(process), 2, err=WAITS_ALONE + b"paff: a file was cut short or could not be read\n")
+    claim_held("the film after that", command, "film", FILM)
+
+
 # Commands at once.
 
 def claim_after_others(name, answer):
@@ -216,5 +229,5 @@ def two_begins(command):
 
 def check(command):
     command.put("piece", b"xyz")
-    for part in (append_waits, refused_append_waits, readers_wait, readers_go_on, reader_holds, no_waiting, film_replaced, interrupted_waiting, two_appends, many_appends, two_begins):
+    for part in (append_waits, refused_append_waits, readers_wait, readers_go_on, reader_holds, no_waiting, film_replaced, interrupted_waiting, data_cut, two_appends, many_appends, two_begins):
         part(command)

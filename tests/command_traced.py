@@ -173,19 +173,49 @@ def failing_to_cut(command, case):
     expect("the old bytes", command.held("film").startswith(case.film))
 
 
-def failing_begin(command):
-    """What begin writes is there whole, or no file is."""
-    failures = 0
-    for call in ("write", "pwrite64", "writev", "fsync", "fdatasync"):
-        before = ["strace", "-f", "-o", "log", "-e", "trace=" + call, "-e", f"inject={call}:error=ENOSPC:when=1"]
-        answer = command.run("begin", "new", "u", before=before)
-        failed = b"(INJECTED)" in command.held("log")
-        claim(f"begin, {call} failing", answer, 2 if failed else 0)
-        claim_held(f"the file of begin, {call} failing", command, "new", None if failed else begun(b"u"))
-        failures += failed
-        if not failed:
+def made(command, words, *options):
+    """An answer of a command that makes the file `new`, with calls that fail; whether one did; and what is new in the folder."""
+    before = sorted(os.listdir(command.folder))
+    tracer = ["strace", "-f", "-o", "log", "-e", "trace=" + ",".join(option.split(":")[0] for option in options)]
+    for option in options:
+        tracer += ["-e", "inject=" + option]
+    answer = command.run(*words, before=tracer)
+    return answer, b"(INJECTED)" in command.held("log"), sorted(set(os.listdir(command.folder)) - set(before))
+
+
+def failing_new_file(command):
+    """A new file is there whole, or nothing of it is."""
+    command.put("film", INSIDE.film)
+    command.put("log", b"")
+    for words, content in [(("begin", "new", "u"), begun(b"u")), (("get", "film", "0", "4", "--output", "new"), b"abcd")]:
+        failures = 0
+        for call in ("pwrite64", "fsync", "fchmod", "renameat2"):
+            answer, failed, new = made(command, words, f"{call}:error=ENOSPC:when=1")
+            claim(f"{words}, {call} failing", answer, 2)
+            expect(f"the folder after {words}, {call} failing", (failed, new), (True, []))
+            failures += failed
+        expect(f"calls of {words} that fail", failures, 4)
+        for options in [["fsync:error=EIO:when=2"], ["renameat2:error=EINVAL:when=1"], ["renameat2:error=ENOSYS:when=1"]]:
+            answer, failed, new = made(command, words, *options)
+            claim(f"{words} in another way, {options}", answer, 0)
+            expect(f"the folder after {words}, {options}", (failed, new), (True, ["new"]))
+            claim_held(f"the file of {words}, {options}", command, "new", content)
             command.remove("new")
-    expect("a call of begin that fails", failures > 0)
+        answer, failed, new = made(command, words, "fsync:error=EIO:when=2", "syncfs:error=EIO:when=1")
+        claim(f"{words}, which is not on the disk", answer, 2)
+        expect(f"the folder after {words}, which is not on the disk", (failed, new), (True, []))
+
+
+def reading_only(command):
+    """A film that is read is mapped to be read alone, and a line on standard error is written at once."""
+    command.put("film", INSIDE.film)
+    command.put("spoiled", INSIDE.film[:-1])
+    for words in [("map", "film"), ("boxes", "film"), ("rows", "film"), ("get", "film", "0", "4"), ("map", "spoiled")]:
+        answer = command.run(*words, before=["strace", "-f", "-y", "-o", "log", "-e", "trace=mmap,write"])
+        lines = command.held("log").decode("ascii", "replace").splitlines()
+        mapped = [line for line in lines if "mmap(" in line and os.path.realpath(command.path(words[1])) + ">" in line]
+        expect(f"how {words} maps", (len(mapped), [line for line in mapped if "PROT_WRITE" in line]), (1, []))
+        expect(f"lines that {words} writes", len([line for line in lines if re.search(r"write\(2<", line)]), answer.err.count(b"\n"))
 
 
 def check(command):
@@ -193,4 +223,5 @@ def check(command):
         for case in (INSIDE, OUTSIDE):
             for part in (order, failing, failing_to_cut):
                 part(command, case)
-        failing_begin(command)
+        failing_new_file(command)
+        reading_only(command)

@@ -140,6 +140,8 @@ def absent(command):
     claim_failed("begin below a file, film/new", command, "begin", "film/new", "u")
     for given in reading_words("absent\n\x1b[2J"):
         claim(f"a name of two lines, {given}", command.run(*given), 2)
+    shown = rb"paff: absent\x9b2J\xc2\x9b\xff\x7f: No such file or directory" + b"\n"
+    claim("a name with bytes of no ASCII", command.run("map", b"absent\x9b2J\xc2\x9b\xff\x7f"), 2, err=shown)
     claim("begin with an empty name", command.run("begin", "", "u"), 2)
     claim("map with an empty name", command.run("map", ""), 2)
     for kind in ("--good", "--damaged"):

@@ -2,6 +2,9 @@
 
 passed = failed = 0
 
+# Whether a check ends at the first thing that is not so.
+end_at_first = False
+
 
 def expect(name, found, wanted=True):
     global passed, failed
@@ -10,6 +13,8 @@ def expect(name, found, wanted=True):
     else:
         failed += 1
         print(f"FAILED {name}: found {found!r}, wanted {wanted!r}")
+        if end_at_first:
+            raise SystemExit(1)
 
 
 def claims():
