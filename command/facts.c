@@ -42,7 +42,7 @@ void gather(struct facts *facts, const char *name)
     facts->boxes = boxes_of(facts->held.bytes);
     facts->refusal = read_tables(facts->held.bytes);
     if (facts->refusal == 0 || facts->refusal == VRAZHUPA_NO_SEGMENT) {
-        facts->headed = heading_of(&facts->held, name, &facts->heading);
+        facts->headed = heading_of(facts->held.bytes, &facts->heading);
     }
     if (facts->refusal == 0) {
         facts->segments = tables.segment_count;

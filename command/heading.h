@@ -13,7 +13,7 @@ struct heading {
     uint64_t mime[2];
 };
 
-/* The heading of an accepted file, or of one that has no segment yet; false where it cannot be told. */
-bool heading_of(const struct held *held, const char *name, struct heading *heading);
+/* The heading of a file; false where it is refused. */
+bool heading_of(struct bytes file, struct heading *heading);
 
 #endif
