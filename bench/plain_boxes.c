@@ -1,8 +1,9 @@
-/* Writes the list of the boxes of a file, and where their framing breaks off the line of its refusal, as text into a lent buffer. */
+/* Writes the list of the boxes of a file, and where and why their framing breaks off, as text into a lent buffer. */
 #include "plain.h"
 #include "plain_text.h"
 
-/* A line is no longer than two numbers of ten digits, a type and a user type in hexadecimal, their tabs and the line's end; so is that of a refusal. */
+/* A line is no longer than two numbers of ten digits, a type and a user type in hexadecimal, their tabs and the line's
+   end; so is that of a fault or of a refusal. */
 enum { LONGEST_TYPE = 4 * 4, LONGEST_LINE = 11 + 11 + LONGEST_TYPE + 1 + 2 * USER_TYPE + 1, LONGEST_TEXT = (MOST_BOXES + 1) * LONGEST_LINE };
 
 static uint8_t *put_hex(uint8_t *at, uint8_t byte)
@@ -40,31 +41,32 @@ static uint8_t *put_box(uint8_t *at, const uint8_t *file, const struct box *box)
     return at;
 }
 
-/* Writes the lines of the boxes up to the first fault; `*at` is where the next line goes. */
-static enum refusal put_boxes(uint8_t **at, const uint8_t *file, size_t file_length)
+/* Writes the lines of the boxes up to the first fault, and then its place and its number. */
+static uint8_t *put_boxes(uint8_t *at, const uint8_t *file, size_t file_length)
 {
     struct container in = {0, (uint32_t)file_length, 0};
 
-    if (file_length > VRAZHUPA_FILE)
-        return FILE_OVER_LIMIT;
     while (in.place < in.end) {
         struct box box;
         enum refusal refusal = next_box(file, &in, &box);
         if (refusal != ACCEPTED)
-            return refusal;
-        *at = put_box(*at, file, &box);
+            return put_number(put_number(at, in.place, '\t'), refusal, '\n');
+        at = put_box(at, file, &box);
     }
-    return ACCEPTED;
+    return at;
 }
 
 uint64_t vrazhupa_boxes(const uint8_t *file, size_t file_length, uint64_t most, uint8_t *buffer, size_t buffer_length, uint64_t told[1])
 {
-    uint8_t text[LONGEST_TEXT], *end = text;
-    enum refusal refusal = file_length > most ? INPUT_OVER_LIMIT : put_boxes(&end, file, file_length);
+    uint8_t text[LONGEST_TEXT], *end;
     size_t length;
 
-    if (refusal != ACCEPTED)
-        end = put_refusal(end, refusal);
+    if (file_length > most)
+        end = put_refusal(text, INPUT_OVER_LIMIT);
+    else if (file_length > VRAZHUPA_FILE)
+        end = put_refusal(text, FILE_OVER_LIMIT);
+    else
+        end = put_boxes(text, file, file_length);
     length = (size_t)(end - text);
     if (buffer_length < length)
         return BUFFER_TOO_SHORT;

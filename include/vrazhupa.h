@@ -125,8 +125,10 @@ uint64_t vrazhupa_map(const uint8_t *file, size_t file_length, uint64_t most, ui
 uint64_t vrazhupa_missmap(const uint8_t *file, size_t file_length, uint64_t most, uint8_t *buffer, size_t buffer_length, uint64_t told[1]);
 
 /* Writes the list of the top-level boxes of a file into the buffer as the program `boxlist` prints it: of each its place, its size and its type, and of a `uuid` box
-   its user type, and after the first fault of their framing, 2 to 6, the line of that refusal. That line is the whole text where the file has more than `most` bytes,
-   which are 65,536 for the program (27), or over its limit (1). told: how many bytes, 0 for an empty file. Refuses with 33 where the buffer is too short. */
+   its user type. Where their framing has a fault, the last line has its place and its number, 2 to 6, and no third
+   field. Where the file has more than `most` bytes, which are 65,536 for the program, or is over its limit, the line of
+   refusal 27 or 1 is the whole text. told: how many bytes, 0 for an empty file. Refuses with 33 where the buffer is too
+   short. */
 uint64_t vrazhupa_boxes(const uint8_t *file, size_t file_length, uint64_t most, uint8_t *buffer, size_t buffer_length, uint64_t told[1]);
 
 /* Begins a file in the buffer, a mixed one (brand `pmff`) or one with all its data in `pdat` (brand `paff`). told: its length. Refuses with 34, 1 or 33. */

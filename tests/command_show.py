@@ -197,8 +197,9 @@ def vendors(command):
             (b"\0", 2), (sized(0) + between, 3), (sized(23, b"uuid") + one, 4), (sized(20, b"uuid") + one[:12], 4), (sized_large(31, b"uuid") + one, 4),
             (sized(24, b"uuid") + one[:15], 5), (sized_large(32, b"uuid"), 5), (506 * box(b"free"), 6)]:
         command.put("film", film + between + tail)
-        more = b"".join(b"%d\t8\tfree\n" % (191 + 8 * at) for at in range(505)) if number == 6 else b""
-        claim(f"boxes up to {number}", command.run("boxes", "film"), 1, front + listed + more + b"refused\t%d\n" % number)
+        more = 505 if number == 6 else 0
+        free = b"".join(b"%d\t8\tfree\n" % (191 + 8 * at) for at in range(more))
+        claim(f"boxes up to {number}", command.run("boxes", "film"), 1, front + listed + free + b"%d\t%d\n" % (191 + 8 * more, number))
         claim(f"a map refused with {number}", command.run("map", "film"), 1, b"refused\t%d\n" % number)
     command.put("film", box(b"free") + box(b"pfil", b"\0"))
     claim("boxes of what is no film", command.run("boxes", "film"), 0, b"0\t8\tfree\n8\t9\tpfil\n")

@@ -134,9 +134,9 @@ def answers(record):
 # The command.
 
 def refusal_in(text):
-    """The number in the line of a refusal, which is the last one of a text; 0 where there is none."""
-    last = text[text.rfind(b"\n", 0, -1) + 1:].split()
-    return int(last[1]) if last[:1] == [b"refused"] else 0
+    """The number in the line of a refusal or framing error, the last of a text and alone of two fields; else 0."""
+    last = text[text.rfind(b"\n", 0, -1) + 1:].split(b"\t")
+    return int(last[1]) if len(last) == 2 else 0
 
 
 def ranges_in(text, word):

@@ -901,14 +901,15 @@ def shown_type(kind):
 
 
 def boxes_text(data, most=LIMITS["program input"]):
-    """What the program writes: a line for each box of the file, and one for the first fault of their framing."""
-    text = b""
+    """What the program writes: a line for each box of the file, and place and number of the first framing error."""
+    if len(data) > most or len(data) > LIMITS["file"]:
+        return line("refused", INPUT_OVER_LIMIT if len(data) > most else FILE_OVER_LIMIT)
+    text, place = b"", 0
     try:
-        refuse_if(len(data) > most, INPUT_OVER_LIMIT)
-        refuse_if(len(data) > LIMITS["file"], FILE_OVER_LIMIT)
         for box in framed(data, 0, len(data)):
             vendor = [box.user_type.hex()] if box.user_type else []
             text += line(box.place, box.end - box.place, shown_type(box.kind), *vendor)
+            place = box.end
     except Refused as refusal:
-        text += line("refused", refusal.number)
+        text += line(place, refusal.number)
     return text

@@ -317,7 +317,7 @@ def check_vendor_boxes():
 
 
 def check_boxes_text():
-    """By hand: place, size, type and user type, and where the framing breaks off the number."""
+    """By hand: place, size, type and user type, and where the framing breaks off its place and the number."""
     begun_lines = b"0\t20\tftyp\n20\t35\tpfil\n"
     expect("boxes of nothing", model.boxes_text(b""), b"")
     expect("boxes of a file begun", model.boxes_text(begun()), begun_lines)
@@ -330,17 +330,17 @@ def check_boxes_text():
     free = box(b"free")
     for tail, number in [
             (b"\0", 2), (bytes(8) + free, 3), (bytes([0, 0, 0, 20]) + b"uuid" + bytes(12) + free, 4), (bytes([0, 0, 0, 24]) + b"uuid" + free, 5)]:
-        expect(f"boxes before {number}", model.boxes_text(begun() + tail), begun_lines + b"refused\t%d\n" % number)
+        expect(f"boxes before {number}", model.boxes_text(begun() + tail), begun_lines + b"55\t%d\n" % number)
     lines = b"".join(b"%d\t8\tfree\n" % (8 * at) for at in range(512))
     expect("512 boxes listed", model.boxes_text(512 * free), lines)
     for name, more in [("513th box", free), ("513th box cut short", b"\0")]:
-        expect(f"{name} listed", model.boxes_text(512 * free + more), lines + b"refused\t6\n")
-    expect("no other refusal", model.boxes_text(box(b"pfil", b"\0") + box(b"ftyp")), b"0\t9\tpfil\n9\t8\tftyp\n")
+        expect(f"{name} listed", model.boxes_text(512 * free + more), lines + b"4096\t6\n")
+    expect("no other fault", model.boxes_text(box(b"pfil", b"\0") + box(b"ftyp")), b"0\t9\tpfil\n9\t8\tftyp\n")
 
 
 def check_boxes_limits():
     expect("boxes of an input over its limit", model.boxes_text(bytes(65_537)), b"refused\t27\n")
-    expect("boxes of an input at its limit", model.boxes_text(bytes(65_536)), b"refused\t3\n")
+    expect("boxes of an input at its limit", model.boxes_text(bytes(65_536)), b"0\t3\n")
     expect("boxes of 55 bytes of 54", model.boxes_text(begun(), 54), b"refused\t27\n")
     expect("boxes of 55 bytes of 55", model.boxes_text(begun(), 55), b"0\t20\tftyp\n20\t35\tpfil\n")
     over = bytes(1_073_741_825)

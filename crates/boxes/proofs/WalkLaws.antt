@@ -29,7 +29,8 @@ onward s w = walked (w .container) s (w .end .0) (w .left) (w .at .0)
 abbrev pub ahead : List ℕ → Walk → Answer (List Box)
 ahead s w = boxesFrom (w .container) s (w .end .0) (w .left) (w .at .0)
 
--- the same by the walk's step: a fault where it stands, the container's end, or a box and what the walk after it has before it
+-- the same by the walk's step: a fault where it stands, the container's end, or a box and what the walk after it has
+-- before it
 abbrev pub stepping : List ℕ → Walk → Answer (Option (Box × Walk)) → Walked
 stepping s w (refused n) = broken (w .at .0) n
 stepping s w (given none) = ended

@@ -1,4 +1,4 @@
--- Document 01, "within the framing of one container .. the first fault in file order counts", as a sentence about a container's bytes.
+-- Document 01, "within the framing of one container .. the first fault in file order counts", as a sentence.
 use Prim.Native.Nat.{ℕ, _<_}
 use mathlib.Core.List.{List, [], _∷_}
 use mathlib.Core.Logic.{_⊎_}
@@ -13,7 +13,7 @@ abbrev pub Follow : Container → List ℕ → ℕ → ℕ → List Box → ℕ 
 Follow c s end from [] to = from ≡ to
 Follow c s end from (b ∷ bs) to = (from < end) × (header c s from end ≡ given b) × Follow c s end (b .end) bs to
 
--- the boxes of a container that may hold so many, and behind them its first fault: a header that is wrong, or a box too many
+-- boxes of a container that may hold so many, and behind them its first fault: a wrong header, or a box too many
 pub record FirstFault (c : Container) (s : List ℕ) (start end most : ℕ) (bs : List Box) (x : Fault) : Type 0 where
   pub before : Follow c s end start bs (x .at)
   pub short : x .at < end

@@ -1,4 +1,4 @@
--- Document 01, "Framing" and refusals 2 to 6: a box header, and the boxes of one container up to its end or its first fault.
+-- Document 01, "Framing" and refusals 2 to 6: a box header, and the boxes of one container up to its first fault.
 use Prim.Native.Nat.{ℕ, zero, suc, _+_}
 use mathlib.Core.Bool.{true, false, not}
 use mathlib.Core.List.{List, [], _∷_, _++_}
@@ -43,8 +43,7 @@ large s at end = do
   _ ← hold 2 (leb (at + 16) end)
   sized s at end 16 (number s (at + 8) 8)
 
--- a 32-bit size, then the type; size 1 means that a 64-bit size follows. A header knows the container that it stands in;
--- all containers are framed alike
+-- a 32-bit size, then the type; size 1 means that a 64-bit size follows. All containers are framed alike
 unfoldable pub header : Container → List ℕ → ℕ → ℕ → Answer Box
 header c s at end = do
   _ ← hold 2 (leb (at + 8) end)

@@ -1,4 +1,4 @@
--- Laws of the list's lines: the boxes of a walk over the file have their lines one after another, and a fault has that of its refusal.
+-- Laws of the list's lines: one for each box of the walk over the file, and behind them that of a fault.
 use Prim.Native.Nat.{ℕ, _+_, _-_, _*_, _≤_}
 use mathlib.Core.List.{List, [], _++_, append-nil, append-assoc}
 use mathlib.Core.Option.{none, some}
@@ -17,7 +17,6 @@ use Rattle.filling.proofs.RowLaws.{put-none}
 use Rattle.filling.proofs.PutsLaws.{puts-same, puts-more}
 use Rattle.numerals.specs.declared.place.Place.{Place}
 use Rattle.partial.specs.BoxList.{each, boxLine, faultLine, walkLines}
-use Rattle.partial.specs.Map.{refusedLine}
 use Rattle.partial.proofs.Reading.BoxListLaws.{lines-followed}
 
 -- the lines of the walk over a file
@@ -74,7 +73,7 @@ module _ {f s t : List ℕ} {next : ℕ} {w : Walk} (m : Midway f s t next w) wh
   unfolding walkLines each
   midway-end step = puts-same (sym (goes-on ∙ rw step (append-nil (m .done)))) (m .put)
 
-  pub midway-fault : {n : ℕ} → stepped f w ≡ refused n → {t′ : List ℕ} {next′ : ℕ} → Puts t next (refusedLine n) t′ next′
+  pub midway-fault : {n : ℕ} → stepped f w ≡ refused n → {t′ : List ℕ} {next′ : ℕ} → Puts t next (faultLine (record { at = w .at .0; number = n })) t′ next′
       → Puts s 0 (linesOf f) t′ next′
-  unfolding walkLines each faultLine
+  unfolding walkLines each
   midway-fault step puts = puts-same (sym (goes-on ∙ rw step)) (puts-more (m .put) puts)

@@ -24,8 +24,9 @@ fn put_list(buffer: &mut [u8], file: &[u8], most: u64) -> u64
     put_boxes(buffer, file)
 }
 
-// Writes a line for each top-level box of a file, and after the first framing fault the line of its refusal; that of 27 alone for a file of more bytes than
-// the caller takes. Answers how long it is. Where the buffer is too short for it, it is as it was.
+// Writes a line for each top-level box of a file and, where there is one, that of the first framing error; for a file
+// over its limit, or of more bytes than the caller takes, the line of its refusal alone. Answers how long the text is.
+// Where the buffer is too short for it, it is as it was.
 pub fn boxes(file: &[u8], most: u64, buffer: &mut [u8]) -> Written
     ensures { λ r. ⌜ Writes (boxesText most (now (file .entry))) (now (buffer .entry)) (now (buffer .exit)) r ⌝ }
 {

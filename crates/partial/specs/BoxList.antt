@@ -1,4 +1,5 @@
--- Document 02, [1]: the list of a file's top-level boxes, with whose a vendor's box is, as the bytes that a program prints.
+-- Document 02, [1] and [9]: the list of a file's top-level boxes, with whose a vendor's box is, and its first framing
+-- error, as the bytes that a program prints.
 use Prim.Native.Nat.{ℕ, _+_, _-_}
 use mathlib.Core.Bool.{Bool, true, false, _&&_}
 use mathlib.Core.List.{List, [], _∷_, _++_}
@@ -47,15 +48,15 @@ boxLine f b =
     ∷ each shown (typeBytes f b)
     ∷ elim (eqb (b .kind) uuid) [ true ↦ each hex (userBytes f b) ∷ [] | false ↦ [] ])
 
--- the line of a framing fault is that of its refusal
+-- of a framing error its place and its number
 unfoldable pub faultLine : Fault → List ℕ
-faultLine x = refusedLine (x .number)
+faultLine x = line (decimal (x .at)) (decimal (x .number) ∷ [])
 
--- a line for each box that a walk over a file met, and behind them that of the fault, if it met one
+-- a line for each box that a walk over a file met, and behind them that of the framing error, if it met one
 unfoldable pub walkLines : List ℕ → Walked → List ℕ
 walkLines f w = each (boxLine f) (w .boxes) ++ elim (w .fault) [ none ↦ [] | some x ↦ faultLine x ]
 
--- what a program prints that takes an input of at most so many bytes; 27 and 1 come first
+-- what a program prints that takes an input of at most so many bytes: the single line of 27 or 1, or those of the walk
 unfoldable pub boxesText : ℕ → List ℕ → List ℕ
 boxesText most input =
     elim (hold 27 (leb (length input) most) >>= λ _. hold 1 (leb (length input) fileLimit)) [

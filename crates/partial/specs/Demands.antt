@@ -10,6 +10,7 @@ use mathlib.Core.Path.{_≡_}
 use lib.ListN.{length, getD}
 use lib.Dec.{T, leb, eqb}
 use Rattle.boxes.specs.Answer.{refused, given, _>>=_, hold}
+use Rattle.boxes.specs.Faults.{FirstFault}
 use Rattle.boxes.specs.Framing.{Box, boxLimit, boxesIn}
 use Rattle.boxes.specs.Kinds.{pseg, pdat, is, those, boxAt}
 use Rattle.boxes.specs.declared.kinds.Container.the-variants.{File}
@@ -26,7 +27,7 @@ use Rattle.partial.specs.Ranges.{had, rangesOf, ofClass, hadList, missin
 use Rattle.partial.specs.Naming.{damagedAt, namedRanges, heldList, lostList}
 use Rattle.partial.specs.Memory.{after, written, textWritten}
 use Rattle.partial.specs.Tables.{tabled, listed, totals, bytesIn, servedPart, asked, textOf}
-use Rattle.partial.specs.Map.{refusedLine, textFor}
+use Rattle.partial.specs.Map.{decimal, line, refusedLine, textFor}
 use Rattle.partial.specs.BoxList.{each, boxLine, boxesText}
 use Rattle.partial.specs.Begin.{beginning, isText, begun}
 use Rattle.partial.specs.Addition.{Addition, items, listRight, dataRight, outsideRight, sayable}
@@ -244,19 +245,22 @@ pub record BoxesPrinted (most : ℕ) (input : List ℕ) : Type 0 where
   -- 27 and 1 come first
   pub overLong : most < length input → boxesText most input ≡ refusedLine 27
   pub overLimit : length input ≤ most → fileLimit < length input → boxesText most input ≡ refusedLine 1
-  -- a line for each box, and after the first framing fault that of its refusal, the last one
+  -- a line for each box
   pub whole :
       (bs : List Box)
       → length input ≤ most
       → length input ≤ fileLimit
       → boxesIn File input 0 (length input) ≡ given bs
       → boxesText most input ≡ each (boxLine input) bs
+  -- document 02, [9]: of a framing error its place, a tab and its number, behind a line for each box before it
   pub fault :
       (n : ℕ)
       → length input ≤ most
       → length input ≤ fileLimit
       → boxesIn File input 0 (length input) ≡ refused n
-      → (before : List ℕ) × (boxesText most input ≡ before ++ refusedLine n)
+      → (bs : List Box) × (at : ℕ)
+      × FirstFault File input 0 (length input) boxLimit bs (record { at = at; number = n })
+      × (boxesText most input ≡ each (boxLine input) bs ++ line (decimal at) (decimal n ∷ []))
 
 -- demand 2: in an accepted file each source byte is served or listed missing as document 01's rules say; a segment our writer adds
 -- reads back with the same chunks and bytes; writing again what was read from our writer's file gives that file

@@ -392,13 +392,22 @@ largeVendorForms =
       paper = pos 16 ∷ pos 32 ∷ pos 32 ∷ pos 4 ∷ pos 5 ∷ pos 2 ∷ [];
     }
 
--- document 02, [1]: the list of the boxes of a file with a vendor's box, a box whose type does not print, and a cut header
+-- document 02, [1] and [9]: the boxes of a file with a vendor's box, a type that does not print, and a cut header
 abbrev boxes3 : Example
 boxes3 =
     let user : List ℕ = 0x00 ∷ 0x01 ∷ 0x23 ∷ 0x45 ∷ 0x67 ∷ 0x89 ∷ 0xab ∷ 0xcd ∷ 0xef ∷ 0x10 ∷ 0x32 ∷ 0x54 ∷ 0x76 ∷ 0x98 ∷ 0xba ∷ 0xdc ∷ [] in
     record {
       defined = map pos (boxesText 100 (vendor 26 ++ (user ++ (7 ∷ 7 ∷ (bytesOf 4 8 ++ (0x09 ∷ 0x20 ∷ 0x7e ∷ 0x7f ∷ 0 ∷ 0 ∷ 0 ∷ []))))));
-      paper = map pos (ascii "0\t26\tuuid\t000123456789abcdef1032547698badc\n26\t8\t\\x09 ~\\x7f\nrefused\t2\n");
+      paper = map pos (ascii "0\t26\tuuid\t000123456789abcdef1032547698badc\n26\t8\t\\x09 ~\\x7f\n34\t2\n");
+    }
+
+-- the place of the first framing error is that of its box: behind other boxes, and at the file's start
+abbrev brokenBoxes : Example
+brokenBoxes =
+    let free : ℕ → List ℕ = λ size. bytesOf 4 size ++ ascii "free" in
+    record {
+      defined = map pos (boxesText 100 (free 8 ++ (free 8 ++ (free 7 ++ free 8))) ++ boxesText 100 (free 9));
+      paper = map pos (ascii "0\t8\tfree\n8\t8\tfree\n16\t4\n" ++ ascii "0\t5\n");
     }
 
 -- document 02, [2]: what begin writes with the brand `pmff`, major and the one compatible; the rest is as in P8's file
@@ -600,7 +609,7 @@ unfoldable pub table : List Example
 table =
     P1 ∷ P2 ∷ P3 ∷ P4 ∷ P5 ∷ P6 ∷ P7 ∷ P8 ∷ P9 ∷ P10 ∷ P11 ∷ P12 ∷
     missmap10 ∷ missmap11 ∷ rowsFit ∷ rowsShort ∷ ahead ∷ overHeader ∷ damagedBytes ∷ openLast ∷ sizesDiffer ∷ sizesAgree ∷ otherFlags ∷ firstTexts ∷
-    vendorForms ∷ largeVendorForms ∷ boxes3 ∷
+    vendorForms ∷ largeVendorForms ∷ boxes3 ∷ brokenBoxes ∷
     begunMixed ∷ wholeServed ∷ notWhole ∷ byBrand ∷ storedOutside ∷ outsideWrong ∷
     elsewhereRead ∷ elsewhereMissing ∷ elsewhereStored ∷ elsewhereWrong ∷
     highestRead ∷ highestAdded ∷ bothForms ∷ writersForm ∷ servedFar ∷

@@ -6,7 +6,7 @@ use borrow.Author.Tests.{le-leb, lt-leb}
 use lib.ListN.{length}
 use Rattle.boxes.specs.Framing.{Box, followed, Walked, walkedIn, boxesIn}
 use Rattle.boxes.specs.declared.kinds.Container.the-variants.{File}
-use Rattle.boxes.proofs.FaultLaws.{no-fault, fault-met}
+use Rattle.boxes.proofs.FaultLaws.{no-fault, fault-met, fault-stands}
 use Rattle.partial.specs.Limits.{fileLimit}
 use Rattle.partial.specs.Demands.{BoxesPrinted}
 use Rattle.partial.specs.BoxList.{each, boxLine, faultLine, walkLines, boxesText}
@@ -28,5 +28,9 @@ boxes-printed most input =
       overLong = λ over. rw (boxesText, lt-leb (length input) most over);
       overLimit = λ small over. rw (boxesText, le-leb (length input) most small, lt-leb (length input) fileLimit over);
       whole = λ bs small short e. text-lines most input small short ∙ ap (walkLines input) (no-fault _ e) ∙ append-nil (each (boxLine input) bs);
-      fault = λ n small short e. (each (boxLine input) (walkedIn File input 0 (length input) .boxes), text-lines most input small short ∙ ap (walkLines input) (fault-met _ e .1));
+      fault = λ n small short e.
+          let walk = walkedIn File input 0 (length input) in
+          let (at, met) = fault-met walk e in
+          let stands = fault-stands File input 0 (length input) (record { at = at; number = n }) (ap (λ w. w .fault) met) in
+          (walk .boxes, at, stands, text-lines most input small short ∙ ap (walkLines input) met);
     }

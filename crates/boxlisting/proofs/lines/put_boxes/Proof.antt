@@ -3,7 +3,6 @@ use mathlib.Core.Path.{_≡_, refl, _∙_}
 use native.Mathlib.Omega.{arith}
 use lib.ListN.{length}
 use Rattle.boxes.proofs.WalkLaws.{next-box, no-more, a-fault, fewer}
-use Rattle.texts.proofs.TextLaws.{piece-puts}
 use Rattle.boxlisting.proofs.ListLaws.{Midway, midway-none, midway-more, midway-end, midway-fault, framed-read}
 use borrow.Author.Needs.{needs}
 use Rattle.boxlisting.proofs.lines.put_boxes.Statement.{statement}
@@ -29,7 +28,7 @@ enum-known-b c = search needs
 
 put-box-requires : tie.Need-put-box-requires Inv-loop μ-loop
 put-box-requires c κs =
-    let m = c .before .before .before .before .before .loop .inv .1 in
+    let m = c .before .before .before .before .before .before .loop .inv .1 in
     let step = next-box (c .before .before .before .before .step .ensures) (c .before .before .b .given .1) in
     (omega (arith, m .low), framed-read m _ step)
 
@@ -38,7 +37,7 @@ loop-less c = fewer _ _ (next-box (c .before .before .before .before .before .be
 
 loop-again : tie.Need-loop-again Inv-loop μ-loop
 loop-again c =
-    let inv = c .before .before .before .before .before .before .before .before .loop .inv in
+    let inv = c .before .before .before .before .before .before .before .before .before .loop .inv in
     let step = next-box (c .before .before .before .before .before .before .before .step .ensures) (c .before .before .before .before .before .b .given .1) in
     let (puts, few) = c .before .before .put-box .ensures in
     (puts .put .long ∙ inv .0, midway-more (inv .1) step puts few)
@@ -47,28 +46,24 @@ enum-told : tie.Need-enum-told Inv-loop μ-loop
 enum-told c = search needs
 
 same-length : tie.Need-same-length Inv-loop μ-loop
-same-length c = c .before .before .before .loop .inv .0
+same-length c = c .before .before .before .before .loop .inv .0
 
 returns : tie.Need-returns Inv-loop μ-loop
-returns c = midway-end (c .before .before .before .loop .inv .1) (no-more (c .before .before .step .ensures) (c .enum-told .given .1))
+returns c = midway-end (c .before .before .before .before .loop .inv .1) (no-more (c .before .before .step .ensures) (c .enum-told .given .1))
 
 enum-known-n : tie.Need-enum-known-n Inv-loop μ-loop
 enum-known-n c = search needs
 
-put-refused-requires : tie.Need-put-refused-requires Inv-loop μ-loop
-put-refused-requires c κs = search needs
+put-fault-requires : tie.Need-put-fault-requires Inv-loop μ-loop
+put-fault-requires c κs = omega (arith, c .before .before .before .before .before .before .loop .inv .1 .low)
 
 same-length-2 : tie.Need-same-length-2 Inv-loop μ-loop
-same-length-2 c =
-    let m = c .before .before .before .before .before .before .before .before .loop .inv in
-    let (piece, few) = c .before .before .put-refused .ensures in
-    piece-puts (omega (arith, m .1 .low)) piece .put .long ∙ m .0
+same-length-2 c = c .before .before .put-fault .ensures .put .long ∙ c .before .before .before .before .before .before .before .before .before .loop .inv .0
 
 returns-2 : tie.Need-returns-2 Inv-loop μ-loop
 returns-2 c =
-    let m = c .before .before .before .before .before .before .before .before .loop .inv .1 in
-    let (piece, few) = c .before .before .put-refused .ensures in
-    midway-fault m (a-fault (c .before .before .before .before .before .before .before .step .ensures) (c .before .before .before .before .before .n .given .1)) (piece-puts (omega (arith, m .low)) piece)
+    let m = c .before .before .before .before .before .before .before .before .before .loop .inv .1 in
+    midway-fault m (a-fault (c .before .before .before .before .before .before .before .step .ensures) (c .before .before .before .before .before .n .given .1)) (c .before .before .put-fault .ensures)
 
 pub put-boxes-spec : {M : Type 1} → statement M
 put-boxes-spec =
@@ -87,6 +82,6 @@ put-boxes-spec =
     same-length
     returns
     enum-known-n
-    put-refused-requires
+    put-fault-requires
     same-length-2
     returns-2)

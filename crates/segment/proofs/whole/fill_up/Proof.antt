@@ -1,5 +1,5 @@
--- `segment::whole::fill_up` meets its contract. The loop's invariant: the boxes before the walk are allowed up to the end where those from the first
--- are.
+-- `segment::whole::fill_up` meets its contract. The loop's invariant: the boxes that the walk has before it are allowed
+-- up to the end where those from the first are.
 use mathlib.Core.Path.{refl, sym, _∙_}
 use borrow.Author.Needs.{needs}
 use borrow.Author.Tests.{not-true, not-false}
