@@ -1,10 +1,12 @@
 """Runs the tests of the command: every subcommand, refusal and failure that a person can meet.
 
-usage: python3 tests/command.py [--first] WORDS...
+usage: python3 tests/command.py [--first GROUPS] WORDS...
 
-WORDS start the program, as target/command/paff, or qemu-x86_64 target/command/paff where the processor is no x86-64. With --first it ends at the first claim that fails.
+WORDS start the program, as target/command/paff, or qemu-x86_64 target/command/paff where the processor is no x86-64.
+With --first it begins with the named groups, parted by commas, and ends at the first claim that fails.
 """
 
+import signal
 import sys
 import tempfile
 import time
@@ -22,9 +24,9 @@ import command_write
 import expecting
 from command_run import Command
 
-GROUPS = [
-    ("usage", command_usage), ("help", command_help), ("info", command_info), ("begin and append", command_write), ("failing", command_failing),
-    ("traced", command_traced), ("killed", command_killed), ("together", command_together), ("1 GiB", command_large), ("map, boxes, rows and get", command_show)]
+GROUPS = {
+    "usage": command_usage, "help": command_help, "info": command_info, "write": command_write, "failing": command_failing, "traced": command_traced, "killed": command_killed,
+    "together": command_together, "large": command_large, "show": command_show}
 
 
 def run_group(name, group, words):
@@ -34,14 +36,23 @@ def run_group(name, group, words):
     print(f"{name}: {expecting.claims() - before} claims in {time.monotonic() - began:.1f} s", flush=True)
 
 
+def heed_signals():
+    """A shell that runs this in the background lets it ignore signals, which the command would inherit."""
+    for number in (signal.SIGHUP, signal.SIGINT, signal.SIGQUIT):
+        if signal.getsignal(number) == signal.SIG_IGN:
+            signal.signal(number, signal.SIG_DFL)
+
+
 def main():
+    heed_signals()
     expecting.end_at_first = sys.argv[1:2] == ["--first"]
-    words = sys.argv[2:] if expecting.end_at_first else sys.argv[1:]
+    first, words = (sys.argv[2:3], sys.argv[3:]) if expecting.end_at_first else ([""], sys.argv[1:])
     if not words:
         print(__doc__.strip(), file=sys.stderr)
         return 2
-    for name, group in GROUPS:
-        run_group(name, group, words)
+    named = [name for name in first[0].split(",") if name]
+    for name in named + [name for name in GROUPS if name not in named]:
+        run_group(name, GROUPS[name], words)
     print(f"{expecting.claims()} claims, {expecting.failed} failed")
     return 1 if expecting.failed else 0
 

@@ -1,10 +1,12 @@
-"""Changes one token of command/*.c at a time, and prints the changes that no test of the command sees. It is not in the gate: it takes an hour or two.
+"""Changes one token of command/*.c at a time, and prints the changes that no test of the command sees. It is not in the
+gate: it takes some hours.
 
 usage: python3 tests/command_changes.py [--only NAME]... [--native] [--list]
 
-Each change is built over the plain C program for this processor, and tried by tests/command.py up to the first claim that fails; one that all claims let through is
-built again under both sanitizers, unless --native is given. A change that does not compile is counted by itself. --only takes the changes of one file, or the one of a
-number, and may be given again; --list prints the changes.
+Each change is built over the plain C program for this processor, and tried by tests/command.py up to the first claim
+that fails; one that all claims let through is built again under both sanitizers, unless --native is given. A change that
+does not compile is counted by itself. --only takes the changes of one file, or the one of a number, and may be given
+again; --list prints the changes.
 """
 
 import argparse
@@ -22,6 +24,12 @@ FLAGS = ["-std=c11", "-D_GNU_SOURCE", "-O1", "-w", "-Iinclude", "-Icommand"]
 SANITIZED = ["-fsanitize=address,undefined", "-fno-sanitize-recover=all"]
 LONGEST = 600
 
+# The groups of tests/command.py that see most changes of a file, which are tried first.
+NEAREST = {
+    "addition.c": "usage,write", "append.c": "traced,large,write,killed", "bar.c": "info", "begin.c": "write", "facts.c": "info", "files.c": "usage,together,write", "get.c": "show,failing",
+    "heading.c": "info", "info.c": "info", "paff.c": "usage,help", "pieces.c": "usage,write", "refusals.c": "help", "say.c": "usage,failing", "show.c": "show", "tables.c": "info,write",
+    "text.c": "info,show", "times.c": "write", "words.c": "usage", "writes.c": "traced,killed,failing"}
+
 Change = namedtuple("Change", "file line old new text")
 
 # What a token is changed to; a number is made one larger.
@@ -36,15 +44,19 @@ def masked(text):
     return pattern.sub(lambda found: re.sub(r"[^\n]", " ", found[0]), text)
 
 
-def changes_in(path):
-    with open(path, encoding="utf-8") as file:
-        text = file.read()
+def text_of(file):
+    with open(os.path.join(ROOT, "command", file), encoding="utf-8") as source:
+        return source.read()
+
+
+def changes_in(file):
+    text = text_of(file)
     for found in TOKEN.finditer(masked(text)):
         old = found[0]
         new = str(int(old) + 1) if old.isdigit() else EXCHANGED.get(old)
         if new is not None:
             changed = text[:found.start()] + new + text[found.end():]
-            yield Change(os.path.basename(path), text.count("\n", 0, found.start()) + 1, old, new, changed)
+            yield Change(file, text.count("\n", 0, found.start()) + 1, old, new, changed)
 
 
 def compiled(folder, source, name, flags):
@@ -75,10 +87,10 @@ class Build:
         return program
 
 
-def seen(program):
-    """What the tests say of the program: the first claim that fails, None where none does."""
+def seen(program, file):
+    """What the tests say of the program with a changed file: the first claim that fails, None where none does."""
     env = dict(os.environ, ASAN_OPTIONS="detect_leaks=0", PYTHONDONTWRITEBYTECODE="1")
-    words = [sys.executable, os.path.join(ROOT, "tests", "command.py"), "--first", program]
+    words = [sys.executable, os.path.join(ROOT, "tests", "command.py"), "--first", NEAREST.get(file, ""), program]
     try:
         answer = subprocess.run(words, env=env, capture_output=True, timeout=LONGEST, check=False)
     except subprocess.TimeoutExpired:
@@ -92,7 +104,7 @@ def tried(change, builds):
         program = build.program(change)
         if program is None:
             return "not compiled"
-        if seen(program) is not None:
+        if seen(program, change.file) is not None:
             return "seen"
     return "left"
 
@@ -103,19 +115,23 @@ def main():
     parser.add_argument("--native", action="store_true")
     parser.add_argument("--list", action="store_true")
     given = parser.parse_args()
-    changes = [change for path in sorted(glob.glob(os.path.join(ROOT, "command", "*.c"))) for change in changes_in(path)]
+    changes = [change for path in sorted(glob.glob(os.path.join(ROOT, "command", "*.c"))) for change in changes_in(os.path.basename(path))]
     counts = {}
     with tempfile.TemporaryDirectory() as folder:
         builds = [Build(os.path.join(folder, "native"), [])]
         builds += [] if given.native else [Build(os.path.join(folder, "sanitized"), SANITIZED)]
+        unchanged = changes[0]._replace(text=text_of(changes[0].file))
+        if not given.list and tried(unchanged, builds) != "left":
+            raise SystemExit("the tests see what was not changed")
         for number, change in enumerate(changes):
             if given.only and change.file not in given.only and str(number) not in given.only:
                 continue
             answer = "listed" if given.list else tried(change, builds)
             if answer in ("left", "listed"):
                 print(f"{number}: {change.file}:{change.line}: {change.old} to {change.new or 'nothing'}: {change.text.splitlines()[change.line - 1].strip()}", flush=True)
-            counts[answer] = counts.get(answer, 0) + 1
-    print(counts)
+            file = counts.setdefault(change.file, {})
+            file[answer] = file.get(answer, 0) + 1
+    print("\n".join(f"{name}: {count}" for name, count in counts.items()))
 
 
 if __name__ == "__main__":
