@@ -138,7 +138,7 @@ def facts(name, file):
 def generated(command):
     rng = random.Random(SEED)
     files = {f"film{index}": generate.foreign_file(rng) if index % 3 else generate.spoil(rng, generate.foreign_file(rng)) for index in range(FILES)}
-    files |= {"mixed": film_of((0, [good(box(b"free"))]), brand=PMFF), "many": head() + lost_segment(0, [1] * 1_000), "empty": b""}
+    files |= {"mixed": film_of((0, [good(box(b"free"))]), brand=PMFF), "many": head() + lost_segment(0, [1] * 1_000), "empty": b"", "short": b"\0"}
     for name, file in files.items():
         command.put(name, file)
         number = 0 if number_of(file) == 12 else number_of(file)
