@@ -147,6 +147,18 @@ def data_over_the_limit(command):
     claim_measure("append of 2 TiB", command)
 
 
+def input_over_the_limit(command):
+    """Standard input that no file has room for is read up to there, and refused."""
+    file = film_of((0, [good(b"abcd")]))
+    command.put("film", file)
+    command.put("far", b"")
+    os.truncate(command.path("far"), LIMIT + 3 * BLOCK)
+    with open(command.path("far"), "rb") as far:
+        claim_refused("append of standard input over the limit", command.run("append", "film", "--offset", "0", "--good", "-", stdin=far), 1)
+        expect("no more of it is taken", far.tell(), LIMIT + 1)
+    claim_held("the film after that", command, "film", file)
+
+
 def boxes_over_the_limit(command):
     """Boxes to go outside that no file has room for: 1 by their length, and 35 where a good chunk is not whole boxes or the film not mixed."""
     file = film_of((0, [good(b"abcd")]), brand=PMFF)
@@ -163,5 +175,5 @@ def boxes_over_the_limit(command):
 
 def check(command):
     make_film(command)
-    for part in (reading, get_whole, adding, over_the_limit, data_over_the_limit, boxes_over_the_limit):
+    for part in (reading, get_whole, adding, over_the_limit, data_over_the_limit, input_over_the_limit, boxes_over_the_limit):
         part(command)

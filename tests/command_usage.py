@@ -26,6 +26,18 @@ OPTIONS = [
     "--offset 0 -- --lost 1", "--offset 0 --lost 1 -"]
 
 
+# What is said first of a wrong use, which names the word that is wrong.
+SAID = {
+    "": "no subcommand is given", "film": "not a subcommand: film", "help film": "not a subcommand: film", "help map film": "a word too many: film", "--version film": "not a subcommand: --version",
+    "map": "a word is missing", "map film other": "a word too many: other", "map --json film": "not an option: --json", "map --missing=1 film": "takes no value: --missing",
+    "get film 0": "a word is missing", "get film x 1": "not a number: x", "get film 1 x": "not a number: x", "get film --output": "no value is given: --output", "why 21": "not the number of a refusal: 21",
+    "begin --brand isom new u": "not a brand: isom", "begin --lost new u": "not an option: --lost", "append film --offset": "no value is given: --offset", "append film --lost 1": "no --offset is given",
+    "append film --offset 0": "no chunk is given", "append film --offset 0 --last --last --lost 1": "given twice: --last", "append film --offset 0 --lost 1 --time x": "not a time: x",
+    "append film --at 4": "no chunk follows: --at", "append film --offset 4 --size 6": "no chunk follows: --size", "append film --offset 4 --open --lost 1": "--open is for a segment without chunks",
+    "append film --offset 4 --size 6 --lost 6": "--size is for data: --lost", "append film --offset 4 --size 5 --good piece": "there are 6 bytes, and --size says 5: piece",
+    "append film --at 4 --lost 2 --at 5 --lost 1": "position 5 is before 6, where the chunks before it end: --at", "append film --offset 4 --good - --good -": "given twice: -"}
+
+
 def claim_usage(command, *words):
     """Status 2, nothing on standard output, and the folder as it was."""
     before = sorted(os.listdir(command.folder))
@@ -78,8 +90,9 @@ def options(command):
         claim_usage(command, *text.split())
     for text in AT_ODDS:
         claim_usage(command, "append", "film", *text.split())
-    answer = command.run("append", "film", "--offset", "4", "--size", "5", "--good", "piece")
-    expect("both sizes are told", b"there are 6 bytes, and --size says 5: piece\n" in answer.err or answer.err)
+    for text, said in SAID.items():
+        claim_usage(command, *text.split())
+        expect(f"what is said of {text}", command.run(*text.split()).err.split(b"\n")[0], b"paff: " + said.encode("ascii"))
 
 
 def values(command):
@@ -141,6 +154,7 @@ def absent(command):
     for given in reading_words("absent\n\x1b[2J"):
         claim(f"a name of two lines, {given}", command.run(*given), 2)
     shown = rb"paff: absent\x9b2J\xc2\x9b\xff\x7f: No such file or directory" + b"\n"
+    claim("a name of two words", command.run("map", "absent ~ film"), 2, err=b"paff: absent ~ film: No such file or directory\n")
     claim("a name with bytes of no ASCII", command.run("map", b"absent\x9b2J\xc2\x9b\xff\x7f"), 2, err=shown)
     claim("begin with an empty name", command.run("begin", "", "u"), 2)
     claim("map with an empty name", command.run("map", ""), 2)
