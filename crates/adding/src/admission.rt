@@ -1,11 +1,11 @@
 // Whether a file takes an addition: 35, and then 1, 6, 13, 22, 23 or 25 if the result would have it.
 use crate::counts::Counts;
-use crate::counts::sum_of;
 use crate::layout::Layout;
 use boxes::limits::BOX_LIMIT;
 use boxes::refusals::TOO_MANY_BOXES;
 use ends::sizes::gives_size;
 use numerals::order::ends_by;
+use numerals::order::sum_of;
 use outside::chunks::Outside;
 use partial::answers::Written;
 use partial::header::SegmentHeader;

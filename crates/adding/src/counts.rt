@@ -2,7 +2,8 @@
 use fields::state::ELSEWHERE;
 use fields::state::present;
 use numerals::order::larger;
-ghost use Prim.Native.Nat.{_+_, _-_, _<_, _≤_, _^_, min};
+use numerals::order::sum_of;
+ghost use Prim.Native.Nat.{_<_, _≤_, _^_};
 ghost use mathlib.Core.Bool.{not, _&&_};
 ghost use mathlib.Core.List.{List, [], _∷_, _++_};
 ghost use mathlib.Core.Path.{_≡_};
@@ -20,13 +21,6 @@ pub struct Counts {
     pub largest: u64,
     pub bytes: u64,
     pub sum: u64,
-}
-
-// The sum of two numbers, or the largest of 64 bits where it is larger.
-pub(crate) fn sum_of(a: u64, b: u64) -> u64
-    ensures { λ r. ⌜ r ≡ min (a + b) (2 ^ 64 - 1) ⌝ }
-{
-    if u64::MAX - a < b { u64::MAX } else { a + b }
 }
 
 // Whether items are right with one more: its size is not 0, and its state is one.

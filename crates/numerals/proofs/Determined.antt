@@ -8,9 +8,11 @@ use Rattle.numerals.proofs.numbers.unsigned.Reads as unsigned
 use Rattle.numerals.proofs.numbers.width_of.Reads as width-of
 use Rattle.numerals.proofs.numbers.width_of_offset.Reads as width-of-offset
 use Rattle.numerals.proofs.numbers.within.Reads as within
+use Rattle.numerals.proofs.order.between.Reads as between
 use Rattle.numerals.proofs.order.ends_by.Reads as ends-by
 use Rattle.numerals.proofs.order.larger.Reads as larger
 use Rattle.numerals.proofs.order.smaller.Reads as smaller
+use Rattle.numerals.proofs.order.sum_of.Reads as sum-of
 
 module _ {L : Type 0} {A R E : L → Type 0} (post : (κs : L) → A κs → R κs → E κs → Type 0) where
   -- a contract allows one result
@@ -64,6 +66,12 @@ smaller-result κs args x y after after′ p q = p ∙ sym q
 
 larger-result : OneResult larger.Post
 larger-result κs args x y after after′ p q = p ∙ sym q
+
+sum-of-result : OneResult sum-of.Post
+sum-of-result κs args x y after after′ p q = p ∙ sym q
+
+between-result : OneResult between.Post
+between-result κs args x y after after′ p q = p ∙ sym q
 
 ends-by-result : OneResult ends-by.Post
 ends-by-result κs args x y after after′ p q = p ∙ sym q

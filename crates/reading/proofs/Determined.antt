@@ -10,7 +10,7 @@ use Rattle.numerals.proofs.Determined.{OneResult, OneLeft}
 use Rattle.boxes.specs.Answer.{given}
 use Rattle.boxes.proofs.ToldLaws.{Tells}
 use Rattle.gathering.proofs.Determined.{OneLeftKnown}
-use Rattle.heading.specs.Facts.{factsBy}
+use Rattle.heading.specs.Facts.{partOf, factsBy}
 use Rattle.heading.proofs.Determined.{head-told}
 use Rattle.partial.specs.Answers.{readAnswer}
 use Rattle.partial.specs.Heading.{Part}
@@ -20,13 +20,16 @@ use Rattle.partial.specs.Segments.{Segment}
 use Rattle.partial.specs.Tables.{Summary, chunkRows}
 use Rattle.partial.specs.declared.answers.Read.the-variants as Read
 use Rattle.reading.specs.Judged.{Judged, judgedAnswer}
-use Rattle.reading.specs.Parts.{HandedBack}
+use Rattle.reading.specs.Parts.{HandedBack, locatedAnswer}
 use Rattle.reading.specs.declared.judging.Judgement.the-variants as Judgement
+use Rattle.reading.specs.declared.parts.Located.the-variants as Located
 use Rattle.reading.proofs.judging.earlier_of.Reads as earlier-of
 use Rattle.reading.proofs.judging.judge.Reads as judge
 use Rattle.reading.proofs.judging.judge_into.Reads as judge-into
+use Rattle.reading.proofs.parts.part_of.Reads as part-of
 use Rattle.reading.proofs.tables.read.Reads as read
 use Rattle.reading.proofs.texts.mime.Reads as mime
+use Rattle.reading.proofs.texts.text_at.Reads as text-at
 use Rattle.reading.proofs.texts.url.Reads as url
 
 -- a contract allows one value of something of the result
@@ -53,6 +56,15 @@ read-told (Read.Tables a b c d) (Read.Refused m) e = cc
 read-told (Read.Tables a b c d) (Read.Tables a′ b′ c′ d′) e =
     let same : _≡_ {A = Summary} (record { segments = a; chunks = b; described = c .0; closed = d }) (record { segments = a′; chunks = b′; described = c′ .0; closed = d′ }) = cc in
     λ i. Read.Tables (same i .segments) (same i .chunks) (record { 0 = same i .described }) (same i .closed)
+
+pub located-told : Tells locatedAnswer
+unfolding locatedAnswer
+located-told (Located.Refused n) (Located.Refused m) e = cc
+located-told (Located.Refused n) (Located.At q) e = cc
+located-told (Located.At p) (Located.Refused m) e = cc
+located-told (Located.At p) (Located.At q) e =
+    let same : partOf p ≡ partOf q = cc in
+    λ i. Located.At (record { place = record { 0 = same i .place }; size = same i .size })
 
 pub one-part : {f : List ℕ} {file : ℕ × ℕ} {part : Part} {there there′ : ℕ × ℕ} {bytes bytes′ : List ℕ} → HandedBack f file part there bytes
     → HandedBack f file part there′ bytes′
@@ -85,6 +97,12 @@ read-segments κs args x y after after′ p q = p .tables .segmentTable ∙ sym 
 
 read-chunks : OneLeft read.Post (λ κs after. now (after .1 .1 .0))
 read-chunks κs args x y after after′ p q = p .tables .chunkTable ∙ sym (q .tables .chunkTable)
+
+part-of-part : OneOf part-of.Post {X = (ℕ × ℕ) × List ℕ} (λ κs r. (ptr r, now r))
+part-of-part κs args x y after after′ p q = one-part p q
+
+text-at-result : OneResult text-at.Post
+text-at-result κs args x y after after′ p q = located-told x y (p ∙ sym q)
 
 url-part : OneOf url.Post {X = (ℕ × ℕ) × List ℕ} (λ κs r. (ptr r, now r))
 url-part κs args x y after after′ p q = one-part p q

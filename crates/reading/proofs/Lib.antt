@@ -1,4 +1,5 @@
 pub mod JudgedLaws
+pub mod PartLaws
 pub mod TableLaws
 pub mod TextLaws
 pub mod Determined

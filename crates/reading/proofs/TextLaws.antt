@@ -2,12 +2,12 @@
 use Prim.Native.Nat.{ℕ, _+_, _≤_, _<_}
 use mathlib.Core.Bool.{true, _&&_}
 use mathlib.Core.List.{List}
-use mathlib.Core.Path.{_≡_, refl, ap, subst, _∙_}
+use mathlib.Core.Path.{_≡_, refl, sym, ap, _∙_}
 use native.Mathlib.Omega.{arith}
 use borrow.Author.Tests.{eqb-true}
 use lib.Dec.{leb, eqb, lit<}
 use lib.ListN.{length}
-use Rattle.boxes.specs.Answer.{refused, given}
+use Rattle.boxes.specs.Answer.{Answer, refused, given, _>>=_}
 use Rattle.boxes.specs.Framing.{Box}
 use Rattle.boxes.specs.Kinds.{pfil, surl, is, right, those, boxAt, firstOf}
 use Rattle.numerals.specs.Numbers.{number}
@@ -16,13 +16,20 @@ use Rattle.boxes.proofs.KindLaws.{is-there, right-some, firstOf-those}
 use Rattle.partial.specs.Heading.{Part, Heading, heading, pfilRight, surlRight, surlFormed, text, url, mime}
 use Rattle.partial.specs.Limits.{sourceLimit}
 use Rattle.partial.specs.Reading.{reading}
+use Rattle.partial.specs.Segments.{Segment}
 use Rattle.partial.specs.Sequences.{allOf}
 use Rattle.partial.specs.Tables.{textOf, nowhere}
 use Rattle.partial.proofs.Meaning.SequenceLaws.{both}
 use Rattle.partial.proofs.Reading.HeadingAppendLaws.{lies, lies-ends, boxes-lie, all-boxAt, further-lie, first-lies, headed}
+use Rattle.partial.proofs.Reading.PartLaws.{headed-read}
 use Rattle.heading.specs.Facts.{factsOf}
 use Rattle.reading.specs.Judged.{Judged}
+use Rattle.reading.specs.Parts.{handed}
+use Rattle.reading.specs.Texts.{textIn, textLocated}
+use Rattle.reading.specs.declared.texts.Text.{Text}
+use Rattle.reading.specs.declared.texts.Text.the-variants.{Url, Mime}
 use Rattle.reading.proofs.JudgedLaws.{Accepted, read-given}
+use Rattle.reading.proofs.PartLaws.{handed-whole}
 
 -- both texts of a `surl` that is well-formed end before it does
 formed-inside : (f : List ℕ) (b : Box) → surlFormed f b ≡ true → (url f b .place + url f b .size < b .end) × (mime f b .place + mime f b .size < b .end)
@@ -49,34 +56,60 @@ first-surl f {h} known =
     )
 
 -- a text of a refused file is empty
-pub text-none : (which : List ℕ → Box → Part) (f : List ℕ) {n : ℕ} → reading sourceLimit f ≡ refused n → textOf which sourceLimit f ≡ nowhere
+text-none : (which : List ℕ → Box → Part) (f : List ℕ) {n : ℕ} → reading sourceLimit f ≡ refused n → textOf which sourceLimit f ≡ nowhere
 unfolding textOf
 text-none which f e = rw (e, textOf)
 
--- of an accepted one it is what the heading tells, and lies in the file
+-- of an accepted one it is that of the first `surl`
+text-first : (which : List ℕ → Box → Part) (f : List ℕ) {h : Heading} {ss : List Segment} → reading sourceLimit f ≡ given ss → heading f ≡ given h
+    → textOf which sourceLimit f ≡ which f (firstOf surl (h .inner))
+unfolding textOf
+text-first which f read head = rw (read, textOf, head)
+
+-- and lies in the file
+text-inside : (which : Text) (f : List ℕ) {ss : List Segment} → reading sourceLimit f ≡ given ss
+    → textOf (textIn which) sourceLimit f .place + textOf (textIn which) sourceLimit f .size ≤ length f
+unfolding textIn
+text-inside which f read = go which
+  where
+    there : (h : Heading) × (heading f ≡ given h)
+    there = headed-read sourceLimit f read
+
+    first : Box
+    first = firstOf surl (there .0 .inner)
+
+    ends : first .end ≤ length f
+    ends = first-surl f (there .1) .1
+
+    texts : (url f first .place + url f first .size < first .end) × (mime f first .place + mime f first .size < first .end)
+    texts = formed-inside f first (first-surl f (there .1) .0)
+
+    go : (which : Text) → textOf (textIn which) sourceLimit f .place + textOf (textIn which) sourceLimit f .size ≤ length f
+    go Url = rw (text-first url f read (there .1)) (omega (arith, texts .0, ends))
+    go Mime = rw (text-first mime f read (there .1)) (omega (arith, texts .1, ends))
+
+-- so it is handed back whole
+pub text-handed : (which : Text) (f : List ℕ) → handed f (textLocated which f) ≡ textOf (textIn which) sourceLimit f
+unfolding handed
+text-handed which f = go (reading sourceLimit f) refl
+  where
+    go : (x : Answer (List Segment)) → reading sourceLimit f ≡ x → handed f (x >>= λ ss. given (textOf (textIn which) sourceLimit f)) ≡ textOf (textIn which) sourceLimit f
+    go (refused n) e = sym (text-none (textIn which) f e)
+    go (given ss) e = handed-whole f (textOf (textIn which) sourceLimit f) (text-inside which f e)
+
+-- where it is said to lie: nowhere where the file is refused, and else where it is
+pub text-refused : (which : Text) (f : List ℕ) {n : ℕ} → reading sourceLimit f ≡ refused n → refused n ≡ textLocated which f
+text-refused which f e = rw e
+
+pub text-given : (which : Text) (f : List ℕ) {j : Judged} → Accepted f j → {part : Part} → textOf (textIn which) sourceLimit f ≡ part → given part ≡ textLocated which f
+text-given which f a there = rw (read-given f a) (ap given (sym there))
+
+-- what the heading tells of an accepted file is that
 module _ (f : List ℕ) {j : Judged} (a : Accepted f j) where
-  text-there : (which : List ℕ → Box → Part) → textOf which sourceLimit f ≡ which f (firstOf surl (a .h .inner))
-  unfolding textOf
-  text-there which = rw (read-given f a, textOf, a .head)
+  pub url-there : textOf (textIn Url) sourceLimit f ≡ j .facts .url
+  unfolding factsOf textIn
+  url-there = text-first url f (read-given f a) (a .head) ∙ ap (λ x. x .url) (a .facts)
 
-  pub url-there : textOf url sourceLimit f ≡ j .facts .url
-  unfolding factsOf
-  url-there = text-there url ∙ ap (λ x. x .url) (a .facts)
-
-  pub mime-there : textOf mime sourceLimit f ≡ j .facts .mime
-  unfolding factsOf
-  mime-there = text-there mime ∙ ap (λ x. x .mime) (a .facts)
-
-  inside : (url f (firstOf surl (a .h .inner)) .place + url f (firstOf surl (a .h .inner)) .size ≤ length f) × (mime f (firstOf surl (a .h .inner)) .place + mime f (firstOf surl (a .h .inner)) .size ≤ length f)
-  inside =
-      let (formed, ends) = first-surl f (a .head) in
-      let (one, two) = formed-inside f (firstOf surl (a .h .inner)) formed in
-      (omega arith, omega arith)
-
-  pub url-inside : j .facts .url .place + j .facts .url .size ≤ length f
-  unfolding factsOf
-  url-inside = subst (λ (p : Part). p .place + p .size ≤ length f) (ap (λ x. x .url) (a .facts)) (inside .0)
-
-  pub mime-inside : j .facts .mime .place + j .facts .mime .size ≤ length f
-  unfolding factsOf
-  mime-inside = subst (λ (p : Part). p .place + p .size ≤ length f) (ap (λ x. x .mime) (a .facts)) (inside .1)
+  pub mime-there : textOf (textIn Mime) sourceLimit f ≡ j .facts .mime
+  unfolding factsOf textIn
+  mime-there = text-first mime f (read-given f a) (a .head) ∙ ap (λ x. x .mime) (a .facts)

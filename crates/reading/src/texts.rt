@@ -1,50 +1,50 @@
 // The URL and the MIME text of a file, as parts of it.
 use crate::judging::Judgement;
 use crate::judging::judge;
-use heading::answers::Part;
-ghost use Prim.Native.Nat.{_+_, _≤_};
+use crate::parts::Located;
+use crate::parts::part_of;
 ghost use denote.Ref.{ptr};
-ghost use lib.ListN.{length};
-ghost use Rattle.heading.specs.Facts.{partOf};
+ghost use mathlib.Core.Path.{_≡_};
 ghost use Rattle.partial.specs.Heading.{url, mime};
 ghost use Rattle.partial.specs.Limits.{sourceLimit};
 ghost use Rattle.partial.specs.Tables.{textOf};
-ghost use Rattle.reading.specs.Parts.{HandedBack};
+ghost use Rattle.reading.specs.Parts.{HandedBack, locatedAnswer};
+ghost use Rattle.reading.specs.Texts.{textLocated};
 
-// A part of the file that lies in it.
-fn part_of(file: &[u8], part: Part) -> &[u8]
-    requires { ⌜ part .place .0 + part .size ≤ length (now file) ⌝ }
-    ensures { λ r. ⌜ HandedBack (now (file .entry)) (ptr (file .entry)) (partOf part) (ptr r) (now r) ⌝ }
+// Which of the two texts of a `surl`.
+pub enum Text {
+    Url,
+    Mime,
+}
+
+// Where a text of the first `surl` lies, or the number of the file's refusal.
+pub fn text_at(file: &[u8], which: Text) -> Located
+    ensures { λ r. ⌜ locatedAnswer r ≡ textLocated which (now (file .entry)) ⌝ }
 {
-    let from = part.place.0 as usize;
-    let end = from + part.size as usize;
-    &file[from..end]
+    match judge(file) {
+        Judgement::Refused(n) => Located::Refused(n),
+        Judgement::Given(judged) => {
+            let head = judged.head;
+            let url = head.url;
+            let mime = head.mime;
+            match which {
+                Text::Url => Located::At(url),
+                Text::Mime => Located::At(mime),
+            }
+        }
+    }
 }
 
 // The URL of the first `surl`; empty after a refusal.
 pub fn url(file: &[u8]) -> &[u8]
     ensures { λ r. ⌜ HandedBack (now (file .entry)) (ptr (file .entry)) (textOf url sourceLimit (now (file .entry))) (ptr r) (now r) ⌝ }
 {
-    match judge(file) {
-        Judgement::Refused(_) => &file[0..0],
-        Judgement::Given(judged) => {
-            let head = judged.head;
-            let text = head.url;
-            part_of(file, text)
-        }
-    }
+    part_of(file, text_at(file, Text::Url))
 }
 
 // The MIME text of the first `surl`; empty after a refusal or where there is none.
 pub fn mime(file: &[u8]) -> &[u8]
     ensures { λ r. ⌜ HandedBack (now (file .entry)) (ptr (file .entry)) (textOf mime sourceLimit (now (file .entry))) (ptr r) (now r) ⌝ }
 {
-    match judge(file) {
-        Judgement::Refused(_) => &file[0..0],
-        Judgement::Given(judged) => {
-            let head = judged.head;
-            let text = head.mime;
-            part_of(file, text)
-        }
-    }
+    part_of(file, text_at(file, Text::Mime))
 }

@@ -8,13 +8,14 @@ use lib.ListN.{length}
 use Rattle.boxes.specs.Answer.{given}
 use Rattle.boxes.specs.Framing.{Box, boxesIn, boxOf}
 use Rattle.boxes.specs.declared.kinds.Container.the-variants.{File}
-use Rattle.numerals.proofs.Determined.{OneLeft, OneKnown}
+use Rattle.numerals.proofs.Determined.{OneResult, OneLeft, OneKnown}
 use Rattle.partial.specs.Heading.{Heading}
 use Rattle.segment.specs.Data.{Searched}
 use Rattle.segment.specs.Tops.{Tops}
 use Rattle.segment.proofs.ChunkLaws.{one-step}
 use Rattle.segment.proofs.DataLaws.{one-found}
 use Rattle.segment.proofs.TopsLaws.{one-table}
+use Rattle.segment.proofs.chunk.Chunk.place_of.Reads as place-of
 use Rattle.segment.proofs.chunk.Cursor.step.Reads as step
 use Rattle.segment.proofs.data.held_at.Reads as held-at
 use Rattle.segment.proofs.tops.tops_of.Reads as tops-of
@@ -32,3 +33,8 @@ whole-at-result κs args bs (known, listed) x y after after′ p q = p bs known 
 
 step-result : OneKnown step.Post (λ κs args (h : Heading). (args .1 .1 .1 .0 ≡ h .mixed) × Searched (now (args .1 .0)) (boxOf (args .0 .last)) (h .boxes) × Tops (h .boxes) (now (args .1 .1 .0)))
 step-result κs args h (same, known, listed) x y after after′ p q = one-step h same known listed x y p q
+
+place-of-result : OneResult place-of.Post
+place-of-result κs args x y after after′ p q =
+    let same = p ∙ sym q in
+    λ i. record { 0 = same i }

@@ -6,11 +6,15 @@ use boxes::framing::Framed;
 use fields::entry::EntryRead;
 use fields::entry::entry_at;
 use fields::location::Location;
+use numerals::order::between;
 use numerals::order::ends_by;
+use numerals::order::sum_of;
 use numerals::place::Place;
 use partial::limits::SOURCE_LIMIT;
 use partial::position::Position;
 use partial::refusals::SOURCE_TOO_LONG;
+ghost use Prim.Native.Nat.{_+_, _-_, _^_, min};
+ghost use mathlib.Core.Path.{_≡_};
 ghost use Rattle.fields.specs.Location.{plocOf};
 ghost use Rattle.segment.specs.Chunk.{Steps};
 
@@ -33,6 +37,17 @@ pub struct Chunk {
 pub enum ChunkStep {
     Refused(u64),
     Given(Chunk, Cursor),
+}
+
+impl Chunk {
+    // The place of a position's byte: as far behind the chunk's place as the position is behind its start. Nothing else makes a place of a position.
+    pub fn place_of(self, p: Position) -> Place
+        ensures { λ r. ⌜ r .0 ≡ min (self .place .0 + (p .0 - self .start .0)) (2 ^ 64 - 1) ⌝ }
+    {
+        let place = self.place;
+        let start = self.start;
+        Place(sum_of(place.0, between(start.0, p.0)))
+    }
 }
 
 impl Cursor {

@@ -1,12 +1,13 @@
 -- Laws of serving and asking: what reading tells them, and what the run of a position answers.
-use Prim.Native.Nat.{ℕ, zero, suc, _+_, _-_, _<_, _≤_}
+use Prim.Native.Nat.{ℕ, zero, suc, _+_, _-_, _^_, _<_, _≤_, min}
 use mathlib.Core.Bool.{true, false}
-use mathlib.Core.List.{List, []}
-use mathlib.Core.Path.{_≡_, sym, ap, _∙_}
+use mathlib.Core.List.{List}
+use mathlib.Core.Logic.{inl, inr}
+use mathlib.Core.Path.{_≡_, refl, sym, ap, _∙_}
 use native.Mathlib.Omega.{arith}
 use borrow.Author.Tests.{lt-ltb, le-ltb}
 use lib.ListN.{length, getD, take, drop, length-take, length-drop}
-use Rattle.boxes.specs.Answer.{refused, given}
+use Rattle.boxes.specs.Answer.{Answer, refused, given, _>>=_}
 use Rattle.boxes.proofs.AnswerLaws.{given-same, both-given}
 use Rattle.partial.specs.Answers.{readAnswer}
 use Rattle.partial.specs.Limits.{sourceLimit}
@@ -18,12 +19,14 @@ use Rattle.partial.specs.declared.answers.Read.{Read}
 use Rattle.partial.specs.declared.answers.Read.the-variants as Read
 use Rattle.partial.specs.declared.position.Position.{Position}
 use Rattle.partial.proofs.Meaning.RunLaws.{missing-run}
+use Rattle.partial.proofs.Meaning.SequenceLaws.{which}
 use Rattle.partial.proofs.Meaning.ServingLaws.{beyond}
 use Rattle.partial.proofs.Reading.PartLaws.{headed-read, tabled-read}
 use Rattle.partial.proofs.Reading.ReadingLaws.{read-mapped}
+use Rattle.reading.specs.Parts.{handed}
 use Rattle.reading.specs.Tables.{Reads}
 use Rattle.reading.proofs.JudgedLaws.{first-refused}
-use Rattle.serving.specs.Calls.{partAt}
+use Rattle.reading.proofs.PartLaws.{handed-whole}
 use Rattle.supplying.specs.Rows.{chunkIn, chunksFrom, chunksIn}
 use Rattle.supplying.specs.Runs.{sameRun, runIn}
 use Rattle.supplying.specs.declared.runs.Run.{Run}
@@ -66,6 +69,31 @@ module _ {f a a′ b b′ : List ℕ} {r : Read} (t : Reads f a a′ b b′ r) w
         long = sym (ap (λ (s : Summary). s .described) says);
       }
 
+-- a part that is served lies in the file
+module _ (f a b : List ℕ) where
+  served-fits : {ss : List Segment} → tabled sourceLimit f a b ≡ given ss → (p : ℕ) → supplied ss p ≡ true → placeOfByte ss p + servedRun ss p ≤ length f
+  unfolding servedPart bytesIn
+  served-fits {ss} known p there =
+      let read = tabled-read sourceLimit f a b known in
+      let (h, head) = headed-read sourceLimit f read in
+      let s = read-mapped sourceLimit f head read .serving p (rw there tt) in
+      let long : length (take (servedRun ss p) (drop (placeOfByte ss p) f)) ≡ servedRun ss p = rw (servedPart, there) at (s .long) in
+      omega (arith, s .notEmpty, simp (length-take, length-drop) at long)
+
+  -- so it is handed back whole, and an empty one where none is
+  pub served-handed : (p : ℕ) → handed f (tabled sourceLimit f a b >>= λ ss. given (servedPart (given ss) p)) ≡ servedPart (tabled sourceLimit f a b) p
+  unfolding handed servedPart nowhere
+  served-handed p = go (tabled sourceLimit f a b) refl
+    where
+      go : (x : Answer (List Segment)) → tabled sourceLimit f a b ≡ x → handed f (x >>= λ ss. given (servedPart (given ss) p)) ≡ servedPart x p
+      go (refused n) e = refl
+      go (given ss) e =
+          handed-whole f (servedPart (given ss) p)
+          (elim (which (supplied ss p)) [
+            | inl there ↦ rw (servedPart, there) (served-fits e p there)
+            | inr lacks ↦ rw (servedPart, lacks) (omega arith)
+          ])
+
 -- the run of a position in the rows is that of the file
 module _ {f a b b′ : List ℕ} {count described : ℕ} (t : Told f a b b′ count described) (p : ℕ) {r : Run} (e : r ≡ runIn (chunksIn b′ count) p described) where
   of-file : r ≡ runIn (chunksOf (t .ss)) p (describedLength (t .ss))
@@ -103,31 +131,24 @@ module _ {f a b b′ : List ℕ} {count described : ℕ} (t : Told f a b b′ co
       let lacks = not-supplied none in
       sym (asked-by (rw (reply, lt-ltb p (describedLength (t .ss)) (omega (arith, t .long)), lacks, missing-run (t .ss) p lacks, run-length)))
 
-  pub part-none : count ≤ r .supplier → servedPart (tabled sourceLimit f a b) p ≡ nowhere
+  pub part-none : count ≤ r .supplier → (tabled sourceLimit f a b >>= λ ss. given (servedPart (given ss) p)) ≡ given nowhere
   unfolding servedPart
   part-none none = rw (t .read, servedPart, not-supplied none)
 
   -- a part that is served
   module _ (there : r .supplier < count) {c : Chunk} (row : c ≡ chunkIn b′ (r .supplier)) where
-    pub part-chunk : c ≡ chunkFor (t .ss) p
+    part-chunk : c ≡ chunkFor (t .ss) p
     part-chunk =
         let here : 0 + r .supplier ≡ r .supplier = omega arith in
         row ∙ sym (row-of b′ count 0 (r .supplier) there ∙ ap (chunkIn b′) here) ∙ (λ i. getD (t .rows i) (run-number i) noChunk)
 
-    pub part-there : servedPart (tabled sourceLimit f a b) p ≡ partAt c p (r .length)
+    pub part-there : length f < 2 ^ 64 → {place : ℕ} → place ≡ min (c .place + (p - c .start)) (2 ^ 64 - 1)
+        → (tabled sourceLimit f a b >>= λ ss. given (servedPart (given ss) p)) ≡ given (record { place = place; size = r .length })
     unfolding servedPart placeOfByte
-    part-there = rw (t .read, servedPart, is-supplied there) (λ i. record { place = sym part-chunk i .place + (p - sym part-chunk i .start); size = sym run-length i })
-
-    pub part-inside : (c .start ≤ p) × (c .place + (p - c .start) + r .length ≤ length f)
-    unfolding servedPart placeOfByte bytesIn
-    part-inside =
-        let read = tabled-read sourceLimit f a b (t .read) in
-        let (h, head) = headed-read sourceLimit f read in
-        let s = read-mapped sourceLimit f head read .serving p (rw (is-supplied there) tt) in
-        let start : c .start ≡ chunkFor (t .ss) p .start = ap (λ (x : Chunk). x .start) part-chunk in
-        let place : c .place ≡ chunkFor (t .ss) p .place = ap (λ (x : Chunk). x .place) part-chunk in
-        let long : length (take (servedRun (t .ss) p) (drop (placeOfByte (t .ss) p) f)) ≡ servedRun (t .ss) p = rw (servedPart, is-supplied there) at (s .long) in
-        (omega (arith, s .covered .0), omega (arith, run-length, s .notEmpty, simp (length-take, length-drop) at long))
+    part-there short {place} at =
+        let here : placeOfByte (t .ss) p ≡ c .place + (p - c .start) = λ i. sym part-chunk i .place + (p - sym part-chunk i .start) in
+        let same : placeOfByte (t .ss) p ≡ place = omega (arith, served-fits f a b (t .read) p (is-supplied there)) in
+        rw (t .read, servedPart, is-supplied there) (λ i. given (record { place = same i; size = sym run-length i }))
 
 pub asked-beyond : {f a b b′ : List ℕ} {count described : ℕ} (t : Told f a b b′ count described) (p : ℕ) → described ≤ p → given notBelow ≡ asked (tabled sourceLimit f a b) p
 unfolding asked
@@ -137,6 +158,6 @@ pub asked-refused : (f a b : List ℕ) (p : ℕ) {n : ℕ} → tabled sourceLimi
 unfolding asked
 asked-refused f a b p e = rw e
 
-pub part-refused : (f a b : List ℕ) (p : ℕ) {n : ℕ} → tabled sourceLimit f a b ≡ refused n → servedPart (tabled sourceLimit f a b) p ≡ nowhere
-unfolding servedPart
-part-refused f a b p e = rw (e, servedPart)
+pub part-refused : (f a b : List ℕ) (p : ℕ) {n : ℕ} → tabled sourceLimit f a b ≡ refused n
+    → refused n ≡ (tabled sourceLimit f a b >>= λ ss. given (servedPart (given ss) p))
+part-refused f a b p e = rw e

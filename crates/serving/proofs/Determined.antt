@@ -8,8 +8,9 @@ use Rattle.numerals.proofs.Determined.{OneResult, OneLeft}
 use Rattle.boxes.proofs.ToldLaws.{Tells}
 use Rattle.partial.specs.Answers.{askedAnswer}
 use Rattle.partial.specs.declared.answers.Asked.the-variants as Asked
-use Rattle.reading.proofs.Determined.{OneOf, one-part}
+use Rattle.reading.proofs.Determined.{OneOf, located-told, one-part}
 use Rattle.serving.proofs.calls.ask.Reads as ask
+use Rattle.serving.proofs.calls.part_at.Reads as part-at
 use Rattle.serving.proofs.calls.serve.Reads as serve
 
 asked-told : Tells askedAnswer
@@ -30,6 +31,15 @@ asked-told Asked.NotBelow (Asked.Refused m) e = cc
 asked-told Asked.NotBelow (Asked.Served m) e = cc
 asked-told Asked.NotBelow (Asked.Missing m) e = cc
 asked-told Asked.NotBelow Asked.NotBelow e = cc
+
+part-at-result : OneResult part-at.Post
+part-at-result κs args x y after after′ p q = located-told x y (p .answer ∙ sym (q .answer))
+
+part-at-segments : OneLeft part-at.Post (λ κs after. now (after .1 .0))
+part-at-segments κs args x y after after′ p q = p .tables .segmentTable ∙ sym (q .tables .segmentTable)
+
+part-at-chunks : OneLeft part-at.Post (λ κs after. now (after .1 .1 .0))
+part-at-chunks κs args x y after after′ p q = p .tables .chunkTable ∙ sym (q .tables .chunkTable)
 
 serve-part : OneOf serve.Post {X = (ℕ × ℕ) × List ℕ} (λ κs r. (ptr r, now r))
 serve-part κs args x y after after′ p q = one-part (p .part) (q .part)

@@ -1,21 +1,21 @@
 -- Document 01, "Serving": what serving and asking answer, and what they leave in the lent tables.
-use Prim.Native.Nat.{ℕ, _+_, _-_}
+use Prim.Native.Nat.{ℕ}
 use mathlib.Core.List.{List}
 use mathlib.Core.Path.{_≡_}
-use Rattle.boxes.specs.Answer.{Answer, refused, given}
+use Rattle.boxes.specs.Answer.{Answer, refused, given, _>>=_}
 use Rattle.partial.specs.Answers.{askedAnswer}
-use Rattle.partial.specs.Heading.{Part}
 use Rattle.partial.specs.Limits.{sourceLimit}
 use Rattle.partial.specs.Meaning.{Reply, servedFor, missingFor, notBelow}
-use Rattle.partial.specs.Segments.{Chunk}
 use Rattle.partial.specs.Tables.{tabled, servedPart, asked}
 use Rattle.partial.specs.declared.answers.Asked.{Asked}
-use Rattle.reading.specs.Parts.{HandedBack}
+use Rattle.reading.specs.Parts.{HandedBack, locatedAnswer}
 use Rattle.reading.specs.Tables.{Filled}
+use Rattle.reading.specs.declared.parts.Located.{Located}
 
--- so many bytes of a chunk, from those of a position on: as far behind the chunk's place as the position is behind its start
-abbrev pub partAt : Chunk → ℕ → ℕ → Part
-partAt c p n = record { place = c .place + (p - c .start); size = n }
+-- where the part lies that serves a position
+pub record Locates (f segments segments′ chunks chunks′ : List ℕ) (p : ℕ) (r : Located) : Type 0 where
+  pub answer : locatedAnswer r ≡ (tabled sourceLimit f segments chunks >>= λ ss. given (servedPart (given ss) p))
+  pub tables : Filled (tabled sourceLimit f segments chunks) segments segments′ chunks chunks′
 
 -- serving a position hands back its part of the file
 pub record Serves (f : List ℕ) (file : ℕ × ℕ) (segments segments′ chunks chunks′ : List ℕ) (p : ℕ) (there : ℕ × ℕ) (bytes : List ℕ) : Type 0 where

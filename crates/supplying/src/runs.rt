@@ -1,10 +1,10 @@
 // Runs: which chunk supplies a position, and how many positions from there on have the same supplier, in one pass over the rows.
 use crate::rows::chunk_at;
 use fields::state::GOOD;
+use numerals::order::between;
 use numerals::order::smaller;
 use partial::position::Position;
 use segment::chunk::Chunk;
-ghost use Prim.Native.Nat.{_-_};
 ghost use mathlib.Core.Path.{_≡_};
 ghost use Rattle.partial.specs.Meaning.{supplies};
 ghost use Rattle.segment.specs.Chunk.{chunkOf};
@@ -15,13 +15,6 @@ ghost use Rattle.supplying.specs.Runs.{runIn, clip};
 pub struct Run {
     pub supplier: u64,
     pub length: u64,
-}
-
-// How many numbers lie from one to another; none where the other is not above it.
-fn between(from: u64, to: u64) -> u64
-    ensures { λ r. ⌜ r ≡ to - from ⌝ }
-{
-    if from < to { to - from } else { 0 }
 }
 
 // Whether a chunk is good and covers a position.

@@ -3,7 +3,7 @@ use Prim.Native.Nat.{ℕ}
 use mathlib.Core.Bool.{Bool}
 use mathlib.Core.List.{List}
 use mathlib.Core.Path.{_≡_, subst}
-use Rattle.boxes.specs.Answer.{Answer, refused, given}
+use Rattle.boxes.specs.Answer.{Answer, refused, given, _>>=_}
 use Rattle.partial.specs.Addition.{asks}
 use Rattle.partial.specs.declared.answers.Written.{Written}
 use Rattle.partial.specs.declared.header.SegmentHeader.{SegmentHeader}
@@ -21,6 +21,13 @@ module _ {A : Type 0} (numbers : A → List ℕ) {answer : Answer A} {told : Lis
 
   pub says-same : {answer′ : Answer A} {told′ : List ℕ} {r : ℕ} → answer ≡ answer′ → Says numbers answer told told′ r → Says numbers answer′ told told′ r
   says-same {told′ = told′} {r = r} e s = subst (λ (x : Answer A). Says numbers x told told′ r) e s
+
+-- the numbers of what follows an answer, told as that answer's
+pub says-then : {A B : Type 0} (numbers : B → List ℕ) (of : A → B) (answer : Answer A) {told told′ : List ℕ} {r : ℕ} → Says numbers (answer >>= λ a. given (of a)) told told′ r
+    → Says (λ a. numbers (of a)) answer told told′ r
+unfolding numberOf numbersAfter
+says-then numbers of (refused n) s = record { number = s .number; values = s .values }
+says-then numbers of (given a) s = record { number = s .number; values = s .values }
 
 -- what is appended by a header is what is appended by an equal one
 pub appends-by : {buffer buffer′ : List ℕ} {n : ℕ} {header header′ : SegmentHeader} {r : Written} (outside : Bool) (list bytes : List ℕ) → header ≡ header′

@@ -4,9 +4,11 @@ use partial::answers::Asked;
 use partial::answers::Listed;
 use partial::answers::Read;
 use partial::answers::Written;
+use reading::parts::Located;
 ghost use Rattle.heading.specs.Facts.{headedAnswer};
 ghost use Rattle.partial.specs.Answers.{readAnswer, askedAnswer, listedAnswer, writtenAnswer};
-ghost use Rattle.vrazhupa.specs.Says.{Says, headingNumbers, summaryNumbers, replyNumbers, totalsNumbers, lengthNumbers};
+ghost use Rattle.reading.specs.Parts.{locatedAnswer};
+ghost use Rattle.vrazhupa.specs.Says.{Says, headingNumbers, summaryNumbers, replyNumbers, partNumbers, totalsNumbers, lengthNumbers};
 
 // The kinds of answers about a position.
 const SERVED: u64 = 0;
@@ -51,6 +53,19 @@ pub(crate) fn say_read(r: Read, told: &mut [u64; 4]) -> u64
             closed,
         } => {
             *told = [segments, chunks, described.0, closed as u64];
+            0
+        }
+    }
+}
+
+// The place of a part of the file, and its length.
+pub(crate) fn say_part(r: Located, told: &mut [u64; 2]) -> u64
+    ensures { λ n. ⌜ Says partNumbers (locatedAnswer r) (now (told .entry)) (now (told .exit)) n ⌝ }
+{
+    match r {
+        Located::Refused(n) => n,
+        Located::At(part) => {
+            *told = [part.place.0, part.size];
             0
         }
     }

@@ -2,6 +2,7 @@
 use crate::answers::say_asked;
 use crate::answers::say_headed;
 use crate::answers::say_listed;
+use crate::answers::say_part;
 use crate::answers::say_read;
 use crate::answers::say_written;
 use boxlisting::call::boxes;
@@ -9,14 +10,12 @@ use heading::stages::heading_of;
 use listing::calls::list;
 use mapping::call::map;
 use mapping::call::missmap;
-use partial::answers::Read;
 use partial::position::Position;
-use reading::judging::Judgement;
-use reading::judging::judge;
 use reading::tables::read;
+use reading::texts::Text;
+use reading::texts::text_at;
 use serving::calls::ask;
-use supplying::rows::chunk_at;
-use supplying::runs::run_at;
+use serving::calls::part_at;
 ghost use Rattle.partial.specs.BoxList.{boxesText};
 ghost use Rattle.partial.specs.Heading.{url, mime};
 ghost use Rattle.partial.specs.Limits.{sourceLimit};
@@ -49,15 +48,7 @@ pub extern "C" fn vrazhupa_read(
 pub extern "C" fn vrazhupa_url(file: &[u8], told: &mut [u64; 2]) -> u64
     ensures { λ r. ⌜ SaysText url (now (file .entry)) (now (told .entry)) (now (told .exit)) r ⌝ }
 {
-    match judge(file) {
-        Judgement::Refused(n) => n,
-        Judgement::Given(judged) => {
-            let head = judged.head;
-            let url = head.url;
-            *told = [url.place.0, url.size];
-            0
-        }
-    }
+    say_part(text_at(file, Text::Url), told)
 }
 
 // Where the MIME text of a file stands.
@@ -65,15 +56,7 @@ pub extern "C" fn vrazhupa_url(file: &[u8], told: &mut [u64; 2]) -> u64
 pub extern "C" fn vrazhupa_mime(file: &[u8], told: &mut [u64; 2]) -> u64
     ensures { λ r. ⌜ SaysText mime (now (file .entry)) (now (told .entry)) (now (told .exit)) r ⌝ }
 {
-    match judge(file) {
-        Judgement::Refused(n) => n,
-        Judgement::Given(judged) => {
-            let head = judged.head;
-            let mime = head.mime;
-            *told = [mime.place.0, mime.size];
-            0
-        }
-    }
+    say_part(text_at(file, Text::Mime), told)
 }
 
 // Where in the file the bytes stand that serve a position and those after it; a part of no bytes where it is not supplied.
@@ -87,24 +70,7 @@ pub extern "C" fn vrazhupa_serve(
 ) -> u64
     ensures { λ r. ⌜ SaysServed (now (file .entry)) (now (segments .entry)) (now (segments .exit)) (now (chunks .entry)) (now (chunks .exit)) p (now (told .entry)) (now (told .exit)) r ⌝ }
 {
-    match read(file, segments, chunks) {
-        Read::Refused(n) => n,
-        Read::Tables {
-            segments: _,
-            chunks: count,
-            described,
-            closed: _,
-        } => {
-            let run = run_at(chunks, count, Position(p), described);
-            if count <= run.supplier {
-                *told = [0, 0];
-                return 0;
-            }
-            let c = chunk_at(chunks, run.supplier);
-            *told = [c.place.0 + (p - c.start.0), run.length];
-            0
-        }
-    }
+    say_part(part_at(file, segments, chunks, Position(p)), told)
 }
 
 // Whether a position is served or missing, with how many in a row, or not below the described length.

@@ -1,41 +1,86 @@
--- `serving::calls::part_at` meets its contract.
-use Prim.Native.Nat.{ℕ, _+_, _-_}
-use mathlib.Core.Path.{_≡_, refl, ap}
+-- `serving::calls::part_at` meets its contract: reading, then the run of the position, then the place in its supplier.
+use mathlib.Core.Path.{sym}
 use native.Mathlib.Omega.{arith}
-use denote.Ref.{now}
-use lib.ListN.{take, drop}
-use Rattle.partial.specs.Tables.{bytesIn}
+use Rattle.partial.specs.Tables.{nowhere}
+use Rattle.reading.specs.Parts.{locatedAnswer}
+use Rattle.serving.proofs.CallsLaws.{told-refused, told-given, part-refused, part-none, part-there}
 use borrow.Author.Needs.{needs}
 use Rattle.serving.proofs.calls.part_at.Statement.{statement}
 use Rattle.serving.proofs.calls.part_at.Tie as tie
 
-sub-from : tie.Need-sub-from
-sub-from c = search needs
+read-requires : tie.Need-read-requires
+read-requires c κs = search needs
 
-add-from : tie.Need-add-from
-add-from c = search needs
+enum-known-n : tie.Need-enum-known-n
+enum-known-n c = search needs
 
-add-end : tie.Need-add-end
-add-end c = search needs
+enum-known-count : tie.Need-enum-known-count
+enum-known-count c = search needs
 
-sub-result : tie.Need-sub-result
-sub-result c = search needs
+run-at-requires : tie.Need-run-at-requires
+run-at-requires c κs = search needs
 
-part-result-start : tie.Need-part-result-start
-part-result-start c = search needs
+same-length : tie.Need-same-length
+same-length c = search needs
 
-part-result-end : tie.Need-part-result-end
-part-result-end c = search needs
+same-length-2 : tie.Need-same-length-2
+same-length-2 c = search needs
 
 returns : tie.Need-returns
-unfolding bytesIn
+unfolding locatedAnswer nowhere
 returns c =
-    let args = c .before .before .before .before .args in
-    let from = args .c .place .0 + (args .p .0 - args .c .start .0) in
-    let long : from + args .n - from ≡ args .n = omega arith in
-    record { memory = refl; place = omega arith; holds = ap (λ (n : ℕ). take n (drop from (now (args .file)))) long }
+    let reads = c .before .before .before .before .before .before .before .before .before .before .before .read .ensures in
+    let t = told-given reads (c .before .before .before .before .before .count .given .1) in
+    record { answer = sym (part-none t _ (c .before .before .run-at .ensures) (omega arith)); tables = reads .tables }
+
+chunk-at-requires : tie.Need-chunk-at-requires
+chunk-at-requires c κs = search needs
+
+place-of-requires : tie.Need-place-of-requires
+place-of-requires c κs = search needs
+
+same-length-3 : tie.Need-same-length-3
+same-length-3 c = search needs
+
+same-length-4 : tie.Need-same-length-4
+same-length-4 c = search needs
+
+returns-2 : tie.Need-returns-2
+unfolding locatedAnswer
+returns-2 c =
+    let reads = c .before .before .before .before .before .before .before .read .ensures in
+    record { answer = part-refused _ _ _ _ (told-refused reads (c .before .n .given .1)); tables = reads .tables }
+
+same-length-5 : tie.Need-same-length-5
+same-length-5 c = search needs
+
+same-length-6 : tie.Need-same-length-6
+same-length-6 c = search needs
+
+returns-3 : tie.Need-returns-3
+unfolding locatedAnswer
+returns-3 c =
+    let reads = c .before .before .before .before .before .before .before .before .before .before .before .before .before .before .read .ensures in
+    let t = told-given reads (c .before .before .before .before .before .before .before .before .count .given .1) in
+    let there = part-there t _ (c .before .before .before .before .before .run-at .ensures) (omega arith) (c .before .chunk-at .ensures) (omega (arith, c .before .before .before .before .before .before .before .before .before .before .before .before .before .before .before .before .before .before .before .before .good)) (c .place-of .ensures) in
+    record { answer = sym there; tables = reads .tables }
 
 pub part-at-spec : {M : Type 1} → statement M
 part-at-spec =
     tie.close
-    (tie.spec sub-from add-from add-end sub-result part-result-start part-result-end returns)
+    (tie.spec
+    read-requires
+    enum-known-n
+    enum-known-count
+    run-at-requires
+    same-length
+    same-length-2
+    returns
+    chunk-at-requires
+    place-of-requires
+    same-length-3
+    same-length-4
+    returns-2
+    same-length-5
+    same-length-6
+    returns-3)

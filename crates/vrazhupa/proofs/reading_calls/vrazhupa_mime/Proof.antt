@@ -1,31 +1,20 @@
 -- `vrazhupa::reading_calls::vrazhupa_mime` meets its contract.
-use mathlib.Core.Path.{sym, ap}
-use Rattle.reading.proofs.JudgedLaws.{accepted, read-refused, read-given, judgement-refused, judgement-given}
-use Rattle.reading.proofs.TextLaws.{mime-there}
+use Rattle.reading.specs.Texts.{textIn}
 use Rattle.vrazhupa.specs.Says.{partNumbers}
-use Rattle.vrazhupa.proofs.SayLaws.{says-refused, says-given}
+use Rattle.vrazhupa.proofs.SayLaws.{says-same, says-then}
 use borrow.Author.Needs.{needs}
 use Rattle.vrazhupa.proofs.reading_calls.vrazhupa_mime.Statement.{statement}
 use Rattle.vrazhupa.proofs.reading_calls.vrazhupa_mime.Tie as tie
 
-judge-requires : tie.Need-judge-requires
-judge-requires c κs = search needs
+text-at-requires : tie.Need-text-at-requires
+text-at-requires c κs = search needs
 
-enum-known-n : tie.Need-enum-known-n
-enum-known-n c = search needs
-
-enum-known-judged : tie.Need-enum-known-judged
-enum-known-judged c = search needs
+say-part-requires : tie.Need-say-part-requires
+say-part-requires c κs = search needs
 
 returns : tie.Need-returns
-returns c = record { said = says-refused _ (read-refused _ (judgement-refused (c .before .before .before .judge .ensures) (c .before .n .given .1))) }
-
-returns-2 : tie.Need-returns-2
-unfolding partNumbers
-returns-2 c =
-    let a = accepted _ (judgement-given (c .before .before .before .before .before .before .judge .ensures) (c .before .before .before .before .judged .given .1)) in
-    record { said = says-given _ (read-given _ a) (sym (ap partNumbers (mime-there _ a))) }
+unfolding textIn
+returns c = record { said = says-then partNumbers _ _ (says-same _ (c .before .before .text-at .ensures) (c .say-part .ensures)) }
 
 pub vrazhupa-mime-spec : {M : Type 1} → statement M
-vrazhupa-mime-spec =
-    tie.close (tie.spec judge-requires enum-known-n enum-known-judged returns returns-2)
+vrazhupa-mime-spec = tie.close (tie.spec text-at-requires say-part-requires returns)
