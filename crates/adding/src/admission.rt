@@ -13,6 +13,7 @@ use partial::limits::CHUNK_LIMIT;
 use partial::limits::FILE_LIMIT;
 use partial::limits::SEGMENT_LIMIT;
 use partial::limits::SOURCE_LIMIT;
+use partial::position::Position;
 use partial::refusals::FILE_TOO_LONG;
 use partial::refusals::SIZES_DIFFER;
 use partial::refusals::SOURCE_TOO_LONG;
@@ -82,7 +83,8 @@ pub fn admission(
     }
     let gives = gives_size(header.flags as u64 % 2, counts.items);
     let sizes = gathered.sizes;
-    let with = sizes.with(offset.0 + counts.sum, gives);
+    let end = offset.0 + counts.sum;
+    let with = sizes.with(Position(end), gives);
     if !with.agree() {
         return Written::Refused(SIZES_DIFFER);
     }

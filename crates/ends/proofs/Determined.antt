@@ -19,11 +19,13 @@ none-result κs args x y after after′ p q = p ∙ sym q
 gives-size-result : OneKnown gives-size.Post (λ κs args (s : Segment). (args .0 ≡ s .flags) × (args .1 .0 ≡ length (s .chunks)))
 gives-size-result κs args s (flags, count) x y after after′ p q = p s flags count ∙ sym (q s flags count)
 
-with-result : OneKnown with.Post (λ κs args ((ss, s) : List Segment × Segment). (args .0 ≡ sizesOf ss) × (args .1 .0 ≡ endOf s) × (args .1 .1 .0 ≡ givesSize s))
+with-result : OneKnown with.Post (λ κs args ((ss, s) : List Segment × Segment). (args .0 ≡ sizesOf ss) × (args .1 .0 .0 ≡ endOf s) × (args .1 .1 .0 ≡ givesSize s))
 with-result κs args (ss, s) (known, ends, gives) x y after after′ p q = p ss s known ends gives ∙ sym (q ss s known ends gives)
 
 agree-result : OneKnown agree.Post (λ κs args (ss : List Segment). args .0 ≡ sizesOf ss)
 agree-result κs args ss known x y after after′ p q = p ss known ∙ sym (q ss known)
 
 described-result : OneKnown described.Post (λ κs args (ss : List Segment). args .0 ≡ sizesOf ss)
-described-result κs args ss known x y after after′ p q = p ss known ∙ sym (q ss known)
+described-result κs args ss known x y after after′ p q =
+    let same = p ss known ∙ sym (q ss known) in
+    λ i. record { 0 = same i }

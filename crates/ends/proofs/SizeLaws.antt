@@ -32,7 +32,7 @@ module _ (s : Segment) where
       go (c ∷ cs) = ne-eqb (length (c ∷ cs)) 0 (λ h. omega arith)
 
 -- of no segment
-pub sizes-none : record { known = false; size = 0; largest = 0; same = true } ≡ sizesOf []
+pub sizes-none : record { known = false; size = record { 0 = 0 }; largest = record { 0 = 0 }; same = true } ≡ sizesOf []
 unfolding sizesOf isClosed knownSize largest allOf
 sizes-none = refl
 
@@ -44,7 +44,7 @@ module _ (ss : List Segment) (s : Segment) where
   module _ (most : ℕ) (larger : most ≡ max (largest (map endOf ss)) (endOf s)) where
     -- a segment that does not make the size known
     pub sizes-stay : givesSize s ≡ false
-        → record { known = sizesOf ss .known; size = sizesOf ss .size; largest = most; same = sizesOf ss .same } ≡ sizesOf (ss ++ (s ∷ []))
+        → record { known = sizesOf ss .known; size = sizesOf ss .size; largest = record { 0 = most }; same = sizesOf ss .same } ≡ sizesOf (ss ++ (s ∷ []))
     unfolding sizesOf allOf
     sizes-stay lacks =
         let known = known-stays ss s lacks in
@@ -52,7 +52,7 @@ module _ (ss : List Segment) (s : Segment) where
 
     -- the first that does
     pub sizes-new : sizesOf ss .known ≡ false → givesSize s ≡ true
-        → record { known = true; size = endOf s; largest = most; same = true } ≡ sizesOf (ss ++ (s ∷ []))
+        → record { known = true; size = record { 0 = endOf s }; largest = record { 0 = most }; same = true } ≡ sizesOf (ss ++ (s ∷ []))
     unfolding sizesOf allOf
     sizes-new lacks gives =
         let known = known-new ss s lacks gives in
@@ -60,35 +60,35 @@ module _ (ss : List Segment) (s : Segment) where
 
     -- a later one
     pub sizes-later : sizesOf ss .known ≡ true → givesSize s ≡ true
-        → record { known = sizesOf ss .known; size = sizesOf ss .size; largest = most; same = sizesOf ss .same && eqb (endOf s) (sizesOf ss .size) } ≡ sizesOf (ss ++ (s ∷ []))
+        → record { known = sizesOf ss .known; size = sizesOf ss .size; largest = record { 0 = most }; same = sizesOf ss .same && eqb (endOf s) (sizesOf ss .size .0) } ≡ sizesOf (ss ++ (s ∷ []))
     unfolding sizesOf allOf
     sizes-later closed gives =
         let known = known-first ss s closed in
         rw (closed-same (ss ++ (s ∷ [])) ss known, known, last-largest, larger, all-append, gives, and-true)
 
 -- the same of what was gathered before
-module _ (x : Sizes) (ss : List Segment) (s : Segment) (e : x ≡ sizesOf ss) (end most : ℕ) (ends : end ≡ endOf s) (larger : most ≡ max (x .largest) end) where
+module _ (x : Sizes) (ss : List Segment) (s : Segment) (e : x ≡ sizesOf ss) (end most : ℕ) (ends : end ≡ endOf s) (larger : most ≡ max (x .largest .0) end) where
   most-of : most ≡ max (largest (map endOf ss)) (endOf s)
   unfolding sizesOf
   most-of = rw (← ends) (larger ∙ rw e)
 
-  pub with-stay : givesSize s ≡ false → record { known = x .known; size = x .size; largest = most; same = x .same } ≡ sizesOf (ss ++ (s ∷ []))
+  pub with-stay : givesSize s ≡ false → record { known = x .known; size = x .size; largest = record { 0 = most }; same = x .same } ≡ sizesOf (ss ++ (s ∷ []))
   with-stay lacks = rw e (sizes-stay ss s most most-of lacks)
 
-  pub with-new : x .known ≡ false → givesSize s ≡ true → record { known = true; size = end; largest = most; same = true } ≡ sizesOf (ss ++ (s ∷ []))
+  pub with-new : x .known ≡ false → givesSize s ≡ true → record { known = true; size = record { 0 = end }; largest = record { 0 = most }; same = true } ≡ sizesOf (ss ++ (s ∷ []))
   with-new lacks gives = rw ends (sizes-new ss s most most-of (rw e at lacks) gives)
 
-  pub with-same : x .known ≡ true → givesSize s ≡ true → end ≡ x .size
-      → record { known = x .known; size = x .size; largest = most; same = x .same } ≡ sizesOf (ss ++ (s ∷ []))
+  pub with-same : x .known ≡ true → givesSize s ≡ true → end ≡ x .size .0
+      → record { known = x .known; size = x .size; largest = record { 0 = most }; same = x .same } ≡ sizesOf (ss ++ (s ∷ []))
   with-same closed gives equal =
-      let here : endOf s ≡ sizesOf ss .size = sym ends ∙ equal ∙ ap (λ y. y .size) e in
-      rw e (rw (eq-eqb (endOf s) (sizesOf ss .size) here, and-true) at (sizes-later ss s most most-of (rw e at closed) gives))
+      let here : endOf s ≡ sizesOf ss .size .0 = sym ends ∙ equal ∙ ap (λ y. y .size .0) e in
+      rw e (rw (eq-eqb (endOf s) (sizesOf ss .size .0) here, and-true) at (sizes-later ss s most most-of (rw e at closed) gives))
 
-  pub with-other : x .known ≡ true → givesSize s ≡ true → (end ≡ x .size → ⊥)
-      → record { known = x .known; size = x .size; largest = most; same = false } ≡ sizesOf (ss ++ (s ∷ []))
+  pub with-other : x .known ≡ true → givesSize s ≡ true → (end ≡ x .size .0 → ⊥)
+      → record { known = x .known; size = x .size; largest = record { 0 = most }; same = false } ≡ sizesOf (ss ++ (s ∷ []))
   with-other closed gives differ =
-      let apart : endOf s ≡ sizesOf ss .size → ⊥ = λ h. differ (ends ∙ h ∙ sym (ap (λ y. y .size) e)) in
-      rw e (rw (ne-eqb (endOf s) (sizesOf ss .size) apart, and-false) at (sizes-later ss s most most-of (rw e at closed) gives))
+      let apart : endOf s ≡ sizesOf ss .size .0 → ⊥ = λ h. differ (ends ∙ h ∙ sym (ap (λ y. y .size .0) e)) in
+      rw e (rw (ne-eqb (endOf s) (sizesOf ss .size .0) apart, and-false) at (sizes-later ss s most most-of (rw e at closed) gives))
 
 -- what is answered of them
 module _ (ss : List Segment) where
@@ -96,18 +96,18 @@ module _ (ss : List Segment) where
   unfolding sizesOf
   agree-unknown lacks = sym (agree-open ss lacks)
 
-  pub agree-over : sizesOf ss .known ≡ true → sizesOf ss .size < sizesOf ss .largest → false ≡ agree ss
+  pub agree-over : sizesOf ss .known ≡ true → sizesOf ss .size .0 < sizesOf ss .largest .0 → false ≡ agree ss
   unfolding sizesOf
   agree-over closed over = sym (agree-closed ss closed ∙ rw (lt-leb (largest (map endOf ss)) (Option·getD (knownSize ss) 0) over))
 
-  pub agree-within : sizesOf ss .known ≡ true → sizesOf ss .largest ≤ sizesOf ss .size → sizesOf ss .same ≡ agree ss
+  pub agree-within : sizesOf ss .known ≡ true → sizesOf ss .largest .0 ≤ sizesOf ss .size .0 → sizesOf ss .same ≡ agree ss
   unfolding sizesOf
   agree-within closed within = sym (agree-closed ss closed ∙ rw (le-leb (largest (map endOf ss)) (Option·getD (knownSize ss) 0) within))
 
-  pub described-known : sizesOf ss .known ≡ true → sizesOf ss .size ≡ describedLength ss
+  pub described-known : sizesOf ss .known ≡ true → sizesOf ss .size .0 ≡ describedLength ss
   unfolding sizesOf
   described-known closed = sym (described-closed ss closed)
 
-  pub described-unknown : sizesOf ss .known ≡ false → sizesOf ss .largest ≡ describedLength ss
+  pub described-unknown : sizesOf ss .known ≡ false → sizesOf ss .largest .0 ≡ describedLength ss
   unfolding sizesOf
   described-unknown lacks = sym (described-open ss lacks)

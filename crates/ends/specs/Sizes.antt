@@ -13,7 +13,7 @@ unfoldable pub sizesOf : List Segment → Sizes
 sizesOf ss =
     record {
       known = isClosed ss;
-      size = Option·getD (knownSize ss) 0;
-      largest = largest (map endOf ss);
+      size = record { 0 = Option·getD (knownSize ss) 0 };
+      largest = record { 0 = largest (map endOf ss) };
       same = allOf (λ s. not (givesSize s) || eqb (endOf s) (Option·getD (knownSize ss) 0)) ss;
     }

@@ -1,6 +1,7 @@
 // What the ends of segments say of the size of the source, gathered segment by segment.
 use numerals::order::larger;
 use partial::header::SegmentHeader;
+use partial::position::Position;
 ghost use mathlib.Core.List.{List, [], _∷_, _++_};
 ghost use mathlib.Core.Path.{_≡_};
 ghost use lib.ListN.{length};
@@ -11,8 +12,8 @@ ghost use Rattle.ends.specs.Sizes.{sizesOf};
 // Whether the size is known, and that size; the largest end; whether every segment that makes the size known ends there.
 pub struct Sizes {
     pub known: bool,
-    pub size: u64,
-    pub largest: u64,
+    pub size: Position,
+    pub largest: Position,
     pub same: bool,
 }
 
@@ -33,21 +34,22 @@ impl Sizes {
     {
         Sizes {
             known: false,
-            size: 0,
-            largest: 0,
+            size: Position(0),
+            largest: Position(0),
             same: true,
         }
     }
 
     // With one segment more, that ends there and makes the size known or not.
-    pub fn with(self, end: u64, gives: bool) -> Self
-        ensures { λ r. ⌜ ((ss : List Segment) (s : Segment) → self ≡ sizesOf ss → end ≡ endOf s → gives ≡ givesSize s → r ≡ sizesOf (ss ++ (s ∷ []))) ⌝ }
+    pub fn with(self, end: Position, gives: bool) -> Self
+        ensures { λ r. ⌜ ((ss : List Segment) (s : Segment) → self ≡ sizesOf ss → end .0 ≡ endOf s → gives ≡ givesSize s → r ≡ sizesOf (ss ++ (s ∷ []))) ⌝ }
     {
         let mut sizes = self;
-        sizes.largest = larger(self.largest, end);
+        let most = Position(larger(self.largest.0, end.0));
+        sizes.largest = most;
         if gives {
             if self.known {
-                if end == self.size {
+                if end.0 == self.size.0 {
                     return sizes;
                 }
                 sizes.same = false;
@@ -66,7 +68,7 @@ impl Sizes {
         ensures { λ r. ⌜ ((ss : List Segment) → self ≡ sizesOf ss → r ≡ agree ss) ⌝ }
     {
         if self.known {
-            if self.size < self.largest {
+            if self.size.0 < self.largest.0 {
                 false
             } else {
                 self.same
@@ -77,8 +79,8 @@ impl Sizes {
     }
 
     // The described length.
-    pub fn described(self) -> u64
-        ensures { λ r. ⌜ ((ss : List Segment) → self ≡ sizesOf ss → r ≡ describedLength ss) ⌝ }
+    pub fn described(self) -> Position
+        ensures { λ r. ⌜ ((ss : List Segment) → self ≡ sizesOf ss → r .0 ≡ describedLength ss) ⌝ }
     {
         if self.known { self.size } else { self.largest }
     }

@@ -40,7 +40,7 @@ module _ (f : List ℕ) (b : Box) {width : ℕ} (read : width ≡ offsetWidth (n
 
   pub fields-whole : {flags offset repair : ℕ} → b .body + 4 + width + 8 ≡ b .end → flags ≡ number f (b .body + 1) 3
       → offset ≡ number f (b .body + 4) (min width 8) → repair ≡ number f (b .end - 8) 8
-      → fieldsOf f b ≡ given (record { flags = flags; offset = offset; repair = repair })
+      → fieldsOf f b ≡ given (record { flags = flags; offset = record { 0 = offset }; repair = repair })
   unfolding fieldsOf pshdFields
   fields-whole h flags offset repair =
       let narrow : min width 8 ≡ width = omega (arith, width-most (number f (b .body) 1)) in

@@ -11,7 +11,7 @@ use Rattle.fields.specs.declared.fields.FieldsRead.the-variants.{Refused
 
 -- the fields that change an answer
 abbrev pub valuesOf : Pshd → Fields
-valuesOf p = record { flags = p .flags; offset = p .sourceOffset; repair = p .repairTime }
+valuesOf p = record { flags = p .flags; offset = record { 0 = p .sourceOffset }; repair = p .repairTime }
 
 -- the fields of a `pshd`; 14 where they do not end where the box ends
 unfoldable pub fieldsOf : List ℕ → Box → Answer Fields

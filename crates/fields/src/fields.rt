@@ -2,6 +2,7 @@
 use boxes::framing::Framed;
 use numerals::numbers::unsigned;
 use numerals::place::Place;
+use partial::position::Position;
 use partial::refusals::PSHD_WRONG;
 ghost use mathlib.Core.Path.{_≡_};
 ghost use Rattle.boxes.specs.Framing.{boxOf};
@@ -11,7 +12,7 @@ ghost use Rattle.fields.specs.Fields.{fieldsOf, fieldsAnswer};
 // The flags, `source_byte_offset`, which is not yet held against its limit, and `last_repair_time`.
 pub struct Fields {
     pub flags: u64,
-    pub offset: u64,
+    pub offset: Position,
     pub repair: u64,
 }
 
@@ -44,7 +45,7 @@ pub fn fields_of(s: &[u8], b: Framed) -> FieldsRead
     }
     FieldsRead::Given(Fields {
         flags: unsigned(s, Place(body.0 + 1), 3),
-        offset: unsigned(s, Place(body.0 + 4), width),
+        offset: Position(unsigned(s, Place(body.0 + 4), width)),
         repair: unsigned(s, Place(end.0 - 8), 8),
     })
 }

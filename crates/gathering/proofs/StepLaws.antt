@@ -59,7 +59,7 @@ abbrev pub built : ℕ → Parts → List Chunk → Segment
 built at p cs =
     record {
       place = at;
-      sourceOffset = p .fields .offset;
+      sourceOffset = p .fields .offset .0;
       flags = p .fields .flags;
       repairTime = p .fields .repair;
       headerPlace = p .header .body;
@@ -71,8 +71,8 @@ built at p cs =
 abbrev judged : ℕ → List ℕ → Heading → List Segment → ℕ → Parts → Answer Segment
 judged limit f h before at p = do
   _ ← hold 22 (leb (length (chunksOf before) + p .location .count) chunkLimit)
-  _ ← hold 23 (leb (p .fields .offset) limit)
-  cs ← chunksFrom limit f h at (p .location) (p .location .count) (record { at = p .location .first; start = p .fields .offset })
+  _ ← hold 23 (leb (p .fields .offset .0) limit)
+  cs ← chunksFrom limit f h at (p .location) (p .location .count) (record { at = p .location .first; start = p .fields .offset .0 })
   given (built at p cs)
 
 -- the same tests, grouped as the parts of a segment's box are
@@ -105,16 +105,16 @@ module _ (f : List ℕ) (h : Heading) (ss : List Segment) (b : Framed) where
     segment-crowded many = by-parts ∙ rw (parts, lt-leb (length (chunksOf ss) + p .location .count) chunkLimit (omega arith))
 
     module _ (few : length (chunksOf ss) + p .location .count ≤ chunkLimit) where
-      pub segment-far : sourceLimit < p .fields .offset → segment sourceLimit f h ss (boxOf b) ≡ refused 23
-      segment-far far = by-parts ∙ rw (parts, le-leb (length (chunksOf ss) + p .location .count) chunkLimit few, lt-leb (p .fields .offset) sourceLimit far)
+      pub segment-far : sourceLimit < p .fields .offset .0 → segment sourceLimit f h ss (boxOf b) ≡ refused 23
+      segment-far far = by-parts ∙ rw (parts, le-leb (length (chunksOf ss) + p .location .count) chunkLimit few, lt-leb (p .fields .offset .0) sourceLimit far)
 
-      module _ (near : p .fields .offset ≤ sourceLimit) (last : Framed) where
+      module _ (near : p .fields .offset .0 ≤ sourceLimit) (last : Framed) where
         -- the cursor at the first entry
         abbrev first : Cursor
-        first = record { at = p .location .first; start = record { 0 = p .fields .offset }; last = last }
+        first = record { at = p .location .first; start = p .fields .offset; last = last }
 
         by-chunks : segment sourceLimit f h ss (boxOf b) ≡ (chunksBy f h (b .at .0) (p .location) first >>= λ cs. given (built (b .at .0) (partsOf p) cs))
-        by-chunks = by-parts ∙ rw (parts, le-leb (length (chunksOf ss) + p .location .count) chunkLimit few, le-leb (p .fields .offset) sourceLimit near)
+        by-chunks = by-parts ∙ rw (parts, le-leb (length (chunksOf ss) + p .location .count) chunkLimit few, le-leb (p .fields .offset .0) sourceLimit near)
 
         pub segment-cut : {n : ℕ} → chunksBy f h (b .at .0) (p .location) first ≡ refused n → segment sourceLimit f h ss (boxOf b) ≡ refused n
         segment-cut e = by-chunks ∙ rw e

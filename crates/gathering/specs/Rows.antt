@@ -7,4 +7,4 @@ use Rattle.fields.specs.declared.fields.Fields.{Fields}
 -- the row of a segment by the place of its box, the fields of its `pshd`, the number of its chunks, and its `pshd`
 abbrev pub rowBy : ℕ → Fields → ℕ → Box → List ℕ
 rowBy place fields count header =
-    place ∷ fields .offset ∷ fields .flags ∷ fields .repair ∷ count ∷ header .body ∷ (header .end - header .body) ∷ []
+    place ∷ fields .offset .0 ∷ fields .flags ∷ fields .repair ∷ count ∷ header .body ∷ (header .end - header .body) ∷ []

@@ -39,7 +39,7 @@ impl Gathered {
         Gathered {
             segments: self.segments + 1,
             chunks: self.chunks + count,
-            sizes: sizes.with(end.0, gives_size(flags, count)),
+            sizes: sizes.with(end, gives_size(flags, count)),
         }
     }
 }

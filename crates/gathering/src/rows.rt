@@ -40,7 +40,7 @@ pub(crate) fn put_segment(
     let end = header.end;
     let row = [
         place.0,
-        fields.offset,
+        fields.offset.0,
         fields.flags,
         fields.repair,
         count,

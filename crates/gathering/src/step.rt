@@ -8,7 +8,6 @@ use crate::rows::put_segment;
 use boxes::framing::Framed;
 use partial::limits::CHUNK_LIMIT;
 use partial::limits::SOURCE_LIMIT;
-use partial::position::Position;
 use partial::refusals::SOURCE_TOO_LONG;
 use partial::refusals::TOO_MANY_CHUNKS;
 use segment::chunk::Cursor;
@@ -54,17 +53,14 @@ pub(crate) fn segment_of(
             let header = p.header;
             let at = location.first;
             let count = location.count;
+            let start = fields.offset;
             if CHUNK_LIMIT - before.chunks < count {
                 return SegmentRead::Refused(TOO_MANY_CHUNKS);
             }
-            if SOURCE_LIMIT < fields.offset {
+            if SOURCE_LIMIT < start.0 {
                 return SegmentRead::Refused(SOURCE_TOO_LONG);
             }
-            let first = Cursor {
-                at,
-                start: Position(fields.offset),
-                last,
-            };
+            let first = Cursor { at, start, last };
             match chunks_of(file, tops, mixed, place, location, first, before, chunks) {
                 ChunksRead::Refused(n) => SegmentRead::Refused(n),
                 ChunksRead::Given(cursor) => {

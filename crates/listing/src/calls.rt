@@ -44,7 +44,7 @@ pub fn list(
         Judgement::Given(judged) => {
             let gathered = judged.gathered;
             let sizes = gathered.sizes;
-            let end = Position(sizes.described());
+            let end = sizes.described();
             let n = file_spans(&mut spans, gathered.chunks, end);
             let totals = counted(&spans, n, end);
             if segments.len() as u64 / SEGMENT_ROW < gathered.segments {

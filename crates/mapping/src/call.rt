@@ -118,7 +118,7 @@ fn write_map(file: &[u8], most: u64, buffer: &mut [u8], named: bool) -> Written
         Judgement::Refused(n) => write_refused(buffer, n),
         Judgement::Given(judged) => {
             let gathered = judged.gathered;
-            let end = Position(gathered.sizes.described());
+            let end = gathered.sizes.described();
             write_rows(buffer, &mut rows, gathered, end, named)
         }
     }

@@ -16,6 +16,7 @@ use Rattle.partial.specs.Segments.{Segment, chunksOf}
 use Rattle.partial.specs.Tables.{segmentRowLength, chunkRowLength, tabled, segmentRows, chunkRows, summary}
 use Rattle.partial.specs.declared.answers.Read.{Read}
 use Rattle.partial.specs.declared.answers.Read.the-variants as Read
+use Rattle.partial.specs.declared.position.Position.{Position}
 use Rattle.filling.specs.Rows.{Put}
 use Rattle.ends.specs.Sizes.{sizesOf}
 use Rattle.gathering.specs.Gathered.{gatheredOf}
@@ -67,10 +68,10 @@ module _ (f a b : List ℕ) where
   reads-given ss e answer one two = record { answer = rw e answer; tables = rw e (record { segmentTable = one; chunkTable = two }) }
 
 -- what is gathered of segments is what is answered of them
-pub answered : {g : Gathered} (ss : List Segment) → g ≡ gatheredOf ss → {n : ℕ} → n ≡ describedLength ss
-    → readAnswer (Read.Tables (g .segments) (g .chunks) (record { 0 = n }) (g .sizes .known)) ≡ given (summary ss)
+pub answered : {g : Gathered} (ss : List Segment) → g ≡ gatheredOf ss → (described : Position) → described .0 ≡ describedLength ss
+    → readAnswer (Read.Tables (g .segments) (g .chunks) described (g .sizes .known)) ≡ given (summary ss)
 unfolding readAnswer summary gatheredOf sizesOf
-answered ss e length = λ i. given (record { segments = e i .segments; chunks = e i .chunks; described = length i; closed = e i .sizes .known })
+answered ss e described length = λ i. given (record { segments = e i .segments; chunks = e i .chunks; described = length i; closed = e i .sizes .known })
 
 -- rows that fit fill a table
 pub segments-filled : (ss : List Segment) {a a′ : List ℕ} → Put a 0 (segmentRows ss) a′ → segmentRowLength * length ss ≤ length a → a′ ≡ filled (segmentRows ss) a

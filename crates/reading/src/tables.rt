@@ -3,7 +3,6 @@ use crate::judging::Judgement;
 use crate::judging::judge;
 use gathering::pass::pass;
 use partial::answers::Read;
-use partial::position::Position;
 use partial::refusals::TABLE_TOO_SHORT;
 use partial::rows::CHUNK_ROW;
 use partial::rows::SEGMENT_ROW;
@@ -29,7 +28,7 @@ pub fn read(file: &[u8], segments: &mut [u64], chunks: &mut [u64]) -> Read
             Read::Tables {
                 segments: gathered.segments,
                 chunks: gathered.chunks,
-                described: Position(sizes.described()),
+                described: sizes.described(),
                 closed: sizes.known,
             }
         }

@@ -117,33 +117,33 @@ module _ (good : List ℕ) (n : ℕ) (damaged : List ℕ) (m : ℕ) where
 
 -- ---- what is found
 
-module _ (good damaged : List ℕ) (s : Sweeps) (p end : ℕ) {g : Sweep} (many : g .n ≡ s .good .n) (ofGood : Ready good end p g) (some : p < g .to) where
+module _ (good damaged : List ℕ) (s : Sweeps) (p end : ℕ) {g : Sweep} (many : g .n ≡ s .good .n) (ofGood : Ready good end p g) (some : p < g .to .0) where
   pub names-had : g .class ≡ had → Ready damaged end p (s .damaged)
-      → Names good damaged s p end (record { range = record { class = had; length = g .to - p }; sweeps = record { good = g; damaged = s .damaged } })
+      → Names good damaged s p end (record { range = record { class = had; length = g .to .0 - p }; sweeps = record { good = g; damaged = s .damaged } })
   names-had is waiting =
       let one = had-named good (g .n) damaged (s .damaged .n) (stays-had good (g .n) (ofGood .stands some) is) in
       record {
-        range = range-of _ p end had (g .to) some one ∙ ap (λ (n : ℕ). rangeIn (nameBy good n damaged (s .damaged .n)) p end) many;
+        range = range-of _ p end had (g .to .0) some one ∙ ap (λ (n : ℕ). rangeIn (nameBy good n damaged (s .damaged .n)) p end) many;
         ready = record { ofGood = ready-on ofGood (omega arith); ofDamaged = ready-on waiting (omega arith) };
       }
 
-  module _ {d : Sweep} (many′ : d .n ≡ s .damaged .n) (ofDamaged : Ready damaged end p d) (some′ : p < d .to) (not-had : g .class ≡ had → ⊥) where
-    missed : {value : Bool} {r : Range} → Stays (coveredBy damaged (d .n)) p end value (d .to) → r .class ≡ missedBy value → r .length ≡ min (g .to) (d .to) - p
+  module _ {d : Sweep} (many′ : d .n ≡ s .damaged .n) (ofDamaged : Ready damaged end p d) (some′ : p < d .to .0) (not-had : g .class ≡ had → ⊥) where
+    missed : {value : Bool} {r : Range} → Stays (coveredBy damaged (d .n)) p end value (d .to .0) → r .class ≡ missedBy value → r .length ≡ min (g .to .0) (d .to .0) - p
         → Names good damaged s p end (record { range = r; sweeps = record { good = g; damaged = d } })
     missed {value} stays is long =
         let one = missed-named good (g .n) damaged (d .n) (omega arith) (stays-missing good (g .n) (ofGood .stands some) some not-had) stays in
         record {
           range =
               (λ i. record { class = is i; length = long i })
-              ∙ range-of _ p end (missedBy value) (min (g .to) (d .to)) (omega arith) one
+              ∙ range-of _ p end (missedBy value) (min (g .to .0) (d .to .0)) (omega arith) one
               ∙ (λ i. rangeIn (nameBy good (many i) damaged (many′ i)) p end);
           ready = record { ofGood = ready-on ofGood (omega arith); ofDamaged = ready-on ofDamaged (omega arith) };
         }
 
-    pub names-held : {r : Range} → d .class ≡ had → r .class ≡ held → r .length ≡ min (g .to) (d .to) - p
+    pub names-held : {r : Range} → d .class ≡ had → r .class ≡ held → r .length ≡ min (g .to .0) (d .to .0) - p
         → Names good damaged s p end (record { range = r; sweeps = record { good = g; damaged = d } })
     names-held kept = missed (stays-had damaged (d .n) (ofDamaged .stands some′) kept)
 
-    pub names-lost : {r : Range} → (d .class ≡ had → ⊥) → r .class ≡ lost → r .length ≡ min (g .to) (d .to) - p
+    pub names-lost : {r : Range} → (d .class ≡ had → ⊥) → r .class ≡ lost → r .length ≡ min (g .to .0) (d .to .0) - p
         → Names good damaged s p end (record { range = r; sweeps = record { good = g; damaged = d } })
     names-lost none = missed (stays-missing damaged (d .n) (ofDamaged .stands some′) some′ none)

@@ -56,7 +56,7 @@ module _ (t : List ℕ) (n k₀ p : ℕ) where
               };
         }
 
-    pub reached-end : (k < n → to < firstAt t k) → Reaches t n k₀ p (record { to = to; passed = k })
+    pub reached-end : (k < n → to < firstAt t k) → Reaches t n k₀ p (record { to = record { 0 = to }; passed = k })
     reached-end next = record { on = r .on; most = r .most; had = r .had; passed = r .passed; next = next }
 
 -- ---- the range that is found
@@ -97,7 +97,7 @@ range-of of p end class to some one =
     λ i. record { class = sym here i; length = sym long i }
 
 -- where nothing is had, the next range begins behind the position
-pub next-high : (t : List ℕ) (n k p end : ℕ) {r : Reach} → Reaches t n k p r → r .to ≤ p → p < end → {next : ℕ} → (r .passed < n → next ≡ firstAt t (r .passed))
+pub next-high : (t : List ℕ) (n k p end : ℕ) {r : Reach} → Reaches t n k p r → r .to .0 ≤ p → p < end → {next : ℕ} → (r .passed < n → next ≡ firstAt t (r .passed))
     → (n ≤ r .passed → next ≡ end)
     → p < next
 next-high t n k p end {r} s stays below first last =
@@ -107,16 +107,16 @@ next-high t n k p end {r} s stays below first last =
     ]
 
 module _ (t : List ℕ) (n k p end : ℕ) {r : Reach} (o : Ordered t n end) (before : Passed t n k p) (s : Reaches t n k p r) where
-  pub range-had : p ≤ end → p < r .to → record { class = had; length = r .to - p } ≡ rangeIn (classBy t n) p end
+  pub range-had : p ≤ end → p < r .to .0 → record { class = had; length = r .to .0 - p } ≡ rangeIn (classBy t n) p end
   range-had below some =
-      range-of (classBy t n) p end had (r .to) some
+      range-of (classBy t n) p end had (r .to .0) some
       (record {
         most = s .most end below (o .spans .most);
         same = λ q from under. class-had t n q (s .had q from under);
-        other = λ short e. omega (arith, e, class-missing t n (r .to) (free t n end (r .passed) (r .to) (r .to) o (s .passed before) (omega arith) (s .next)));
+        other = λ short e. omega (arith, e, class-missing t n (r .to .0) (free t n end (r .passed) (r .to .0) (r .to .0) o (s .passed before) (omega arith) (s .next)));
       })
 
-  module _ (stays : r .to ≤ p) (below : p < end) {next : ℕ} (first : r .passed < n → next ≡ firstAt t (r .passed)) (last : n ≤ r .passed → next ≡ end) where
+  module _ (stays : r .to .0 ≤ p) (below : p < end) {next : ℕ} (first : r .passed < n → next ≡ firstAt t (r .passed)) (last : n ≤ r .passed → next ≡ end) where
     next-low : next ≤ end
     next-low =
         elim (decLe n (r .passed)) [
@@ -138,12 +138,12 @@ module _ (t : List ℕ) (n k p end : ℕ) {r : Reach} (o : Ordered t n end) (bef
         range-of (classBy t n) p end missing next (next-high t n k p end s stays below first last)
         (record {
           most = next-low;
-          same = λ q from under. class-missing t n q (free t n end (r .passed) (r .to) q o (s .passed before) (omega arith) (λ one. omega (arith, first one)));
+          same = λ q from under. class-missing t n q (free t n end (r .passed) (r .to .0) q o (s .passed before) (omega arith) (λ one. omega (arith, first one)));
           other = λ short e. omega (arith, e, class-had t n next (next-had short));
         })
 
   -- the spans that are passed at the reach are passed behind it
-  pub passed-on : {to : ℕ} → r .to ≤ to → Passed t n (r .passed) to
+  pub passed-on : {to : ℕ} → r .to .0 ≤ to → Passed t n (r .passed) to
   passed-on on = record { most = s .passed before .most; ended = λ j less. omega (arith, s .passed before .ended j less) }
 
 -- ---- so many positions that are missing

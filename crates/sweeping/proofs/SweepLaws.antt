@@ -27,9 +27,9 @@ module _ {t : List ℕ} {end p : ℕ} {s : Sweep} (r : Ready t end p s) where
       }
 
   -- the spans that were passed are passed further on
-  pub ready-passed : s .to ≤ p → Passed t (s .n) (s .passed) p
+  pub ready-passed : s .to .0 ≤ p → Passed t (s .n) (s .passed) p
   ready-passed behind = record { most = r .passed .most; ended = λ j less. omega (arith, r .passed .ended j less) }
 
 pub ready-moved : (t : List ℕ) (n p end : ℕ) → p < end → {f : Found} → Finds t n p end f
-    → Ready t end p (record { n = n; class = f .range .class; to = p + f .range .length; passed = f .passed })
+    → Ready t end p (record { n = n; class = f .range .class; to = record { 0 = p + f .range .length }; passed = f .passed })
 ready-moved t n p end below {f} finds = record { passed = finds .passed; stands = λ less. found-one (classBy t n) p end below (finds .range) }

@@ -27,11 +27,11 @@ pub record Passed (t : List ℕ) (n k p : ℕ) : Type 0 where
 
 -- the positions up to the reach are had, and the spans that are not passed there start behind it, where the first k were passed before
 pub record Reaches (t : List ℕ) (n k p : ℕ) (r : Reach) : Type 0 where
-  pub on : p ≤ r .to
-  pub most : (end : ℕ) → p ≤ end → Within t n end → r .to ≤ end
-  pub had : (q : ℕ) → p ≤ q → q < r .to → coveredBy t n q ≡ true
-  pub passed : Passed t n k p → Passed t n (r .passed) (r .to)
-  pub next : r .passed < n → r .to < firstAt t (r .passed)
+  pub on : p ≤ r .to .0
+  pub most : (end : ℕ) → p ≤ end → Within t n end → r .to .0 ≤ end
+  pub had : (q : ℕ) → p ≤ q → q < r .to .0 → coveredBy t n q ≡ true
+  pub passed : Passed t n k p → Passed t n (r .passed) (r .to .0)
+  pub next : r .passed < n → r .to .0 < firstAt t (r .passed)
 
 -- a range is of no higher class than one, it ends in 64 bits, and below an end it is not empty
 pub record GoesOn (most p end : ℕ) (r : Range) : Type 0 where

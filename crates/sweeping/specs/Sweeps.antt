@@ -9,15 +9,15 @@ use Rattle.sweeping.specs.declared.sweep.Sweep.{Sweep}
 
 -- a sweep over n spans that has not begun
 abbrev pub atStart : ℕ → Sweep
-atStart n = record { n = n; class = missing; to = 0; passed = 0 }
+atStart n = record { n = n; class = missing; to = record { 0 = 0 }; passed = 0 }
 
 -- a sweep over the same spans that does not end before a position, nor at it where it lies below the end
 pub record Moves (s : Sweep) (p end : ℕ) (s′ : Sweep) : Type 0 where
   pub many : s′ .n ≡ s .n
-  pub on : p ≤ s′ .to
-  pub some : p < end → p < s′ .to
+  pub on : p ≤ s′ .to .0
+  pub some : p < end → p < s′ .to .0
 
 -- the spans that a sweep has passed end where it does, and if it ends behind a position, then it stands in the range of that
 pub record Ready (t : List ℕ) (end p : ℕ) (s : Sweep) : Type 0 where
-  pub passed : Passed t (s .n) (s .passed) (s .to)
-  pub stands : p < s .to → OneClass (classBy t (s .n)) p end (s .class) (s .to)
+  pub passed : Passed t (s .n) (s .passed) (s .to .0)
+  pub stands : p < s .to .0 → OneClass (classBy t (s .n)) p end (s .class) (s .to .0)

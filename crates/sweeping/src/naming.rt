@@ -50,7 +50,7 @@ pub fn named_at(good: &[u64], damaged: &[u64], sweeps: Sweeps, p: Position, end:
         return Named {
             range: Range {
                 class: HAD,
-                length: had.to - p.0,
+                length: had.to.0 - p.0,
             },
             sweeps: Sweeps {
                 good: had,
@@ -66,7 +66,7 @@ pub fn named_at(good: &[u64], damaged: &[u64], sweeps: Sweeps, p: Position, end:
     Named {
         range: Range {
             class,
-            length: smaller(had.to, held.to) - p.0,
+            length: smaller(had.to.0, held.to.0) - p.0,
         },
         sweeps: Sweeps {
             good: had,

@@ -39,7 +39,7 @@ fn nothing(passed: usize, length: u64) -> Found
 
 // How far the positions from one on are had, and how many spans are passed there.
 pub struct Reach {
-    pub to: u64,
+    pub to: Position,
     pub passed: usize,
 }
 
@@ -52,14 +52,20 @@ fn had_to(table: &[u64], n: usize, passed: usize, p: Position) -> Reach
     let mut k = passed;
     while k < n {
         if to < table[2 * k] {
-            return Reach { to, passed: k };
+            return Reach {
+                to: Position(to),
+                passed: k,
+            };
         }
         if to < table[2 * k + 1] {
             to = table[2 * k + 1];
         }
         k += 1;
     }
-    Reach { to, passed: k }
+    Reach {
+        to: Position(to),
+        passed: k,
+    }
 }
 
 // The range of a position below an end, by so many ordered spans of which the first so many are passed.
@@ -73,7 +79,7 @@ pub fn range_at(table: &[u64], n: usize, passed: usize, p: Position, end: Positi
         return nothing(passed, end.0 - p.0);
     }
     let reached = had_to(table, n, passed, p);
-    let to = reached.to;
+    let to = reached.to.0;
     let k = reached.passed;
     if p.0 < to {
         return Found {

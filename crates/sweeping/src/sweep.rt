@@ -11,7 +11,7 @@ ghost use Rattle.sweeping.specs.Sweeps.{atStart, Moves, Ready};
 pub struct Sweep {
     pub n: usize,
     pub class: u64,
-    pub to: u64,
+    pub to: Position,
     pub passed: usize,
 }
 
@@ -23,7 +23,7 @@ impl Sweep {
         Sweep {
             n,
             class: MISSING,
-            to: 0,
+            to: Position(0),
             passed: 0,
         }
     }
@@ -32,7 +32,7 @@ impl Sweep {
     pub(crate) fn at(self, table: &[u64], p: Position, end: Position) -> Self
         ensures { λ s. ⌜ Moves self (p .0) (end .0) s × (Ordered (now (table .entry)) (self .n) (end .0) → Ready (now (table .entry)) (end .0) (p .0) self → p .0 < end .0 → Ready (now (table .entry)) (end .0) (p .0) s) ⌝ }
     {
-        if p.0 < self.to {
+        if p.0 < self.to.0 {
             return self;
         }
         let found = range_at(table, self.n, self.passed, p, end);
@@ -40,7 +40,7 @@ impl Sweep {
         Sweep {
             n: self.n,
             class: r.class,
-            to: p.0 + r.length,
+            to: Position(p.0 + r.length),
             passed: found.passed,
         }
     }

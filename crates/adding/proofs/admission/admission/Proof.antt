@@ -85,8 +85,8 @@ cast-gives-size c = search needs
 gives-size-requires : tie.Need-gives-size-requires
 gives-size-requires c κs = search needs
 
-add-with : tie.Need-add-with
-add-with c =
+add-end : tie.Need-add-end
+add-end c =
     let met = c .before .before .before .before .before in
     let args = met .before .before .before .before .before .before .before .before .before .before .before .before .before .before .args in
     omega (arith, leb-true (args .header .offset .0 + args .counts .sum) sourceLimit (sym (met .before .ends-by4 .ensures) ∙ not-false _ (met .if5 .left)))
@@ -117,8 +117,8 @@ returns-6 c = λ h ss a beside asked.
     let agrees = sym (not-true _ (c .if6 .taken)) ∙ c .before .agree .ensures (ss ++ (new (args .n) a ∷ [])) with in
     admission-25 h ss (args .n) a small boxes few chunks low agrees
 
-add-t15 : tie.Need-add-t15
-add-t15 c =
+add-t17 : tie.Need-add-t17
+add-t17 c =
     let met = c .before .before .before .before .before .before .before .before .before .before .before .before .before .before .before .before .before .before in
     let args = met .before .before .before .before .before .args in
     omega (arith, leb-true (args .n + args .layout .added) fileLimit (sym (met .before .ends-by .ensures) ∙ not-false _ (met .if1 .left)))
@@ -160,9 +160,9 @@ admission-spec =
     returns-5
     cast-gives-size
     gives-size-requires
-    add-with
+    add-end
     with-requires
     agree-requires
     returns-6
-    add-t15
+    add-t17
     returns-7)

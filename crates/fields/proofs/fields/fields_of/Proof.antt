@@ -47,8 +47,8 @@ add-t11 c = search needs
 unsigned-requires-3 : tie.Need-unsigned-requires-3
 unsigned-requires-3 c κs = search needs
 
-sub-t14 : tie.Need-sub-t14
-sub-t14 c = search needs
+sub-t15 : tie.Need-sub-t15
+sub-t15 c = search needs
 
 unsigned-requires-4 : tie.Need-unsigned-requires-4
 unsigned-requires-4 c κs = search needs
@@ -72,6 +72,6 @@ fields-of-spec =
     unsigned-requires-2
     add-t11
     unsigned-requires-3
-    sub-t14
+    sub-t15
     unsigned-requires-4
     returns-3)

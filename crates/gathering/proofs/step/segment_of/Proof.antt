@@ -16,10 +16,10 @@ use Rattle.gathering.proofs.step.segment_of.Statement.{statement}
 use Rattle.gathering.proofs.step.segment_of.Tie as tie
 
 -- the numbers are within their limits, and stay so
-within : (c : tie.Else2) → c .before .before .before .before .before .before .before .before .before .before .before .before .before .before .before .before .args .before .segments ≤ boxLimit
+within : (c : tie.Else2) → c .before .before .before .before .before .before .before .before .before .before .before .before .before .before .before .before .before .args .before .segments ≤ boxLimit
 within c = search needs
 
-few : (c : tie.Else2) → c .before .before .before .before .before .before .before .before .before .before .before .before .before .before .before .before .args .before .chunks + c .before .before .before .before .before .before .before .before .before .p .given .0 .0 .location .count ≤ chunkLimit
+few : (c : tie.Else2) → c .before .before .before .before .before .before .before .before .before .before .before .before .before .before .before .before .before .args .before .chunks + c .before .before .before .before .before .before .before .before .before .before .p .given .0 .0 .location .count ≤ chunkLimit
 few c = omega arith
 
 parts-of-requires : tie.Need-parts-of-requires
@@ -37,14 +37,14 @@ sub-if1 c = search needs
 returns : tie.Need-returns
 unfolding Counted Segmented partsAnswer
 returns c =
-    let met = c .before .before .before .before .before .before .before in
+    let met = c .before .before .before .before .before .before .before .before in
     let parts = sym (met .before .before .parts-of .ensures) ∙ ap partsAnswer (met .p .given .1) in
     (tt, λ h ss mix known listed so-far. segment-crowded _ h ss _ _ parts (omega (arith, gathered-chunks ss so-far)))
 
 returns-2 : tie.Need-returns-2
 unfolding Counted Segmented partsAnswer
 returns-2 c =
-    let met = c .before .before .before .before .before .before .before .before .before in
+    let met = c .before .before .before .before .before .before .before .before .before .before in
     let parts = sym (met .before .before .parts-of .ensures) ∙ ap partsAnswer (met .p .given .1) in
     (tt, λ h ss mix known listed so-far. segment-far _ h ss _ _ parts (omega (arith, gathered-chunks ss so-far)) (omega arith))
 
@@ -60,7 +60,7 @@ enum-known-cursor c = search needs
 put-segment-requires : tie.Need-put-segment-requires
 unfolding partsAnswer
 put-segment-requires c κs =
-    let met = c .before .before .before .before .before .before .before .before .before .before .before .before .before .before .before .before .before in
+    let met = c .before .before .before .before .before .before .before .before .before .before .before .before .before .before .before .before .before .before in
     let parts = sym (met .before .before .parts-of .ensures) ∙ ap partsAnswer (met .p .given .1) in
     (search needs, rw (box-fields _) at (header-whole _ _ parts))
 
@@ -79,10 +79,10 @@ returns-4 : tie.Need-returns-4
 unfolding Counted Segmented Chunked partsAnswer
 returns-4 c =
     let near = c .before .before .before .before .before .before .before in
-    let met = near .before .before .before .before .before .before .before .before .before in
+    let met = near .before .before .before .before .before .before .before .before .before .before in
     let parts = sym (met .before .before .parts-of .ensures) ∙ ap partsAnswer (met .p .given .1) in
     let ran = c .before .before .before .before .before .chunks-of .ensures in
-    (tt, λ h ss mix known listed so-far. segment-cut _ h ss _ _ parts (omega (arith, few near, gathered-chunks ss so-far)) (omega arith) (near .before .before .before .before .before .before .before .before .before .before .before .before .before .before .before .before .args .last) (subst (Chunked _ h _ _ _ _ _ _) (c .before .n2 .given .1) (ran h mix known listed)))
+    (tt, λ h ss mix known listed so-far. segment-cut _ h ss _ _ parts (omega (arith, few near, gathered-chunks ss so-far)) (omega arith) (near .before .before .before .before .before .before .before .before .before .before .before .before .before .before .before .before .before .args .last) (subst (Chunked _ h _ _ _ _ _ _) (c .before .n2 .given .1) (ran h mix known listed)))
 
 same-length-2 : tie.Need-same-length-2
 same-length-2 c = search needs
@@ -95,7 +95,7 @@ unfolding Counted Segmented Chunked partsAnswer
 returns-5 c =
     let read = c .before .before .before .before .before .before .before .before in
     let near = read .before .before .before .before .before .before in
-    let met = near .before .before .before .before .before .before .before .before .before in
+    let met = near .before .before .before .before .before .before .before .before .before .before in
     let parts = sym (met .before .before .parts-of .ensures) ∙ ap partsAnswer (met .p .given .1) in
     let ran = read .before .before .before .before .chunks-of .ensures in
     let put = c .before .before .before .before .before .put-segment .ensures in
@@ -103,7 +103,7 @@ returns-5 c =
       (more .0, subst (λ (n : ℕ). n ≤ chunkLimit) (sym (more .1)) (few near)),
       λ h ss mix known listed so-far.
           let (cs, e, many, here) = subst (Chunked _ h _ _ _ _ _ _) (read .cursor .given .1) (ran h mix known listed) in
-          segment-told _ h ss _ _ parts (omega (arith, few near, gathered-chunks ss so-far)) (omega arith) (near .before .before .before .before .before .before .before .before .before .before .before .before .before .before .before .before .args .last) so-far e many here put (λ s. more .2 ss s so-far),
+          segment-told _ h ss _ _ parts (omega (arith, few near, gathered-chunks ss so-far)) (omega arith) (near .before .before .before .before .before .before .before .before .before .before .before .before .before .before .before .before .before .args .last) so-far e many here put (λ s. more .2 ss s so-far),
     )
 
 pub segment-of-spec : {M : Type 1} → statement M

@@ -58,7 +58,7 @@ returns-4 c =
     let segments : segmentRowLength * length (a .ss) ≤ length (args .segments .now) = omega (arith, gathered-segments (a .ss) (a .gathered)) in
     let chunks : chunkRowLength * length (chunksOf (a .ss)) ≤ length (args .chunks .now) = omega (arith, gathered-chunks (a .ss) (a .gathered)) in
     let (one, two) = rows-put _ (a .h) _ (c .before .before .before .before .before .pass .ensures (a .h) (headed _ (a .h) (a .head) .boxes) (facts-mixed _ (a .h) (a .facts))) (read-segments _ a) in
-    let answer = answered (a .ss) (a .gathered) (c .described .ensures (a .ss) (gathered-sizes (a .ss) (a .gathered))) in
+    let answer = answered (a .ss) (a .gathered) _ (c .described .ensures (a .ss) (gathered-sizes (a .ss) (a .gathered))) in
     reads-given _ _ _ (a .ss) (tabled-given _ _ _ (a .ss) (read-given _ a) segments chunks) answer (segments-filled (a .ss) one segments) (chunks-filled (a .ss) two chunks)
 
 pub read-spec : {M : Type 1} → statement M

@@ -6,12 +6,12 @@ use Rattle.ends.proofs.sizes.Sizes.agree.Statement.{statement}
 use Rattle.ends.proofs.sizes.Sizes.agree.Tie as tie
 
 returns : tie.Need-returns
-returns c = λ ss e. agree-over ss (sym (ap (λ x. x .known) e) ∙ c .before .before .if1 .taken) (omega (arith, ap (λ x. x .size) e, ap (λ x. x .largest) e))
+returns c = λ ss e. agree-over ss (sym (ap (λ x. x .known) e) ∙ c .before .before .if1 .taken) (omega (arith, ap (λ x. x .size .0) e, ap (λ x. x .largest .0) e))
 
 returns-2 : tie.Need-returns-2
 returns-2 c = λ ss e.
     ap (λ x. x .same) e
-    ∙ agree-within ss (sym (ap (λ x. x .known) e) ∙ c .before .before .if1 .taken) (omega (arith, ap (λ x. x .size) e, ap (λ x. x .largest) e))
+    ∙ agree-within ss (sym (ap (λ x. x .known) e) ∙ c .before .before .if1 .taken) (omega (arith, ap (λ x. x .size .0) e, ap (λ x. x .largest .0) e))
 
 returns-3 : tie.Need-returns-3
 returns-3 c = λ ss e. agree-unknown ss (sym (ap (λ x. x .known) e) ∙ c .if1 .left)

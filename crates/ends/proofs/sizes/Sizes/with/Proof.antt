@@ -10,13 +10,13 @@ larger-requires c κs = search needs
 
 returns : tie.Need-returns
 returns c = λ ss s e ends gives.
-    let met = c .before .before .before in
-    with-same _ ss s e _ _ ends (met .before .larger .ensures) (c .before .before .if2 .taken) (sym gives ∙ met .if1 .taken) (c .if3 .taken)
+    let met = c .before .before .before .before in
+    with-same _ ss s e _ _ ends (met .before .larger .ensures) (c .before .before .before .if2 .taken) (sym gives ∙ met .if1 .taken) (c .if3 .taken)
 
 returns-2 : tie.Need-returns-2
 returns-2 c = λ ss s e ends gives.
-    let met = c .before .before .before in
-    with-other _ ss s e _ _ ends (met .before .larger .ensures) (c .before .before .if2 .taken) (sym gives ∙ met .if1 .taken) (c .if3 .left)
+    let met = c .before .before .before .before in
+    with-other _ ss s e _ _ ends (met .before .larger .ensures) (c .before .before .before .if2 .taken) (sym gives ∙ met .if1 .taken) (c .if3 .left)
 
 returns-3 : tie.Need-returns-3
 returns-3 c = λ ss s e ends gives.
