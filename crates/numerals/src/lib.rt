@@ -1,4 +1,4 @@
-// The numbers of a file as they stand in its bytes: of any width, signed and unsigned, at a place; and which of two is the smaller.
+// The numbers of a file as they stand in its bytes, of any width, signed and unsigned; and two held against each other.
 pub mod numbers;
 pub mod order;
 pub mod place;

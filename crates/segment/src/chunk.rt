@@ -40,7 +40,8 @@ pub enum ChunkStep {
 }
 
 impl Chunk {
-    // The place of a position's byte: as far behind the chunk's place as the position is behind its start. Nothing else makes a place of a position.
+    // The place of a position's byte, as far behind the chunk's place as the position is behind its start.
+    // Nothing else makes a place of a position.
     pub fn place_of(self, p: Position) -> Place
         ensures { λ r. ⌜ r .0 ≡ min (self .place .0 + (p .0 - self .start .0)) (2 ^ 64 - 1) ⌝ }
     {

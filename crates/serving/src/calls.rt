@@ -18,7 +18,8 @@ const NOWHERE: Part = Part {
     size: 0,
 };
 
-// Where the part of the file lies that serves a position and those after it, as long as the same chunk supplies them; an empty part where none does.
+// Where the part of the file lies that serves a position and those after it, as long as the same chunk supplies them;
+// an empty part where none does.
 pub fn part_at(file: &[u8], segments: &mut [u64], chunks: &mut [u64], p: Position) -> Located
     ensures { λ r. ⌜ Locates (now (file .entry)) (now (segments .entry)) (now (segments .exit)) (now (chunks .entry)) (now (chunks .exit)) (p .0) r ⌝ }
 {

@@ -1,4 +1,4 @@
--- Spans in a table: each is a first position and an end, two numbers, from the front; and the positions that they cover, with their classes.
+-- Spans in a table: each is a first position and an end, two numbers, from the front; and what positions they cover.
 use Prim.Native.Nat.{ℕ, zero, suc, _+_, _*_, _<_, _≤_}
 use mathlib.Core.Bool.{Bool, true, false, _&&_, _||_}
 use mathlib.Core.List.{List}
