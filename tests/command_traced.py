@@ -160,7 +160,7 @@ def failing(command, case):
             count += 1
         counts.append(count - 1)
     expect("writes, syncs and a lock that fail", counts[0] >= 5 and counts[1] + counts[2] >= 2 and counts[3] >= 1 or counts)
-    claim_failed("a write of nothing", command, case, "pwrite64:retval=0:when=2")
+    expect("a write of nothing fails", claim_failed("a write of nothing", command, case, "pwrite64:retval=0:when=2"))
     claim_failed("a disk full from the third write on", command, case, "pwrite64:error=ENOSPC:when=3+")
     failing_syncs = ["fsync:error=EIO:when=1+", "fdatasync:error=EIO:when=1+"]
     claim_failed("a disk that fails from the second write on", command, case, "pwrite64:error=EIO:when=2+", *failing_syncs)
