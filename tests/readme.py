@@ -20,6 +20,9 @@ FIRST, LAST = "### Whose box is it?", "### Chunks held elsewhere"
 LONGEST = 300
 SERVER = "target/nginx.pid"
 
+# What a reader's shell does not have, and `make` says something about or the bar is as wide as.
+UNLIKE_A_READER = ("COLUMNS", "MAKEFLAGS", "MAKELEVEL", "MFLAGS")
+
 
 def blocks(text):
     """The indented blocks, each as what is typed and what is printed."""
@@ -32,7 +35,7 @@ def blocks(text):
 
 def type_in(folder, typed, printed):
     """What is typed as lines of a shell, each of which has to succeed."""
-    env = {name: value for name, value in os.environ.items() if name != "COLUMNS" and not name.lower().endswith("_proxy")}
+    env = {name: value for name, value in os.environ.items() if name not in UNLIKE_A_READER and not name.lower().endswith("_proxy")}
     answer = subprocess.run(["sh", "-eu", "-c", typed], cwd=folder, env=env, stdin=subprocess.DEVNULL, capture_output=True, timeout=LONGEST, check=False)
     expect(typed, (answer.returncode, answer.stdout.decode("utf-8", "replace"), answer.stderr), (0, printed, b""))
 
