@@ -6,11 +6,12 @@ In an indented block the lines up to the first empty one are typed, and those be
 what a reader has in this one; the port that README.md names is taken by one such run at a time.
 """
 
-import fcntl
 import os
 import re
+import socket
 import subprocess
 import tempfile
+import time
 
 import expecting
 from corpus import ROOT
@@ -40,6 +41,19 @@ def type_in(folder, typed, printed):
     expect(typed, (answer.returncode, answer.stdout.decode("utf-8", "replace"), answer.stderr), (0, printed, b""))
 
 
+def alone():
+    """A name of the system that one run has at a time, whoever runs it, until it ends; waits for it."""
+    name, end = socket.socket(socket.AF_UNIX), time.monotonic() + LONGEST
+    while True:
+        try:
+            name.bind("\0vrazhupa-readme")
+            return name
+        except OSError:
+            if time.monotonic() > end:
+                raise
+            time.sleep(0.5)
+
+
 def stop_server(folder):
     """Ends nginx where a line that failed left it."""
     pid = os.path.join(folder, SERVER)
@@ -51,8 +65,7 @@ def stop_server(folder):
 def main():
     with open(os.path.join(ROOT, "README.md"), encoding="utf-8") as file:
         text = file.read().split(FIRST)[1].split(LAST)[0]
-    with open(os.path.join(tempfile.gettempdir(), "vrazhupa-readme.lock"), "w", encoding="ascii") as lock, tempfile.TemporaryDirectory() as folder:
-        fcntl.flock(lock, fcntl.LOCK_EX)
+    with alone(), tempfile.TemporaryDirectory() as folder:
         for name in ("paff", "samples"):
             os.symlink(os.path.join(ROOT, name), os.path.join(folder, name))
         os.mkdir(os.path.join(folder, "target"))
