@@ -128,6 +128,10 @@ def outputs(command):
     claim("get of no bytes to a file", command.run("get", "--output", "new", "film", "9", "0"), 0)
     claim_held("a file of no bytes", command, "new", b"")
     command.remove("new")
+    command.put("film", film_of((0, [good(b"abcd"), lost(2), good(b"gh")], True), (3, [good(b"wxyz")])))
+    claim("get of three parts to a file", command.run("get", "--output", "new", "film"), 0)
+    claim_held("a file of three parts", command, "new", b"abcdxygh")
+    command.remove("new")
     expect("the folder after that", sorted(os.listdir(command.folder)), before)
 
 
