@@ -104,7 +104,7 @@ def widths(command):
 def strings(command):
     """Names and texts of any bytes in JSON, which has one line for each file."""
     for url, mime in [(b"http://films.example/a?b=\"c\"\\d", b"video/mp4"), ("f\u00fcr \u20ac \U0001f39e \u0080\u009f".encode(), b"\x01\x1f\x7f"), (b"f\xfcr", b"\xc3"),
-                      (b"\xed\xa0\x80\xc0\x80\xf4\x90\x80\x80\xf8\x80\xe0\x80\x80", b"\xe2\x82"), (bytes(range(1, 256)), b"")]:
+                      (b"\xed\xa0\x80\xc0\x80\xf4\x90\x80\x80\xf8\x80\xe0\x80\x80\xf8\x90\x80\x80", b"\xe2\x82"), (bytes(range(1, 256)), b"")]:
         command.put("film", film_of((0, [lost(1)]), url=url, mime=mime))
         answer = run(command, "--json", "film")
         found = json.loads(answer.out.decode("ascii"))
