@@ -1,8 +1,8 @@
-# Builds the library's archive, which is proved first, and the command `paff` over it. `make test` holds the archive and the plain C program against the model, runs the
-# command as a person would, a build of it that stops at undefined behaviour and one over the plain C program under both sanitizers, passes the clerk's
-# evening, types the lines of README.md, keeps a real film in a mixed file, and builds a program over what `make install`
-# installs. `make bench` measures the library beside the plain C program, and `make instructions` counts what both take
-# (docs/PERFORMANCE.md).
+# Builds the library's archive, which is proved first, and the command `paff` over it. `make test` holds the archive and
+# the plain C program against the model, runs the command as a person would, a build of it that stops at undefined
+# behaviour and one over the plain C program under both sanitizers, passes the clerk's evening, types the lines of
+# README.md, keeps a real film in a mixed file, and builds a program over what `make install` installs. `make bench`
+# measures the library beside the plain C program, and `make instructions` counts what both take (docs/PERFORMANCE.md).
 
 # Debian has this name for its own compiler on x86-64 and for its cross compiler elsewhere (gcc-x86-64-linux-gnu).
 CC := x86_64-linux-gnu-gcc
@@ -10,7 +10,8 @@ WARNINGS := -Wall -Wextra -Wpedantic -Wconversion -Wshadow -Wcast-qual -Wcast-al
 CFLAGS := -std=c11 -D_GNU_SOURCE -O2 $(WARNINGS) -Iinclude
 UNDEFINED := -fsanitize=undefined -fsanitize-undefined-trap-on-error
 
-# The address sanitizer runs on the machine's own processor only, so this build takes the plain C program in the place of the archive.
+# The address sanitizer runs on the machine's own processor only, so this build takes the plain C program in the place
+# of the archive.
 OWN_CC := gcc
 SANITIZED := -fsanitize=address,undefined -fno-sanitize-recover=all
 
@@ -74,7 +75,8 @@ $(OUT)/scale-sanitized: $(DRIVER) $(wildcard tests/scale/*.h) include/vrazhupa.h
 	mkdir -p $(OUT)
 	$(OWN_CC) $(CFLAGS) -g $(SANITIZED) -o $@ $(DRIVER) $(PLAIN)
 
-# Both programs have the same names, so each goes into one object with nothing but its calls to be seen. The plain one is built as fast as it gets.
+# Both programs have the same names, so each goes into one object with nothing but its calls to be seen. The plain one
+# is built as fast as it gets.
 $(OUT)/proved.o: $(ARCHIVE) bench/calls.c bench/calls.h include/vrazhupa.h
 	mkdir -p $(OUT)
 	$(CC) $(CFLAGS) -DWHOSE=proved -c -o $(OUT)/proved-calls.o bench/calls.c

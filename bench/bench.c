@@ -1,6 +1,6 @@
-/* The proved library and the plain C one on the same films, and append against memcpy: `bench FOLDER`, with the films that
-   bench/films.py makes there. `bench FOLDER PROGRAM CALL FILM POSITION TIMES` makes one call so many times and prints nothing, for
-   bench/instructions.py to count. */
+/* The proved library and the plain C one on the same films, and append against memcpy: `bench FOLDER`, with the films
+   that bench/films.py makes there. `bench FOLDER PROGRAM CALL FILM POSITION TIMES` makes one call so many times and
+   prints nothing, for bench/instructions.py to count. */
 #include "calls.h"
 #include "timing.h"
 

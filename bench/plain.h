@@ -70,7 +70,8 @@ enum { LAST_SEGMENT = 1 };
 enum { CORRUPTED = 0x80, PRESENT = 0x40, RESERVED = 0x3f };
 enum { LOST = 0, DAMAGED = 1, GOOD = 2, ELSEWHERE = 3 };
 
-/* A place counts bytes of the partial file, a position bytes of the source; neither stands for the other. The limits let a place fit 32 bits, and a position 40. */
+/* A place counts bytes of the partial file, a position bytes of the source; neither stands for the other. The limits
+   let a place fit 32 bits, and a position 40. */
 typedef uint32_t file_place;
 typedef uint64_t source_position;
 

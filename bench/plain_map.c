@@ -1,8 +1,10 @@
-/* Writes both maps of a file, the one that names damage and the one that does not, or the line of its refusal, as text into a lent buffer. */
+/* Writes both maps of a file, the one that names damage and the one that does not, or the line of its refusal, as text
+   into a lent buffer. */
 #include "plain.h"
 #include "plain_text.h"
 
-/* What a position is: had, missing where a damaged chunk covers it, or missing otherwise. Where damage is not named no position is held. */
+/* What a position is: had, missing where a damaged chunk covers it, or missing otherwise. Where damage is not named no
+   position is held. */
 enum name { HAD, HELD, OTHERWISE, NAMES };
 
 /* What a map says; the damaged ranges are none where damage is not named. */
@@ -12,7 +14,8 @@ struct map {
     struct ranges good, damaged;
 };
 
-/* A walk over the ranges of a map: the position where the next one begins, and the first good and the first damaged range that end behind it. */
+/* A walk over the ranges of a map: the position where the next one begins, and the first good and the first damaged
+   range that end behind it. */
 struct walk {
     source_position position, end;
     const struct range *good, *damaged;
@@ -50,7 +53,8 @@ static enum name next_range(struct walk *walk, struct range *range)
     return name;
 }
 
-/* A bound on the length of the text: its lines are no longer than these, and a number has thirteen digits at most. Every range of good or damaged chunks makes two more at most. */
+/* A bound on the length of the text: its lines are no longer than these, and a number has thirteen digits at most.
+   Every range of good or damaged chunks makes two more at most. */
 static size_t map_bound(const struct map *map)
 {
     size_t number = 13, ranges = 2 * ((size_t)map->good.count + map->damaged.count) + 1;

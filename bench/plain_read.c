@@ -1,4 +1,5 @@
-/* Reads a partial file in one pass over its boxes: framing, refusals 1 to 25, segments, chunks and the described length. */
+/* Reads a partial file in one pass over its boxes: framing, refusals 1 to 25, segments, chunks and the described
+   length. */
 #include "plain.h"
 
 #include <string.h>
@@ -144,7 +145,8 @@ static enum refusal read_pfil(struct partial *partial, const struct box *pfil)
     return ACCEPTED;
 }
 
-/* Reads a `pshd`: version and flags, an offset of 32 bits in version 0 and else of 64, the repair time, and nothing after. */
+/* Reads a `pshd`: version and flags, an offset of 32 bits in version 0 and else of 64, the repair time, and nothing
+   after. */
 static bool read_pshd(const uint8_t *file, const struct box *pshd, struct segment *segment)
 {
     const uint8_t *body = file + pshd->body;
@@ -231,7 +233,8 @@ static uint32_t nearest_pdat(const struct partial *partial, uint64_t place)
     return low;
 }
 
-/* Whether `size` bytes, at least one, from a place on lie in the body of one `pdat`. A place below 0 has wrapped to one above every file. */
+/* Whether `size` bytes, at least one, from a place on lie in the body of one `pdat`. A place below 0 has wrapped to one
+   above every file. */
 static inline bool in_one_pdat(struct partial *partial, uint64_t place, uint64_t size)
 {
     const struct part *body;
@@ -263,7 +266,8 @@ static uint32_t box_that_ends(const struct partial *partial, uint64_t place)
     return low < partial->boxes && partial->end[low] == place ? low : MOST_BOXES;
 }
 
-/* Whether `size` bytes, at least one, from a place on are neighbouring boxes of the file, none of them barred: they start where a box ends, as the first box is barred. */
+/* Whether `size` bytes, at least one, from a place on are neighbouring boxes of the file, none of them barred: they
+   start where a box ends, as the first box is barred. */
 static bool are_whole_boxes(const struct partial *partial, uint64_t place, uint64_t size)
 {
     uint32_t before, last;

@@ -43,12 +43,14 @@ static enum refusal read_into(const uint8_t *file, size_t file_length, uint64_t 
     return ACCEPTED;
 }
 
-/* What is known of a position: its kind, how many positions from it on are alike, and the place of its byte where it is served. */
+/* What is known of a position: its kind, how many positions from it on are alike, and the place of its byte where it is
+   served. */
 struct answer {
     uint64_t kind, length, place;
 };
 
-/* Looks for the first good chunk that covers p. Good chunks met before it that start above p cut its run, as they supply what they cover. */
+/* Looks for the first good chunk that covers p. Good chunks met before it that start above p cut its run, as they
+   supply what they cover. */
 static struct answer look_up(const struct partial *partial, uint64_t p)
 {
     uint64_t next = partial->described;

@@ -134,7 +134,8 @@ static bool goes_outside(const struct addition *add, uint64_t state)
     return add->outside && state == GOOD;
 }
 
-/* Counts the boxes that a chunk's bytes are, which no file has to hold yet; false if they are not whole boxes that may go outside. */
+/* Counts the boxes that a chunk's bytes are, which no file has to hold yet; false if they are not whole boxes that may
+   go outside. */
 static bool count_boxes(struct addition *add, const uint8_t *bytes, uint64_t left)
 {
     while (left > 0) {
@@ -167,8 +168,8 @@ static enum refusal check_outside(const struct partial *partial, struct addition
     return ACCEPTED;
 }
 
-/* Finds the sizes of the boxes; whether they are within a file's limit. Of all data the first in the `pdat`, or else the first outside, stands furthest before the
-   `pseg`, at -data_length. */
+/* Finds the sizes of the boxes; whether they are within a file's limit. Of all data the first in the `pdat`, or else
+   the first outside, stands furthest before the `pseg`, at -data_length. */
 static bool measure(struct addition *add, uint64_t file_length)
 {
     if (add->data_length > VRAZHUPA_FILE || add->count > VRAZHUPA_FILE)

@@ -5,8 +5,8 @@
 /* Does the work of a case once by one of the programs. */
 typedef void work(int program, void *given);
 
-/* Runs both programs in turns, in rounds of about the same short time, and prints a line: the name, of each program the median and the quartiles of its rounds in
-   nanoseconds a turn, and the ratio of the medians. */
+/* Runs both programs in turns, in rounds of about the same short time, and prints a line: the name, of each program the
+   median and the quartiles of its rounds in nanoseconds a turn, and the ratio of the medians. */
 void compare(const char *name, work *once, void *given, int rounds);
 
 #endif

@@ -89,57 +89,66 @@ enum {
 /* The kinds of answers about a position. */
 enum { VRAZHUPA_SERVED = 0, VRAZHUPA_MISSING = 1, VRAZHUPA_NOT_BELOW = 2 };
 
-/* The heading of a file, also of one that was only begun. told: 1 where the file is mixed and else 0, how many boxes it has,
-   how many of them are segments, the place and the length of the URL, the place and the length of the MIME text. Refuses
-   with 1 to 11. */
+/* The heading of a file, also of one that was only begun. told: 1 where the file is mixed and else 0, how many boxes it
+   has, how many of them are segments, the place and the length of the URL, the place and the length of the MIME text.
+   Refuses with 1 to 11. */
 uint64_t vrazhupa_heading(const uint8_t *file, size_t file_length, uint64_t told[7]);
 
-/* Reads a file into both tables, from the front; the rest of a table keeps its contents. Lengths of tables and lists are in numbers, not rows.
-   told: rows of segments, rows of chunks, the described length, 1 where the size of the source is known and else 0. Refuses with 1 to 20 or 22 to 26. */
+/* Reads a file into both tables, from the front; the rest of a table keeps its contents. Lengths of tables and lists
+   are in numbers, not rows. told: rows of segments, rows of chunks, the described length, 1 where the size of the
+   source is known and else 0. Refuses with 1 to 20 or 22 to 26. */
 uint64_t vrazhupa_read(const uint8_t *file, size_t file_length, uint64_t *segments, size_t segments_length, uint64_t *chunks, size_t chunks_length,
                        uint64_t told[4]);
 
-/* The URL and the MIME text of a file. told: the place of the text in the file, and its length. Refuse with 1 to 20 or 22 to 25. */
+/* The URL and the MIME text of a file. told: the place of the text in the file, and its length. Refuse with 1 to 20 or
+   22 to 25. */
 uint64_t vrazhupa_url(const uint8_t *file, size_t file_length, uint64_t told[2]);
 uint64_t vrazhupa_mime(const uint8_t *file, size_t file_length, uint64_t told[2]);
 
-/* Reads the file into both tables, and tells where in it the bytes stand that serve position p and those after it, as long as the same chunk supplies them.
-   told: the place of that part, and its length; 0 and 0 where p is not supplied. Refuses with 1 to 20 or 22 to 26. */
+/* Reads the file into both tables, and tells where in it the bytes stand that serve position p and those after it, as
+   long as the same chunk supplies them. told: the place of that part, and its length; 0 and 0 where p is not supplied.
+   Refuses with 1 to 20 or 22 to 26. */
 uint64_t vrazhupa_serve(const uint8_t *file, size_t file_length, uint64_t *segments, size_t segments_length, uint64_t *chunks, size_t chunks_length,
                         uint64_t p, uint64_t told[2]);
 
-/* Reads the file into both tables, and tells whether position p is served or missing. told: the kind, and how many positions from p on are served by the same
-   chunk or missing; 0 where p is not below the described length. Refuses with 1 to 20 or 22 to 26. */
+/* Reads the file into both tables, and tells whether position p is served or missing. told: the kind, and how many
+   positions from p on are served by the same chunk or missing; 0 where p is not below the described length. Refuses
+   with 1 to 20 or 22 to 26. */
 uint64_t vrazhupa_ask(const uint8_t *file, size_t file_length, uint64_t *segments, size_t segments_length, uint64_t *chunks, size_t chunks_length, uint64_t p,
                       uint64_t told[2]);
 
-/* Reads the file into both tables, and fills two lists with the ranges of positions that it has and of those that are missing. told: ranges had, ranges missing,
-   positions received, positions missing. Refuses with 1 to 20 or 22 to 26. */
+/* Reads the file into both tables, and fills two lists with the ranges of positions that it has and of those that are
+   missing. told: ranges had, ranges missing, positions received, positions missing. Refuses with 1 to 20 or 22 to 26.
+   */
 uint64_t vrazhupa_list(const uint8_t *file, size_t file_length, uint64_t *segments, size_t segments_length, uint64_t *chunks, size_t chunks_length,
                        uint64_t *had, size_t had_length, uint64_t *missing, size_t missing_length, uint64_t told[4]);
 
-/* Write the map of a file into the buffer as the programs `map` and `missmap` print it, the line of a refusal too: that of 27 where the file has more than `most`
-   bytes, which are 65,536 for the programs. The first names what is missing: held where some damaged chunk covers it, lost where none does; the second calls
-   both missing. told: how many bytes. Refuse with 33 where the buffer is too short. */
+/* Write the map of a file into the buffer as the programs `map` and `missmap` print it, the line of a refusal too: that
+   of 27 where the file has more than `most` bytes, which are 65,536 for the programs. The first names what is missing:
+   held where some damaged chunk covers it, lost where none does; the second calls both missing. told: how many bytes.
+   Refuse with 33 where the buffer is too short. */
 uint64_t vrazhupa_map(const uint8_t *file, size_t file_length, uint64_t most, uint8_t *buffer, size_t buffer_length, uint64_t told[1]);
 uint64_t vrazhupa_missmap(const uint8_t *file, size_t file_length, uint64_t most, uint8_t *buffer, size_t buffer_length, uint64_t told[1]);
 
-/* Writes the list of the top-level boxes of a file into the buffer as the program `boxlist` prints it: of each its place, its size and its type, and of a `uuid` box
-   its user type. Where their framing has a fault, the last line has its place and its number, 2 to 6, and no third
-   field. Where the file has more than `most` bytes, which are 65,536 for the program, or is over its limit, the line of
-   refusal 27 or 1 is the whole text. told: how many bytes, 0 for an empty file. Refuses with 33 where the buffer is too
-   short. */
+/* Writes the list of the top-level boxes of a file into the buffer as the program `boxlist` prints it: of each its
+   place, its size and its type, and of a `uuid` box its user type. Where their framing has a fault, the last line has
+   its place and its number, 2 to 6, and no third field. Where the file has more than `most` bytes, which are 65,536 for
+   the program, or is over its limit, the line of refusal 27 or 1 is the whole text. told: how many bytes, 0 for an
+   empty file. Refuses with 33 where the buffer is too short. */
 uint64_t vrazhupa_boxes(const uint8_t *file, size_t file_length, uint64_t most, uint8_t *buffer, size_t buffer_length, uint64_t told[1]);
 
-/* Begins a file in the buffer, a mixed one (brand `pmff`) or one with all its data in `pdat` (brand `paff`). told: its length. Refuses with 34, 1 or 33. */
+/* Begins a file in the buffer, a mixed one (brand `pmff`) or one with all its data in `pdat` (brand `paff`). told: its
+   length. Refuses with 34, 1 or 33. */
 uint64_t vrazhupa_begin(uint8_t *buffer, size_t buffer_length, bool mixed, const uint8_t *url, size_t url_length, const uint8_t *mime, size_t mime_length,
                         uint64_t told[1]);
 
-/* Appends a segment to the file in the first `length` bytes of the buffer. The list has a size and a state for each chunk, its length in numbers; an empty list with no
-   data is an open segment. The data are the bytes of the damaged and of the good chunks, in order. With `outside` the good chunks are stored as boxes of the file, behind
-   the `pdat` of the damaged ones: the file has to be mixed and each good chunk whole boxes, none of type `ftyp`, `pfil`, `pseg` or `pdat`; without it all data goes into
-   one `pdat`. Bytes before `length` and behind the new end keep their values. told: the new length. Refuses with 30, the file's own refusal, 31, 32, 35, 1, 6, 13, 22,
-   23, 25 or 33, in this order. */
+/* Appends a segment to the file in the first `length` bytes of the buffer. The list has a size and a state for each
+   chunk, its length in numbers; an empty list with no data is an open segment. The data are the bytes of the damaged
+   and of the good chunks, in order. With `outside` the good chunks are stored as boxes of the file, behind the `pdat`
+   of the damaged ones: the file has to be mixed and each good chunk whole boxes, none of type `ftyp`, `pfil`, `pseg` or
+   `pdat`; without it all data goes into one `pdat`. Bytes before `length` and behind the new end keep their values.
+   told: the new length. Refuses with 30, the file's own refusal, 31, 32, 35, 1, 6, 13, 22, 23, 25 or 33, in this order.
+   */
 uint64_t vrazhupa_append(uint8_t *buffer, size_t buffer_length, uint64_t length, uint64_t offset, uint64_t repair_time, bool last, bool outside,
                          const uint64_t *list, size_t list_length, const uint8_t *data, size_t data_length, uint64_t told[1]);
 

@@ -206,7 +206,8 @@ use Rattle.partial.specs.declared.brand.Brand.the-variants.{Paff, Pmff}
 use Rattle.computed.specs.Computed.{readOf, tablesOf, listsOf, begunOf, appendedOf, demandsOf, mappedOf, againOf, mapOfInput, missmapOfInput, boxesOfInput}
 """
 
-# A file of more than 1,073,741,824 bytes and an input of more than 65,536 are not written out: only their length is looked at.
+# A file of more than 1,073,741,824 bytes and an input of more than 65,536 are not written out: only their length is
+# looked at.
 TOO_LONG = """-- Refusals 1 and 27: no byte of such a file is read.
 %(lists)suse lib.ListN.{length, replicate, length-replicate}
 use lib.Dec.{leb}

@@ -81,6 +81,7 @@ def by_names(call, old):
     return call.name == "map" and old == 0 and len(call.file) <= call.numbers[0] and model.attempt(model.accept, call.file)[0] == 0
 
 
-# Of each request that changes answers, whether it may change that of a call from the old one; and those that change it exactly then.
+# Of each request that changes answers, whether it may change that of a call from the old one; and those that change it
+# exactly then.
 CHANGES = {1: by_vendors, 2: by_mixed_files, 4: by_elsewhere, 5: by_longer_recordings, 6: by_names}
 EXACT = {6}

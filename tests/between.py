@@ -33,8 +33,8 @@ SHOWN = 10
 # How two answers stand to what is expected of them.
 EXPECTED, NOT_EXPECTED, MISSED = "expected", "NOT EXPECTED", "EXPECTED TO DIFFER"
 
-# A call that both made: its number in the stream, the model's answer, the file that it was about, None where that is too large to be kept, the chunk list of an append,
-# eight bytes a number, and its own numbers.
+# A call that both made: its number in the stream, the model's answer, the file that it was about, None where that is
+# too large to be kept, the chunk list of an append, eight bytes a number, and its own numbers.
 Made = namedtuple("Made", "case name answer file packed_list numbers")
 
 

@@ -59,7 +59,8 @@ def hang_up_ignored():
     signal.signal(signal.SIGHUP, signal.SIG_IGN)
 
 
-# The calls of an append at which a signal comes, and what is said of the film then; a signal before the first write ends the command at once.
+# The calls of an append at which a signal comes, and what is said of the film then; a signal before the first write
+# ends the command at once.
 AS_IT_WAS, APPENDED = b"it is as it was\n", b"after the segment was appended\n"
 CALLS = [("flock", 1, b""), ("pwrite64", 1, AS_IT_WAS), ("pwrite64", 3, AS_IT_WAS), ("pwrite64", 5, AS_IT_WAS), ("fdatasync", 1, AS_IT_WAS), ("pwrite64", 6, APPENDED),
          ("fsync", 1, APPENDED)]

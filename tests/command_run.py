@@ -15,7 +15,8 @@ SOON = 5
 # The status is negative after a death by that signal, and a word where there was no end within LONGEST seconds.
 Answer = namedtuple("Answer", "status out err")
 
-# A chunk to append: its kind is a word of the command, its value the bytes that are kept of it, or how many it has where none are.
+# A chunk to append: its kind is a word of the command, its value the bytes that are kept of it, or how many it has
+# where none are.
 Chunk = namedtuple("Chunk", "kind value")
 KEPT = ("good", "damaged")
 

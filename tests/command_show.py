@@ -16,7 +16,8 @@ SEED = 23_001_140
 FOREIGN, SPOILED, CUT = 60, 50, 40
 TOP = 2 ** 64 - 1
 
-# The first sample, of which the manual page prints the map: bytes 11 to 14 came for 0 to 3 and 21 to 25 for 2 to 6, so 22 and 23 are not served.
+# The first sample, of which the manual page prints the map: bytes 11 to 14 came for 0 to 3 and 21 to 25 for 2 to 6, so
+# 22 and 23 are not served.
 SAMPLE_MAP = b"source\t10\tclosed\nhave\t0\t7\nlost\t7\t3\ntotal\t7\t0\t3\n"
 SAMPLE_MISSMAP = b"source\t10\tclosed\nhave\t0\t7\nmiss\t7\t3\ntotal\t7\t3\n"
 SAMPLE_BOXES = b"0\t20\tftyp\n20\t35\tpfil\n55\t12\tpdat\n67\t54\tpseg\n121\t13\tpdat\n134\t52\tpseg\n"
@@ -26,8 +27,8 @@ SAMPLE_ROWS = (b"url\ta\nmime\t\n" + SEGMENT_HEADING + b"0\t67\t0\t1\t0\t2\t83\t
                + CHUNK_HEADING + b"0\t0\t0\t4\tgood\t63\n0\t1\t4\t6\tlost\t0\n1\t0\t2\t5\tgood\t129\n")
 SAMPLE_BYTES = bytes([11, 12, 13, 14, 23, 24, 25])
 
-# The second, of which it prints both maps. Served are 11 to 16 for 0 to 5, 41 to 43 for 9 to 11 and 22 to 24 for 17 to 19; damaged are 17 to 21 for 6 to 10, 31 to 34 for 4 to 7
-# and 51 and 52 for 13 and 14.
+# The second, of which it prints both maps. Served are 11 to 16 for 0 to 5, 41 to 43 for 9 to 11 and 22 to 24 for 17 to
+# 19; damaged are 17 to 21 for 6 to 10, 31 to 34 for 4 to 7 and 51 and 52 for 13 and 14.
 DAMAGED_MAP = (b"source\t20\tclosed\nhave\t0\t6\nheld\t6\t3\nhave\t9\t3\nlost\t12\t1\nheld\t13\t2\nlost\t15\t2\nhave\t17\t3\n"
                b"total\t12\t5\t3\n")
 DAMAGED_MISSMAP = b"source\t20\tclosed\nhave\t0\t6\nmiss\t6\t3\nhave\t9\t3\nmiss\t12\t5\nhave\t17\t3\ntotal\t12\t8\n"

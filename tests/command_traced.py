@@ -20,8 +20,9 @@ SEED = 23_001_142
 
 DATA = random.Random(SEED).randbytes(3_500_000)
 
-# An append whose calls are traced: to which film, with which chunks, whether outside, what it leaves, and the place of the new segment's box there. The header of
-# that box is written last, so that the segment is read when all of it is there.
+# An append whose calls are traced: to which film, with which chunks, whether outside, what it leaves, and the place of
+# the new segment's box there. The header of that box is written last, so that the segment is read when all of it is
+# there.
 Case = namedtuple("Case", "name film chunks outside new box")
 HEADER = 8
 

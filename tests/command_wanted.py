@@ -45,7 +45,8 @@ def part(file, text):
     return file[place:place + length]
 
 
-# Seconds from 1900, where the times of RFC 5905 begin, to 1970; times lie from half of their first era of 2^32 seconds to half of the next.
+# Seconds from 1900, where the times of RFC 5905 begin, to 1970; times lie from half of their first era of 2^32 seconds
+# to half of the next.
 TO_1970 = 2_208_988_800
 HALF_AN_ERA = 2 ** 31
 

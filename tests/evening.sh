@@ -1,6 +1,7 @@
 #!/bin/sh
-# The clerk's evening, from end to end: nginx serves a film on loopback, a partial file of it has gaps, and what the map calls missing is fetched with curl
-# and appended until the film is whole. `sh tests/evening.sh WORDS...`, where the words are how paff is run, for instance target/command/paff.
+# The clerk's evening, from end to end: nginx serves a film on loopback, a partial file of it has gaps, and what the map
+# calls missing is fetched with curl and appended until the film is whole. `sh tests/evening.sh WORDS...`, where the
+# words are how paff is run, for instance target/command/paff.
 set -eu
 [ $# -gt 0 ] || { echo "usage: sh tests/evening.sh WORDS..." >&2; exit 2; }
 export LC_ALL=C PATH="$PATH:/usr/sbin"
@@ -61,12 +62,14 @@ END
     same "nginx at $url, whose log is: $(cat "$folder/error.log")" 200 "$(ask --head)"
 }
 
-# FIRST LENGTH: names a file with these bytes of the film (right), or with each of them changed (wrong), or only those before a third place (mixed).
+# FIRST LENGTH: names a file with these bytes of the film (right), or with each of them changed (wrong), or only those
+# before a third place (mixed).
 right() { tail -c "+$(($1 + 1))" "$film" | head -c "$2" >"$folder/right.$1"; echo "$folder/right.$1"; }
 wrong() { tr '\000-\377' '\001-\377\000' <"$(right "$@")" >"$folder/wrong.$1"; echo "$folder/wrong.$1"; }
 mixed() { cat "$(wrong "$1" $(($3 - $1)))" "$(right "$3" $(($1 + $2 - $3)))" >"$folder/mixed.$1"; echo "$folder/mixed.$1"; }
 
-# The night: segments out of order, damaged bytes wrong; the last three overlap what came before, two of them with wrong bytes that are called good.
+# The night: segments out of order, damaged bytes wrong; the last three overlap what came before, two of them with wrong
+# bytes that are called good.
 receive() {
     paff begin "$file" "$url" video/mp4
     append 1200000 --good "$(right 1200000 300000)" --lost 200000 --good "$(right 1700000 100000)"
@@ -90,7 +93,8 @@ night_missing() {
     total_of 2144739 1001002
 }
 
-# One round of the evening: fetches and appends each missing range, held and lost together, as each range that is ordered has its price.
+# One round of the evening: fetches and appends each missing range, held and lost together, as each range that is
+# ordered has its price.
 order() {
     paff map --missing "$file"; mv "$folder/said" "$folder/map"
     while read -r word first length; do

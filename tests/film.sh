@@ -1,6 +1,7 @@
 #!/bin/sh
-# A real film as a mixed partial file: ffmpeg makes a short fragmented film, one fragment of it is lost on the way, `ftyp` is kept inside and all else outside. A player opens
-# the file as it is, and the lost range, fetched and appended, gives back the film. `sh tests/film.sh WORDS...`, where the words are how paff is run.
+# A real film as a mixed partial file: ffmpeg makes a short fragmented film, one fragment of it is lost on the way,
+# `ftyp` is kept inside and all else outside. A player opens the file as it is, and the lost range, fetched and
+# appended, gives back the film. `sh tests/film.sh WORDS...`, where the words are how paff is run.
 set -eu
 [ $# -gt 0 ] || { echo "usage: sh tests/film.sh WORDS..." >&2; exit 2; }
 export LC_ALL=C
@@ -21,7 +22,8 @@ paff_ends() {
 }
 paff() { paff_ends 0 "$@"; }
 
-# What a player finds in a file: its streams, its packets, and the pictures of its packets, each line with the time and a sum.
+# What a player finds in a file: its streams, its packets, and the pictures of its packets, each line with the time and
+# a sum.
 streams() { ffprobe -v error -show_entries stream=codec_type,codec_name,width,height,sample_rate,channels -of csv=p=0 "$1"; }
 packets() { ffmpeg -nostdin -v error -i "$1" -map 0 -c copy -f framemd5 - </dev/null | grep -v '^#'; }
 pictures() { ffmpeg -nostdin -v error -threads 1 -i "$1" -map 0:v -f framemd5 - </dev/null | grep -v '^#'; }

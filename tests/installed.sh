@@ -1,6 +1,7 @@
 #!/bin/sh
-# What `make install` installs: README.md's program in C is built with pkg-config over it and run, the command runs, and `make uninstall` leaves nothing.
-# `CC=COMPILER sh tests/installed.sh [EMULATOR]`, where the emulator is how an x86-64 program is run here.
+# What `make install` installs: README.md's program in C is built with pkg-config over it and run, the command runs, and
+# `make uninstall` leaves nothing. `CC=COMPILER sh tests/installed.sh [EMULATOR]`, where the emulator is how an x86-64
+# program is run here.
 set -eu
 unset MAKEFLAGS MAKELEVEL MFLAGS # This make is not a part of the one that runs the test.
 root=$(cd "$(dirname "$0")/.." && pwd)

@@ -6,8 +6,8 @@ from boxes import ftyp, pfhd, surl
 from foreign import DAMAGED, ELSEWHERE, GOOD, LOST
 from plan import Data, Entry, Plan, Segment
 
-# `wanted` is the number of the refusal, the pair of lists, or None where only the model says. A room of None is one to spare, and positions of None
-# are those that `lists.py` chooses.
+# `wanted` is the number of the refusal, the pair of lists, or None where only the model says. A room of None is one to
+# spare, and positions of None are those that `lists.py` chooses.
 Record = namedtuple("Record", "kind name wanted file rooms positions", defaults=((None, None, None, None), None))
 
 STATES = {"good": GOOD, "damaged": DAMAGED, "lost": LOST, "elsewhere": ELSEWHERE}

@@ -29,7 +29,8 @@ LAST = 1
 BUFFER_TOO_SHORT = 33
 TEXTS = (model.map_text, model.missmap_text)
 
-# A file with the lists and the ranges of its map that are stated of it, None where only the model says, and a file with a buffer of so many bytes.
+# A file with the lists and the ranges of its map that are stated of it, None where only the model says, and a file with
+# a buffer of so many bytes.
 File = namedtuple("File", "kind name content stated named", defaults=(None, None))
 Record = namedtuple("Record", "name file room")
 

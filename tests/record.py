@@ -2,7 +2,8 @@
 
 from collections import namedtuple
 
-# `wanted` is the number of the refusal, 0 if the file is to be taken, None where only the model says. A room of None is one to spare.
+# `wanted` is the number of the refusal, 0 if the file is to be taken, None where only the model says. A room of None is
+# one to spare.
 Record = namedtuple("Record", "name wanted file segment_room chunk_room", defaults=(None, None))
 
 

@@ -8,7 +8,8 @@ from scale_stream import CHUNKS, FILE, HAD, MISSING, NONE, SEGMENTS, TEXT, Memor
 FULL = (448, 6144, 2050, 2050)
 TO_SPARE = 9
 FAR = (2 ** 32 - 1, 2 ** 32, 2 ** 40 - 1, 2 ** 40, 2 ** 64 - 1)
-# A file that needs more numbers than this for its chunks, or has more bytes, is asked less, as the model takes long for it.
+# A file that needs more numbers than this for its chunks, or has more bytes, is asked less, as the model takes long for
+# it.
 MANY_NUMBERS = 600
 MANY_BYTES = 20_000
 KINDS = {"served": 0, "missing": 1, "beyond": 2}

@@ -24,7 +24,8 @@ FILE, SEGMENTS, CHUNKS, HAD, MISSING, TEXT, BEFORE, AFTER, LIST, DATA, URL, MIME
 NONE = 255
 NAMES = ["file", "segments", "chunks", "had", "missing", "text", "before", "after", "list", "data", "url", "mime"]
 
-# How memory is lent, as tests/scale/lent.h has it: at an odd address, at none where the length is 0, before a page that nobody may touch.
+# How memory is lent, as tests/scale/lent.h has it: at an odd address, at none where the length is 0, before a page that
+# nobody may touch.
 NOWHERE, AT_END = 8, 16
 WAYS = [0, 0, NOWHERE, 1, 3 + NOWHERE, 5, 7 + NOWHERE, AT_END, AT_END, AT_END + NOWHERE]
 

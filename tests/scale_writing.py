@@ -18,12 +18,14 @@ LONGEST = 400_000
 LARGE = (127, 128, 129, 255, 256, 257, 32_767, 32_768, 32_769, 65_535, 65_536, 150_000)
 
 
-# Faults of an append in an order in which each can be put beside the earlier ones. Those that fill the file up come seldom, as it is large then.
+# Faults of an append in an order in which each can be put beside the earlier ones. Those that fill the file up come
+# seldom, as it is large then.
 FILLINGS = [additions.fill_with_chunks, additions.fill_with_segments, additions.fill_with_boxes]
 FAULTS = [additions.overstep_limit, additions.overstep_size, additions.spoil_outside, additions.spoil_data, additions.spoil_chunk_list]
 
 
-# One case each. `known` is the front of the buffer; what lies behind it is marks, which the model need not know, since it is not read.
+# One case each. `known` is the front of the buffer; what lies behind it is marks, which the model need not know, since
+# it is not read.
 
 def begin_case(stream, call, room):
     answer, buffer = made(bytes(room), call)

@@ -5,8 +5,8 @@ from collections import namedtuple
 import model
 from lists_record import chunks
 
-# Of an append, `stated` is the length of the file that it states, `given` the front of its chunk list, which goes on with the same numbers again
-# up to `count`, and `flags` all 32 bits of the flags.
+# Of an append, `stated` is the length of the file that it states, `given` the front of its chunk list, which goes on
+# with the same numbers again up to `count`, and `flags` all 32 bits of the flags.
 Begin = namedtuple("Begin", "brand url mime")
 Append = namedtuple("Append", "stated offset repair flags outside given count data")
 

@@ -1,6 +1,7 @@
-/* Makes the calls of a stream on whatever implements include/vrazhupa.h, compares all that comes of each, and counts. It knows nothing of partial files.
-   With the word `report` it compares nothing, and prints of each call the answer and a sum of each memory afterwards; with `calls`, the calls that are there.
-   For an implementation from before request 2 it is built with that one's header and -DBEFORE_MIXED, and leaves out what begin and append are asked since. */
+/* Makes the calls of a stream on whatever implements include/vrazhupa.h, compares all that comes of each, and counts.
+   It knows nothing of partial files. With the word `report` it compares nothing, and prints of each call the answer and
+   a sum of each memory afterwards; with `calls`, the calls that are there. For an implementation from before request 2
+   it is built with that one's header and -DBEFORE_MIXED, and leaves out what begin and append are asked since. */
 #include "lent.h"
 #include "stream.h"
 
@@ -14,8 +15,8 @@
 #include <string.h>
 #include <unistd.h>
 
-/* An implementation from before request 1 lacks the first of these calls, one from before request 6 the second too, and one
-   from before request 7 the last; so may its header. */
+/* An implementation from before request 1 lacks the first of these calls, one from before request 6 the second too, and
+   one from before request 7 the last; so may its header. */
 extern __typeof__(vrazhupa_map) vrazhupa_missmap;
 extern uint64_t vrazhupa_heading(const uint8_t *file, size_t file_length, uint64_t told[7]);
 #pragma weak vrazhupa_boxes

@@ -119,7 +119,8 @@ static void say_number(const struct lent *lent, size_t index, const uint8_t *wan
     printf("%s: %s: number %zu of %zu is %" PRIu64 ", wanted %" PRIu64 "\n", who, name, index, lent->length, found, wanted);
 }
 
-/* Compares the bytes from one place of a memory to another; `wanted` is what should stand at its start. Says the first that differs. */
+/* Compares the bytes from one place of a memory to another; `wanted` is what should stand at its start. Says the first
+   that differs. */
 static bool same(const struct lent *lent, ptrdiff_t from, ptrdiff_t to, const uint8_t *wanted, const char *who, const char *name)
 {
     const uint8_t *found = lent->start;

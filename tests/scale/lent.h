@@ -1,4 +1,5 @@
-/* Memory that is lent to a call: marked all over and around beforehand, and compared or summed up to the last byte afterwards. */
+/* Memory that is lent to a call: marked all over and around beforehand, and compared or summed up to the last byte
+   afterwards. */
 #ifndef LENT_H
 #define LENT_H
 
@@ -8,12 +9,13 @@
 #include <stddef.h>
 #include <stdint.h>
 
-/* How memory is lent. The low bits shift bytes to an odd address; NOWHERE gives no address where the length is 0; AT_END lends the last bytes before a page
-   that nobody may read or write, so that a call which reads past its memory is seen too. */
+/* How memory is lent. The low bits shift bytes to an odd address; NOWHERE gives no address where the length is 0;
+   AT_END lends the last bytes before a page that nobody may read or write, so that a call which reads past its memory
+   is seen too. */
 enum { SHIFT = 7, NOWHERE = 8, AT_END = 16 };
 
-/* `at` is what the call is given, `start` the same unless nothing is lent; `length` is in elements of `width` bytes. Zeros are lent without marks, where nobody
-   may write. */
+/* `at` is what the call is given, `start` the same unless nothing is lent; `length` is in elements of `width` bytes.
+   Zeros are lent without marks, where nobody may write. */
 struct lent {
     uint8_t *area;
     size_t capacity;

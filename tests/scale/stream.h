@@ -1,4 +1,5 @@
-/* The stream that the comparison reads: blocks of bytes, which are held, and calls with what must come of them. tests/scale_stream.py writes it. */
+/* The stream that the comparison reads: blocks of bytes, which are held, and calls with what must come of them.
+   tests/scale_stream.py writes it. */
 #ifndef STREAM_H
 #define STREAM_H
 

@@ -1,4 +1,5 @@
--- Laws of what append is refused by what was read of the file and counted of the addition: each test, and the answer by the first that fails.
+-- Laws of what append is refused by what was read of the file and counted of the addition: each test, and the answer by
+-- the first that fails.
 use Prim.Native.Nat.{ℕ, _+_, _-_, _%_, _^_, _≤_, _<_, min}
 use mathlib.Core.Bool.{Bool, true, false}
 use mathlib.Core.List.{List, [], _∷_, _++_, map}

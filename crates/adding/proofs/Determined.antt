@@ -1,5 +1,6 @@
--- Each public call's contract determines its answer: two that it allows of the same arguments are equal. The layout is determined where it is known what was
--- counted, and 35 and admission where it is known what was read of the file and what is asked.
+-- Each public call's contract determines its answer: two that it allows of the same arguments are equal. The layout is
+-- determined where it is known what was counted, and 35 and admission where it is known what was read of the file and
+-- what is asked.
 use mathlib.Core.List.{List}
 use mathlib.Core.Path.{_≡_, sym, _∙_}
 use Rattle.partial.proofs.Determined.{written-told}

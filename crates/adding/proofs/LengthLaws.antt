@@ -1,4 +1,5 @@
--- Laws of the lengths of what append adds: the entries and the body of a `ploc`, the body of a `pseg`; and where they are cut.
+-- Laws of the lengths of what append adds: the entries and the body of a `ploc`, the body of a `pseg`; and where they
+-- are cut.
 use Prim.Native.Nat.{ℕ, _+_, _*_, _≤_, min}
 use mathlib.Core.Bool.{Bool, true, false}
 use mathlib.Core.List.{List, [], _∷_, _++_}

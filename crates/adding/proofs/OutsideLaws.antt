@@ -1,4 +1,5 @@
--- Laws of an addition by what goes outside: whether there is a `pdat`, how long the data is that is stored, how many boxes are added, and 35.
+-- Laws of an addition by what goes outside: whether there is a `pdat`, how long the data is that is stored, how many
+-- boxes are added, and 35.
 use Prim.Native.Nat.{ℕ, _+_}
 use mathlib.Core.Bool.{Bool, true, false, not, _&&_, _||_}
 use mathlib.Core.List.{List, []}

@@ -1,4 +1,5 @@
--- Document 01, "Append": "1, 6, 13, 22, 23 or 25 if the result would have it", by what was read of the file and counted of the addition.
+-- Document 01, "Append": "1, 6, 13, 22, 23 or 25 if the result would have it", by what was read of the file and counted
+-- of the addition.
 use Prim.Native.Nat.{ℕ, _+_}
 use mathlib.Core.Bool.{true}
 use mathlib.Core.List.{List}
@@ -24,7 +25,8 @@ pub record Beside (h : Heading) (ss : List Segment) (j : Judged) : Type 0 where
   pub boxes : j .head .boxes ≡ length (h .boxes)
   pub segments : j .gathered ≡ gatheredOf ss
 
--- what is asked of append, by the header, the counts of the chunk list, what goes outside, each chunk whole boxes, and the layout
+-- what is asked of append, by the header, the counts of the chunk list, what goes outside, each chunk whole boxes, and
+-- the layout
 pub record Asked (a : Addition) (header : SegmentHeader) (c : Counts) (o : Outside) (l : Layout) : Type 0 where
   pub offset : header .offset .0 ≡ a .sourceOffset
   pub last : isLast (header .flags) ≡ a .last

@@ -20,8 +20,8 @@ capped n = min n (2 ^ 64 - 1)
 unfoldable pub presentOf : List Item → ℕ
 presentOf is = sum (map (λ i. elim (present (i .state)) [ true ↦ 1 | false ↦ 0 ]) is)
 
--- whether no size is 0 and every state is one, how many items there are and how many are present, the largest size, the bytes of those that are present
--- and of all
+-- whether no size is 0 and every state is one, how many items there are and how many are present, the largest size, the
+-- bytes of those that are present and of all
 unfoldable pub countsOf : List Item → Counts
 countsOf is =
     record {

@@ -1,4 +1,5 @@
--- Document 01, "Append": how the boxes are laid out that it adds. A size past the file limit counts as one more than that.
+-- Document 01, "Append": how the boxes are laid out that it adds. A size past the file limit counts as one more than
+-- that.
 use Prim.Native.Nat.{ℕ, _+_, min}
 use mathlib.Core.Bool.{Bool}
 use mathlib.Core.List.{List}

@@ -12,8 +12,9 @@ ghost use Rattle.partial.specs.Addition.{Item, items};
 ghost use Rattle.partial.specs.Segments.{isState};
 ghost use Rattle.adding.specs.Counts.{countsOf};
 
-// Whether no size is 0 and every state is one; how many items there are, and how many of them are present; the largest size; the bytes of those that
-// are present, and of all. A sum past 64 bits counts as the largest number that they hold.
+// Whether no size is 0 and every state is one; how many items there are, and how many of them are present; the largest
+// size; the bytes of those that are present, and of all. A sum past 64 bits counts as the largest number that they
+// hold.
 pub struct Counts {
     pub right: bool,
     pub items: u64,

@@ -1,4 +1,5 @@
-// How the boxes are laid out that append adds. A size past the file limit counts as one more than that, so that no sum wraps.
+// How the boxes are laid out that append adds. A size past the file limit counts as one more than that, so that no sum
+// wraps.
 use crate::counts::Counts;
 use boxes::framing::FRONT_SIZE;
 use numerals::numbers::Offset;
@@ -28,7 +29,8 @@ const PSHD_REST: u64 = 12;
 // Version, flags, both widths, the data reference index and the chunk count of `ploc`.
 const PLOC_REST: u64 = 9;
 
-// Both widths of `ploc`, the bytes of `source_byte_offset`, the bodies of `pshd`, `ploc` and `pseg`, and all that is added.
+// Both widths of `ploc`, the bytes of `source_byte_offset`, the bodies of `pshd`, `ploc` and `pseg`, and all that is
+// added.
 pub struct Layout {
     pub length_size: usize,
     pub offset_size: usize,
@@ -57,7 +59,8 @@ fn length_size(counts: Counts) -> usize
     width_of(counts.largest)
 }
 
-// The least width that holds every offset: none lies farther back than the first that goes into `pdat`, or else the first outside, with all data behind it.
+// The least width that holds every offset: none lies farther back than the first that goes into `pdat`, or else the
+// first outside, with all data behind it.
 fn offset_size(counts: Counts) -> usize
     ensures { λ r. ⌜ (r ≤ 8) × ((outside : Bool) (is : List Item) → Whole is counts → r ≡ offsetSize (placed outside is)) ⌝ }
 {

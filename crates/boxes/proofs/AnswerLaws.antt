@@ -1,4 +1,5 @@
--- Laws of answers: what is known of a call's parts where the whole of it gave a value, and with which numbers it can refuse.
+-- Laws of answers: what is known of a call's parts where the whole of it gave a value, and with which numbers it can
+-- refuse.
 use Prim.Native.Nat.{ℕ}
 use mathlib.Core.Bool.{Bool, true, false}
 use mathlib.Core.Path.{_≡_, refl, sym, subst}

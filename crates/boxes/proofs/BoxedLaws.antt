@@ -1,4 +1,5 @@
--- Laws of boxes as we write them: their header is one number of eight bytes, and they are read back as they were written.
+-- Laws of boxes as we write them: their header is one number of eight bytes, and they are read back as they were
+-- written.
 use Prim.Native.Nat.{ℕ, _+_, _-_, _*_, _^_, _≤_, _<_}
 use mathlib.Core.Bool.{true, false}
 use mathlib.Core.List.{List, [], _∷_, _++_, append-assoc, append-nil}
@@ -50,7 +51,8 @@ pub length-boxed : (kind : ℕ) (body : List ℕ) → length (boxed kind body) �
 unfolding boxed
 length-boxed kind body = rw (length-append, length-front)
 
--- a box that was written, of another type than `uuid`, is read back: the box of that kind, at that place, with a body of n bytes
+-- a box that was written, of another type than `uuid`, is read back: the box of that kind, at that place, with a body
+-- of n bytes
 abbrev pub boxedAt : ℕ → ℕ → ℕ → Box
 boxedAt at kind n = record { kind = kind; at = at; user = at + frontSize; body = at + frontSize; end = at + (frontSize + n) }
 

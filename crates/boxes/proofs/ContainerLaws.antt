@@ -1,4 +1,5 @@
--- Laws of the boxes of a container: which they are and where they lie, what does not change them, and how two runs of boxes join.
+-- Laws of the boxes of a container: which they are and where they lie, what does not change them, and how two runs of
+-- boxes join.
 use Prim.Native.Nat.{ℕ, zero, suc, _+_, _*_, _≤_, _<_}
 use mathlib.Core.List.{List, [], _∷_, _++_, map}
 use mathlib.Core.Option.{Option, none, some}

@@ -1,4 +1,5 @@
--- Laws of a box header: what each test decides, where the box that was read lies, and with which numbers a header is refused.
+-- Laws of a box header: what each test decides, where the box that was read lies, and with which numbers a header is
+-- refused.
 use Prim.Native.Nat.{ℕ, _+_, _≤_, _<_}
 use mathlib.Core.Bool.{Bool, true, false, not}
 use mathlib.Core.List.{List}
@@ -77,7 +78,8 @@ module _ (c : Container) (s : List ℕ) (at end : ℕ) where
     unfolding header
     header-short not-zero not-one = simp (le-leb (at + 8) end whole, ← read, ne-eqb size 0 not-zero, ne-eqb size 1 not-one)
 
--- a box that was read lies inside its container, its user type stands right before its body, and the place after it is further on
+-- a box that was read lies inside its container, its user type stands right before its body, and the place after it is
+-- further on
 pub record Inside (at end : ℕ) (b : Box) : Type 0 where
   pub starts : b .at ≡ at
   pub front : at + 8 ≤ b .user

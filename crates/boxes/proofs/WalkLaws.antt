@@ -160,7 +160,8 @@ passed-more {s} {w₀} {w} {w′} {bs} {b} p h =
     box-passed (refused n) = refl
     box-passed (given more) = ap given (sym (append-assoc bs (b ∷ []) more))
 
--- a walk that began at a container's start: at its end the boxes passed are the container's, and its fault is the container's first
+-- a walk that began at a container's start: at its end the boxes passed are the container's, and its fault is the
+-- container's first
 module _ {s : List ℕ} {c : Container} {start end : Place} {w₀ w : Walk} {bs : List Box} (new : w₀ ≡ walkOver c start end) (p : Passed s w₀ bs w) where
   pub all-boxes : stepped s w ≡ given none → boxesIn c s (start .0) (end .0) ≡ given bs
   unfolding boxesIn walkedIn boxesFrom

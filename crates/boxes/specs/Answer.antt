@@ -1,4 +1,5 @@
--- Document 01, "Refusal numbers and their order": a call answers a value, or the number of the first refusal that it reaches.
+-- Document 01, "Refusal numbers and their order": a call answers a value, or the number of the first refusal that it
+-- reaches.
 use Prim.Native.Nat.{ℕ}
 use mathlib.Core.Bool.{Bool, true, false}
 

@@ -12,8 +12,8 @@ use Rattle.boxes.specs.declared.framing.Header.{Header}
 use Rattle.boxes.specs.declared.framing.Header.the-variants.{Found, Refused}
 use Rattle.boxes.specs.declared.kinds.Container.{Container}
 
--- a box: its type as a number, and the places of its first byte, of its user type, of its body and of the first byte after it. The user type stands
--- right before the body
+-- a box: its type as a number, and the places of its first byte, of its user type, of its body and of the first byte
+-- after it. The user type stands right before the body
 pub record Box : Type 0 where
   pub kind : ℕ
   pub at : ℕ
@@ -29,7 +29,8 @@ uuid = 0x75756964
 unfoldable pub userSize : ℕ → ℕ
 userSize kind = elim (eqb kind uuid) [ true ↦ 16 | false ↦ 0 ]
 
--- the box at a place whose size and type take so many bytes and state that size. The user type after them counts as header
+-- the box at a place whose size and type take so many bytes and state that size. The user type after them counts as
+-- header
 unfoldable pub sized : List ℕ → ℕ → ℕ → ℕ → ℕ → Answer Box
 sized s at end width size = do
   let kind = number s (at + 4) 4

@@ -59,7 +59,8 @@ containerNo File = 0
 containerNo Pfil = 1
 containerNo Pseg = 2
 
--- of a kind that stands in a container, whether so many keep its count rule; a kind of another container has no rule there
+-- of a kind that stands in a container, whether so many keep its count rule; a kind of another container has no rule
+-- there
 unfoldable pub rightCount : Container → Kind → ℕ → Bool
 rightCount c k n = elim (eqb (containerNo c) (containerNo (k .container))) [ true ↦ keeps (k .count) n | false ↦ true ]
 

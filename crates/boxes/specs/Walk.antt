@@ -1,4 +1,5 @@
--- Document 01, "Per box: 6, 2, 3, 2 for the large size, 4, 5": one step of the walk over a container, and what a walk's answers say.
+-- Document 01, "Per box: 6, 2, 3, 2 for the large size, 4, 5": one step of the walk over a container, and what a walk's
+-- answers say.
 use Prim.Native.Nat.{ℕ, _-_}
 use mathlib.Core.Bool.{true, false}
 use mathlib.Core.List.{List}
@@ -16,7 +17,8 @@ use Rattle.boxes.specs.declared.walk.Step.the-variants as Step
 abbrev pub walkOver : Container → Place → Place → Walk
 walkOver c start end = record { container = c; at = start; end = end; left = boxLimit }
 
--- what a walk meets next: nothing at the container's end, else a box, after which it goes on at the box's end with one box fewer allowed
+-- what a walk meets next: nothing at the container's end, else a box, after which it goes on at the box's end with one
+-- box fewer allowed
 unfoldable pub stepped : List ℕ → Walk → Answer (Option (Box × Walk))
 stepped s w =
     elim (leb (w .end .0) (w .at .0)) [

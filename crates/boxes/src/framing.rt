@@ -13,8 +13,8 @@ ghost use Rattle.boxes.specs.Framing.{header, large, sized, userSize, he
 ghost use Rattle.numerals.specs.Numbers.{holds};
 ghost use Rattle.numerals.specs.Stored.{Stores};
 
-// A box that was read: its kind, its first byte, the first bytes of its user type and of its body, and the first byte after it. The user type ends
-// where the body starts; only a `uuid` box has one that is not empty.
+// A box that was read: its kind, its first byte, the first bytes of its user type and of its body, and the first byte
+// after it. The user type ends where the body starts; only a `uuid` box has one that is not empty.
 pub struct Framed {
     pub kind: u32,
     pub at: Place,
@@ -112,8 +112,8 @@ pub fn header_at(s: &[u8], container: Container, at: Place, end: Place) -> Heade
     sized_at(s, at, end, FRONT_SIZE, size)
 }
 
-// Writes the header of a box with a body of n bytes, if its size fits 32 bits and there is room. The size and the type are the halves of
-// one number, so that both are written or neither.
+// Writes the header of a box with a body of n bytes, if its size fits 32 bits and there is room. The size and the type
+// are the halves of one number, so that both are written or neither.
 pub fn put_header(buf: &mut [u8], at: Place, kind: u32, n: u64) -> bool
     ensures { λ r. ⌜ Stores (holds 4 (frontSize + n)) (now (buf .entry)) (at .0) (front kind n) r (now (buf .exit)) ⌝ }
 {

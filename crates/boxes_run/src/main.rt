@@ -1,5 +1,5 @@
-// Runs the box layer where its answers change. A line is what was asked, a tab, and the answer; `stdout` was worked out from the
-// paper.
+// Runs the box layer where its answers change. A line is what was asked, a tab, and the answer; `stdout` was worked out
+// from the paper.
 mod reading;
 mod report;
 mod walking;

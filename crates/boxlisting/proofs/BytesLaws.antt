@@ -1,4 +1,5 @@
--- Laws of bytes as text: two hex digits hold a byte, which bytes are shown as they are, and bytes whose texts are put one behind the other.
+-- Laws of bytes as text: two hex digits hold a byte, which bytes are shown as they are, and bytes whose texts are put
+-- one behind the other.
 use Prim.Native.Nat.{ℕ, suc, _+_, _-_, _^_, _≤_, _<_}
 use mathlib.Core.Bool.{Bool, true, false}
 use mathlib.Core.List.{List, [], _∷_, _++_, append-nil, append-assoc}

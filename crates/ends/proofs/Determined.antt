@@ -1,5 +1,6 @@
--- Each public call's contract determines its answer: two that it allows of the same arguments are equal. A call on what was gathered is determined where
--- the segments are known of which it was, and a call on one segment, where that is known.
+-- Each public call's contract determines its answer: two that it allows of the same arguments are equal. A call on what
+-- was gathered is determined where the segments are known of which it was, and a call on one segment, where that is
+-- known.
 use mathlib.Core.List.{List}
 use mathlib.Core.Path.{_≡_, sym, _∙_}
 use lib.ListN.{length}

@@ -1,4 +1,5 @@
--- Laws of the ends of segments: when a segment makes the size known, what is gathered with one more, whether they agree, and the described length.
+-- Laws of the ends of segments: when a segment makes the size known, what is gathered with one more, whether they
+-- agree, and the described length.
 use Prim.Native.Nat.{ℕ, _%_, _≤_, _<_, max}
 use mathlib.Core.Bool.{true, false, not, _&&_, and-true, and-false}
 use mathlib.Core.List.{List, [], _∷_, _++_, map}

@@ -8,7 +8,8 @@ use Rattle.partial.specs.Segments.{Segment, endOf}
 use Rattle.partial.specs.Meaning.{givesSize, knownSize, isClosed}
 use Rattle.ends.specs.declared.sizes.Sizes.{Sizes}
 
--- whether the size is known, and that size, else 0; the largest end; whether every segment that makes the size known ends there
+-- whether the size is known, and that size, else 0; the largest end; whether every segment that makes the size known
+-- ends there
 unfoldable pub sizesOf : List Segment → Sizes
 sizesOf ss =
     record {

@@ -9,7 +9,8 @@ ghost use Rattle.partial.specs.Segments.{Segment, endOf};
 ghost use Rattle.partial.specs.Meaning.{givesSize, agree, describedLength};
 ghost use Rattle.ends.specs.Sizes.{sizesOf};
 
-// Whether the size is known, and that size; the largest end; whether every segment that makes the size known ends there.
+// Whether the size is known, and that size; the largest end; whether every segment that makes the size known ends
+// there.
 pub struct Sizes {
     pub known: bool,
     pub size: Position,

@@ -1,4 +1,5 @@
--- Laws of the fields of a `pshd`: what the version decides, what the tests of the body decide, and what each answer says.
+-- Laws of the fields of a `pshd`: what the version decides, what the tests of the body decide, and what each answer
+-- says.
 use Prim.Native.Nat.{ℕ, _+_, _-_, _≤_, min}
 use mathlib.Core.Bool.{Bool, true, false}
 use mathlib.Core.List.{List}

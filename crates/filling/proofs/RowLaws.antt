@@ -1,4 +1,5 @@
--- Laws of rows: those that are stored into a table number by number, from the last to the first, and those that are put behind others.
+-- Laws of rows: those that are stored into a table number by number, from the last to the first, and those that are put
+-- behind others.
 use Prim.Native.Nat.{ℕ, suc, _+_, _≤_, _<_}
 use mathlib.Core.List.{List, [], _++_}
 use mathlib.Core.Path.{_≡_, refl, sym, ap, subst, _∙_}

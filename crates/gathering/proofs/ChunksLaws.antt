@@ -1,4 +1,5 @@
--- Laws of the chunks of a `ploc`, read one after another: what the next entry decides, and that nothing may be left over.
+-- Laws of the chunks of a `ploc`, read one after another: what the next entry decides, and that nothing may be left
+-- over.
 use Prim.Native.Nat.{ℕ, zero, suc, _+_, _-_, _*_, _<_, _≤_}
 use mathlib.Core.List.{List, [], _∷_, _++_, append-nil, append-assoc, map}
 use mathlib.Core.Path.{_≡_, refl, sym, ap, _∙_}

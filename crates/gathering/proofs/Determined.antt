@@ -1,5 +1,6 @@
--- Each public call's contract determines its answer: two that it allows of the same arguments are equal. The pass over a file is determined where
--- the file's boxes are known and whether it is mixed, and what it leaves in a table where all rows fit.
+-- Each public call's contract determines its answer: two that it allows of the same arguments are equal. The pass over
+-- a file is determined where the file's boxes are known and whether it is mixed, and what it leaves in a table where
+-- all rows fit.
 use Prim.Native.Nat.{ℕ, _≤_}
 use mathlib.Core.Bool.{Bool}
 use mathlib.Core.List.{List}

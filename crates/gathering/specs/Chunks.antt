@@ -1,4 +1,5 @@
--- Document 01, "Chunks follow each other in the source from `source_byte_offset`": what is told of the chunks of a `ploc`.
+-- Document 01, "Chunks follow each other in the source from `source_byte_offset`": what is told of the chunks of a
+-- `ploc`.
 use Prim.Native.Nat.{ℕ, _+_, _*_}
 use mathlib.Core.List.{List, map}
 use mathlib.Core.Path.{_≡_}
@@ -25,8 +26,8 @@ use Rattle.gathering.specs.declared.gathered.Gathered.{Gathered}
 abbrev pub chunksBy : List ℕ → Heading → ℕ → Location → Cursor → Answer (List Chunk)
 chunksBy f h pseg l c = chunksFrom sourceLimit f h pseg (plocOf l) (l .count) (cursorOf c)
 
--- chunks were read from a cursor on: where they end in the source, the box to be looked at first after them, and their rows, put behind those of the
--- segments before
+-- chunks were read from a cursor on: where they end in the source, the box to be looked at first after them, and their
+-- rows, put behind those of the segments before
 pub record Ran (f : List ℕ) (bs : List Box) (first : Cursor) (before : Gathered) (t₀ : List ℕ) (cs : List Chunk) (c : Cursor) (t : List ℕ) : Type 0 where
   pub ends : c .start .0 ≡ first .start .0 + sum (map (λ c. c .size) cs)
   pub known : Searched f (boxOf (c .last)) bs

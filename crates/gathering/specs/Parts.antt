@@ -1,4 +1,5 @@
--- Document 01, "In one `pseg`: framing, 14, 15, 16, then 17 (head), 18, 19": the parts of a segment's box, and what is told of them.
+-- Document 01, "In one `pseg`: framing, 14, 15, 16, then 17 (head), 18, 19": the parts of a segment's box, and what is
+-- told of them.
 use Prim.Native.Nat.{ℕ}
 use mathlib.Core.List.{List}
 use lib.Dec.{eqb}

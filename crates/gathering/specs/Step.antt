@@ -1,4 +1,5 @@
--- Document 01, "In one `pseg`: framing, 14, 15, 16, then 17 (head), 18, 19, 22, 23 (offset), entries": what is told of one segment.
+-- Document 01, "In one `pseg`: framing, 14, 15, 16, then 17 (head), 18, 19, 22, 23 (offset), entries": what is told of
+-- one segment.
 use Prim.Native.Nat.{ℕ, _+_, _*_, _≤_}
 use mathlib.Core.List.{List, [], _∷_, _++_}
 use mathlib.Core.Path.{_≡_}
@@ -22,7 +23,8 @@ unfoldable pub Counted : Gathered → SegmentRead → Type 0
 Counted before (Refused n) = Unit {0}
 Counted before (Given g last) = (g .segments ≡ before .segments + 1) × (g .chunks ≤ chunkLimit)
 
--- what an answer about a segment says: its refusal, or that it was read, with its rows behind those of the segments before it
+-- what an answer about a segment says: its refusal, or that it was read, with its rows behind those of the segments
+-- before it
 unfoldable pub Segmented : List ℕ → Heading → List Segment → Box → List ℕ → List ℕ → List ℕ → List ℕ → SegmentRead → Type 0
 Segmented f h ss b t₀ t u₀ u (Refused n) = segment sourceLimit f h ss b ≡ refused n
 Segmented f h ss b t₀ t u₀ u (Given g last) =

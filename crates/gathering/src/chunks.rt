@@ -22,7 +22,8 @@ pub enum ChunksRead {
     Given(Cursor),
 }
 
-// The chunks of a `ploc` in the `pseg` at a place, from its first entry on, by the table of the file's boxes. No byte may be left over.
+// The chunks of a `ploc` in the `pseg` at a place, from its first entry on, by the table of the file's boxes. No byte
+// may be left over.
 pub(crate) fn chunks_of(
     file: &[u8],
     tops: &[u64; TOPS],

@@ -1,5 +1,5 @@
-// One pass over the segments of a file: each is judged beside those before it, its rows are put into the lent tables, and what all of them say is
-// gathered.
+// One pass over the segments of a file: each is judged beside those before it, its rows are put into the lent tables,
+// and what all of them say is gathered.
 mod chunks;
 pub mod gathered;
 mod parts;

@@ -14,7 +14,8 @@ ghost use Rattle.segment.specs.Chunk.{chunkOf};
 ghost use Rattle.filling.specs.Rows.{Put};
 ghost use Rattle.gathering.specs.Rows.{rowBy};
 
-// Writes the row of a chunk behind so many others: the number of its segment, its index there, its start, size, state and place.
+// Writes the row of a chunk behind so many others: the number of its segment, its index there, its start, size, state
+// and place.
 pub(crate) fn put_chunk(table: &mut [u64], before: u64, segment: u64, index: u64, c: Chunk)
     requires { ⌜ before ≤ chunkLimit ⌝ }
     ensures { λ _. ⌜ Put (now (table .entry)) (chunkRowLength * before) (chunkRow segment index (chunkOf c)) (now (table .exit)) ⌝ }
@@ -23,8 +24,8 @@ pub(crate) fn put_chunk(table: &mut [u64], before: u64, segment: u64, index: u64
     put_row(table, (CHUNK_ROW * before) as usize, &row);
 }
 
-// Writes the row of a segment behind so many others: the place of its box, the fields of its `pshd`, the number of its chunks, and the place and the
-// length of the body of its `pshd`.
+// Writes the row of a segment behind so many others: the place of its box, the fields of its `pshd`, the number of its
+// chunks, and the place and the length of the body of its `pshd`.
 pub(crate) fn put_segment(
     table: &mut [u64],
     before: u64,

@@ -1,4 +1,5 @@
--- Laws of listing: the lists of a file's chunks are those of the file, what each test decides, and what is left in the tables and lists.
+-- Laws of listing: the lists of a file's chunks are those of the file, what each test decides, and what is left in the
+-- tables and lists.
 use Prim.Native.Nat.{ℕ, _*_, _<_, _≤_}
 use mathlib.Core.Bool.{and-false}
 use mathlib.Core.List.{List}

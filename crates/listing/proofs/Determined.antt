@@ -1,5 +1,6 @@
--- Each public call's contract determines its answer, and what it leaves in the lent tables and lists: two that it allows of the same arguments are equal.
--- The totals are determined where the spans are ordered, and what is put into a list where all its ranges fit besides.
+-- Each public call's contract determines its answer, and what it leaves in the lent tables and lists: two that it
+-- allows of the same arguments are equal. The totals are determined where the spans are ordered, and what is put into a
+-- list where all its ranges fit besides.
 use Prim.Native.Nat.{ℕ, _≤_}
 use mathlib.Core.List.{List}
 use mathlib.Core.Path.{_≡_, sym, _∙_}

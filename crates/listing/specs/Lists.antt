@@ -1,4 +1,5 @@
--- Document 01, "Lists": the two lists of the positions below an end, what they hold together, and how they stand in the lent lists.
+-- Document 01, "Lists": the two lists of the positions below an end, what they hold together, and how they stand in the
+-- lent lists.
 use Prim.Native.Nat.{ℕ, _+_, _<_, _≤_, _^_}
 use mathlib.Core.List.{List, [], _∷_, _++_}
 use mathlib.Core.Path.{_≡_}

@@ -18,7 +18,8 @@ ghost use Rattle.spans.specs.Files.{Spanned};
 ghost use Rattle.spans.specs.Spans.{Ordered};
 ghost use Rattle.listing.specs.Calls.{Counted, Listing};
 
-// What the lists will hold: they are put where there is no room for them, since nothing lent is touched before it is known that both lists have room.
+// What the lists will hold: they are put where there is no room for them, since nothing lent is touched before it is
+// known that both lists have room.
 fn counted(spans: &[u64], n: usize, end: Position) -> Totals
     ensures { λ t. ⌜ (Ordered (now (spans .entry)) n (end .0) → (ss : List Segment) → Spanned ss (now (spans .entry)) n (end .0) → Counted ss t) ⌝ }
 {
@@ -27,7 +28,8 @@ fn counted(spans: &[u64], n: usize, end: Position) -> Totals
     put_lists(spans, n, end, &mut no_had, &mut no_missing)
 }
 
-// Lists the ranges of positions that a file has and of those that are missing, and reads it into both tables. After a refusal all four are as they were.
+// Lists the ranges of positions that a file has and of those that are missing, and reads it into both tables. After a
+// refusal all four are as they were.
 pub fn list(
     file: &[u8],
     segments: &mut [u64],

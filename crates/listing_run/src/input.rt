@@ -1,6 +1,6 @@
-// The records of standard input. Seven numbers of two bytes, most significant first: the length of the name, the length of the file, the numbers lent for
-// segment rows, for chunk rows, for the list of what is had and for that of what is missing, and how many positions are asked. Then the name, the file, and
-// the positions, eight bytes each.
+// The records of standard input. Seven numbers of two bytes, most significant first: the length of the name, the length
+// of the file, the numbers lent for segment rows, for chunk rows, for the list of what is had and for that of what is
+// missing, and how many positions are asked. Then the name, the file, and the positions, eight bytes each.
 use crate::lent;
 use crate::lent::Rooms;
 use libc::STDIN_FILENO;

@@ -14,7 +14,8 @@ pub struct Rooms {
     pub missing: usize,
 }
 
-// Lists a file. The tables and lists are parts of the longest that a file can fill; a record that asks for longer ones has no answer.
+// Lists a file. The tables and lists are parts of the longest that a file can fill; a record that asks for longer ones
+// has no answer.
 pub fn listed(file: &[u8], rooms: Rooms) {
     let segments = rooms.segments;
     let chunks = rooms.chunks;

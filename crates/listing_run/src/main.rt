@@ -1,5 +1,5 @@
-// Lists every file of a corpus, asks of positions and has them served, and prints every answer. `tests/lists.py` makes `stdin`, the corpus, and
-// `stdout`, the answers of the model.
+// Lists every file of a corpus, asks of positions and has them served, and prints every answer. `tests/lists.py` makes
+// `stdin`, the corpus, and `stdout`, the answers of the model.
 mod input;
 mod lent;
 mod report;

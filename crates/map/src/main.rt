@@ -1,4 +1,5 @@
-// The map program: reads a partial file from standard input, and writes its map, which names what is missing, or the line of its refusal.
+// The map program: reads a partial file from standard input, and writes its map, which names what is missing, or the
+// line of its refusal.
 use libc::STDIN_FILENO;
 use mapping::call::map;
 use program::INPUT;

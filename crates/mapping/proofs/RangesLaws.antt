@@ -1,4 +1,5 @@
--- Laws of a loop over the ranges by the spans in both tables: those found so far and those that are left, and what is told of the sweeps.
+-- Laws of a loop over the ranges by the spans in both tables: those found so far and those that are left, and what is
+-- told of the sweeps.
 use Prim.Native.Nat.{ℕ, _+_, _-_, _*_, _<_, _≤_}
 use mathlib.Core.List.{List, [], _∷_, _++_, append-nil, append-assoc}
 use mathlib.Core.Path.{_≡_, sym, ap, subst, _∙_}

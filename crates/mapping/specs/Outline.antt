@@ -1,4 +1,5 @@
--- The two maps of a file, by whether the missing positions are named, and what is told of a file by two tables of spans.
+-- The two maps of a file, by whether the missing positions are named, and what is told of a file by two tables of
+-- spans.
 use Prim.Native.Nat.{ℕ, _<_, _≤_}
 use mathlib.Core.Bool.{Bool, true, false, _&&_}
 use mathlib.Core.List.{List, [], _∷_}

@@ -31,7 +31,8 @@ ghost use Rattle.texts.specs.Writes.{Writes};
 ghost use Rattle.mapping.specs.Outline.{textOf, Drawn, Outlined, rangesIn};
 ghost use Rattle.mapping.specs.Totals.{Counts};
 
-// The bytes of the line of a range are no more than this; those of the first line and the last together are no more than three times as many.
+// The bytes of the line of a range are no more than this; those of the first line and the last together are no more
+// than three times as many.
 const LINE: u64 = 50;
 
 // Whether a text with so many ranges surely fits.
@@ -52,8 +53,8 @@ fn put_outline(buffer: &mut [u8], good: &[u64], damaged: &[u64], o: Outline, tot
     put_total(buffer, last, totals, o.named)
 }
 
-// Writes the map of a file by the same. Where it may not fit, it is first put where there is no room for it, to learn how long it is, since a buffer that is too
-// short is left as it was.
+// Writes the map of a file by the same. Where it may not fit, it is first put where there is no room for it, to learn
+// how long it is, since a buffer that is too short is left as it was.
 fn write_outline(buffer: &mut [u8], good: &[u64], damaged: &[u64], o: Outline) -> Written
     requires { ⌜ Drawn (now good) (now damaged) o ⌝ }
     ensures { λ r. ⌜ ((ss : List Segment) → Outlined ss (now (good .entry)) (now (damaged .entry)) o → Writes (textOf (o .named) ss) (now (buffer .entry)) (now (buffer .exit)) r) ⌝ }
@@ -69,8 +70,8 @@ fn write_outline(buffer: &mut [u8], good: &[u64], damaged: &[u64], o: Outline) -
     Written::Length(put_outline(buffer, good, damaged, o, totals))
 }
 
-// Writes the map of an accepted file by the rows of its chunks and what was gathered of it. The spans of the damaged chunks are made first, since those of the
-// good ones take the place of the rows.
+// Writes the map of an accepted file by the rows of its chunks and what was gathered of it. The spans of the damaged
+// chunks are made first, since those of the good ones take the place of the rows.
 fn write_rows(
     buffer: &mut [u8],
     rows: &mut [u64],
@@ -124,8 +125,8 @@ fn write_map(file: &[u8], most: u64, buffer: &mut [u8], named: bool) -> Written
     }
 }
 
-// Writes the map of a file, or the line of its refusal, 27 for a file of more bytes than the caller takes, and answers how long it is. Where the buffer is too
-// short for it, it is as it was.
+// Writes the map of a file, or the line of its refusal, 27 for a file of more bytes than the caller takes, and answers
+// how long it is. Where the buffer is too short for it, it is as it was.
 pub fn map(file: &[u8], most: u64, buffer: &mut [u8]) -> Written
     ensures { λ r. ⌜ Writes (mapText sourceLimit most (now (file .entry))) (now (buffer .entry)) (now (buffer .exit)) r ⌝ }
 {

@@ -11,7 +11,8 @@ ghost use Rattle.partial.specs.Naming.{held};
 ghost use Rattle.mapping.specs.Outline.{Drawn, rangesIn};
 ghost use Rattle.mapping.specs.Totals.{Bounded, Joins, Counts};
 
-// How many ranges there are, and how many positions are received, held and lost. Where the missing ones are not named, all of them are among the lost.
+// How many ranges there are, and how many positions are received, held and lost. Where the missing ones are not named,
+// all of them are among the lost.
 pub struct Totals {
     pub ranges: u64,
     pub received: u64,

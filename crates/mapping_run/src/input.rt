@@ -1,5 +1,5 @@
-// The records of standard input. Three numbers, most significant byte first: the length of the name in two bytes, then the length of the file and that of the
-// buffer in three bytes each. Then the name and the file.
+// The records of standard input. Three numbers, most significant byte first: the length of the name in two bytes, then
+// the length of the file and that of the buffer in three bytes each. Then the name and the file.
 use crate::lent;
 use libc::STDIN_FILENO;
 use printing::records;

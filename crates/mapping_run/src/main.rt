@@ -1,4 +1,5 @@
-// Writes both maps of every file of a corpus, and prints every answer. `tests/maps.py` makes `stdin`, the corpus, and `stdout`, the answers of the model.
+// Writes both maps of every file of a corpus, and prints every answer. `tests/maps.py` makes `stdin`, the corpus, and
+// `stdout`, the answers of the model.
 mod input;
 mod lent;
 mod report;

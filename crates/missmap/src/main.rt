@@ -1,4 +1,5 @@
-// The other map program: reads a partial file from standard input, and writes the map that does not name what is missing, or the line of its refusal.
+// The other map program: reads a partial file from standard input, and writes the map that does not name what is
+// missing, or the line of its refusal.
 use libc::STDIN_FILENO;
 use mapping::call::missmap;
 use program::INPUT;

@@ -1,4 +1,5 @@
--- Laws of `number` and `bytesOf`, each over the width: how a loop reads a number, what it depends on, what it is read back as.
+-- Laws of `number` and `bytesOf`, each over the width: how a loop reads a number, what it depends on, what it is read
+-- back as.
 use mathlib.Core.Path.{_≡_, refl, sym, ap, ap₂, _∙_}
 use Prim.Native.Nat.{ℕ, zero, suc, _+_, _-_, _*_, _/_, _%_, _^_, _≤_, _<_}
 use native.Mathlib.Nat.{pow-suc, pow-le-pow-right, one-le-pow, lt-of-lt-of-le, zero-lt-suc, mod-lt, mod-eq-of-lt, mul-suc, add-zero}

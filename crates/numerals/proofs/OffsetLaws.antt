@@ -1,4 +1,5 @@
--- Laws of offsets in two's complement, each over the width: how a number is read as one, and that what was written is read back.
+-- Laws of offsets in two's complement, each over the width: how a number is read as one, and that what was written is
+-- read back.
 use mathlib.Core.Path.{_≡_, refl, ap}
 use mathlib.Core.Bool.{true}
 use mathlib.Core.List.{List, _++_}

@@ -1,4 +1,5 @@
--- Laws of widths: what so many bytes hold, and the least width that passes a test: how a loop finds it, that it passes, and that no lesser one does.
+-- Laws of widths: what so many bytes hold, and the least width that passes a test: how a loop finds it, that it passes,
+-- and that no lesser one does.
 use mathlib.Core.Path.{_≡_, refl, sym, _∙_}
 use mathlib.Core.Bool.{Bool, true, false}
 use Prim.Native.Nat.{ℕ, zero, suc, _+_, _-_, _*_, _/_, _%_, _^_, _≤_, _<_, zero-le, min}

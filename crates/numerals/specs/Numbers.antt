@@ -1,5 +1,5 @@
--- Document 01, "Framing" and the `ploc` paragraph: numbers of any width, most significant byte first, and signed ones in two's complement.
--- A field of width 0 has value 0.
+-- Document 01, "Framing" and the `ploc` paragraph: numbers of any width, most significant byte first, and signed ones
+-- in two's complement. A field of width 0 has value 0.
 use Prim.Native.Nat.{ℕ, zero, suc, _+_, _-_, _*_, _/_, _%_, _^_}
 use mathlib.Core.Bool.{Bool, true, false}
 use mathlib.Core.List.{List, [], _∷_, _++_}

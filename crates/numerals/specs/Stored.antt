@@ -14,7 +14,8 @@ roomFor s at bytes = leb (at + length bytes) (length s)
 unfoldable pub stored : List ℕ → ℕ → List ℕ → List ℕ
 stored s at bytes = elim (roomFor s at bytes) [ true ↦ take at s ++ (bytes ++ drop (at + length bytes) s) | false ↦ s ]
 
--- what a call that writes the bytes of a value answers, and how it leaves the buffer: nothing is written where the field does not hold the value
+-- what a call that writes the bytes of a value answers, and how it leaves the buffer: nothing is written where the
+-- field does not hold the value
 pub record Stores (held : Bool) (s : List ℕ) (at : ℕ) (bytes : List ℕ) (answer : Bool) (exit : List ℕ) : Type 0 where
   pub room : answer ≡ (held && roomFor s at bytes)
   pub left : exit ≡ elim held [ true ↦ stored s at bytes | false ↦ s ]

@@ -8,8 +8,8 @@ ghost use lib.ListN.{length, getD};
 ghost use Rattle.numerals.specs.Numbers.{number, bytesOf, signed, twosComplement, holds, holdsOffset, leastWidth};
 ghost use Rattle.numerals.specs.Stored.{stored, Stores};
 
-// A signed number: so many ahead, or so many back. Its size stands apart from its sign, so that adding it to a place can
-// neither lose the sign nor wrap.
+// A signed number: so many ahead, or so many back. Its size stands apart from its sign, so that adding it to a place
+// can neither lose the sign nor wrap.
 pub enum Offset {
     Ahead(u64),
     Back(u64),
@@ -71,8 +71,8 @@ fn eight(s: &[u8], from: usize) -> u64
     n
 }
 
-// The number of that width at a place, worked out straight from the bytes: where eight stand there, it is what is left of these when the ones behind
-// it are shifted out. Bytes past the end count as 0.
+// The number of that width at a place, worked out straight from the bytes: where eight stand there, it is what is left
+// of these when the ones behind it are shifted out. Bytes past the end count as 0.
 pub fn unsigned(s: &[u8], at: Place, width: usize) -> u64
     ensures { λ r. ⌜ r ≡ number (now (s .entry)) (at .0) (min width 8) ⌝ }
 {
@@ -156,7 +156,8 @@ fn holds_offset(w: usize, z: Offset) -> bool
     }
 }
 
-// A number of w bytes that stand for an offset. None back would be the power of 256, which does not fit; 0 has the same bytes.
+// A number of w bytes that stand for an offset. None back would be the power of 256, which does not fit; 0 has the same
+// bytes.
 fn complement(w: usize, z: Offset) -> u64
     requires { ⌜ (w ≤ 8) × (holdsOffset w z ≡ true) ⌝ }
     ensures { λ r. ⌜ (holds w r ≡ true) × (bytesOf w r ≡ bytesOf w (twosComplement w z)) ⌝ }
@@ -172,8 +173,8 @@ fn complement(w: usize, z: Offset) -> u64
     }
 }
 
-// Writes an offset in that width at a place, in two's complement, if the width holds it and there is room; else the buffer stays
-// as it was.
+// Writes an offset in that width at a place, in two's complement, if the width holds it and there is room; else the
+// buffer stays as it was.
 pub fn put_offset(buf: &mut [u8], at: Place, width: usize, z: Offset) -> bool
     ensures { λ r. ⌜ Stores (holdsOffset (min width 8) z) (now (buf .entry)) (at .0) (bytesOf (min width 8) (twosComplement (min width 8) z)) r (now (buf .exit)) ⌝ }
 {
@@ -209,8 +210,8 @@ fn capped(n: u64) -> u64
     }
 }
 
-// A number as wide as an offset: its size twice, for the sign, less one if it is back, since each width holds one more back
-// than ahead.
+// A number as wide as an offset: its size twice, for the sign, less one if it is back, since each width holds one more
+// back than ahead.
 fn spread(z: Offset) -> u64
     ensures { λ r. ⌜ ((w : ℕ) → w < 8 → holds w r ≡ holdsOffset w z) ⌝ }
 {

@@ -1,4 +1,5 @@
--- Laws of bytes that are whole boxes: by the boxes that a walk has passed, how many there may be, and how two of them join.
+-- Laws of bytes that are whole boxes: by the boxes that a walk has passed, how many there may be, and how two of them
+-- join.
 use Prim.Native.Nat.{ℕ, _+_, _≤_}
 use mathlib.Core.Bool.{true, false, not, _&&_, and-false, false≢true}
 use mathlib.Core.List.{List, [], _∷_, _++_, map, append-nil}

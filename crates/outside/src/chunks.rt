@@ -1,4 +1,5 @@
-// The chunks of an addition that are stored outside `pdat`, judged and counted in one pass over the chunk list and the data.
+// The chunks of an addition that are stored outside `pdat`, judged and counted in one pass over the chunk list and the
+// data.
 use crate::items::end_of;
 use crate::items::goes_out;
 use crate::whole::Whole;
@@ -9,7 +10,8 @@ ghost use lib.ListN.{length};
 ghost use Rattle.partial.specs.Addition.{items};
 ghost use Rattle.outside.specs.Chunks.{noChunk, chunkOf, together, outsideOf};
 
-// Whether each chunk is whole allowed boxes; how many chunks there are, how many bytes they have, and how many boxes those are that are whole.
+// Whether each chunk is whole allowed boxes; how many chunks there are, how many bytes they have, and how many boxes
+// those are that are whole.
 pub struct Outside {
     pub right: bool,
     pub chunks: u64,

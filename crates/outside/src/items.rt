@@ -1,4 +1,5 @@
-// The data of one item of a chunk list: how much it is, where it ends in the data of all, and whether it goes outside `pdat`.
+// The data of one item of a chunk list: how much it is, where it ends in the data of all, and whether it goes outside
+// `pdat`.
 use fields::state::GOOD;
 use fields::state::present;
 ghost use Prim.Native.Nat.{ℕ, _+_, min};

@@ -1,5 +1,5 @@
--- The three demands hold of the definitions, at the product's source limit; no map program answers 33; and what was accepted
--- under document 01's limit keeps its answers.
+-- The three demands hold of the definitions, at the product's source limit; no map program answers 33; and what was
+-- accepted under document 01's limit keeps its answers.
 use lib.Dec.{lit<, lit≤}
 use Rattle.partial.specs.Limits.{sourceLimit, programBuffer}
 use Rattle.partial.specs.Map.{mapOf, missmapOf}

@@ -1,4 +1,5 @@
--- Laws of reading: what an accepted file gives, what is put behind a file, every refusal, what is handed back and printed, and the rows of tables.
+-- Laws of reading: what an accepted file gives, what is put behind a file, every refusal, what is handed back and
+-- printed, and the rows of tables.
 pub mod AgreementReadLaws
 pub mod HeadingAppendLaws
 pub mod KeptLaws

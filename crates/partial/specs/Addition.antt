@@ -96,6 +96,7 @@ outsideRight h a =
     let out = goesOut (a .outside) in
     not (someOf out (items (a .list))) || (h .mixed && boxesFor out (items (a .list)) (a .bytes))
 
--- what the fields of 64 bits and `chunk_count`, of 16, can say of it; the repair time apart, of which the last 64 bits are written
+-- what the fields of 64 bits and `chunk_count`, of 16, can say of it; the repair time apart, of which the last 64 bits
+-- are written
 unfoldable pub sayable : Addition → Bool
 sayable a = ltb (a .sourceOffset) (2 ^ 64) && allOf (λ n. ltb n (2 ^ 64)) (a .list) && ltb (length (items (a .list))) (2 ^ 16)

@@ -52,8 +52,8 @@ settled a =
       bytes = a .bytes;
     }
 
--- writing again, into a buffer, a file with a heading and segments: begin with the brand, the URL and the MIME text read, then append each segment with its
--- fields, chunks and bytes
+-- writing again, into a buffer, a file with a heading and segments: begin with the brand, the URL and the MIME text
+-- read, then append each segment with its fields, chunks and bytes
 unfoldable pub writeAgain : ℕ → List ℕ → List ℕ → Heading → List Segment → Lent
 writeAgain limit buffer f h ss =
     appendAll limit (begin buffer (brandFor (h .mixed)) (bytesIn f (textOf url limit f)) (bytesIn f (textOf mime limit f))) (map (again f h) ss)

@@ -1,4 +1,5 @@
--- Document 01, "For every answer that is an enum, a definition gives this paper's number and values for each case of the enum".
+-- Document 01, "For every answer that is an enum, a definition gives this paper's number and values for each case of
+-- the enum".
 use Prim.Native.Nat.{ℕ}
 use Rattle.boxes.specs.Answer.{Answer, refused, given}
 use Rattle.partial.specs.declared.answers.Read.{Read}

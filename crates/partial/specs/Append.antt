@@ -50,8 +50,8 @@ pub record Placed : Type 0 where
   pub state : ℕ
   pub offset : Offset
 
--- how far before the `pseg` the data of the first of some items lies, as many bytes as there are from it on: behind the data in `pdat` stand so many
--- bytes outside
+-- how far before the `pseg` the data of the first of some items lies, as many bytes as there are from it on: behind the
+-- data in `pdat` stand so many bytes outside
 unfoldable pub back : Bool → ℕ → Item → List Item → ℕ
 back outside out i is =
     elim (goesOut outside i) [
@@ -154,8 +154,8 @@ admission limit h ss n a = do
   _ ← hold 6 (leb (length (h .boxes) + addedBoxes a) boxLimit)
   admitted limit ss (newSegment (psegPlace n a) a)
 
--- what append answers for the first n bytes of a buffer: its refusals in order, or the length of the result. The buffer is left as
--- `written` says, by `result`
+-- what append answers for the first n bytes of a buffer: its refusals in order, or the length of the result. The buffer
+-- is left as `written` says, by `result`
 unfoldable pub appended : ℕ → List ℕ → ℕ → Addition → Answer ℕ
 appended limit buffer n a = do
   _ ← hold 30 (leb n (length buffer))

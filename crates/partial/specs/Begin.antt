@@ -28,7 +28,8 @@ unfoldable pub brandCode : Brand → ℕ
 brandCode Paff = paff
 brandCode Pmff = pmff
 
--- `ftyp` (the brand as major, minor 0, the brand as the one compatible), then `pfil` holding `pfhd` (flags 0) and one `surl`
+-- `ftyp` (the brand as major, minor 0, the brand as the one compatible), then `pfil` holding `pfhd` (flags 0) and one
+-- `surl`
 unfoldable pub beginning : Brand → List ℕ → List ℕ → List ℕ
 beginning brand urlText mimeText =
     boxed (ftyp .code) (bytesOf 4 (brandCode brand) ++ (bytesOf 4 0 ++ bytesOf 4 (brandCode brand)))
@@ -39,7 +40,8 @@ beginning brand urlText mimeText =
 unfoldable pub isText : List ℕ → Bool
 isText bytes = allOf (λ b. not (eqb b 0)) bytes
 
--- what begin answers: its refusals in order, or the length of the file. The buffer is left as `written` says, by `beginning`
+-- what begin answers: its refusals in order, or the length of the file. The buffer is left as `written` says, by
+-- `beginning`
 unfoldable pub begun : List ℕ → Brand → List ℕ → List ℕ → Answer ℕ
 begun buffer brand urlText mimeText = do
   let n = length (beginning brand urlText mimeText)

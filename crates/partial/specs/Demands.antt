@@ -1,6 +1,6 @@
--- The three demands, as statements over the definitions at a source limit below 2 ^ 64; the product's is `sourceLimit`. Each field has the
--- sentence that it states. That nothing is required of a call's arguments and that every call ends is in the contracts themselves:
--- no public call has a `requires`, and a function is proved only if it returns.
+-- The three demands, as statements over the definitions at a source limit below 2 ^ 64; the product's is `sourceLimit`.
+-- Each field has the sentence that it states. That nothing is required of a call's arguments and that every call ends
+-- is in the contracts themselves: no public call has a `requires`, and a function is proved only if it returns.
 use Prim.Native.Nat.{ℕ, _+_, _-_, _^_, _≤_, _<_}
 use mathlib.Core.Bool.{Bool, true, false, not, _&&_, _||_}
 use mathlib.Core.List.{List, [], _∷_, _++_, map, List·Memᴰ}
@@ -55,7 +55,8 @@ NothingChanges limit =
     → appended limit buffer n a ≡ refused k
     → append limit (lent buffer n) a ≡ lent buffer n
 
--- a number that no call answers, and that no line of a text tells: those of the map are the reader's, those of the box list the framing's
+-- a number that no call answers, and that no line of a text tells: those of the map are the reader's, those of the box
+-- list the framing's
 pub record Never (limit n : ℕ) : Type 0 where
   pub read : (f a b : List ℕ) → tabled limit f a b ≡ refused n → ⊥
   pub ask : (f a b : List ℕ) (p : ℕ) → asked (tabled limit f a b) p ≡ refused n → ⊥
@@ -66,7 +67,8 @@ pub record Never (limit n : ℕ) : Type 0 where
   pub mapped : (input : List ℕ) → reading limit input ≡ refused n → ⊥
   pub boxes : (input : List ℕ) → boxesIn File input 0 (length input) ≡ refused n → ⊥
 
--- demand 1: any bytes get either their tables or one numbered refusal; after a refusal all lent memory holds what it held
+-- demand 1: any bytes get either their tables or one numbered refusal; after a refusal all lent memory holds what it
+-- held
 pub record Demand1 (limit : ℕ) : Type 0 where
   -- one numbered refusal, of those that the paper has for the call
   pub readNumbers : (f a b : List ℕ) (n : ℕ) → tabled limit f a b ≡ refused n → T (ofStages n || oneOf (12 ∷ 26 ∷ []) n)
@@ -100,7 +102,8 @@ pub record Demand1 (limit : ℕ) : Type 0 where
 
 -- "Lists": of an accepted file's segments
 pub record Listing (ss : List Segment) : Type 0 where
-  -- each position below the described length is in exactly one list: among the had exactly if it is supplied, else among the missing
+  -- each position below the described length is in exactly one list: among the had exactly if it is supplied, else
+  -- among the missing
   pub inHad : (p : ℕ) → p < describedLength ss → among p (hadList ss) ≡ supplied ss p
   pub inMissing : (p : ℕ) → p < describedLength ss → among p (missingList ss) ≡ not (supplied ss p)
   -- no list holds a position that is not below the described length, and none is supplied there
@@ -118,13 +121,15 @@ pub record Listing (ss : List Segment) : Type 0 where
 
 -- document 02, [6]: the missing positions of an accepted file's segments, by name
 pub record Naming (ss : List Segment) : Type 0 where
-  -- a missing position below the described length is in exactly one list: among the held exactly if some damaged chunk covers it, else among the lost
+  -- a missing position below the described length is in exactly one list: among the held exactly if some damaged chunk
+  -- covers it, else among the lost
   pub inHeld : (p : ℕ) → p < describedLength ss → among p (heldList ss) ≡ (not (supplied ss p) && damagedAt ss p)
   pub inLost : (p : ℕ) → p < describedLength ss → among p (lostList ss) ≡ (not (supplied ss p) && not (damagedAt ss p))
   -- both together are the missing list, and the ranges that are had are those of the had list
   pub asMissing : (p : ℕ) → (among p (heldList ss) || among p (lostList ss)) ≡ among p (missingList ss)
   pub asHad : ofClass had (namedRanges ss) ≡ hadList ss
-  -- each is maximal within its name, ascending, never empty; all merged, one range stands behind the other up to the described length
+  -- each is maximal within its name, ascending, never empty; all merged, one range stands behind the other up to the
+  -- described length
   pub heldApart : T (apart 0 (heldList ss))
   pub lostApart : T (apart 0 (lostList ss))
   pub merged : T (inRow 0 (describedLength ss) (namedRanges ss))
@@ -150,7 +155,8 @@ pub record InData (h : Heading) (c : Chunk) : Type 0 where
   pub from : boxAt number (h .boxes) .body ≤ c .place
   pub to : c .place + c .size ≤ boxAt number (h .boxes) .end
 
--- a good chunk of a mixed file is exactly one or several neighbouring whole boxes, none of type `ftyp`, `pfil`, `pseg` or `pdat`
+-- a good chunk of a mixed file is exactly one or several neighbouring whole boxes, none of type `ftyp`, `pfil`, `pseg`
+-- or `pdat`
 pub record Whole (h : Heading) (c : Chunk) : Type 0 where
   pub mixed : h .mixed ≡ true
   pub isGood : c .state ≡ good
@@ -197,8 +203,8 @@ pub record Missing (f : List ℕ) (ss : List Segment) (p : ℕ) : Type 0 where
 abbrev pub InAgreement : List Segment → Type 0
 InAgreement ss = (s t : Segment) → List·Memᴰ s ss → List·Memᴰ t ss → T (givesSize s) → endOf t ≤ endOf s
 
--- a file that reaches 25 with these segments: its heading is right, and each of its `pseg` boxes reads, of which there are
--- some and not too many
+-- a file that reaches 25 with these segments: its heading is right, and each of its `pseg` boxes reads, of which there
+-- are some and not too many
 pub record Reaches25 (limit : ℕ) (f : List ℕ) (ss : List Segment) : Type 0 where
   pub h : Heading
   pub headed : heading f ≡ given h
@@ -215,8 +221,8 @@ pub record Mapped (f : List ℕ) (h : Heading) (ss : List Segment) : Type 0 wher
   pub missing : (p : ℕ) → p < describedLength ss → supplied ss p ≡ false → Missing f ss p
   pub beyond : (p : ℕ) → describedLength ss ≤ p → reply ss p ≡ notBelow
 
--- "The map program": what a program prints for its input that prints that of an accepted file, whatever the most is that it takes, and what the call
--- leaves that writes this into a lent buffer
+-- "The map program": what a program prints for its input that prints that of an accepted file, whatever the most is
+-- that it takes, and what the call leaves that writes this into a lent buffer
 pub record Printed (of : List Segment → List ℕ) (limit most : ℕ) (input : List ℕ) : Type 0 where
   -- 27 precedes all others
   pub overLong : most < length input → textFor of limit most input ≡ refusedLine 27
@@ -262,8 +268,9 @@ pub record BoxesPrinted (most : ℕ) (input : List ℕ) : Type 0 where
       × FirstFault File input 0 (length input) boxLimit bs (record { at = at; number = n })
       × (boxesText most input ≡ each (boxLine input) bs ++ line (decimal at) (decimal n ∷ []))
 
--- demand 2: in an accepted file each source byte is served or listed missing as document 01's rules say; a segment our writer adds
--- reads back with the same chunks and bytes; writing again what was read from our writer's file gives that file
+-- demand 2: in an accepted file each source byte is served or listed missing as document 01's rules say; a segment our
+-- writer adds reads back with the same chunks and bytes; writing again what was read from our writer's file gives that
+-- file
 pub record Demand2 (limit : ℕ) : Type 0 where
   pub mapped : (f : List ℕ) (h : Heading) (ss : List Segment) → heading f ≡ given h → reading limit f ≡ given ss → Mapped f h ss
   -- a file that reaches 25 is accepted exactly if its sizes agree, and no other is; it is 25 exactly if they do not
@@ -301,13 +308,14 @@ pub record Demand2 (limit : ℕ) : Type 0 where
 
 -- after an accepted addition, seen from the files and their segments before and after
 pub record Grown (f g : List ℕ) (ss ts : List Segment) (a : Addition) : Type 0 where
-  -- every byte served before keeps its value; a byte not served before is served exactly if the new segment carries it as good, with
-  -- that value
+  -- every byte served before keeps its value; a byte not served before is served exactly if the new segment carries it
+  -- as good, with that value
   pub kept : (p : ℕ) → served g ts p ≡ orElse (served f ss p) (carried a p)
   -- the described length never shrinks
   pub noShorter : describedLength ss ≤ describedLength ts
 
--- "append takes an acceptable file, or one whose only refusal is 12, which counts as serving nothing with described length 0"
+-- "append takes an acceptable file, or one whose only refusal is 12, which counts as serving nothing with described
+-- length 0"
 pub record Takes (limit : ℕ) (f : List ℕ) : Type 0 where
   pub acceptable : (ss : List Segment) → reading limit f ≡ given ss → earlierSegments limit f ≡ given ss
   pub onlyTwelve : reading limit f ≡ refused 12 → earlierSegments limit f ≡ given []
@@ -415,8 +423,8 @@ pub record Demand3 (limit : ℕ) : Type 0 where
       (l : Lent) (additions : List Addition) (ss : List Segment)
       → earlierSegments limit (fileIn l) ≡ given ss
       → (ts : List Segment) × (earlierSegments limit (fileIn (appendAll limit l additions)) ≡ given ts)
-  -- an addition is given a length exactly if it has a right list and data, within each limit, in agreement and within the
-  -- buffer; it is the length of the file and of what is added
+  -- an addition is given a length exactly if it has a right list and data, within each limit, in agreement and within
+  -- the buffer; it is the length of the file and of what is added
   pub accepts :
       (buffer : List ℕ) (n : ℕ) (a : Addition) (size : ℕ)
       → (appended limit buffer n a ≡ given size)

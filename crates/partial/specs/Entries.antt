@@ -1,4 +1,5 @@
--- Document 01, the `ploc` paragraph and refusals 17 to 24, with document 02, [4]: the entries of a `ploc`, and the chunks that they tell of.
+-- Document 01, the `ploc` paragraph and refusals 17 to 24, with document 02, [4]: the entries of a `ploc`, and the
+-- chunks that they tell of.
 use Prim.Native.Nat.{ℕ, zero, suc, _+_, _-_, _/_, _%_}
 use mathlib.Core.Bool.{Bool, true, false, _&&_, _||_}
 use mathlib.Core.List.{List, [], _∷_}
@@ -100,7 +101,8 @@ pub record Cursor : Type 0 where
   pub at : ℕ
   pub start : ℕ
 
--- what a cursor meets: the chunk of its entry, after which it stands behind that entry, at the chunk's end in the source
+-- what a cursor meets: the chunk of its entry, after which it stands behind that entry, at the chunk's end in the
+-- source
 unfoldable pub chunkStep : ℕ → List ℕ → Heading → ℕ → Ploc → Cursor → Answer (Chunk × Cursor)
 chunkStep limit f h pseg l c = do
   e ← entry f l (c .at)

@@ -1,6 +1,6 @@
--- Document 01, "Numbers to hold against it" and "Errors this trade makes": worked examples as one table with one statement, computed over
--- the definitions. P1 to P12 are the paper's; the others are the map and the rows of P10, a case of each error that no P shows, and those
--- of document 02.
+-- Document 01, "Numbers to hold against it" and "Errors this trade makes": worked examples as one table with one
+-- statement, computed over the definitions. P1 to P12 are the paper's; the others are the map and the rows of P10, a
+-- case of each error that no P shows, and those of document 02.
 use Prim.Native.Nat.{ℕ, _-_}
 use mathlib.Core.Bool.{Bool, true, false}
 use mathlib.Core.List.{List, [], _∷_, _++_, map}
@@ -191,8 +191,9 @@ missmap11 =
       paper = map pos (ascii "source\t100\topen\nmiss\t0\t100\ntotal\t0\t100\n");
     }
 
--- document 02, [6]: "`held` for a missing position that some damaged chunk covers, and `lost` for the rest, in place of `miss`, with totals received, held, lost":
--- P10's file has no damage; of good 4, damaged 3, elsewhere 2 and lost 1 three positions are held, two of them covered a second time as lost
+-- document 02, [6]: "`held` for a missing position that some damaged chunk covers, and `lost` for the rest, in place of
+-- `miss`, with totals received, held, lost": P10's file has no damage; of good 4, damaged 3, elsewhere 2 and lost 1
+-- three positions are held, two of them covered a second time as lost
 abbrev map10 : Example
 map10 =
     record {
@@ -219,7 +220,8 @@ mapUnder =
       paper = map pos (ascii "source\t6\topen\nheld\t0\t2\nhave\t2\t2\nheld\t4\t2\ntotal\t2\t4\t0\n");
     }
 
--- the rows of P10's file, in tables of that many numbers, with the number of segments, of chunks, and what is left of a table
+-- the rows of P10's file, in tables of that many numbers, with the number of segments, of chunks, and what is left of a
+-- table
 abbrev rowsIn : ℕ → ℕ → List ℤ
 rowsIn m n =
     let answer = tabled sourceLimit (begunBytes ++ (firstBytes ++ secondBytes)) (replicate m 9) (replicate n 9) in
@@ -255,7 +257,8 @@ rowsShort =
       paper = map pos (26 ∷ (replicate 31 9 ++ (26 ∷ replicate 31 9)));
     }
 
--- the body of a `pshd` in its two forms, with flags and a source offset: version 0 with 32 bits for it, and version 1 with 64
+-- the body of a `pshd` in its two forms, with flags and a source offset: version 0 with 32 bits for it, and version 1
+-- with 64
 abbrev version0 : ℕ → ℕ → List ℕ
 version0 flags start = 0 ∷ (bytesOf 3 flags ++ (bytesOf 4 start ++ bytesOf 8 0))
 
@@ -273,7 +276,8 @@ foreign header state size rest =
 abbrev dataBehind : ℕ → List ℕ
 dataBehind offset = begunBytes ++ (foreign (version0 0 2) 0x40 2 (offset ∷ []) ++ boxed (pdat .code) (31 ∷ 32 ∷ []))
 
--- an offset ahead is counted from the first byte of `pseg`, not from its body: the box has 52 bytes, and the header of `pdat` 8
+-- an offset ahead is counted from the first byte of `pseg`, not from its body: the box has 52 bytes, and the header of
+-- `pdat` 8
 abbrev ahead : Example
 ahead = record { defined = says (servedIn (dataBehind 60)); paper = pos 31 ∷ pos 32 ∷ [] }
 
@@ -322,8 +326,8 @@ sizesDiffer =
       paper = map pos (replicate 12 25);
     }
 
--- the same size a second time, and an end and an open offset just there, are taken: ten are described and missing. To 55
--- bytes come two segments of 51, or one and an open one of 49
+-- the same size a second time, and an end and an open offset just there, are taken: ten are described and missing. To
+-- 55 bytes come two segments of 51, or one and an open one of 49
 abbrev sizesAgree : Example
 sizesAgree =
     record {
@@ -375,7 +379,8 @@ largeVendor size = bytesOf 4 1 ++ (bytesOf 4 uuid ++ bytesOf 8 size)
 abbrev placesIn : List ℕ → ℕ → List ℤ
 placesIn f end = says (header File f 0 end >>= λ b. given (pos (b .user) ∷ pos (b .body) ∷ pos (b .end) ∷ []))
 
--- document 02, [1]: the user type counts as header; 4 below 24, in the large form below 32; 5 where the container ends inside the user type
+-- document 02, [1]: the user type counts as header; 4 below 24, in the large form below 32; 5 where the container ends
+-- inside the user type
 abbrev vendorForms : Example
 vendorForms =
     record {
@@ -426,15 +431,16 @@ moof = 0x00 ∷ 0x00 ∷ 0x00 ∷ 0x0a ∷ 0x6d ∷ 0x6f ∷ 0x6f ∷ 0x66 ∷ 4
 abbrev mdat : List ℕ
 mdat = 0x00 ∷ 0x00 ∷ 0x00 ∷ 0x0b ∷ 0x6d ∷ 0x64 ∷ 0x61 ∷ 0x74 ∷ 51 ∷ 52 ∷ 53 ∷ []
 
--- a file with those compatible brands, those boxes and a segment at 0; its one chunk, with that flag byte and size, lies so many bytes before its
--- `pseg`: the part served from 0 on
+-- a file with those compatible brands, those boxes and a segment at 0; its one chunk, with that flag byte and size,
+-- lies so many bytes before its `pseg`: the part served from 0 on
 abbrev servedOf : List ℕ → List ℕ → ℕ → ℕ → ℕ → List ℤ
 servedOf brands boxes flags size back =
     let start = boxed (ftyp .code) (bytesOf 4 0 ++ (bytesOf 4 0 ++ brands)) ++ drop 20 begunBytes in
     let f = start ++ (boxes ++ foreign (version0 0 0) flags size ((256 - back) ∷ [])) in
     says (reading sourceLimit f >>= λ ss. given (map pos (bytesIn f (servedPart (given ss) 0))))
 
--- "A good chunk may then also lie in the file outside `pdat`, if it is exactly one or several neighbouring whole top-level boxes": `moof`, `mdat`, both
+-- "A good chunk may then also lie in the file outside `pdat`, if it is exactly one or several neighbouring whole
+-- top-level boxes": `moof`, `mdat`, both
 abbrev wholeServed : Example
 wholeServed =
     let of = servedOf (ascii "pmff") (moof ++ mdat) 0x40 in
@@ -452,7 +458,8 @@ notWhole =
       paper = map pos (24 ∷ 24 ∷ 24 ∷ 24 ∷ []);
     }
 
--- "8 only if neither brand is there"; "with both brands present the `pmff` rules hold": neither, `paff`, and both in either order
+-- "8 only if neither brand is there"; "with both brands present the `pmff` rules hold": neither, `paff`, and both in
+-- either order
 abbrev byBrand : Example
 byBrand =
     let of : List ℕ → List ℤ = λ brands. servedOf brands mdat 0x40 11 11 in
@@ -468,8 +475,8 @@ free = 0x00 ∷ 0x00 ∷ 0x00 ∷ 0x08 ∷ 0x66 ∷ 0x72 ∷ 0x65 ∷ 0x65 ∷ [
 abbrev mdat16 : List ℕ
 mdat16 = 0x00 ∷ 0x00 ∷ 0x00 ∷ 0x10 ∷ 0x6d ∷ 0x64 ∷ 0x61 ∷ 0x74 ∷ 71 ∷ 72 ∷ 73 ∷ 74 ∷ 75 ∷ 76 ∷ 77 ∷ 78 ∷ []
 
--- what is added for good 8, damaged 3, good 16: the `pdat`, the two boxes, and the `pseg` with its `pshd` and `ploc`; the chunks lie 24, 27 and 16 bytes
--- before it
+-- what is added for good 8, damaged 3, good 16: the `pdat`, the two boxes, and the `pseg` with its `pshd` and `ploc`;
+-- the chunks lie 24, 27 and 16 bytes before it
 abbrev outsideBytes : List ℕ
 outsideBytes =
     0x00 ∷ 0x00 ∷ 0x00 ∷ 0x0b ∷ 0x70 ∷ 0x64 ∷ 0x61 ∷ 0x74 ∷ 61 ∷ 62 ∷ 63 ∷
@@ -481,7 +488,8 @@ outsideBytes =
     0x00 ∷ 0x00 ∷ 0x00 ∷ 0x1a ∷ 0x70 ∷ 0x6c ∷ 0x6f ∷ 0x63 ∷ 0x00 ∷ 0x00 ∷ 0x00 ∷ 0x00 ∷ 0x11 ∷ 0x00 ∷ 0x00 ∷ 0x00 ∷ 0x03 ∷
     0x40 ∷ 0x08 ∷ 0xe8 ∷ 0xc0 ∷ 0x03 ∷ 0xe5 ∷ 0x40 ∷ 0x10 ∷ 0xf0 ∷ []
 
--- "append stores all its good chunks outside, in chunk order, after the `pdat` of damaged ones"; what is missing then is the damaged one
+-- "append stores all its good chunks outside, in chunk order, after the `pdat` of damaged ones"; what is missing then
+-- is the damaged one
 abbrev storedOutside : Example
 storedOutside =
     let f = mixedBytes ++ outsideBytes in
@@ -495,8 +503,9 @@ storedOutside =
 abbrev answerOf : List ℕ → List ℕ → List ℕ → List ℤ
 answerOf f list bytes = answerTo f (segmentWith true 0 false list bytes)
 
--- "35, after 32, for a good chunk to go outside that isn't whole allowed boxes or whose file isn't `pmff`": a box and a byte, a `pdat`, a `paff` file; a byte
--- too many is 32. With no good chunk there is nothing to go outside: 55 bytes, a `pdat` of 11 and a `pseg` of 52
+-- "35, after 32, for a good chunk to go outside that isn't whole allowed boxes or whose file isn't `pmff`": a box and a
+-- byte, a `pdat`, a `paff` file; a byte too many is 32. With no good chunk there is nothing to go outside: 55 bytes, a
+-- `pdat` of 11 and a `pseg` of 52
 abbrev outsideWrong : Example
 outsideWrong =
     record {
@@ -508,7 +517,8 @@ outsideWrong =
       paper = map pos (35 ∷ 35 ∷ 35 ∷ 32 ∷ 118 ∷ []);
     }
 
--- document 02, [4]: a chunk neither corrupted nor present is of state 3 and has no offset; a reserved bit beside it is 20
+-- document 02, [4]: a chunk neither corrupted nor present is of state 3 and has no offset; a reserved bit beside it is
+-- 20
 abbrev elsewhereRead : Example
 elsewhereRead =
     let of : ℕ → List ℤ = λ flags.
@@ -517,7 +527,8 @@ elsewhereRead =
     (0x00 ∷ 0x00 ∷ 0x00 ∷ 0x13 ∷ 0x70 ∷ 0x6c ∷ 0x6f ∷ 0x63 ∷ 0x00 ∷ 0x00 ∷ 0x00 ∷ 0x00 ∷ 0x11 ∷ 0x00 ∷ 0x00 ∷ 0x00 ∷ 0x01 ∷ flags ∷ 0x05 ∷ [])) in
     record { defined = of 0x00 ++ of 0x01; paper = map pos (1 ∷ 3 ∷ 5 ∷ 0 ∷ 0 ∷ 20 ∷ []) }
 
--- "it covers its positions and supplies none": of a segment at 2 with one such chunk of 7, nine are described and missing
+-- "it covers its positions and supplies none": of a segment at 2 with one such chunk of 7, nine are described and
+-- missing
 abbrev elsewhereMissing : Example
 elsewhereMissing = record { defined = says (lengthIn (begunBytes ++ foreign (version0 0 2) 0x00 7 [])); paper = map pos (9 ∷ 0 ∷ 0 ∷ 9 ∷ []) }
 
@@ -551,12 +562,14 @@ elsewhereWrong =
       paper = map pos (31 ∷ 32 ∷ 106 ∷ []);
     }
 
--- document 02, [5]: the first line of the map of a file whose one segment, with that `pshd`, has a lost chunk of that size
+-- document 02, [5]: the first line of the map of a file whose one segment, with that `pshd`, has a lost chunk of that
+-- size
 abbrev sourceOf : List ℕ → ℕ → List ℤ
 sourceOf header size =
     says (reading sourceLimit (begunBytes ++ foreign header 0x80 size []) >>= λ ss. given (map pos (sourceLine ss)))
 
--- "Raise the highest source position and end to 1,099,511,627,775": an end and an offset there are read, and one more is 23
+-- "Raise the highest source position and end to 1,099,511,627,775": an end and an offset there are read, and one more
+-- is 23
 abbrev highestRead : Example
 highestRead =
     let of : ℕ → ℕ → List ℤ = λ start. sourceOf (version1 0 start) in

@@ -1,4 +1,5 @@
--- The sample of the repository, samples/lesson.paff, written out: P8's file, then what append adds to it for P9 and P10.
+-- The sample of the repository, samples/lesson.paff, written out: P8's file, then what append adds to it for P9 and
+-- P10.
 use Prim.Native.Nat.{ℕ}
 use mathlib.Core.List.{List, [], _∷_}
 

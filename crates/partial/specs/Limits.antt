@@ -13,7 +13,8 @@ segmentLimit = 64
 abbrev pub chunkLimit : ℕ
 chunkLimit = 1_024
 
--- document 02, [5]: the highest source position or end; the definitions take it as a parameter, and the product is at this one
+-- document 02, [5]: the highest source position or end; the definitions take it as a parameter, and the product is at
+-- this one
 abbrev pub sourceLimit : ℕ
 sourceLimit = 1_099_511_627_775
 

@@ -67,7 +67,8 @@ missWord class = elim (eqb class had) [ true ↦ ascii "have" | false ↦ ascii 
 unfoldable pub missmapOf : List Segment → List ℕ
 missmapOf ss = sourceLine ss ++ (rangeLines missWord (rangesOf ss) ++ totalLine (hadList ss ∷ missingList ss ∷ []))
 
--- what a program prints that takes an input of at most so many bytes, by what it prints of an accepted file; 27 precedes all others
+-- what a program prints that takes an input of at most so many bytes, by what it prints of an accepted file; 27
+-- precedes all others
 unfoldable pub textFor : (List Segment → List ℕ) → ℕ → ℕ → List ℕ → List ℕ
 textFor of limit most input =
     elim (leb (length input) most) [

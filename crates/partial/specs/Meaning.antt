@@ -1,4 +1,5 @@
--- Document 01, "Meaning" and "Serving", over a list of segments: who supplies a position, the known size, the described length.
+-- Document 01, "Meaning" and "Serving", over a list of segments: who supplies a position, the known size, the described
+-- length.
 use Prim.Native.Nat.{ℕ, suc, _+_, _-_}
 use mathlib.Core.Bool.{Bool, true, false, not, _&&_, _||_}
 use mathlib.Core.List.{List, [], _∷_, map}

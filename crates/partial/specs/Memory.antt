@@ -1,5 +1,5 @@
--- Document 01, "Rows fill the lent tables from the front; the rest keeps its contents", "A refusal .. changes no lent memory": lent memory
--- after a call.
+-- Document 01, "Rows fill the lent tables from the front; the rest keeps its contents", "A refusal .. changes no lent
+-- memory": lent memory after a call.
 use Prim.Native.Nat.{ℕ}
 use mathlib.Core.Bool.{Bool}
 use mathlib.Core.List.{List, _++_}

@@ -19,7 +19,8 @@ unfoldable pub fillUp : List Box → ℕ → Bool
 fillUp [] end = false
 fillUp (b ∷ bs) end = allowed b && elim (ltb (b .end) end) [ true ↦ fillUp bs end | false ↦ eqb (b .end) end ]
 
--- whether exactly one or several neighbouring whole boxes of a file stand from a place up to an end, all of them allowed
+-- whether exactly one or several neighbouring whole boxes of a file stand from a place up to an end, all of them
+-- allowed
 unfoldable pub wholeBoxes : List Box → ℕ → ℕ → Bool
 wholeBoxes [] place end = false
 wholeBoxes (b ∷ bs) place end = elim (eqb (b .at) place) [ true ↦ fillUp (b ∷ bs) end | false ↦ wholeBoxes bs place end ]

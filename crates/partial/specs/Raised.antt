@@ -1,5 +1,5 @@
--- Document 02, [5]: "Prove that old files keep their maps and that the writer gives the same bytes for every segment accepted before", of any
--- two source limits of which the one is not below the other.
+-- Document 02, [5]: "Prove that old files keep their maps and that the writer gives the same bytes for every segment
+-- accepted before", of any two source limits of which the one is not below the other.
 use Prim.Native.Nat.{ℕ}
 use mathlib.Core.List.{List}
 use mathlib.Core.Logic.{_⊎_}
@@ -39,8 +39,8 @@ pub record Raised (low high : ℕ) : Type 0 where
       (which : List ℕ → Box → Part) (f : List ℕ) (ss : List Segment)
       → reading low f ≡ given ss
       → textOf which high f ≡ textOf which low f
-  -- "old files keep their maps", whatever a program prints of an accepted file and the most is that it takes; of any input, a text that is not the same
-  -- was the line of 23
+  -- "old files keep their maps", whatever a program prints of an accepted file and the most is that it takes; of any
+  -- input, a text that is not the same was the line of 23
   pub maps :
       (of : List Segment → List ℕ) (most : ℕ) (input : List ℕ) (ss : List Segment)
       → reading low input ≡ given ss
@@ -48,7 +48,8 @@ pub record Raised (low high : ℕ) : Type 0 where
   pub mapElseWas23 :
       (of : List Segment → List ℕ) (most : ℕ) (input : List ℕ)
       → (textFor of high most input ≡ textFor of low most input) ⊎ (textFor of low most input ≡ refusedLine 23)
-  -- an addition that was accepted has the same answer, and "the writer gives the same bytes": the buffer and the length of the file in it
+  -- an addition that was accepted has the same answer, and "the writer gives the same bytes": the buffer and the length
+  -- of the file in it
   pub appends : (buffer : List ℕ) (n : ℕ) (a : Addition) → Kept (appended low buffer n a) (appended high buffer n a)
   pub bytes :
       (buffer : List ℕ) (n : ℕ) (a : Addition) (size : ℕ)

@@ -90,7 +90,8 @@ reading limit f = do
   _ ← hold 12 (right File pseg (h .boxes))
   segments limit f h
 
--- the segments of a file that append takes: an acceptable file, or one whose only refusal is 12, which counts as serving nothing
+-- the segments of a file that append takes: an acceptable file, or one whose only refusal is 12, which counts as
+-- serving nothing
 unfoldable pub earlierSegments : ℕ → List ℕ → Answer (List Segment)
 earlierSegments limit f = do
   h ← heading f

@@ -1,4 +1,5 @@
--- Document 01, "Begin" and "Append", one after the other: a lent buffer with a file in it, and any run of additions to it.
+-- Document 01, "Begin" and "Append", one after the other: a lent buffer with a file in it, and any run of additions to
+-- it.
 use Prim.Native.Nat.{ℕ}
 use mathlib.Core.List.{List, [], _∷_}
 use lib.ListN.{take}

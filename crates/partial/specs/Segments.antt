@@ -45,7 +45,8 @@ pub record Chunk : Type 0 where
 abbrev pub noChunk : Chunk
 noChunk = record { start = 0; size = 0; state = lost; place = 0 }
 
--- a segment: the place of its box, its source offset, flags and repair time, the place and length of its `pshd` body, its chunks
+-- a segment: the place of its box, its source offset, flags and repair time, the place and length of its `pshd` body,
+-- its chunks
 pub record Segment : Type 0 where
   pub place : ℕ
   pub sourceOffset : ℕ

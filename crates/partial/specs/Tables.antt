@@ -1,4 +1,5 @@
--- Document 01, "Rows", "Serving", "Lists" and refusal 26: what the reading calls answer, hand back and leave in the lent tables.
+-- Document 01, "Rows", "Serving", "Lists" and refusal 26: what the reading calls answer, hand back and leave in the
+-- lent tables.
 use Prim.Native.Nat.{ℕ, suc}
 use mathlib.Core.Bool.{Bool, true, false, _&&_}
 use mathlib.Core.List.{List, [], _∷_, _++_}
@@ -59,8 +60,8 @@ hadRows ss = rangeRows (hadList ss)
 unfoldable pub missingRows : List Segment → List ℕ
 missingRows ss = rangeRows (missingList ss)
 
--- reading, serving and asking with the two lent tables: stages 1 to 25, then 26. A table is left as `after` says, by its rows:
--- `segmentRows`, `chunkRows`, `hadRows` or `missingRows`
+-- reading, serving and asking with the two lent tables: stages 1 to 25, then 26. A table is left as `after` says, by
+-- its rows: `segmentRows`, `chunkRows`, `hadRows` or `missingRows`
 unfoldable pub tabled : ℕ → List ℕ → List ℕ → List ℕ → Answer (List Segment)
 tabled limit f segmentTable chunkTable = do
   ss ← reading limit f

@@ -26,7 +26,8 @@ pub fn kept(table: &[u64], from: usize) -> u64 {
     n
 }
 
-// Marks a lent buffer: the bytes count down from 255, over and over, so that no two that stand near each other are the same.
+// Marks a lent buffer: the bytes count down from 255, over and over, so that no two that stand near each other are the
+// same.
 pub fn mark_bytes(buffer: &mut [u8]) {
     let mut i = 0;
     while i < buffer.len() {

@@ -16,8 +16,8 @@ pub fn limit() -> u64
     PROGRAM_LIMIT
 }
 
-// Prints the text that a call wrote, or the line of its refusal. No map is longer than the buffer (`NeverShort`, proved in
-// crates/partial/proofs/Demands.antt), and no list of boxes of so short a file; if one were, it would be said.
+// Prints the text that a call wrote, or the line of its refusal. No map is longer than the buffer (`NeverShort`, proved
+// in crates/partial/proofs/Demands.antt), and no list of boxes of so short a file; if one were, it would be said.
 pub fn print(answer: Written, text: &[u8], name: &[u8]) {
     match answer {
         Written::Refused(n) => refuse(n),

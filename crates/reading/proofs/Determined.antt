@@ -1,5 +1,6 @@
--- Each public call's contract determines its answer, and what it leaves in the lent tables: two that it allows of the same arguments are equal. A part of
--- the lent file is determined by where it lies and by its bytes. What `judge_into` leaves in its table is determined where the file is accepted and all rows fit.
+-- Each public call's contract determines its answer, and what it leaves in the lent tables: two that it allows of the
+-- same arguments are equal. A part of the lent file is determined by where it lies and by its bytes. What `judge_into`
+-- leaves in its table is determined where the file is accepted and all rows fit.
 use Prim.Native.Nat.{ℕ, _≤_}
 use mathlib.Core.List.{List}
 use mathlib.Core.Path.{_≡_, sym, ap, _∙_}

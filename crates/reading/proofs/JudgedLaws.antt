@@ -1,4 +1,5 @@
--- Laws of what is told of a file before its tables are filled: which refusal comes where, and what is known of a file that has none.
+-- Laws of what is told of a file before its tables are filled: which refusal comes where, and what is known of a file
+-- that has none.
 use Prim.Native.Nat.{ℕ, _≤_, _<_}
 use mathlib.Core.Bool.{Bool, true, false}
 use mathlib.Core.List.{List, []}

@@ -22,7 +22,8 @@ unfoldable pub handed : List ℕ → Answer Part → Part
 handed f (refused n) = nowhere
 handed f (given part) = elim (leb (part .place + part .size) (length f)) [ true ↦ part | false ↦ nowhere ]
 
--- it lies in the memory that the file is in, as far behind the file's first byte as the part's place says, and holds the part's bytes
+-- it lies in the memory that the file is in, as far behind the file's first byte as the part's place says, and holds
+-- the part's bytes
 pub record HandedBack (f : List ℕ) (file : ℕ × ℕ) (part : Part) (there : ℕ × ℕ) (bytes : List ℕ) : Type 0 where
   pub memory : there .0 ≡ file .0
   pub place : there .1 ≡ file .1 + part .place

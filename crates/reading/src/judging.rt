@@ -35,7 +35,8 @@ pub enum Judgement {
     Given(Judged),
 }
 
-// Stages 13 to 25 of a file, mixed or not, whose framing is right and that has so many `pseg` boxes; the rows of its chunks go into a table that has room for them all.
+// Stages 13 to 25 of a file, mixed or not, whose framing is right and that has so many `pseg` boxes; the rows of its
+// chunks go into a table that has room for them all.
 fn segments_of(file: &[u8], mixed: bool, count: u64, chunks: &mut [u64]) -> Passed
     ensures { λ r. ⌜ ((h : Heading) → boxesIn File (now (file .entry)) 0 (length (now (file .entry))) ≡ given (h .boxes) → mixed ≡ h .mixed → count ≡ length (those pseg (h .boxes)) → (gatheredAnswer r ≡ gatheredIn (now (file .entry)) h) × RowsIn (segments sourceLimit (now (file .entry)) h) (now (chunks .entry)) (now (chunks .exit))) ⌝ }
 {
@@ -69,7 +70,8 @@ pub fn earlier_of(file: &[u8]) -> Judgement
     }
 }
 
-// What an acceptable file says; the rows of its chunks go into a table that has room for them all. The table is the caller's own: after a refusal it may hold some.
+// What an acceptable file says; the rows of its chunks go into a table that has room for them all. The table is the
+// caller's own: after a refusal it may hold some.
 pub fn judge_into(file: &[u8], chunks: &mut [u64]) -> Judgement
     ensures { λ r. ⌜ (judgedAnswer r ≡ readingTold (now (file .entry))) × RowsIn (reading sourceLimit (now (file .entry))) (now (chunks .entry)) (now (chunks .exit)) ⌝ }
 {

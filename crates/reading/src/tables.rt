@@ -8,8 +8,8 @@ use partial::rows::CHUNK_ROW;
 use partial::rows::SEGMENT_ROW;
 ghost use Rattle.reading.specs.Tables.{Reads};
 
-// Reads a file: its segments and its chunks in rows, how many there are, the described length, and whether the size of the source is known. After a
-// refusal both tables are as they were.
+// Reads a file: its segments and its chunks in rows, how many there are, the described length, and whether the size of
+// the source is known. After a refusal both tables are as they were.
 pub fn read(file: &[u8], segments: &mut [u64], chunks: &mut [u64]) -> Read
     ensures { λ r. ⌜ Reads (now (file .entry)) (now (segments .entry)) (now (segments .exit)) (now (chunks .entry)) (now (chunks .exit)) r ⌝ }
 {

@@ -1,5 +1,5 @@
-// The records of standard input. Four numbers of two bytes, most significant first: the length of the name, the numbers lent for segment rows
-// and for chunk rows, the length of the file. Then the name and the file.
+// The records of standard input. Four numbers of two bytes, most significant first: the length of the name, the numbers
+// lent for segment rows and for chunk rows, the length of the file. Then the name and the file.
 use crate::lent;
 use libc::STDIN_FILENO;
 use printing::records;

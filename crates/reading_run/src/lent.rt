@@ -5,7 +5,8 @@ use reading::tables::read;
 use reading::texts::mime;
 use reading::texts::url;
 
-// Asks the three calls of a file. The tables are parts of the longest that a file can fill; a record that asks for longer ones has no answer.
+// Asks the three calls of a file. The tables are parts of the longest that a file can fill; a record that asks for
+// longer ones has no answer.
 pub fn answers(file: &[u8], segments: usize, chunks: usize) {
     let mut segment_space = [0u64; 448];
     let mut chunk_space = [0u64; 6144];

@@ -1,4 +1,5 @@
-// Reads every file of a corpus and prints every answer. `tests/corpus.py` makes `stdin`, the corpus, and `stdout`, the answers of the model.
+// Reads every file of a corpus and prints every answer. `tests/corpus.py` makes `stdin`, the corpus, and `stdout`, the
+// answers of the model.
 mod input;
 mod lent;
 mod report;

@@ -1,6 +1,6 @@
--- Each public call's contract determines its answer: two that it allows of the same arguments are equal. The table of a file's boxes is determined
--- where these are known. So is a call that searches a file for a data box or for whole boxes, where it is lent their table, and so is which box it
--- names.
+-- Each public call's contract determines its answer: two that it allows of the same arguments are equal. The table of a
+-- file's boxes is determined where these are known. So is a call that searches a file for a data box or for whole
+-- boxes, where it is lent their table, and so is which box it names.
 use mathlib.Core.List.{List, []}
 use mathlib.Core.Path.{_≡_, sym, _∙_}
 use denote.Ref.{now}

@@ -1,4 +1,5 @@
--- Laws of the table of a file's boxes: how it is filled, and that the box that holds a chunk is the last one that starts before it.
+-- Laws of the table of a file's boxes: how it is filled, and that the box that holds a chunk is the last one that
+-- starts before it.
 use Prim.Native.Nat.{ℕ, _+_, _^_, _≤_, _<_}
 use mathlib.Core.Bool.{Bool, true, false, false≢true}
 use mathlib.Core.List.{List, [], _∷_, _++_}

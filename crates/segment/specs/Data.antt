@@ -25,7 +25,8 @@ pub record Among (bs : List Box) (b : Box) : Type 0 where
   pub there : number < length bs
   pub same : boxAt number bs ≡ b
 
--- what a search of a file goes by: the file's boxes, and that the box to be looked at first is one of them, unless it is no `pdat`
+-- what a search of a file goes by: the file's boxes, and that the box to be looked at first is one of them, unless it
+-- is no `pdat`
 pub record Searched (f : List ℕ) (last : Box) (bs : List Box) : Type 0 where
   pub boxes : boxesIn File f 0 (length f) ≡ given bs
   pub known : is pdat last ≡ true → Among bs last
@@ -35,13 +36,15 @@ unfoldable pub found : Held → Bool
 found (In b) = true
 found Nowhere = false
 
--- what a search by the table of the file's boxes finds: a box exactly where one holds the chunk, and then the data box of the file that does
+-- what a search by the table of the file's boxes finds: a box exactly where one holds the chunk, and then the data box
+-- of the file that does
 pub record Finds (f tops : List ℕ) (last : Box) (place size : ℕ) (r : Held) : Type 0 where
   pub answer : (bs : List Box) → Searched f last bs → Tops bs tops → found r ≡ inData bs place size
   pub holds : {b : Framed} → r ≡ In b → holdsChunk place size (boxOf b) ≡ true
   pub onward : (bs : List Box) → Searched f last bs → Tops bs tops → {b : Framed} → r ≡ In b → Searched f (boxOf b) bs
 
--- the box to be looked at first after a chunk: the one that holds it; where the chunk has no place, or lies outside, the one before
+-- the box to be looked at first after a chunk: the one that holds it; where the chunk has no place, or lies outside,
+-- the one before
 pub record Onward (f : List ℕ) (last : Box) (bs : List Box) (placed : Bool) (place size : ℕ) (next : Box) : Type 0 where
   pub known : Searched f next bs
   pub holds : (placed && inData bs place size) ≡ true → holdsChunk place size next ≡ true

@@ -1,4 +1,5 @@
--- Document 01, "The offset is added to the place of the first byte of the `pseg` box" and refusal 24: what is told of a chunk's place.
+-- Document 01, "The offset is added to the place of the first byte of the `pseg` box" and refusal 24: what is told of a
+-- chunk's place.
 use Prim.Native.Nat.{ℕ, _+_, _^_, _≤_}
 use mathlib.Core.Bool.{Bool, _&&_}
 use mathlib.Core.List.{List}

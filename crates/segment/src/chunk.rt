@@ -18,7 +18,8 @@ ghost use mathlib.Core.Path.{_≡_};
 ghost use Rattle.fields.specs.Location.{plocOf};
 ghost use Rattle.segment.specs.Chunk.{Steps};
 
-// A cursor over entries: the place of the next one, where its chunk starts in the source, and the data box that held the last chunk.
+// A cursor over entries: the place of the next one, where its chunk starts in the source, and the data box that held
+// the last chunk.
 pub struct Cursor {
     pub at: Place,
     pub start: Position,
@@ -52,7 +53,8 @@ impl Chunk {
 }
 
 impl Cursor {
-    // The chunk of the next entry of a `ploc` in the `pseg` at a place, by the table of the file's boxes. It starts where the one before it ends.
+    // The chunk of the next entry of a `ploc` in the `pseg` at a place, by the table of the file's boxes. It starts
+    // where the one before it ends.
     pub fn step(
         self,
         s: &[u8],

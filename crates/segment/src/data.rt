@@ -33,8 +33,9 @@ fn holds(b: Framed, place: Place, size: u64) -> bool
     ends_by(place.0, size, end.0)
 }
 
-// The data box of a file that holds so many bytes at a place, by the table of the file's boxes. Chunks often follow each other in one box, so
-// the box that held the last one is looked at first. Any other that holds the chunk is the last one that starts before it.
+// The data box of a file that holds so many bytes at a place, by the table of the file's boxes. Chunks often follow
+// each other in one box, so the box that held the last one is looked at first. Any other that holds the chunk is the
+// last one that starts before it.
 pub fn held_at(s: &[u8], tops: &[u64; TOPS], last: Framed, place: Place, size: u64) -> Held
     ensures { λ r. ⌜ Finds (now (s .entry)) (now (tops .entry)) (boxOf last) (place .0) size r ⌝ }
 {

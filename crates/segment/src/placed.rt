@@ -15,7 +15,8 @@ ghost use Rattle.boxes.specs.Framing.{boxOf};
 ghost use Rattle.fields.specs.Entry.{entryOf};
 ghost use Rattle.segment.specs.Placed.{Reaches, ToldWhole, Places};
 
-// The place of a chunk, 0 if it is not present or empty, with the data box that held the last chunk; or the number of a refusal.
+// The place of a chunk, 0 if it is not present or empty, with the data box that held the last chunk; or the number of a
+// refusal.
 pub enum Placed {
     Refused(u64),
     At(Place, Framed),

@@ -14,7 +14,8 @@ ghost use Rattle.segment.specs.Tops.{Tops, Before};
 // As many places as a container may hold boxes.
 pub const TOPS: usize = 512;
 
-// What stands behind the last place. No box starts there, and the whole table ascends, so that it is searched without a count of its boxes.
+// What stands behind the last place. No box starts there, and the whole table ascends, so that it is searched without a
+// count of its boxes.
 pub const NO_TOP: u64 = 0xffff_ffff_ffff_ffff;
 
 // Puts the places of the boxes of a file whose framing is right, in their order, into a table that has none yet.

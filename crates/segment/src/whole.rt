@@ -52,7 +52,8 @@ fn starts(tops: &[u64; TOPS], place: Place) -> bool
     tops[number + 1] == place.0
 }
 
-// Whether exactly one or several neighbouring whole boxes stand from a place up to an end, all of them allowed, by the table of the file's boxes.
+// Whether exactly one or several neighbouring whole boxes stand from a place up to an end, all of them allowed, by the
+// table of the file's boxes.
 pub fn whole_at(s: &[u8], tops: &[u64; TOPS], place: Place, end: Place) -> bool
     ensures { λ r. ⌜ ((bs : List Box) → boxesIn File (now (s .entry)) 0 (length (now (s .entry))) ≡ given bs → Tops bs (now (tops .entry)) → r ≡ wholeBoxes bs (place .0) (end .0)) ⌝ }
 {

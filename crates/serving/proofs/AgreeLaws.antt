@@ -1,4 +1,5 @@
--- Serving and asking agree: a part is handed back exactly where asking answers served, and it is as long as that answer says.
+-- Serving and asking agree: a part is handed back exactly where asking answers served, and it is as long as that answer
+-- says.
 use Prim.Native.Nat.{ℕ}
 use mathlib.Core.Bool.{false}
 use mathlib.Core.List.{List}

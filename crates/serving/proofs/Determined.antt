@@ -1,5 +1,5 @@
--- Each public call's contract determines its answer, and what it leaves in the lent tables: two that it allows of the same arguments are equal. A part of
--- the lent file is determined by where it lies and by its bytes.
+-- Each public call's contract determines its answer, and what it leaves in the lent tables: two that it allows of the
+-- same arguments are equal. A part of the lent file is determined by where it lies and by its bytes.
 use Prim.Native.Nat.{ℕ}
 use mathlib.Core.List.{List}
 use mathlib.Core.Path.{sym, _∙_}

@@ -1,4 +1,5 @@
--- Laws of the spans of chunks: where the span of one ends, what a chunk more adds to them, and the rows that are left where the spans are written over them.
+-- Laws of the spans of chunks: where the span of one ends, what a chunk more adds to them, and the rows that are left
+-- where the spans are written over them.
 use Prim.Native.Nat.{ℕ, _+_, _*_, _/_, _<_, _≤_}
 use mathlib.Core.Bool.{Bool, true, false, _||_, or-false, or-true}
 use mathlib.Core.List.{List, [], _∷_}

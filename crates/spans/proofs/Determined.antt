@@ -1,5 +1,5 @@
--- Each public call's contract determines what the spans cover: of two that it allows of the same arguments it is equal. It leaves open which of the spans that
--- start at one position comes first.
+-- Each public call's contract determines what the spans cover: of two that it allows of the same arguments it is equal.
+-- It leaves open which of the spans that start at one position comes first.
 use Prim.Native.Nat.{ℕ, _*_, _<_, _≤_}
 use mathlib.Core.List.{List}
 use mathlib.Core.Path.{_≡_, sym, _∙_}
@@ -14,7 +14,8 @@ use Rattle.spans.proofs.chunks.spans_of.Reads as spans-of
 use Rattle.spans.proofs.files.file_spans.Reads as file-spans
 use Rattle.spans.proofs.ordering.order.Reads as order
 
--- where something is known of the arguments, a contract allows one value of something of the result and of what the call leaves behind
+-- where something is known of the arguments, a contract allows one value of something of the result and of what the
+-- call leaves behind
 module _ {L : Type 0} {A R E : L → Type 0} (post : (κs : L) → A κs → R κs → E κs → Type 0) where
   abbrev pub OneMade : {X Y : Type 0} → ((κs : L) → A κs → X → Type 0) → ((κs : L) → A κs → R κs → E κs → X → Y) → Type 0
   OneMade {X} known of =

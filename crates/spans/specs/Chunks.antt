@@ -16,7 +16,8 @@ pub record SpanEnd (state : ℕ) (c : Chunk) (end to : ℕ) : Type 0 where
   pub only : (q : ℕ) → q < end → coversAs state q c ≡ true → q < to
   pub most : c .start < to → to ≤ end
 
--- a chunk is taken into a table of n spans: below an end, what it covers is covered too if it is of that state; nothing changes behind the next span's numbers
+-- a chunk is taken into a table of n spans: below an end, what it covers is covered too if it is of that state; nothing
+-- changes behind the next span's numbers
 pub record Taken (state end : ℕ) (c : Chunk) (t : List ℕ) (n : ℕ) (t′ : List ℕ) (n′ : ℕ) : Type 0 where
   pub long : length t′ ≡ length t
   pub many : n′ ≤ n + 1

@@ -1,4 +1,5 @@
--- Laws of the chunks of a table: the chunk of a row, and that a table which reading filled holds the chunks of the file.
+-- Laws of the chunks of a table: the chunk of a row, and that a table which reading filled holds the chunks of the
+-- file.
 use Prim.Native.Nat.{ℕ, zero, suc, _+_, _*_, _/_, _<_}
 use mathlib.Core.List.{List, [], _∷_, _++_, append-assoc}
 use mathlib.Core.Path.{_≡_, refl, sym, ap, ap₂, _∙_}

@@ -7,7 +7,8 @@ use lib.ListN.{length, getD}
 use Rattle.partial.specs.Segments.{Chunk, noChunk}
 use Rattle.partial.specs.Tables.{chunkRowLength}
 
--- the chunk of a row: its start, size, state and place are the row's last four numbers; of a row that is not there, no chunk
+-- the chunk of a row: its start, size, state and place are the row's last four numbers; of a row that is not there, no
+-- chunk
 unfoldable pub chunkIn : List ℕ → ℕ → Chunk
 chunkIn table n =
     elim (ltb n (length table / chunkRowLength)) [

@@ -16,6 +16,7 @@ sameRun cs p end = stretch (λ q. eqb (supplier cs q) (supplier cs p)) (end - p)
 unfoldable pub runIn : List Chunk → ℕ → ℕ → Run
 runIn cs p end = record { supplier = supplier cs p; length = sameRun cs p end }
 
--- an end, or where a chunk begins that comes before it and after p; an empty chunk or one that is not good does not count
+-- an end, or where a chunk begins that comes before it and after p; an empty chunk or one that is not good does not
+-- count
 unfoldable pub clip : ℕ → ℕ → Chunk → ℕ
 clip p end c = elim (eqb (c .state) good && (ltb p (c .start) && ltb 0 (c .size))) [ true ↦ min end (c .start) | false ↦ end ]

@@ -1,4 +1,5 @@
-// Runs: which chunk supplies a position, and how many positions from there on have the same supplier, in one pass over the rows.
+// Runs: which chunk supplies a position, and how many positions from there on have the same supplier, in one pass over
+// the rows.
 use crate::rows::chunk_at;
 use fields::state::GOOD;
 use numerals::order::between;
@@ -11,7 +12,8 @@ ghost use Rattle.segment.specs.Chunk.{chunkOf};
 ghost use Rattle.supplying.specs.Rows.{chunksIn};
 ghost use Rattle.supplying.specs.Runs.{runIn, clip};
 
-// The number of the chunk that supplies a position, or of all chunks where none does, and how many positions from there on are alike.
+// The number of the chunk that supplies a position, or of all chunks where none does, and how many positions from there
+// on are alike.
 pub struct Run {
     pub supplier: u64,
     pub length: u64,
@@ -31,7 +33,8 @@ fn supplies(c: Chunk, p: Position) -> bool
     p.0 - start.0 < c.size
 }
 
-// An end, or where a good chunk begins that comes before it and after a position: from there on it supplies what it covers.
+// An end, or where a good chunk begins that comes before it and after a position: from there on it supplies what it
+// covers.
 fn clip(c: Chunk, p: Position, end: u64) -> u64
     ensures { λ r. ⌜ r ≡ clip (p .0) end (chunkOf c) ⌝ }
 {

@@ -1,5 +1,5 @@
--- Each public call's contract determines the range of a position: two that it allows of the same arguments are equal. It leaves open how many spans a call says
--- are passed.
+-- Each public call's contract determines the range of a position: two that it allows of the same arguments are equal.
+-- It leaves open how many spans a call says are passed.
 use Prim.Native.Nat.{_<_}
 use mathlib.Core.Path.{sym, _∙_}
 use denote.Ref.{now}

@@ -1,4 +1,5 @@
--- Laws of a sweep over ordered spans: what one span more tells, the maximal range that is found, and that ranges found one after another are all of them.
+-- Laws of a sweep over ordered spans: what one span more tells, the maximal range that is found, and that ranges found
+-- one after another are all of them.
 use Prim.Native.Nat.{ℕ, zero, suc, _+_, _-_, _<_, _≤_, _^_, max}
 use mathlib.Core.Bool.{true, false, false≢true}
 use mathlib.Core.List.{List, _∷_}

@@ -1,4 +1,5 @@
--- Laws of sweeps: one that has not begun is ready for every position, one that is ready stays so further on, and one that was moved stands in its range.
+-- Laws of sweeps: one that has not begun is ready for every position, one that is ready stays so further on, and one
+-- that was moved stands in its range.
 use Prim.Native.Nat.{ℕ, _+_, _<_, _≤_}
 use mathlib.Core.List.{List}
 use native.Mathlib.Omega.{arith}

@@ -1,4 +1,5 @@
--- Document 02, [6]: the name of a position by the spans of the good chunks and those of the damaged ones, and what a sweep over each tells of it.
+-- Document 02, [6]: the name of a position by the spans of the good chunks and those of the damaged ones, and what a
+-- sweep over each tells of it.
 use Prim.Native.Nat.{ℕ, _+_}
 use mathlib.Core.Bool.{true, false}
 use mathlib.Core.List.{List}
@@ -11,7 +12,8 @@ use Rattle.sweeping.specs.Sweeps.{atStart, Ready}
 use Rattle.sweeping.specs.declared.naming.Named.{Named}
 use Rattle.sweeping.specs.declared.naming.Sweeps.{Sweeps}
 
--- had if one of the first n spans of the good chunks holds a position; else held if one of the first m of the damaged ones does, else lost
+-- had if one of the first n spans of the good chunks holds a position; else held if one of the first m of the damaged
+-- ones does, else lost
 unfoldable pub nameBy : List ℕ → ℕ → List ℕ → ℕ → ℕ → ℕ
 nameBy good n damaged m q = elim (coveredBy good n q) [ true ↦ had | false ↦ elim (coveredBy damaged m q) [ true ↦ held | false ↦ lost ] ]
 

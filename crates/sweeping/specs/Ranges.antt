@@ -1,4 +1,5 @@
--- Document 01, "Lists": how far the positions from one on are of one class, and what a sweep over ordered spans tells of that.
+-- Document 01, "Lists": how far the positions from one on are of one class, and what a sweep over ordered spans tells
+-- of that.
 use Prim.Native.Nat.{ℕ, _+_, _-_, _<_, _≤_, _^_}
 use mathlib.Core.Bool.{true}
 use mathlib.Core.List.{List}
@@ -25,7 +26,8 @@ pub record Passed (t : List ℕ) (n k p : ℕ) : Type 0 where
   pub most : k ≤ n
   pub ended : Within t k p
 
--- the positions up to the reach are had, and the spans that are not passed there start behind it, where the first k were passed before
+-- the positions up to the reach are had, and the spans that are not passed there start behind it, where the first k
+-- were passed before
 pub record Reaches (t : List ℕ) (n k p : ℕ) (r : Reach) : Type 0 where
   pub on : p ≤ r .to .0
   pub most : (end : ℕ) → p ≤ end → Within t n end → r .to .0 ≤ end

@@ -17,7 +17,8 @@ pub record Moves (s : Sweep) (p end : ℕ) (s′ : Sweep) : Type 0 where
   pub on : p ≤ s′ .to .0
   pub some : p < end → p < s′ .to .0
 
--- the spans that a sweep has passed end where it does, and if it ends behind a position, then it stands in the range of that
+-- the spans that a sweep has passed end where it does, and if it ends behind a position, then it stands in the range of
+-- that
 pub record Ready (t : List ℕ) (end p : ℕ) (s : Sweep) : Type 0 where
   pub passed : Passed t (s .n) (s .passed) (s .to .0)
   pub stands : p < s .to .0 → OneClass (classBy t (s .n)) p end (s .class) (s .to .0)

@@ -1,4 +1,5 @@
-// Maximal ranges: how far the positions from one on are all had, or all missing, by a sweep over ordered spans that never goes back.
+// Maximal ranges: how far the positions from one on are all had, or all missing, by a sweep over ordered spans that
+// never goes back.
 use partial::position::Position;
 ghost use Prim.Native.Nat.{_*_, _<_, _≤_};
 ghost use mathlib.Core.Path.{_≡_};

@@ -7,7 +7,8 @@ ghost use mathlib.Core.Path.{_≡_};
 ghost use Rattle.spans.specs.Spans.{Ordered};
 ghost use Rattle.sweeping.specs.Sweeps.{atStart, Moves, Ready};
 
-// Over the first n spans of a table: the class of the range that it stands in, where that ends, and how many spans are passed there.
+// Over the first n spans of a table: the class of the range that it stands in, where that ends, and how many spans are
+// passed there.
 pub struct Sweep {
     pub n: usize,
     pub class: u64,

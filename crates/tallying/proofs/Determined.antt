@@ -1,5 +1,5 @@
--- Each public call's contract determines its answer: two that it allows of the same arguments are equal. A call that looks for a box in a
--- container is determined where the container's boxes are known.
+-- Each public call's contract determines its answer: two that it allows of the same arguments are equal. A call that
+-- looks for a box in a container is determined where the container's boxes are known.
 use mathlib.Core.Path.{_≡_, sym, _∙_}
 use mathlib.Core.List.{List}
 use denote.Ref.{now}

@@ -4,8 +4,8 @@ use boxes::kinds::Kind;
 ghost use mathlib.Core.Path.{_≡_};
 ghost use Rattle.tallying.specs.Rules.{tallyFor};
 
-// The number of the first fault, 0 for none; how many boxes there are, and how many of each kind in the table's order, none
-// where there is a fault.
+// The number of the first fault, 0 for none; how many boxes there are, and how many of each kind in the table's order,
+// none where there is a fault.
 pub struct Tally {
     pub fault: u64,
     pub boxes: u64,

@@ -1,4 +1,5 @@
--- Laws of a text that is written into a lent buffer: what the one test decides, and that a text that was written lies in the buffer.
+-- Laws of a text that is written into a lent buffer: what the one test decides, and that a text that was written lies
+-- in the buffer.
 use Prim.Native.Nat.{ℕ, _≤_, _<_}
 use mathlib.Core.List.{List, _++_}
 use mathlib.Core.Path.{_≡_, sym, ap, _∙_}

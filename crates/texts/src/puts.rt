@@ -1,5 +1,6 @@
-// Pieces of text, put into a lent buffer. Each put hands on where its piece ends; a piece for which there is no room is counted alone, so that a buffer
-// without room tells how long a text will be. An end past 64 bits counts as the largest number that they hold.
+// Pieces of text, put into a lent buffer. Each put hands on where its piece ends; a piece for which there is no room is
+// counted alone, so that a buffer without room tells how long a text will be. An end past 64 bits counts as the largest
+// number that they hold.
 use bytes::copy;
 use io::decimal;
 ghost use Prim.Native.Nat.{_+_, _≤_};

@@ -1,4 +1,5 @@
--- Each exported call's contract determines its answer, the lent numbers and all other lent memory: two that it allows of the same arguments are equal.
+-- Each exported call's contract determines its answer, the lent numbers and all other lent memory: two that it allows
+-- of the same arguments are equal.
 use mathlib.Core.Path.{sym, _∙_}
 use denote.Ref.{now}
 use Rattle.numerals.proofs.Determined.{OneResult, OneLeft}

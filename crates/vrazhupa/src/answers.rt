@@ -1,4 +1,5 @@
-// What an exported call answers and leaves in the lent numbers, by the answer of the call below it. After a refusal the numbers are as they were.
+// What an exported call answers and leaves in the lent numbers, by the answer of the call below it. After a refusal the
+// numbers are as they were.
 use heading::answers::Headed;
 use partial::answers::Asked;
 use partial::answers::Listed;

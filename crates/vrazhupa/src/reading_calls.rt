@@ -1,4 +1,5 @@
-// The exported calls that read a file: its heading, tables and texts, positions, lists, both maps and the list of its boxes.
+// The exported calls that read a file: its heading, tables and texts, positions, lists, both maps and the list of its
+// boxes.
 use crate::answers::say_asked;
 use crate::answers::say_headed;
 use crate::answers::say_listed;
@@ -59,7 +60,8 @@ pub extern "C" fn vrazhupa_mime(file: &[u8], told: &mut [u64; 2]) -> u64
     say_part(text_at(file, Text::Mime), told)
 }
 
-// Where in the file the bytes stand that serve a position and those after it; a part of no bytes where it is not supplied.
+// Where in the file the bytes stand that serve a position and those after it; a part of no bytes where it is not
+// supplied.
 #[no_mangle]
 pub extern "C" fn vrazhupa_serve(
     file: &[u8],

@@ -1,4 +1,5 @@
--- Document 01, "Append" and refusals 30 to 33 and 35: the boxes that it writes, what it answers, and what it leaves in the lent buffer.
+-- Document 01, "Append" and refusals 30 to 33 and 35: the boxes that it writes, what it answers, and what it leaves in
+-- the lent buffer.
 use Prim.Native.Nat.{ℕ, _+_, _^_, _≤_, _<_}
 use mathlib.Core.Bool.{Bool, true, false}
 use mathlib.Core.List.{List, [], _∷_, _++_, map}
@@ -60,7 +61,8 @@ pub record Entries (l o : ℕ) (ps : List Placed) : Type 0 where
   pub sizes : allOf (λ p. holds l (p .size)) ps ≡ true
   pub offsets : allOf (λ p. holdsOffset o (p .offset)) ps ≡ true
 
--- how far before the `pseg` the data of some items lies, in `pdat`, behind which so many bytes stand outside, and outside
+-- how far before the `pseg` the data of some items lies, in `pdat`, behind which so many bytes stand outside, and
+-- outside
 pub record Distances (o : Bool) (out : ℕ) (is : List Item) (b : Backs) : Type 0 where
   pub inside : b .inside ≡ sizeOf (goesIn o) is + out
   pub outside : b .outside ≡ sizeOf (goesOut o) is

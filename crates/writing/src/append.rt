@@ -148,8 +148,8 @@ fn append_to(
     )
 }
 
-// Appends a segment to the file in the first bytes of the buffer: the data of its chunks, the good ones outside `pdat` or all in one, and a `pseg`.
-// Answers the new length; after a refusal the buffer is as it was.
+// Appends a segment to the file in the first bytes of the buffer: the data of its chunks, the good ones outside `pdat`
+// or all in one, and a `pseg`. Answers the new length; after a refusal the buffer is as it was.
 pub fn append(
     buffer: &mut [u8],
     length: u64,

@@ -34,7 +34,8 @@ fn size_with(texts: u64) -> u64
     }
 }
 
-// Begins a file: `ftyp` with the brand, then `pfil` holding `pfhd` and one `surl`. Answers its length; after a refusal the buffer is as it was.
+// Begins a file: `ftyp` with the brand, then `pfil` holding `pfhd` and one `surl`. Answers its length; after a refusal
+// the buffer is as it was.
 pub fn begin(buffer: &mut [u8], brand: Brand, url: &[u8], mime: &[u8]) -> Written
     ensures { λ r. ⌜ Begins brand (now (url .entry)) (now (mime .entry)) (now (buffer .entry)) (now (buffer .exit)) r ⌝ }
 {

@@ -24,7 +24,8 @@ fn is_chosen(outside: bool, out: bool, state: u64) -> bool
     if out { false } else { present(state) }
 }
 
-// Copies what goes outside, or else what goes into `pdat`, out of the data of all in chunk order: each chunk in one block copy.
+// Copies what goes outside, or else what goes into `pdat`, out of the data of all in chunk order: each chunk in one
+// block copy.
 pub(crate) fn put_chosen(
     buffer: &mut [u8],
     at: Place,

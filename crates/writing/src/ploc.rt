@@ -43,7 +43,8 @@ struct Widths {
     offset: usize,
 }
 
-// Writes an entry: flags, size and, where the chunk is present, the offset of its data, which lies so many bytes before the `pseg`.
+// Writes an entry: flags, size and, where the chunk is present, the offset of its data, which lies so many bytes before
+// the `pseg`.
 fn put_entry(
     buffer: &mut [u8],
     at: Place,
@@ -101,7 +102,8 @@ impl Backs {
     }
 }
 
-// Writes the entries of a chunk list: the data of each item lies before the `pseg` with all that follows it in `pdat` or outside.
+// Writes the entries of a chunk list: the data of each item lies before the `pseg` with all that follows it in `pdat`
+// or outside.
 fn put_entries(
     buffer: &mut [u8],
     at: Place,
@@ -127,7 +129,8 @@ fn put_entries(
     next
 }
 
-// Writes `ploc`: version 0, flags 0, the two widths, data reference index 0, the chunk count, the entries. So many bytes stand outside.
+// Writes `ploc`: version 0, flags 0, the two widths, data reference index 0, the chunk count, the entries. So many
+// bytes stand outside.
 pub(crate) fn put_ploc(
     buffer: &mut [u8],
     at: Place,

@@ -1,4 +1,5 @@
-// Bytes, numbers and box headers, put into a lent buffer one behind the other: each put hands on the place behind what it put.
+// Bytes, numbers and box headers, put into a lent buffer one behind the other: each put hands on the place behind what
+// it put.
 use boxes::framing::FRONT_SIZE;
 use boxes::framing::put_header;
 use numerals::numbers::Offset;

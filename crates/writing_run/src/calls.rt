@@ -1,6 +1,8 @@
-// The calls of a run. A begin is four numbers of two bytes, 0, the brand (0 is `paff`, 1 `pmff`) and the lengths of the URL and of the MIME text, and the two
-// texts. An append is 1, whether its good chunks go outside (1 where they do), how many numbers of its chunk list are given, and the length of its data; then
-// five numbers of eight bytes, the stated length of the file, source offset, repair time, flags, and the length of the list; then those numbers and the data.
+// The calls of a run. A begin is four numbers of two bytes, 0, the brand (0 is `paff`, 1 `pmff`) and the lengths of the
+// URL and of the MIME text, and the two texts. An append is 1, whether its good chunks go outside (1 where they do),
+// how many numbers of its chunk list are given, and the length of its data; then five numbers of eight bytes, the
+// stated length of the file, source offset, repair time, flags, and the length of the list; then those numbers and the
+// data.
 use crate::list;
 use crate::report;
 use libc::STDIN_FILENO;

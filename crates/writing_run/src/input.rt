@@ -1,5 +1,6 @@
-// The records of standard input, a run each. Four numbers of two bytes, most significant first: the length of the name, the bytes lent as the
-// buffer, the length of the file that stands in it at first, and how many calls are made. Then the name, the file and the calls.
+// The records of standard input, a run each. Four numbers of two bytes, most significant first: the length of the name,
+// the bytes lent as the buffer, the length of the file that stands in it at first, and how many calls are made. Then
+// the name, the file and the calls.
 use crate::calls;
 use crate::report;
 use libc::STDIN_FILENO;

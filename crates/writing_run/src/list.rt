@@ -1,4 +1,5 @@
-// The chunk list of an append: the numbers given, and the same again and again up to its length, so that a list of many pairs is a short record.
+// The chunk list of an append: the numbers given, and the same again and again up to its length, so that a list of many
+// pairs is a short record.
 use printing::records::eight;
 
 pub fn fill(list: &mut [u64], given: usize) {

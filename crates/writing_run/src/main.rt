@@ -1,12 +1,12 @@
-// Begins files and appends to them, call after call in one lent buffer, and prints every answer and what became of the buffer. `tests/writes.py`
-// makes `stdin`, the runs, and `stdout`, the answers of the model.
+// Begins files and appends to them, call after call in one lent buffer, and prints every answer and what became of the
+// buffer. `tests/writes.py` makes `stdin`, the runs, and `stdout`, the answers of the model.
 mod calls;
 mod input;
 mod list;
 mod report;
 
-// What the runs are lent is made once: the buffer, the chunk list and the bytes that a call is given. The list has room for more pairs than a
-// number of two bytes can count.
+// What the runs are lent is made once: the buffer, the chunk list and the bytes that a call is given. The list has room
+// for more pairs than a number of two bytes can count.
 fn main() {
     let mut buffer = io::large_buffer();
     let mut bytes = io::large_buffer();

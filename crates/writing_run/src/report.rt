@@ -42,7 +42,8 @@ fn new_bytes(buffer: &[u8], from: u64, end: u64) {
     }
 }
 
-// What is read of the file after the calls: a refusal, or the counts, the described length, and whether it is the size of the source.
+// What is read of the file after the calls: a refusal, or the counts, the described length, and whether it is the size
+// of the source.
 pub fn read(r: Read) {
     match r {
         Read::Refused(n) => refused(n),

@@ -1,5 +1,5 @@
--- Laws of the ranges of one class by the positions alone that are of it: two ways to class positions that agree on a class have the same ranges of it, and a
--- class holds as many positions as there are of it.
+-- Laws of the ranges of one class by the positions alone that are of it: two ways to class positions that agree on a
+-- class have the same ranges of it, and a class holds as many positions as there are of it.
 use Prim.Native.Nat.{ℕ, zero, suc, _+_}
 use mathlib.Core.Bool.{Bool, true, false, _||_}
 use mathlib.Core.List.{List, [], _∷_}
@@ -19,7 +19,8 @@ unfoldable pub count : (ℕ → Bool) → ℕ → ℕ → ℕ
 count test zero p = 0
 count test (suc more) p = (elim (test p) [ true ↦ 1 | false ↦ 0 ]) + count test more (suc p)
 
--- one position more, before the ranges of a class that follow it, by whether it is of the class and whether the next one is
+-- one position more, before the ranges of a class that follow it, by whether it is of the class and whether the next
+-- one is
 grown : ℕ → ℕ → Bool → Bool → List Range → List Range
 grown c p false next rs = rs
 grown c p true true (r ∷ rs) = record { class = c; first = p; length = suc (r .length) } ∷ rs

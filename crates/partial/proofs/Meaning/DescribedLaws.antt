@@ -1,4 +1,5 @@
--- Laws of the described length, where the sizes agree: no segment ends above it, nothing is supplied there, and it never shrinks.
+-- Laws of the described length, where the sizes agree: no segment ends above it, nothing is supplied there, and it
+-- never shrinks.
 use Prim.Native.Nat.{ℕ, _+_, _≤_}
 use mathlib.Core.Bool.{true, false, not, _&&_, _||_, and-false}
 use mathlib.Core.List.{List, [], _∷_, _++_, map}

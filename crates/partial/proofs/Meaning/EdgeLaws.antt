@@ -1,5 +1,5 @@
--- How many ranges a file has: no more than one, and one for each edge of a chunk, since the class of a position changes only
--- where a chunk starts or ends.
+-- How many ranges a file has: no more than one, and one for each edge of a chunk, since the class of a position changes
+-- only where a chunk starts or ends.
 use Prim.Native.Nat.{ℕ, suc, _+_, _-_, _≤_, _<_}
 use mathlib.Core.Bool.{Bool, true, false, _||_}
 use mathlib.Core.List.{List, [], _∷_, _++_}

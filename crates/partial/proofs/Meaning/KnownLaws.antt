@@ -1,4 +1,5 @@
--- Laws of the known size and the largest end, as code gathers them: with segments more, and what 25 and the described length are by them.
+-- Laws of the known size and the largest end, as code gathers them: with segments more, and what 25 and the described
+-- length are by them.
 use Prim.Native.Nat.{ℕ, _≤_, max}
 use mathlib.Core.Bool.{Bool, true, false, not, _&&_, _||_, and-false, true≢false, false≢true}
 use mathlib.Core.List.{List, [], _∷_, _++_, map}

@@ -1,5 +1,5 @@
--- Each source byte is served or listed missing as document 01 says, where the sizes agree, the chunks follow each other and lie in data boxes, and
--- the boxes lie in the file.
+-- Each source byte is served or listed missing as document 01 says, where the sizes agree, the chunks follow each other
+-- and lie in data boxes, and the boxes lie in the file.
 use Prim.Native.Nat.{ℕ, zero, suc, _+_, _-_, _≤_, _<_}
 use mathlib.Core.Bool.{Bool, true, false, not, _&&_, _||_, true≢false}
 use mathlib.Core.List.{List, [], _∷_}
@@ -114,7 +114,8 @@ served-byte : (f : List ℕ) (ss : List Segment) (p : ℕ) → supplied ss p ≡
 unfolding served placeOfByte
 served-byte f ss p e = rw (served, e)
 
--- what reading has to give of an accepted file: sizes agree, chunks follow each other and lie in data boxes, and boxes lie in the file
+-- what reading has to give of an accepted file: sizes agree, chunks follow each other and lie in data boxes, and boxes
+-- lie in the file
 pub record Accepted (f : List ℕ) (h : Heading) (ss : List Segment) : Type 0 where
   pub agreed : agree ss ≡ true
   pub order : InOrder ss

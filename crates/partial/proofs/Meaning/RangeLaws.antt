@@ -1,5 +1,5 @@
--- Laws of ranges, for any class of positions: which positions they hold, that those of one class lie apart, that their lengths add up, and the
--- step by which a run of one class becomes a range.
+-- Laws of ranges, for any class of positions: which positions they hold, that those of one class lie apart, that their
+-- lengths add up, and the step by which a run of one class becomes a range.
 use Prim.Native.Nat.{ℕ, zero, suc, _+_, _-_, _≤_, _<_}
 use mathlib.Core.Bool.{Bool, true, false, _&&_, _||_, and-true, and-false, or-false}
 use mathlib.Core.List.{List, [], _∷_, _++_}
@@ -65,7 +65,8 @@ module _ (class : ℕ → ℕ) where
   ordered (done e) = omega arith
   ordered (next some same differs rest) = omega (arith, ordered rest)
 
-  -- a position is held by a range whose class passes a test exactly if it lies between the ends and its own class passes
+  -- a position is held by a range whose class passes a test exactly if it lies between the ends and its own class
+  -- passes
   holds : {end p : ℕ} {rs : List Range} → Cut class end p rs → (test : ℕ → Bool) (i : ℕ)
       → someOf (λ r. test (r .class) && within (r .first) (r .length) i) rs ≡ (leb p i && ltb i end && test (class i))
   unfolding someOf within
@@ -162,7 +163,8 @@ module _ (class : ℕ → ℕ) where
       rw (suc-add (suc l) m, run l m (suc p) q (omega arith) (λ i from to. same i (omega arith) to ∙ sym second) (λ some e. differs some (e ∙ second)))
       (joins (class p) p (record { class = class (suc p); first = suc p; length = suc l }) (ranges class m q) (sym second))
 
-  -- the step by which code makes ranges, by positions: those from p to q have one class, and q, if it is before the end, another
+  -- the step by which code makes ranges, by positions: those from p to q have one class, and q, if it is before the
+  -- end, another
   pub range-to : (end p q : ℕ) → p < q → q ≤ end → ((i : ℕ) → p ≤ i → i < q → class i ≡ class p) → (q < end → class q ≡ class p → ⊥)
       → ranges class (end - p) p ≡ record { class = class p; first = p; length = q - p } ∷ ranges class (end - q) q
   range-to end p q some most same differs =

@@ -1,4 +1,5 @@
--- Laws of a run: one pass over the chunks finds where the positions that the same chunk supplies, or that none does, end.
+-- Laws of a run: one pass over the chunks finds where the positions that the same chunk supplies, or that none does,
+-- end.
 use Prim.Native.Nat.{ℕ, suc, _+_, _-_, _≤_, _<_, min}
 use mathlib.Core.Bool.{Bool, true, false, not, _&&_, true≢false}
 use mathlib.Core.List.{List, [], _∷_}
@@ -19,7 +20,8 @@ use Rattle.partial.proofs.Meaning.SupplyLaws.{supplier-here, supplier-o
 abbrev pub comes : ℕ → Chunk → Bool
 comes p c = eqb (c .state) good && (ltb p (c .start) && ltb 0 (c .size))
 
--- where the run of a position ends, at most at an end: with the first chunk that supplies it, or where a good one before that begins
+-- where the run of a position ends, at most at an end: with the first chunk that supplies it, or where a good one
+-- before that begins
 unfoldable pub runEnd : List Chunk → ℕ → ℕ → ℕ
 runEnd [] p end = end
 runEnd (c ∷ cs) p end =

@@ -1,4 +1,5 @@
--- What serving and asking say of a position, where the sizes agree and the chunks follow each other: the facts of document 01's "Serving".
+-- What serving and asking say of a position, where the sizes agree and the chunks follow each other: the facts of
+-- document 01's "Serving".
 use Prim.Native.Nat.{ℕ, _+_, _-_, _<_, _≤_}
 use mathlib.Core.Bool.{Bool, true, false, not, true≢false}
 use mathlib.Core.List.{List}

@@ -1,4 +1,5 @@
--- Laws of the first number at which a test has a value: there is only one, and `stretch` counts up to the first that fails.
+-- Laws of the first number at which a test has a value: there is only one, and `stretch` counts up to the first that
+-- fails.
 use Prim.Native.Nat.{ℕ, zero, suc, _+_, _≤_, _<_}
 use mathlib.Core.Bool.{Bool, true, false, not, true≢false, false≢true}
 use mathlib.Core.Logic.{inl, inr}

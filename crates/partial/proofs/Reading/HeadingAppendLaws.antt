@@ -1,4 +1,5 @@
--- What is put behind a file changes nothing in its heading but the list of the file's boxes, which the new boxes follow.
+-- What is put behind a file changes nothing in its heading but the list of the file's boxes, which the new boxes
+-- follow.
 use Prim.Native.Nat.{ℕ, zero, suc, _+_, _-_, _*_, _/_, _%_, _≤_, _<_}
 use mathlib.Core.Bool.{Bool, true, false, not, _&&_}
 use mathlib.Core.List.{List, [], _∷_, _++_, map}

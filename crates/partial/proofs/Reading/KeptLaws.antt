@@ -1,5 +1,5 @@
--- What is put behind a file changes no segment that was read from it: a segment is read from the bytes of its own box, and where a chunk
--- may lie there it may lie in the longer file.
+-- What is put behind a file changes no segment that was read from it: a segment is read from the bytes of its own box,
+-- and where a chunk may lie there it may lie in the longer file.
 use Prim.Native.Nat.{ℕ, zero, suc, _+_, _-_, _/_, _%_, _≤_}
 use mathlib.Core.Bool.{Bool, true, false, _&&_}
 use mathlib.Core.List.{List, [], _∷_, _++_}

@@ -1,4 +1,5 @@
--- The part that serving hands back is empty exactly when the file is refused, a table is too short or the position is not supplied.
+-- The part that serving hands back is empty exactly when the file is refused, a table is too short or the position is
+-- not supplied.
 use Prim.Native.Nat.{ℕ}
 use mathlib.Core.Bool.{true, false, _&&_}
 use mathlib.Core.List.{List, []}

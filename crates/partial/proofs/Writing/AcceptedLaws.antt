@@ -1,5 +1,5 @@
--- After each accepted addition: the file reads, every byte served before keeps its value, one that was not is served exactly if the addition
--- carries it as good, and the described length never shrinks.
+-- After each accepted addition: the file reads, every byte served before keeps its value, one that was not is served
+-- exactly if the addition carries it as good, and the described length never shrinks.
 use Prim.Native.Nat.{ℕ, _^_, _<_, _+_}
 use mathlib.Core.List.{List, [], _∷_, _++_}
 use mathlib.Core.Logic.{_↔_}

@@ -1,4 +1,5 @@
--- The boxes that append adds: which they are in the longer file, of which kinds, and that the new data may lie in the new `pdat` and outside.
+-- The boxes that append adds: which they are in the longer file, of which kinds, and that the new data may lie in the
+-- new `pdat` and outside.
 use Prim.Native.Nat.{ℕ, _+_, _^_, _≤_, _<_}
 use mathlib.Core.Bool.{Bool, true, false, _&&_, or-true}
 use mathlib.Core.List.{List, [], _∷_, _++_, map, map-append, append-assoc, append-nil}

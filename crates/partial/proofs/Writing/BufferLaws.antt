@@ -1,4 +1,5 @@
--- What append leaves of the lent buffer: it is as long as it was, and keeps its earlier bytes and those past the new end.
+-- What append leaves of the lent buffer: it is as long as it was, and keeps its earlier bytes and those past the new
+-- end.
 use Prim.Native.Nat.{ℕ, _+_, _-_, _≤_, _<_}
 use mathlib.Core.List.{List, _++_}
 use mathlib.Core.Path.{_≡_, refl, _∙_}

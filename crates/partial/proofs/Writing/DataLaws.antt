@@ -1,5 +1,5 @@
--- Laws of the data of an addition: how much of it goes into `pdat` and how much outside, where it stands, and that an addition is told by what
--- goes outside.
+-- Laws of the data of an addition: how much of it goes into `pdat` and how much outside, where it stands, and that an
+-- addition is told by what goes outside.
 use Prim.Native.Nat.{ℕ, _+_, _≤_}
 use mathlib.Core.Bool.{Bool, true, false, not, _&&_, and-true, true≢false}
 use mathlib.Core.List.{List, [], _∷_, _++_, append-assoc}

@@ -1,4 +1,5 @@
--- Entries as we write them read back: wherever their bytes stand, the chunks that they tell of are those of the placed items.
+-- Entries as we write them read back: wherever their bytes stand, the chunks that they tell of are those of the placed
+-- items.
 use Prim.Native.Nat.{ℕ, zero, suc, _+_, _≤_}
 use mathlib.Core.Bool.{Bool, true, false}
 use mathlib.Core.List.{List, [], _∷_, _++_, map}
@@ -51,8 +52,8 @@ module _ (o : ℕ) (z : Offset) where
       rw (stands-number g at o (twosComplement o z) (twosComplement-below o z fits not-none) stands) (signed-twosComplement o z fits)
   offset-back g at false stands fits not-none absent = ap (signed 0) (number-none g at) ∙ signed-none ∙ sym (absent refl)
 
--- what a placed item has to be for its entry to tell of it: its state is one of the three, its offset is written as it is read, and its data,
--- if it has any, may lie where the offset says
+-- what a placed item has to be for its entry to tell of it: its state is one of the three, its offset is written as it
+-- is read, and its data, if it has any, may lie where the offset says
 pub record Tells (h : Heading) (pseg : ℕ) (p : Placed) : Type 0 where
   pub known : isState (p .state) ≡ true
   pub not-none : p .offset ≡ Back 0 → ⊥

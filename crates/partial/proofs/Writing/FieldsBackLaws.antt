@@ -1,4 +1,5 @@
--- The bodies of `pshd` and `ploc` as we write them read back: the fields, and the head with the widths that hold every size and offset.
+-- The bodies of `pshd` and `ploc` as we write them read back: the fields, and the head with the widths that hold every
+-- size and offset.
 use Prim.Native.Nat.{ℕ, _+_, _*_, _/_, _%_, _^_, _≤_, _<_}
 use mathlib.Core.Bool.{Bool, true, false}
 use mathlib.Core.List.{List, [], _∷_, _++_, map}

@@ -1,4 +1,5 @@
--- The chunks that go outside `pdat`: the boxes of their data, which are allowed, and that each chunk may lie where it is placed, whole.
+-- The chunks that go outside `pdat`: the boxes of their data, which are allowed, and that each chunk may lie where it
+-- is placed, whole.
 use Prim.Native.Nat.{ℕ, _+_, _-_, _≤_}
 use mathlib.Core.Bool.{Bool, true, false, or-true, true≢false}
 use mathlib.Core.List.{List, [], _∷_, _++_, map, map-append, append-assoc}
@@ -41,7 +42,8 @@ unfolding mayLie
 whole-lies o i h place out mixed whole = rw (mayLie, mixed, out-good o i out, whole, or-true)
 
 module _ (o : Bool) where
-  -- the boxes of the data outside: they fill it, they are allowed, and in a mixed file that has them from a place on each chunk lies there whole
+  -- the boxes of the data outside: they fill it, they are allowed, and in a mixed file that has them from a place on
+  -- each chunk lies there whole
   pub record Outer (is : List Item) (bytes : List ℕ) : Type 0 where
     pub boxes : List Box
     pub fill : Filled File (dataFor (goesOut o) is bytes) (length (dataFor (goesOut o) is bytes)) 0 boxes

@@ -1,5 +1,5 @@
--- What a higher source limit leaves as it was: an addition has the same answer and the same bytes, or had 23; and with the laws of reading all
--- that is stated.
+-- What a higher source limit leaves as it was: an addition has the same answer and the same bytes, or had 23; and with
+-- the laws of reading all that is stated.
 use Prim.Native.Nat.{ℕ, _+_, _≤_}
 use mathlib.Core.List.{List}
 use mathlib.Core.Logic.{inl}

@@ -1,4 +1,5 @@
--- Demand 3, the reasons for which an addition is refused before its result is looked at: 30, the file's own, 31, 32 and 35, in that order.
+-- Demand 3, the reasons for which an addition is refused before its result is looked at: 30, the file's own, 31, 32 and
+-- 35, in that order.
 use Prim.Native.Nat.{ℕ, _≤_, _<_}
 use mathlib.Core.Bool.{true, false}
 use mathlib.Core.List.{List}

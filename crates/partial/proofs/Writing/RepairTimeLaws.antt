@@ -1,4 +1,5 @@
--- Of a repair time as many bits are written as `pshd` has, and no test reads it: an addition stands for the one with that much of it.
+-- Of a repair time as many bits are written as `pshd` has, and no test reads it: an addition stands for the one with
+-- that much of it.
 use Prim.Native.Nat.{ℕ, _%_, _^_, _+_}
 use mathlib.Core.Bool.{Bool, true, false, not, _&&_, _||_}
 use mathlib.Core.List.{List, [], _∷_, _++_}

@@ -1,4 +1,5 @@
--- Writing again what a run of additions made: each segment says its addition in the whole file, and is accepted where the whole file fits.
+-- Writing again what a run of additions made: each segment says its addition in the whole file, and is accepted where
+-- the whole file fits.
 use Prim.Native.Nat.{ℕ, _+_, _^_, _≤_, _<_}
 use mathlib.Core.Bool.{true}
 use mathlib.Core.List.{List, [], _∷_, _++_, map, append-assoc, append-nil}
@@ -82,7 +83,8 @@ beyond-earlier place at h (b ∷ bs) later =
     let (here, others) = both (beyond at b) (allOf (beyond at) bs) later in
     rw (le-leb place (b .body) (omega (arith, leb-true at (b .body) here))) (beyond-earlier place at h bs others)
 
--- what a run makes of a file g with a heading and segments, and how what it added is written again into a buffer that holds g
+-- what a run makes of a file g with a heading and segments, and how what it added is written again into a buffer that
+-- holds g
 pub record Rewrites (limit : ℕ) (g : List ℕ) (h : Heading) (ss : List Segment) (whole : List ℕ) : Type 0 where
   pub more : List ℕ
   pub longer : whole ≡ g ++ more

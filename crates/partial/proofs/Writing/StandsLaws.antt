@@ -1,4 +1,5 @@
--- Laws of bytes that stand in a file at a place: their parts stand there too, and a number that was written is read there.
+-- Laws of bytes that stand in a file at a place: their parts stand there too, and a number that was written is read
+-- there.
 use Prim.Native.Nat.{ℕ, suc, _+_, _^_, _<_, _≤_}
 use mathlib.Core.List.{List, [], _∷_, _++_, append-nil}
 use mathlib.Core.Path.{_≡_, _∙_}

@@ -1,4 +1,5 @@
--- Whether a good chunk of an addition went outside `pdat` is told by the boxes of the longer file, whatever stands behind them.
+-- Whether a good chunk of an addition went outside `pdat` is told by the boxes of the longer file, whatever stands
+-- behind them.
 use Prim.Native.Nat.{ℕ, _+_, _-_, _≤_, _<_}
 use mathlib.Core.Bool.{Bool, true, false, _||_, and-false, true≢false}
 use mathlib.Core.List.{List, [], _∷_, _++_, map}
@@ -68,7 +69,8 @@ told-with bs at o out start (i ∷ is) right ins outs lie apart =
 
 -- ---- of an addition
 
--- no data lies behind the boxes that end before it, nor in boxes that are allowed outside, nor before a body that starts behind it
+-- no data lies behind the boxes that end before it, nor in boxes that are allowed outside, nor before a body that
+-- starts behind it
 module _ (place size : ℕ) where
   data-append : (bs cs : List Box) → inData (bs ++ cs) place size ≡ (inData bs place size || inData cs place size)
   unfolding inData

@@ -1,4 +1,5 @@
--- `writing_run::runs` keeps the lengths of what it is lent, and ends. The measure is how many records more it would take.
+-- `writing_run::runs` keeps the lengths of what it is lent, and ends. The measure is how many records more it would
+-- take.
 use mathlib.Core.Path.{_≡_}
 use borrow.Author.Needs.{needs}
 use lib.ListN.{length}

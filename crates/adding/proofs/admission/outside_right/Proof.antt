@@ -1,4 +1,5 @@
--- `adding::admission::outside_right` meets its contract: by whether any chunk goes outside, and then by whether the file is mixed.
+-- `adding::admission::outside_right` meets its contract: by whether any chunk goes outside, and then by whether the
+-- file is mixed.
 use mathlib.Core.Bool.{Bool, _&&_}
 use mathlib.Core.Path.{sym, ap, _∙_}
 use Rattle.adding.proofs.OutsideLaws.{right-none, right-some}

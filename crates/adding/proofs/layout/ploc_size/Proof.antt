@@ -1,4 +1,5 @@
--- `adding::layout::ploc_size` meets its contract: no more items are counted than a file may have bytes, and widths are at most 8.
+-- `adding::layout::ploc_size` meets its contract: no more items are counted than a file may have bytes, and widths are
+-- at most 8.
 use Prim.Native.Nat.{ℕ, _+_, _*_, _≤_}
 use mathlib.Core.Path.{_∙_}
 use native.Mathlib.Nat.{mul-le-mul}

@@ -1,4 +1,5 @@
--- `boxes::framing::put_header` meets its contract: the size and the type are the two halves of the number that is written.
+-- `boxes::framing::put_header` meets its contract: the size and the type are the two halves of the number that is
+-- written.
 use borrow.Author.Needs.{needs}
 use Prim.Native.Nat.{_+_, _*_}
 use mathlib.Core.Path.{sym, _∙_}

@@ -1,4 +1,5 @@
--- `filling::rows::put_row` meets its contract. The loop's invariant: with the numbers that are left to write, the table is as it will be.
+-- `filling::rows::put_row` meets its contract. The loop's invariant: with the numbers that are left to write, the table
+-- is as it will be.
 use Prim.Native.Nat.{ℕ, suc, _-_, _≤_}
 use mathlib.Core.Path.{_≡_, sym, ap, _∙_}
 use native.Mathlib.Omega.{arith}

@@ -1,4 +1,5 @@
--- `gathering::chunks::chunks_of` meets its contract. The loop's invariant: the chunks so far were read, and the entries that are left decide.
+-- `gathering::chunks::chunks_of` meets its contract. The loop's invariant: the chunks so far were read, and the entries
+-- that are left decide.
 use Prim.Native.Nat.{_-_, _≤_}
 use mathlib.Core.Path.{_≡_, refl, _∙_}
 use native.Mathlib.Omega.{arith}

@@ -1,4 +1,5 @@
--- `gathering::pass::pass` meets its contract. The loop's invariant: the segments so far were read, and the boxes that are left decide.
+-- `gathering::pass::pass` meets its contract. The loop's invariant: the segments so far were read, and the boxes that
+-- are left decide.
 use Prim.Native.Nat.{_+_, _≤_}
 use mathlib.Core.Path.{_≡_, refl, sym, subst, _∙_}
 use native.Mathlib.Omega.{arith}

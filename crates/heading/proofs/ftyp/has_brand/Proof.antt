@@ -1,4 +1,5 @@
--- `heading::ftyp::has_brand` meets its contract. The loop's invariant: no brand passed is the one, so those left decide.
+-- `heading::ftyp::has_brand` meets its contract. The loop's invariant: no brand passed is the one, so those left
+-- decide.
 use Prim.Native.Nat.{_+_, _-_, _≤_}
 use mathlib.Core.Path.{_≡_, refl, sym, _∙_}
 use borrow.Author.Needs.{needs}

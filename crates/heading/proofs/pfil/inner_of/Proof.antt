@@ -1,4 +1,5 @@
--- `heading::pfil::inner_of` meets its contract: the framing of `pfil`, then each test is a stage's, and what is told is read at the first `surl`.
+-- `heading::pfil::inner_of` meets its contract: the framing of `pfil`, then each test is a stage's, and what is told is
+-- read at the first `surl`.
 use mathlib.Core.List.{List}
 use mathlib.Core.Path.{_≡_, refl, ap, _∙_}
 use borrow.Author.Needs.{needs}

@@ -1,4 +1,5 @@
--- `heading::pfil::surls_formed` meets its contract. The loop's invariant: each `surl` passed is well-formed, so those left decide, and the walk ends where it did.
+-- `heading::pfil::surls_formed` meets its contract. The loop's invariant: each `surl` passed is well-formed, so those
+-- left decide, and the walk ends where it did.
 use mathlib.Core.Path.{_≡_, refl, sym, ap, _∙_}
 use native.Mathlib.Omega.{arith}
 use borrow.Author.Needs.{needs}

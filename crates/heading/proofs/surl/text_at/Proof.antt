@@ -1,4 +1,5 @@
--- `heading::surl::text_at` meets its contract. The loop's invariant: no byte passed is zero, and none past the end was passed.
+-- `heading::surl::text_at` meets its contract. The loop's invariant: no byte passed is zero, and none past the end was
+-- passed.
 use Prim.Native.Nat.{ℕ, _-_, _≤_, _<_}
 use mathlib.Core.Logic.{⊎-elim}
 use mathlib.Core.Path.{_≡_}

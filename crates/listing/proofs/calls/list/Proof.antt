@@ -1,4 +1,5 @@
--- `listing::calls::list` meets its contract: the judgement, then 26 of the tables and of the lists, then both are filled.
+-- `listing::calls::list` meets its contract: the judgement, then 26 of the tables and of the lists, then both are
+-- filled.
 use Prim.Native.Nat.{_*_, _≤_}
 use native.Mathlib.Omega.{arith}
 use lib.ListN.{length}

@@ -1,4 +1,5 @@
--- `listing::lists::put_lists` meets its contract. The loop's invariant: the ranges so far are listed, those from here on are left, and so many spans are passed.
+-- `listing::lists::put_lists` meets its contract. The loop's invariant: the ranges so far are listed, those from here
+-- on are left, and so many spans are passed.
 use Prim.Native.Nat.{_-_, _≤_}
 use mathlib.Core.Path.{_≡_, refl}
 use native.Mathlib.Omega.{arith}

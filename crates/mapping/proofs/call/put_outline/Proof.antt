@@ -1,4 +1,5 @@
--- `mapping::call::put_outline` meets its contract: the line of the source, those of the ranges, that of the totals. None of the ranges' is longer than fifty bytes.
+-- `mapping::call::put_outline` meets its contract: the line of the source, those of the ranges, that of the totals.
+-- None of the ranges' is longer than fifty bytes.
 use native.Mathlib.Omega.{arith}
 use Rattle.filling.proofs.PutsLaws.{puts-same, puts-more}
 use Rattle.mapping.proofs.OutlineLaws.{range-lines, total-line, text-lines}

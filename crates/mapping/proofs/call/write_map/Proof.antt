@@ -1,4 +1,5 @@
--- `mapping::call::write_map` meets its contract: 27, then the judgement, then the text by the rows of the file's chunks.
+-- `mapping::call::write_map` meets its contract: 27, then the judgement, then the text by the rows of the file's
+-- chunks.
 use mathlib.Core.Path.{sym}
 use native.Mathlib.Omega.{arith}
 use Rattle.gathering.proofs.GatheredLaws.{gathered-chunks, gathered-sizes}

@@ -1,4 +1,5 @@
--- `mapping::call::write_outline` meets its contract: the text surely fits, or is counted in a buffer without room; then it is put.
+-- `mapping::call::write_outline` meets its contract: the text surely fits, or is counted in a buffer without room; then
+-- it is put.
 use Prim.Native.Nat.{_≤_}
 use mathlib.Core.Logic.{⊎-elim}
 use native.Mathlib.Omega.{arith}

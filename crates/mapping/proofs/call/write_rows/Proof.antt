@@ -1,4 +1,5 @@
--- `mapping::call::write_rows` meets its contract: the spans of the damaged chunks, those of the good ones, and the text by both.
+-- `mapping::call::write_rows` meets its contract: the spans of the damaged chunks, those of the good ones, and the text
+-- by both.
 use native.Mathlib.Omega.{arith}
 use Rattle.mapping.proofs.OutlineLaws.{outlined-by}
 use borrow.Author.Needs.{needs}

@@ -1,4 +1,5 @@
--- `mapping::totals::counted` meets its contract. The loop's invariant: the ranges so far are counted, those from here on are left, and the sweeps are ready.
+-- `mapping::totals::counted` meets its contract. The loop's invariant: the ranges so far are counted, those from here
+-- on are left, and the sweeps are ready.
 use Prim.Native.Nat.{_-_, _≤_}
 use native.Mathlib.Omega.{arith}
 use Rattle.sweeping.specs.Naming.{nameBy}

@@ -1,4 +1,5 @@
--- `numerals::numbers::by_bytes` meets its contract. The loop's invariant: the number of the bytes passed, which is below that power of 256.
+-- `numerals::numbers::by_bytes` meets its contract. The loop's invariant: the number of the bytes passed, which is
+-- below that power of 256.
 use Prim.Native.Nat.{_-_, _^_, _≤_, _<_}
 use mathlib.Core.Path.{_≡_}
 use borrow.Author.Needs.{needs}

@@ -1,4 +1,5 @@
--- `numerals::numbers::put_number` meets its contract: the tests are those for what the width holds and for room, as a number has as many bytes as its width.
+-- `numerals::numbers::put_number` meets its contract: the tests are those for what the width holds and for room, as a
+-- number has as many bytes as its width.
 use native.Mathlib.Omega.{arith}
 use Rattle.numerals.proofs.NumberLaws.{length-bytesOf}
 use Rattle.numerals.proofs.StoredLaws.{stores-held, stores-unheld, stores-crowded}

@@ -1,4 +1,5 @@
--- `numerals::numbers::put_offset` meets its contract: the number written has the bytes of the offset, and both are held.
+-- `numerals::numbers::put_offset` meets its contract: the number written has the bytes of the offset, and both are
+-- held.
 use mathlib.Core.Path.{sym, _∙_}
 use borrow.Author.Tests.{not-true, not-false}
 use Rattle.numerals.proofs.StoredLaws.{stores-unheld, stores-same}

@@ -1,4 +1,5 @@
--- `numerals::numbers::signed` meets its contract: the number is one of its width, so the largest of that width is not below it.
+-- `numerals::numbers::signed` meets its contract: the number is one of its width, so the largest of that width is not
+-- below it.
 use Prim.Native.Nat.{ℕ, _^_, _/_, _≤_, min}
 use mathlib.Core.Path.{_≡_}
 use native.Mathlib.Omega.{arith}

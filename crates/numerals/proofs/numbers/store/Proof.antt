@@ -1,4 +1,5 @@
--- `numerals::numbers::store` meets its contract. The loop's invariant: with the bytes that are left to write, the buffer is as it will be.
+-- `numerals::numbers::store` meets its contract. The loop's invariant: with the bytes that are left to write, the
+-- buffer is as it will be.
 use Prim.Native.Nat.{_≤_}
 use mathlib.Core.Path.{_≡_, _∙_}
 use native.Mathlib.Omega.{arith}

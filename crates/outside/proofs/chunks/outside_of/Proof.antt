@@ -1,4 +1,5 @@
--- `outside::chunks::outside_of` meets its contract. The loop's invariant: what was found of the items passed, with what is found of the others, is all.
+-- `outside::chunks::outside_of` meets its contract. The loop's invariant: what was found of the items passed, with what
+-- is found of the others, is all.
 use Prim.Native.Nat.{ℕ, _-_, _*_, _/_, _≤_, _<_}
 use mathlib.Core.Logic.{⊎-elim}
 use mathlib.Core.Path.{refl, sym, _∙_}

@@ -1,4 +1,5 @@
--- `outside::whole::whole_of` meets its contract. The loop's invariant: the walk has passed as many boxes as were counted, all of them allowed.
+-- `outside::whole::whole_of` meets its contract. The loop's invariant: the walk has passed as many boxes as were
+-- counted, all of them allowed.
 use mathlib.Core.Bool.{true}
 use mathlib.Core.List.{List, [], _∷_, _++_}
 use mathlib.Core.Path.{_≡_, refl, sym, ap, _∙_}

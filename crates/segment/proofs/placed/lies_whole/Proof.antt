@@ -1,4 +1,5 @@
--- `segment::placed::lies_whole` meets its contract: each test is one of the definition's, and no whole box ends past the file.
+-- `segment::placed::lies_whole` meets its contract: each test is one of the definition's, and no whole box ends past
+-- the file.
 use Prim.Native.Nat.{_+_, _≤_}
 use mathlib.Core.Path.{sym, _∙_}
 use native.Mathlib.Omega.{arith}

@@ -1,4 +1,5 @@
--- `segment::placed::placed_at` meets its contract: a chunk that is present and not empty is searched for where its offset reaches.
+-- `segment::placed::placed_at` meets its contract: a chunk that is present and not empty is searched for where its
+-- offset reaches.
 use mathlib.Core.Bool.{true}
 use mathlib.Core.Path.{_≡_, refl, sym, _∙_}
 use native.Mathlib.Omega.{arith}

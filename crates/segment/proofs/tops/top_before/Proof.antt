@@ -1,5 +1,5 @@
--- `segment::tops::top_before` meets its contract. The loop's invariant: what stands at the lower number is before the place, unless that is the
--- first, and what stands at the higher one is not, unless that is past the table.
+-- `segment::tops::top_before` meets its contract. The loop's invariant: what stands at the lower number is before the
+-- place, unless that is the first, and what stands at the higher one is not, unless that is past the table.
 use Prim.Native.Nat.{_+_, _-_, _≤_, _<_}
 use mathlib.Core.Path.{_≡_}
 use native.Mathlib.Omega.{arith}

@@ -1,4 +1,5 @@
--- `segment::whole::starts` meets its contract: of a table that ascends the last place before one is followed by that one, or it stands first or not at all.
+-- `segment::whole::starts` meets its contract: of a table that ascends the last place before one is followed by that
+-- one, or it stands first or not at all.
 use mathlib.Core.Logic.{⊎-elim}
 use mathlib.Core.Path.{refl}
 use native.Mathlib.Omega.{arith}

@@ -1,4 +1,5 @@
--- `segment::whole::whole_at` meets its contract: one starts at the place as the table says, and they are those from there on.
+-- `segment::whole::whole_at` meets its contract: one starts at the place as the table says, and they are those from
+-- there on.
 use mathlib.Core.Path.{sym}
 use native.Mathlib.Omega.{arith}
 use borrow.Author.Needs.{needs}

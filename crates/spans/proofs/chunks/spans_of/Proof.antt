@@ -1,4 +1,5 @@
--- `spans::chunks::spans_of` meets its contract. The loop's invariant: the rows so far have become spans, and the others are as they were.
+-- `spans::chunks::spans_of` meets its contract. The loop's invariant: the rows so far have become spans, and the others
+-- are as they were.
 use Prim.Native.Nat.{_-_, _≤_}
 use native.Mathlib.Omega.{arith}
 use mathlib.Core.Path.{_∙_, sym, ap}

@@ -1,4 +1,5 @@
--- `supplying::runs::run_at` meets its contract. The loop's invariant: no chunk before supplies the position, and those that are left decide.
+-- `supplying::runs::run_at` meets its contract. The loop's invariant: no chunk before supplies the position, and those
+-- that are left decide.
 use Prim.Native.Nat.{ℕ, _+_, _-_, _≤_, _<_, min}
 use mathlib.Core.Path.{sym, ap, _∙_}
 use native.Mathlib.Omega.{arith}

@@ -1,4 +1,5 @@
--- `tallying::find::first_of` meets its contract. The loop's invariant: the first of the kind is among the boxes that are left.
+-- `tallying::find::first_of` meets its contract. The loop's invariant: the first of the kind is among the boxes that
+-- are left.
 use mathlib.Core.Path.{sym, _∙_}
 use borrow.Author.Needs.{needs}
 use Rattle.boxes.specs.Kinds.{firstOf}

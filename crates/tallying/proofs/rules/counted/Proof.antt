@@ -1,4 +1,5 @@
--- `tallying::rules::counted` meets its contract. The loop's invariant: the rows passed have counted the box, and the others have not.
+-- `tallying::rules::counted` meets its contract. The loop's invariant: the rows passed have counted the box, and the
+-- others have not.
 use Prim.Native.Nat.{_-_, _≤_}
 use mathlib.Core.Logic.{⊎-elim}
 use mathlib.Core.Path.{_≡_}

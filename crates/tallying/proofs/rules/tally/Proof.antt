@@ -1,4 +1,5 @@
--- `tallying::rules::tally` meets its contract. The loop's invariant: the walk has passed as many boxes, and of each kind as many, as were counted.
+-- `tallying::rules::tally` meets its contract. The loop's invariant: the walk has passed as many boxes, and of each
+-- kind as many, as were counted.
 use mathlib.Core.List.{List, [], _∷_, _++_}
 use mathlib.Core.Path.{_≡_, refl, sym, ap}
 use borrow.Author.Needs.{needs}

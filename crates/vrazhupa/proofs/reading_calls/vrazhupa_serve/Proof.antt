@@ -1,4 +1,5 @@
--- `vrazhupa::reading_calls::vrazhupa_serve` meets its contract: the part that serve hands back, by its place and its length.
+-- `vrazhupa::reading_calls::vrazhupa_serve` meets its contract: the part that serve hands back, by its place and its
+-- length.
 use Rattle.vrazhupa.specs.Says.{partNumbers}
 use Rattle.vrazhupa.proofs.SayLaws.{says-same, says-then}
 use borrow.Author.Needs.{needs}

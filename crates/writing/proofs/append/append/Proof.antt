@@ -1,4 +1,5 @@
--- `writing::append::append` meets its contract: 30, then what the file itself is refused for, then what is appended to it.
+-- `writing::append::append` meets its contract: 30, then what the file itself is refused for, then what is appended to
+-- it.
 use mathlib.Core.Path.{sym}
 use native.Mathlib.Omega.{arith}
 use borrow.Author.Needs.{needs}

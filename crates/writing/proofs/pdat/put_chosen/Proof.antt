@@ -1,4 +1,5 @@
--- `writing::pdat::put_chosen` meets its contract. The loop's invariant: the data of the items passed that are chosen is copied.
+-- `writing::pdat::put_chosen` meets its contract. The loop's invariant: the data of the items passed that are chosen is
+-- copied.
 use Prim.Native.Nat.{ℕ, _-_, _*_, _/_, _≤_, _<_}
 use mathlib.Core.Logic.{⊎-elim}
 use mathlib.Core.Path.{sym, _∙_}

@@ -1,5 +1,5 @@
--- `writing::ploc::put_entries` meets its contract. The loop's invariant: the entries passed are written, and how far the data that is
--- left lies is known.
+-- `writing::ploc::put_entries` meets its contract. The loop's invariant: the entries passed are written, and how far
+-- the data that is left lies is known.
 use Prim.Native.Nat.{_-_, _/_, _≤_, _<_}
 use native.Mathlib.Omega.{arith}
 use borrow.Author.Needs.{needs}

@@ -1,4 +1,5 @@
--- `writing_run::calls::all` keeps the lengths of what it is lent, and ends. The measure is how many calls more there are.
+-- `writing_run::calls::all` keeps the lengths of what it is lent, and ends. The measure is how many calls more there
+-- are.
 use mathlib.Core.Path.{_≡_}
 use borrow.Author.Needs.{needs}
 use lib.ListN.{length}

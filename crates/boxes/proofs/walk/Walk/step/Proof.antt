@@ -1,4 +1,5 @@
--- `boxes::walk::Walk::step` meets its contract: each test is one of the definition's, and the header is read by `header_at`.
+-- `boxes::walk::Walk::step` meets its contract: each test is one of the definition's, and the header is read by
+-- `header_at`.
 use mathlib.Core.Path.{sym, _∙_}
 use borrow.Author.Needs.{needs}
 use Rattle.boxes.specs.Framing.{headerAnswer, boxOf}

@@ -1,4 +1,5 @@
--- `ends::sizes::Sizes::with` meets its contract: by whether the segment makes the size known, whether one before it did, and where that ended.
+-- `ends::sizes::Sizes::with` meets its contract: by whether the segment makes the size known, whether one before it
+-- did, and where that ended.
 use mathlib.Core.Path.{sym, _∙_}
 use borrow.Author.Needs.{needs}
 use Rattle.ends.proofs.SizeLaws.{with-stay, with-new, with-same, with-other}

@@ -1,4 +1,5 @@
--- `tallying::tally::Tally::of` meets its contract. The loop's invariant: the rows passed are of other kinds, so those left decide.
+-- `tallying::tally::Tally::of` meets its contract. The loop's invariant: the rows passed are of other kinds, so those
+-- left decide.
 use Prim.Native.Nat.{_-_, _≤_}
 use mathlib.Core.Path.{_≡_, refl, sym, _∙_}
 use borrow.Author.Needs.{needs}
