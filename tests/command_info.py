@@ -49,8 +49,8 @@ def begun_only(command):
         claim(f"info of a {brand} begun", run(command, "new"), 0, wanted)
     command.put("new", head() + 510 * box(b"free"))
     claim("info of a file begun, with no box left", run(command, "new"), 0,
-          b"file      new\nbytes     4135 of 1,073,741,824\nboxes     512 of 512\nsegments  0 of 64\nchunks    0 of 1,024\nfilm      nothing was appended yet\n".replace(
-              b"4135", b"%s" % f"{len(head()) + 4_080:,}".encode()))
+          b"file      new\nbrand     paff\nURL       u\nMIME      \nbytes     4,135 of 1,073,741,824\nboxes     512 of 512\n"
+          b"segments  0 of 64\nchunks    0 of 1,024\nfilm      nothing was appended yet\n")
 
 
 def refusals(command):
