@@ -46,14 +46,21 @@ def unlocked(command):
         return True
 
 
+def after(process, line):
+    """The answer of a process that had said a line before."""
+    answer = ended(process)
+    return answer._replace(err=line + answer.err)
+
+
 def claim_waits(name, command, process, lock, grown=None):
-    """That a process waits as long as the lock is held; its answer after that."""
+    """That a process waits as long as the lock is held, and says so; its answer after that."""
+    line = process.stderr.readline()
     time.sleep(A_WHILE)
     expect(f"{name} waits", (process.poll(), command.held("film") == FILM), (None, True))
     if grown is not None:
         lock.grow_to(grown)
     lock.release()
-    return ended(process)
+    return after(process, line)
 
 
 # A lock that another program holds.
@@ -116,11 +123,11 @@ def reader_holds(command):
     reader = command.start("get", "film", "0", "400000")
     front = os.read(reader.stdout.fileno(), 1)
     appending = command.start("append", "film", "--offset", "400000", "--good", "piece")
-    time.sleep(A_WHILE)
+    line = appending.stderr.readline()
     expect("append waits for a reader", (appending.poll(), command.held("film") == file), (None, True))
     answer = ended(reader)
     expect("what the reader got", (answer.status, front + answer.out == data), (0, True))
-    claim("append after the reader", ended(appending), 0, err=WAITS_ALONE)
+    claim("append after the reader", after(appending, line), 0, err=WAITS_ALONE)
     claim_held("the film after both", command, "film", appended(file, 400_000, [good(b"xyz")])[1])
 
 
@@ -146,15 +153,15 @@ def film_replaced(command):
         command.put("film", FILM)
         lock = Locked(command, fcntl.LOCK_EX)
         process = command.start("map", "film")
-        time.sleep(A_WHILE)
+        line = process.stderr.readline()
         command.remove("film")
         if wanted is not None:
             command.put("film", wanted)
         lock.release()
         if wanted is not None:
-            claim("the map of the film that took the name", ended(process), 0, map_text(wanted), WAITS)
+            claim("the map of the film that took the name", after(process, line), 0, map_text(wanted), WAITS)
         else:
-            claim("the map where the name is gone", ended(process), 2, err=WAITS + b"paff: film: No such file or directory\n")
+            claim("the map where the name is gone", after(process, line), 2, err=WAITS + b"paff: film: No such file or directory\n")
 
 
 def interrupted_waiting(command):
@@ -163,7 +170,7 @@ def interrupted_waiting(command):
     lock = Locked(command, fcntl.LOCK_EX)
     for words in [("map", "film"), ("append", "film", "--offset", "4", "--good", "piece")]:
         process = command.start(*words)
-        time.sleep(A_WHILE)
+        process.stderr.readline()
         process.send_signal(signal.SIGINT)
         expect(f"{words} interrupted", ended(process).status, -signal.SIGINT)
     lock.release()
@@ -176,10 +183,10 @@ def data_cut(command):
     command.put("cut", bytes(50))
     lock = Locked(command, fcntl.LOCK_EX)
     process = command.start("append", "film", "--offset", "4", "--good", "cut")
-    time.sleep(A_WHILE)
+    line = process.stderr.readline()
     os.truncate(command.path("cut"), 0)
     lock.release()
-    claim("append of data that is cut", ended(process), 2, err=WAITS_ALONE + b"paff: a file was cut short or could not be read\n")
+    claim("append of data that is cut", after(process, line), 2, err=WAITS_ALONE + b"paff: a file was cut short or could not be read\n")
     claim_held("the film after that", command, "film", FILM)
 
 
