@@ -77,7 +77,9 @@ fn offset_width(offset: Position) -> u64
 // The body of `ploc`, by its two widths.
 fn ploc_size(counts: Counts, size: usize, offset: usize) -> u64
     requires { ⌜ (size ≤ 8) × (offset ≤ 8) ⌝ }
-    ensures { λ r. ⌜ (r ≤ fileLimit + 1) × ((outside : Bool) (is : List Item) → Whole is counts → size ≡ lengthSize (placed outside is) → offset ≡ offsetSize (placed outside is) → r ≡ min (length (plocBody (placed outside is))) (fileLimit + 1)) ⌝ }
+    ensures { λ r. ⌜ (r ≤ fileLimit + 1) × ((outside : Bool) (is : List Item) → Whole is counts
+        → size ≡ lengthSize (placed outside is) → offset ≡ offsetSize (placed outside is)
+        → r ≡ min (length (plocBody (placed outside is))) (fileLimit + 1)) ⌝ }
 {
     // Each item has a byte at least.
     let items = within(counts.items);

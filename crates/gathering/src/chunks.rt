@@ -35,7 +35,9 @@ pub(crate) fn chunks_of(
     table: &mut [u64],
 ) -> ChunksRead
     requires { ⌜ before .chunks + l .count ≤ chunkLimit ⌝ }
-    ensures { λ r. ⌜ ((h : Heading) → mixed ≡ h .mixed → Searched (now (file .entry)) (boxOf (first .last)) (h .boxes) → Tops (h .boxes) (now (tops .entry)) → Chunked (now (file .entry)) h (pseg .0) l first before (now (table .entry)) (now (table .exit)) r) ⌝ }
+    ensures { λ r. ⌜ ((h : Heading) → mixed ≡ h .mixed → Searched (now (file .entry)) (boxOf (first .last)) (h .boxes)
+        → Tops (h .boxes) (now (tops .entry))
+        → Chunked (now (file .entry)) h (pseg .0) l first before (now (table .entry)) (now (table .exit)) r) ⌝ }
 {
     let end = l.end;
     let mut cursor = first;

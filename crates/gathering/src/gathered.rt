@@ -33,7 +33,9 @@ impl Gathered {
     // With one segment more, of these flags and so many chunks, that ends there.
     pub(crate) fn with(self, flags: u64, count: u64, end: Position) -> Self
         requires { ⌜ (self .segments ≤ boxLimit) × (self .chunks + count ≤ chunkLimit) ⌝ }
-        ensures { λ r. ⌜ (r .segments ≡ self .segments + 1) × (r .chunks ≡ self .chunks + count) × ((ss : List Segment) (s : Segment) → self ≡ gatheredOf ss → flags ≡ s .flags → count ≡ length (s .chunks) → end .0 ≡ endOf s → r ≡ gatheredOf (ss ++ (s ∷ []))) ⌝ }
+        ensures { λ r. ⌜ (r .segments ≡ self .segments + 1) × (r .chunks ≡ self .chunks + count)
+            × ((ss : List Segment) (s : Segment) → self ≡ gatheredOf ss → flags ≡ s .flags
+            → count ≡ length (s .chunks) → end .0 ≡ endOf s → r ≡ gatheredOf (ss ++ (s ∷ []))) ⌝ }
     {
         let sizes = self.sizes;
         Gathered {

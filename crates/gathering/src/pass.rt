@@ -28,7 +28,9 @@ pub enum Passed {
 // Judges the segments of a file, which is mixed or not, in their order, and puts the rows into the tables that have
 // room for them all.
 pub fn pass(file: &[u8], mixed: bool, segments: &mut [u64], chunks: &mut [u64]) -> Passed
-    ensures { λ r. ⌜ ((h : Heading) → boxesIn File (now (file .entry)) 0 (length (now (file .entry))) ≡ given (h .boxes) → mixed ≡ h .mixed → Gathers (now (file .entry)) h (now (segments .entry)) (now (segments .exit)) (now (chunks .entry)) (now (chunks .exit)) r) ⌝ }
+    ensures { λ r. ⌜ ((h : Heading)
+        → boxesIn File (now (file .entry)) 0 (length (now (file .entry))) ≡ given (h .boxes) → mixed ≡ h .mixed
+        → Gathers (now (file .entry)) h (now (segments .entry)) (now (segments .exit)) (now (chunks .entry)) (now (chunks .exit)) r) ⌝ }
 {
     let mut tops = [NO_TOP; TOPS];
     tops_of(file, &mut tops);

@@ -42,7 +42,11 @@ pub(crate) fn segment_of(
     chunks: &mut [u64],
 ) -> SegmentRead
     requires { ⌜ (before .segments ≤ boxLimit) × (before .chunks ≤ chunkLimit) ⌝ }
-    ensures { λ r. ⌜ Counted before r × ((h : Heading) (ss : List Segment) → mixed ≡ h .mixed → Searched (now (file .entry)) (boxOf last) (h .boxes) → Tops (h .boxes) (now (tops .entry)) → before ≡ gatheredOf ss → Segmented (now (file .entry)) h ss (boxOf b) (now (segments .entry)) (now (segments .exit)) (now (chunks .entry)) (now (chunks .exit)) r) ⌝ }
+    ensures { λ r. ⌜ Counted before r × ((h : Heading) (ss : List Segment) → mixed ≡ h .mixed
+        → Searched (now (file .entry)) (boxOf last) (h .boxes) → Tops (h .boxes) (now (tops .entry))
+        → before ≡ gatheredOf ss
+        → Segmented (now (file .entry)) h ss (boxOf b) (now (segments .entry)) (now (segments .exit))
+        (now (chunks .entry)) (now (chunks .exit)) r) ⌝ }
 {
     let place = b.at;
     match parts_of(file, b) {

@@ -103,7 +103,9 @@ fn surl_right(file: &[u8], start: Place, end: Place, inner: Tally) -> bool
 // What the heading tells of a file that passed stages 1 to 9, or the refusal that its `pfil` has.
 pub(crate) fn inner_of(file: &[u8], b: Framed, boxes: Tally, mixed: bool) -> Headed
     requires { ⌜ Within (length (now file)) b ⌝ }
-    ensures { λ r. ⌜ ((bs : List Box) → boxes ≡ tallyOf (given bs) → boxOf b ≡ boxAt 1 bs → Fronted (now (file .entry)) mixed bs → headedAnswer r ≡ told (now (file .entry)) (judged (now (file .entry)) bs)) ⌝ }
+    ensures { λ r. ⌜ ((bs : List Box) → boxes ≡ tallyOf (given bs) → boxOf b ≡ boxAt 1 bs
+        → Fronted (now (file .entry)) mixed bs
+        → headedAnswer r ≡ told (now (file .entry)) (judged (now (file .entry)) bs)) ⌝ }
 {
     let start = b.body;
     let end = b.end;

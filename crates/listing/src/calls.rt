@@ -37,7 +37,8 @@ pub fn list(
     had: &mut [u64],
     missing: &mut [u64],
 ) -> Listed
-    ensures { λ r. ⌜ Listing (now (file .entry)) (now (segments .entry)) (now (segments .exit)) (now (chunks .entry)) (now (chunks .exit)) (now (had .entry)) (now (had .exit)) (now (missing .entry)) (now (missing .exit)) r ⌝ }
+    ensures { λ r. ⌜ Listing (now (file .entry)) (now (segments .entry)) (now (segments .exit)) (now (chunks .entry))
+        (now (chunks .exit)) (now (had .entry)) (now (had .exit)) (now (missing .entry)) (now (missing .exit)) r ⌝ }
 {
     // The table is the call's own, so that it is filled while the file is judged, in one pass.
     let mut spans = [0; ALL_CHUNK_ROWS];

@@ -46,7 +46,9 @@ fn surely_fits(room: u64, ranges: u64) -> bool
 // Puts the map of a file by the spans in both tables, and by what its ranges hold together.
 fn put_outline(buffer: &mut [u8], good: &[u64], damaged: &[u64], o: Outline, totals: Totals) -> u64
     requires { ⌜ Drawn (now good) (now damaged) o × Counts (rangesIn (now good) (now damaged) o) totals ⌝ }
-    ensures { λ r. ⌜ ((ss : List Segment) → Outlined ss (now (good .entry)) (now (damaged .entry)) o → Puts (now (buffer .entry)) 0 (textOf (o .named) ss) (now (buffer .exit)) r) × (r ≤ 150 + 50 * totals .ranges) ⌝ }
+    ensures { λ r. ⌜ ((ss : List Segment) → Outlined ss (now (good .entry)) (now (damaged .entry)) o
+        → Puts (now (buffer .entry)) 0 (textOf (o .named) ss) (now (buffer .exit)) r)
+        × (r ≤ 150 + 50 * totals .ranges) ⌝ }
 {
     let first = put_source(buffer, o.end, o.closed);
     let last = put_ranges(buffer, first, good, damaged, o);
@@ -80,7 +82,9 @@ fn write_rows(
     named: bool,
 ) -> Written
     requires { ⌜ (gathered .chunks ≤ chunkLimit) × (end .0 ≤ sourceLimit) ⌝ }
-    ensures { λ r. ⌜ ((ss : List Segment) → Known (now (rows .entry)) (gathered .chunks) (end .0) ss → gathered .sizes .known ≡ isClosed ss → Writes (textOf named ss) (now (buffer .entry)) (now (buffer .exit)) r) ⌝ }
+    ensures { λ r. ⌜ ((ss : List Segment) → Known (now (rows .entry)) (gathered .chunks) (end .0) ss
+        → gathered .sizes .known ≡ isClosed ss
+        → Writes (textOf named ss) (now (buffer .entry)) (now (buffer .exit)) r) ⌝ }
 {
     let mut damage = [0; ALL_SPANS];
     let damaged = file_damage(rows, gathered.chunks, end, named, &mut damage);

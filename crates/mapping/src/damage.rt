@@ -21,7 +21,9 @@ pub(crate) fn file_damage(
     named: bool,
     table: &mut [u64],
 ) -> usize
-    ensures { λ n. ⌜ Ordered (now (table .exit)) n (end .0) × ((ss : List Segment) → 2 * count ≤ length (now (table .entry)) → Known (now (rows .entry)) count (end .0) ss → Damage ss named (now (table .exit)) n (end .0)) ⌝ }
+    ensures { λ n. ⌜ Ordered (now (table .exit)) n (end .0) × ((ss : List Segment)
+        → 2 * count ≤ length (now (table .entry)) → Known (now (rows .entry)) count (end .0) ss
+        → Damage ss named (now (table .exit)) n (end .0)) ⌝ }
 {
     if !named {
         return 0;

@@ -19,7 +19,9 @@ pub(crate) fn put_ranges(
     o: Outline,
 ) -> u64
     requires { ⌜ (at ≤ 50) × Drawn (now good) (now damaged) o ⌝ }
-    ensures { λ r. ⌜ Puts (now (buffer .entry)) at (rangeLines (wordOf (o .named)) (rangesIn (now (good .entry)) (now (damaged .entry)) o)) (now (buffer .exit)) r × (r ≤ 50 + 50 * o .end .0) × (r ≤ 50 + 50 * length (rangesIn (now (good .entry)) (now (damaged .entry)) o)) ⌝ }
+    ensures { λ r. ⌜ Puts (now (buffer .entry)) at (rangeLines (wordOf (o .named)) (rangesIn (now (good .entry)) (now (damaged .entry)) o)) (now (buffer .exit)) r
+        × (r ≤ 50 + 50 * o .end .0)
+        × (r ≤ 50 + 50 * length (rangesIn (now (good .entry)) (now (damaged .entry)) o)) ⌝ }
 {
     let mut next = at;
     let mut sweeps = Sweeps::start(o.good, o.damaged);

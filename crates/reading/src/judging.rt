@@ -38,7 +38,10 @@ pub enum Judgement {
 // Stages 13 to 25 of a file, mixed or not, whose framing is right and that has so many `pseg` boxes; the rows of its
 // chunks go into a table that has room for them all.
 fn segments_of(file: &[u8], mixed: bool, count: u64, chunks: &mut [u64]) -> Passed
-    ensures { λ r. ⌜ ((h : Heading) → boxesIn File (now (file .entry)) 0 (length (now (file .entry))) ≡ given (h .boxes) → mixed ≡ h .mixed → count ≡ length (those pseg (h .boxes)) → (gatheredAnswer r ≡ gatheredIn (now (file .entry)) h) × RowsIn (segments sourceLimit (now (file .entry)) h) (now (chunks .entry)) (now (chunks .exit))) ⌝ }
+    ensures { λ r. ⌜ ((h : Heading)
+        → boxesIn File (now (file .entry)) 0 (length (now (file .entry))) ≡ given (h .boxes) → mixed ≡ h .mixed
+        → count ≡ length (those pseg (h .boxes)) → (gatheredAnswer r ≡ gatheredIn (now (file .entry)) h)
+        × RowsIn (segments sourceLimit (now (file .entry)) h) (now (chunks .entry)) (now (chunks .exit))) ⌝ }
 {
     if SEGMENT_LIMIT < count {
         return Passed::Refused(TOO_MANY_SEGMENTS);

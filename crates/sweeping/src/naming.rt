@@ -43,7 +43,11 @@ pub struct Named {
 // The range of a position below an end, by the ordered spans of both tables. The damaged ones are not looked at while
 // the position is had.
 pub fn named_at(good: &[u64], damaged: &[u64], sweeps: Sweeps, p: Position, end: Position) -> Named
-    ensures { λ r. ⌜ GoesOn held (p .0) (end .0) (r .range) × OverTheSame sweeps (r .sweeps) × (Ordered (now (good .entry)) (sweeps .good .n) (end .0) → Ordered (now (damaged .entry)) (sweeps .damaged .n) (end .0) → BothReady (now (good .entry)) (now (damaged .entry)) (end .0) (p .0) sweeps → p .0 < end .0 → Names (now (good .entry)) (now (damaged .entry)) sweeps (p .0) (end .0) r) ⌝ }
+    ensures { λ r. ⌜ GoesOn held (p .0) (end .0) (r .range) × OverTheSame sweeps (r .sweeps)
+        × (Ordered (now (good .entry)) (sweeps .good .n) (end .0)
+        → Ordered (now (damaged .entry)) (sweeps .damaged .n) (end .0)
+        → BothReady (now (good .entry)) (now (damaged .entry)) (end .0) (p .0) sweeps → p .0 < end .0
+        → Names (now (good .entry)) (now (damaged .entry)) sweeps (p .0) (end .0) r) ⌝ }
 {
     let before = sweeps.good;
     let waiting = sweeps.damaged;

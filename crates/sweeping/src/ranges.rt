@@ -71,7 +71,9 @@ fn had_to(table: &[u64], n: usize, passed: usize, p: Position) -> Reach
 
 // The range of a position below an end, by so many ordered spans of which the first so many are passed.
 pub fn range_at(table: &[u64], n: usize, passed: usize, p: Position, end: Position) -> Found
-    ensures { λ r. ⌜ GoesOn had (p .0) (end .0) (r .range) × (Ordered (now (table .entry)) n (end .0) → Passed (now (table .entry)) n passed (p .0) → p .0 < end .0 → Finds (now (table .entry)) n (p .0) (end .0) r) ⌝ }
+    ensures { λ r. ⌜ GoesOn had (p .0) (end .0) (r .range) × (Ordered (now (table .entry)) n (end .0)
+        → Passed (now (table .entry)) n passed (p .0) → p .0 < end .0
+        → Finds (now (table .entry)) n (p .0) (end .0) r) ⌝ }
 {
     if end.0 <= p.0 {
         return nothing(passed, 0);

@@ -31,7 +31,9 @@ impl Sweep {
 
     // The sweep as it stands in the range of a position below an end: moved there, unless it does so already.
     pub(crate) fn at(self, table: &[u64], p: Position, end: Position) -> Self
-        ensures { λ s. ⌜ Moves self (p .0) (end .0) s × (Ordered (now (table .entry)) (self .n) (end .0) → Ready (now (table .entry)) (end .0) (p .0) self → p .0 < end .0 → Ready (now (table .entry)) (end .0) (p .0) s) ⌝ }
+        ensures { λ s. ⌜ Moves self (p .0) (end .0) s × (Ordered (now (table .entry)) (self .n) (end .0)
+            → Ready (now (table .entry)) (end .0) (p .0) self → p .0 < end .0
+            → Ready (now (table .entry)) (end .0) (p .0) s) ⌝ }
     {
         if p.0 < self.to.0 {
             return self;

@@ -99,7 +99,9 @@ pub extern "C" fn vrazhupa_list(
     missing: &mut [u64],
     told: &mut [u64; 4],
 ) -> u64
-    ensures { λ r. ⌜ SaysListed (now (file .entry)) (now (segments .entry)) (now (segments .exit)) (now (chunks .entry)) (now (chunks .exit)) (now (had .entry)) (now (had .exit)) (now (missing .entry)) (now (missing .exit)) (now (told .entry)) (now (told .exit)) r ⌝ }
+    ensures { λ r. ⌜ SaysListed (now (file .entry)) (now (segments .entry)) (now (segments .exit))
+        (now (chunks .entry)) (now (chunks .exit)) (now (had .entry)) (now (had .exit)) (now (missing .entry))
+        (now (missing .exit)) (now (told .entry)) (now (told .exit)) r ⌝ }
 {
     say_listed(list(file, segments, chunks, had, missing), told)
 }

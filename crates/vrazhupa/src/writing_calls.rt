@@ -44,7 +44,9 @@ pub extern "C" fn vrazhupa_append(
     bytes: &[u8],
     told: &mut [u64; 1],
 ) -> u64
-    ensures { λ r. ⌜ SaysAppended (now (buffer .entry)) (now (buffer .exit)) length (asks (writable (record { 0 = offset }) repair last) outside (now (list .entry)) (now (bytes .entry))) (now (told .entry)) (now (told .exit)) r ⌝ }
+    ensures { λ r. ⌜ SaysAppended (now (buffer .entry)) (now (buffer .exit)) length
+        (asks (writable (record { 0 = offset }) repair last) outside (now (list .entry)) (now (bytes .entry)))
+        (now (told .entry)) (now (told .exit)) r ⌝ }
 {
     let header = SegmentHeader::writable(Position(offset), repair, last);
     say_written(append(buffer, length, header, outside, list, bytes), told)

@@ -49,7 +49,10 @@ fn put_added(
     list: &[u64],
     bytes: &[u8],
 ) -> Place
-    requires { ⌜ Sorted (asks header outside (now list) (now bytes)) counts stored × Laid (asks header outside (now list) (now bytes)) layout × Fits (items (now list)) × (at .0 + length (added (asks header outside (now list) (now bytes))) ≤ length (now buffer)) × (length (added (asks header outside (now list) (now bytes))) ≤ fileLimit) ⌝ }
+    requires { ⌜ Sorted (asks header outside (now list) (now bytes)) counts stored
+        × Laid (asks header outside (now list) (now bytes)) layout × Fits (items (now list))
+        × (at .0 + length (added (asks header outside (now list) (now bytes))) ≤ length (now buffer))
+        × (length (added (asks header outside (now list) (now bytes))) ≤ fileLimit) ⌝ }
     ensures { λ r. ⌜ Puts (now (buffer .entry)) (at .0) (added (asks header outside (now (list .entry)) (now (bytes .entry)))) (now (buffer .exit)) (r .0) ⌝ }
 {
     let there = counts.present != stored.chunks;
@@ -80,7 +83,11 @@ fn append_right(
     list: &[u64],
     bytes: &[u8],
 ) -> Written
-    requires { ⌜ (n ≤ length (now buffer)) × (earlierTold (take n (now buffer)) ≡ given (record { facts = factsBy (judged .head); gathered = judged .gathered })) × (listRight (now list) ≡ true) × Sorted (asks header outside (now list) (now bytes)) counts stored × ((h : Heading) → heading (take n (now buffer)) ≡ given h → outsideRight h (asks header outside (now list) (now bytes)) ≡ true) ⌝ }
+    requires { ⌜ (n ≤ length (now buffer))
+        × (earlierTold (take n (now buffer)) ≡ given (record { facts = factsBy (judged .head); gathered = judged .gathered }))
+        × (listRight (now list) ≡ true) × Sorted (asks header outside (now list) (now bytes)) counts stored
+        × ((h : Heading) → heading (take n (now buffer)) ≡ given h
+        → outsideRight h (asks header outside (now list) (now bytes)) ≡ true) ⌝ }
     ensures { λ r. ⌜ Appends (now (buffer .entry)) (now (buffer .exit)) n (asks header outside (now (list .entry)) (now (bytes .entry))) r ⌝ }
 {
     let layout = layout_of(counts, stored, header.offset);

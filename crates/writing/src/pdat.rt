@@ -63,7 +63,9 @@ pub(crate) fn put_pdat(
     list: &[u64],
     bytes: &[u8],
 ) -> Place
-    requires { ⌜ (size ≡ length (dataFor (goesIn outside) (items (now list)) (now bytes))) × (at .0 + length (dataPart outside there (now list) (now bytes)) ≤ length (now buffer)) × (length (dataPart outside there (now list) (now bytes)) ≤ fileLimit) ⌝ }
+    requires { ⌜ (size ≡ length (dataFor (goesIn outside) (items (now list)) (now bytes)))
+        × (at .0 + length (dataPart outside there (now list) (now bytes)) ≤ length (now buffer))
+        × (length (dataPart outside there (now list) (now bytes)) ≤ fileLimit) ⌝ }
     ensures { λ r. ⌜ Puts (now (buffer .entry)) (at .0) (dataPart outside there (now (list .entry)) (now (bytes .entry))) (now (buffer .exit)) (r .0) ⌝ }
 {
     if !there {

@@ -73,7 +73,9 @@ struct Backs {
 impl Backs {
     // Of the next item, where the good ones go outside or do not.
     fn of(self, outside: bool, state: u64) -> u64
-        ensures { λ r. ⌜ ((out size : ℕ) (is : List Item) → Distances outside out (record { size = size; state = state } ∷ is) self → r ≡ back outside out (record { size = size; state = state }) is) ⌝ }
+        ensures { λ r. ⌜ ((out size : ℕ) (is : List Item)
+            → Distances outside out (record { size = size; state = state } ∷ is) self
+            → r ≡ back outside out (record { size = size; state = state }) is) ⌝ }
     {
         if goes_out(outside, state) {
             self.outside
@@ -112,7 +114,9 @@ fn put_entries(
     backs: Backs,
     list: &[u64],
 ) -> Place
-    requires { ⌜ Entries (widths .size) (widths .offset) (placed outside (items (now list))) × Distances outside (sizeOf (goesOut outside) (items (now list))) (items (now list)) backs × (at .0 + length (entryBytes (widths .size) (widths .offset) (placed outside (items (now list)))) ≤ length (now buffer)) ⌝ }
+    requires { ⌜ Entries (widths .size) (widths .offset) (placed outside (items (now list)))
+        × Distances outside (sizeOf (goesOut outside) (items (now list))) (items (now list)) backs
+        × (at .0 + length (entryBytes (widths .size) (widths .offset) (placed outside (items (now list)))) ≤ length (now buffer)) ⌝ }
     ensures { λ r. ⌜ Puts (now (buffer .entry)) (at .0) (entryBytes (widths .size) (widths .offset) (placed outside (items (now (list .entry))))) (now (buffer .exit)) (r .0) ⌝ }
 {
     let mut next = at;
@@ -140,7 +144,10 @@ pub(crate) fn put_ploc(
     out: u64,
     list: &[u64],
 ) -> Place
-    requires { ⌜ Whole (items (now list)) counts × PlocLaid outside (items (now list)) layout × Fits (items (now list)) × (out ≡ sizeOf (goesOut outside) (items (now list))) × (at .0 + length (plocBox outside (now list)) ≤ length (now buffer)) × (length (plocBox outside (now list)) ≤ fileLimit) ⌝ }
+    requires { ⌜ Whole (items (now list)) counts × PlocLaid outside (items (now list)) layout
+        × Fits (items (now list)) × (out ≡ sizeOf (goesOut outside) (items (now list)))
+        × (at .0 + length (plocBox outside (now list)) ≤ length (now buffer))
+        × (length (plocBox outside (now list)) ≤ fileLimit) ⌝ }
     ensures { λ r. ⌜ Puts (now (buffer .entry)) (at .0) (plocBox outside (now (list .entry))) (now (buffer .exit)) (r .0) ⌝ }
 {
     let size = layout.length_size;

@@ -29,7 +29,10 @@ pub(crate) fn put_pseg(
     out: u64,
     list: &[u64],
 ) -> Place
-    requires { ⌜ Whole (items (now list)) counts × PsegLaid (asks header outside (now list) []) layout × Fits (items (now list)) × (out ≡ sizeOf (goesOut outside) (items (now list))) × (at .0 + length (psegBox header outside (now list)) ≤ length (now buffer)) × (length (psegBox header outside (now list)) ≤ fileLimit) ⌝ }
+    requires { ⌜ Whole (items (now list)) counts × PsegLaid (asks header outside (now list) []) layout
+        × Fits (items (now list)) × (out ≡ sizeOf (goesOut outside) (items (now list)))
+        × (at .0 + length (psegBox header outside (now list)) ≤ length (now buffer))
+        × (length (psegBox header outside (now list)) ≤ fileLimit) ⌝ }
     ensures { λ r. ⌜ Puts (now (buffer .entry)) (at .0) (psegBox header outside (now (list .entry))) (now (buffer .exit)) (r .0) ⌝ }
 {
     let body = put_front(buffer, at, PSEG.code, layout.pseg);
