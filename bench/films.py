@@ -17,7 +17,8 @@ def pseg(place, offset, chunks, widths, last=False):
 
 
 def as_written(segments, size):
-    """Each segment behind its own data, as append lays it out; a segment is its source offset and how many good chunks of a size it has."""
+    """Each segment behind its own data, as append lays it out; a segment is its source offset and how many good chunks
+    of a size it has."""
     file = head(b"http://films.example/lesson", b"video/mp4")
     for offset, count in segments:
         data = box(b"pdat", bytes(count * size))
@@ -29,8 +30,8 @@ def as_written(segments, size):
 
 
 def data_first(bodies, size, segments, widths=(8, 8), last=True, damaged=()):
-    """So many data boxes, then the segments; a segment is its source offset and, for each of its chunks of a size, the number of its data box, None where it is lost. The chunks
-    of damaged boxes are."""
+    """So many data boxes, then the segments; a segment is its source offset and, for each of its chunks of a size, the
+    number of its data box, None where it is lost. The chunks of damaged boxes are."""
     file = head(b"http://films.example/lesson", b"video/mp4")
     places = []
     for _ in range(bodies):

@@ -1,10 +1,12 @@
-"""Counts the instructions that one call takes, of the proved library and of the plain C program, on the films of the benchmark.
+"""Counts the instructions that one call takes, of the proved library and of the plain C program, on the films of the
+benchmark.
 
 usage: python3 bench/instructions.py BENCH FOLDER [CALL FILM]
 
-BENCH is the benchmark, with the places of its parts in BENCH.places beside it; FOLDER has the films. The emulator takes one
-instruction at a time and writes down its address; what two calls take more than one is what one call takes. Instructions of
-the C library are told apart: most of them make a table ready, and a string instruction counts there for each of its bytes.
+BENCH is the benchmark, with the places of its parts in BENCH.places beside it; FOLDER has the films. The emulator takes
+one instruction at a time and writes down its address; what two calls take more than one is what one call takes.
+Instructions of the C library are told apart: most of them make a table ready, and a string instruction counts there for
+each of its bytes.
 """
 
 import os

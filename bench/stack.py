@@ -1,8 +1,8 @@
 """The largest stack of each exported call, read from the machine code of the archive: python3 bench/stack.py ARCHIVE
 
-A function's frame is what it pushes and takes off the stack pointer, and the return address; a call's stack is the largest sum along the calls that its
-function makes. The archive has no recursion and no call through a pointer, or this ends with an error. The C library's memcpy and memset count as a return
-address alone.
+A function's frame is what it pushes and takes off the stack pointer, and the return address; a call's stack is the
+largest sum along the calls that its function makes. The archive has no recursion and no call through a pointer, or this
+ends with an error. The C library's memcpy and memset count as a return address alone.
 """
 
 import re
@@ -22,8 +22,9 @@ FROM_C = {"memcpy", "memset"}
 
 
 def taken_by(line):
-    """What a line takes off the stack. Of many pages each is taken in a loop, up to a mark in r11 that lies below by all of them: the mark is made once, and the
-    line of the loop takes the page that the mark counts too many. Of less than a page r11 is no mark."""
+    """What a line takes off the stack. Of many pages each is taken in a loop, up to a mark in r11 that lies below by
+    all of them: the mark is made once, and the line of the loop takes the page that the mark counts too many. Of less
+    than a page r11 is no mark."""
     taken = TAKES.search(line)
     if not taken:
         return 0

@@ -92,7 +92,8 @@ def described(file):
 
 
 def random_chunk_list(rng, room, outside):
-    """A chunk list of at most `room` positions; open once in a while. A good chunk that goes outside has room for a box."""
+    """A chunk list of at most `room` positions; open once in a while. A good chunk that goes outside has room for a
+    box."""
     chunk_list = []
     for _ in range(rng.choice([0, 1, 1, 2, 2, 3, 4])):
         size = rng.choice([1, 2, rng.randint(1, 9), rng.randint(1, 15)])
@@ -118,7 +119,8 @@ def last_flag(rng, file, source_offset, chunk_list):
 
 
 def far(rng):
-    """How far an addition may reach that does not stay near the front: to the limit, or near the first offset of the 64-bit form."""
+    """How far an addition may reach that does not stay near the front: to the limit, or near the first offset of the
+    64-bit form."""
     return rng.choice([LIMIT, LIMIT, WIDE - 1, WIDE, WIDE + rng.randint(-20, 60), rng.randint(WIDE, LIMIT)])
 
 
@@ -226,7 +228,8 @@ def not_whole_boxes(rng):
 
 
 def spoil_outside(rng, given):
-    """One more chunk to go outside that may not, before the others, or behind; where the file is not mixed it may be whole boxes."""
+    """One more chunk to go outside that may not, before the others, or behind; where the file is not mixed it may be
+    whole boxes."""
     part = not_whole_boxes(rng)
     if not is_mixed(given["buffer"]) and rng.random() < 0.5:
         part = boxes_of(rng, rng.randint(8, 40))

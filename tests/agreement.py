@@ -2,8 +2,8 @@
 
 usage: python3 tests/agreement.py [--files N] [--additions N] [--beginnings N] [--seed N] [--batch N]
 
-It writes crates over ours to a folder of its own outside the repository and has the checker compute the definitions on each case.
-The last line is `N passed, M failed`; a case that differs is printed with what it was made from.
+It writes crates over ours to a folder of its own outside the repository and has the checker compute the definitions on
+each case. The last line is `N passed, M failed`; a case that differs is printed with what it was made from.
 """
 
 import argparse

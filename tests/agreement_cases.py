@@ -234,7 +234,8 @@ def beginning_case(name, given):
 
 
 def some_file(rng, index):
-    """First each fault once; then of ten files four as another writer makes them, one of them mixed at least, four spoiled, two with a fault.
+    """First each fault once; then of ten files four as another writer makes them, one of them mixed at least, four
+    spoiled, two with a fault.
 
     A file with a 513th box is large, so that fault is chosen once.
     """
@@ -251,7 +252,8 @@ def some_file(rng, index):
 
 
 def some_addition(rng, index):
-    """Mostly as a clerk would add, one in four outside, and each fault of append in turn; those that need a large file once."""
+    """Mostly as a clerk would add, one in four outside, and each fault of append in turn; those that need a large file
+    once."""
     file = generate.foreign_file(rng)
     if index < len(generate.FAULTS_OF_APPEND):
         return generate.faulty_addition(rng, file, generate.FAULTS_OF_APPEND[index])

@@ -271,7 +271,8 @@ def write_crate(folder, name, modules):
 
 
 def hand_over(folder, crate):
-    """What an earlier check proved of a crate of ours; the checker takes it only where the crate's files are the same."""
+    """What an earlier check proved of a crate of ours; the checker takes it only where the crate's files are the
+    same."""
     for part, name in (("rlib", crate + ".rlib"), ("stamp", crate)):
         proved = os.path.join(TOP, "target", part, name)
         if os.path.exists(proved):

@@ -1,4 +1,5 @@
-"""Says of a call whether a request changed its answer: by the model as it is, and by the model with the rule that held before the request."""
+"""Says of a call whether a request changed its answer: by the model as it is, and by the model with the rule that held
+before the request."""
 
 import struct
 from unittest.mock import patch
@@ -21,7 +22,8 @@ def number_of(file):
 
 
 def refused_with(call, old, before, numbers):
-    """Whether the call's file was refused with one of these numbers, which the old answer tells, and is not any more. A map has its number in its text."""
+    """Whether the call's file was refused with one of these numbers, which the old answer tells, and is not any more. A
+    map has its number in its text."""
     told = call.name in ("map", "missmap") or old == before
     return told and before in numbers and number_of(call.file) != before
 
@@ -54,7 +56,8 @@ def wants_elsewhere(chunk_list):
 
 
 def by_elsewhere(call, old):
-    """Request 4: a file with a chunk held elsewhere, refused with 21, or such a chunk in the list of an append, refused with 31."""
+    """Request 4: a file with a chunk held elsewhere, refused with 21, or such a chunk in the list of an append, refused
+    with 31."""
     with patch.object(model, "state_of", state_or_neither):
         before = number_of(call.file)
     if call.name == "append" and before == 0 and old == model.CHUNK_LIST_FAULT:
@@ -77,7 +80,8 @@ def by_longer_recordings(call, old):
 
 
 def by_names(call, old):
-    """Request 6: the map of an accepted file. Its total line has one number more, so that its text is longer, and is another wherever the old one was written."""
+    """Request 6: the map of an accepted file. Its total line has one number more, so that its text is longer, and is
+    another wherever the old one was written."""
     return call.name == "map" and old == 0 and len(call.file) <= call.numbers[0] and model.attempt(model.accept, call.file)[0] == 0
 
 

@@ -1,13 +1,16 @@
-"""Holds two implementations of include/vrazhupa.h against each other, one from before a change and one from after it, and says where their answers or lent bytes differ.
+"""Holds two implementations of include/vrazhupa.h against each other, one from before a change and one from after it,
+and says where their answers or lent bytes differ.
 
 usage: python3 tests/between.py [--cases N] [--seed S] [--request R] --old WORDS --new WORDS
 
-WORDS, in quotes, are how each driver is run; both are made of tests/scale/*.c, as tests/scale.py says. They are sent the cases that tests/scale.py makes with that
-seed, without the calls that only one of them has, or cannot be asked; the map that does not name damage is the map of one from before request 6. Of each call its
-answer and a sum of each lent memory, with what lies around it, are compared. Differences are counted by old answer, new answer and call. With --request R one is
-expected where the model says of the call that this request changes its answer, from the old one if the model can tell that (tests/before.py), and the new answer is
-the model's; without, none is. The status is 1 where one is not expected, or where the model says exactly when answers change and one that is expected does not
-come; `tests/scale.py --seed S --show CASE` shows a case.
+WORDS, in quotes, are how each driver is run; both are made of tests/scale/*.c, as tests/scale.py says. They are sent
+the cases that tests/scale.py makes with that seed, without the calls that only one of them has, or cannot be asked; the
+map that does not name damage is the map of one from before request 6. Of each call its answer and a sum of each lent
+memory, with what lies around it, are compared. Differences are counted by old answer, new answer and call. With
+--request R one is expected where the model says of the call that this request changes its answer, from the old one if
+the model can tell that (tests/before.py), and the new answer is the model's; without, none is. The status is 1 where
+one is not expected, or where the model says exactly when answers change and one that is expected does not come;
+`tests/scale.py --seed S --show CASE` shows a case.
 
 A driver for an implementation from before request 2 is built with that one's header and -DBEFORE_MIXED.
 """
@@ -109,7 +112,8 @@ def compared(call, before, after, request):
 
 
 def differences(made, old, new, request):
-    """How many there are of each call, by answers and how they stand to what is expected, and the first that are wrong."""
+    """How many there are of each call, by answers and how they stand to what is expected, and the first that are
+    wrong."""
     found, shown = defaultdict(Counter), []
     for call, before, after in zip(made, old, new):
         answers = compared(call, before, after, request)

@@ -69,7 +69,8 @@ def entry(flag_byte, length_size, size, offset_size=0, offset=None):
 
 
 def lost_segment(offset, sizes, flags=0, version=None, width=None, flag_byte=0x80):
-    """A pseg of chunks that are not present: lost, or by another flag byte held elsewhere. Their sizes have four bytes, or more where they need them."""
+    """A pseg of chunks that are not present: lost, or by another flag byte held elsewhere. Their sizes have four bytes,
+    or more where they need them."""
     if width is None:
         width = max([4] + [(size.bit_length() + 7) // 8 for size in sizes])
     entries = [entry(flag_byte, width, size) for size in sizes]

@@ -4,9 +4,9 @@ gate: it takes some hours.
 usage: python3 tests/command_changes.py [--only NAME]... [--native] [--list]
 
 Each change is built over the plain C program for this processor, and tried by tests/command.py up to the first claim
-that fails; one that all claims let through is built again under both sanitizers, unless --native is given. A change that
-does not compile is counted by itself. --only takes the changes of one file, or the one of a number, and may be given
-again; --list prints the changes.
+that fails; one that all claims let through is built again under both sanitizers, unless --native is given. A change
+that does not compile is counted by itself. --only takes the changes of one file, or the one of a number, and may be
+given again; --list prints the changes.
 """
 
 import argparse
@@ -39,7 +39,8 @@ TOKEN = re.compile(r"->|\+\+|--|\+=|-=|\|=|<<|>>|<=|>=|==|!=|&&|\|\||[-<>+!|]|\b
 
 
 def masked(text):
-    """The text with its comments, strings, characters and lines of the preprocessor blanked, so that no token is found there."""
+    """The text with its comments, strings, characters and lines of the preprocessor blanked, so that no token is found
+    there."""
     pattern = re.compile(r'/\*.*?\*/|"(?:\\.|[^"\\])*"|\'(?:\\.|[^\'\\])*\'|^#[^\n]*', re.DOTALL | re.MULTILINE)
     return pattern.sub(lambda found: re.sub(r"[^\n]", " ", found[0]), text)
 

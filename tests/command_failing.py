@@ -1,4 +1,5 @@
-"""Claims that a full disk, a closed pipe and closed standard streams are told with status 2, and leave the file as it was."""
+"""Claims that a full disk, a closed pipe and closed standard streams are told with status 2, and leave the file as it
+was."""
 
 import os
 import resource

@@ -1,4 +1,5 @@
-"""Claims that the command says how it is used, which version it is, and what each refusal means, in the words of README.md's table."""
+"""Claims that the command says how it is used, which version it is, and what each refusal means, in the words of
+README.md's table."""
 
 import os
 import re

@@ -1,4 +1,5 @@
-"""Claims what info shows of a file: each line of its screen, the bar, and each key of its line of JSON, by hand and by the model."""
+"""Claims what info shows of a file: each line of its screen, the bar, and each key of its line of JSON, by hand and by
+the model."""
 
 import fcntl
 import json

@@ -1,4 +1,5 @@
-"""Claims that a file is whole when append is killed at any of its calls or at any time, and as it was when a signal ends it that can be caught."""
+"""Claims that a file is whole when append is killed at any of its calls or at any time, and as it was when a signal
+ends it that can be caught."""
 
 import os
 import signal
@@ -21,7 +22,8 @@ def without_header(case):
 
 
 def claim_whole(name, command, case):
-    """The old bytes stand; what stands behind them is refused or changes nothing; cut, the file is the old one, and its lock is free."""
+    """The old bytes stand; what stands behind them is refused or changes nothing; cut, the file is the old one, and its
+    lock is free."""
     name = f"{case.name}, {name}"
     content = command.held("film")
     expect(f"the old bytes after {name}", content.startswith(case.film))
@@ -67,7 +69,8 @@ CALLS = [("flock", 1, b""), ("pwrite64", 1, AS_IT_WAS), ("pwrite64", 3, AS_IT_WA
 
 
 def ended_by_signals(command, case):
-    """A signal that can be caught, at any call: the film is cut to its old length, or it came too late and all is done; the command ends by the signal."""
+    """A signal that can be caught, at any call: the film is cut to its old length, or it came too late and all is done;
+    the command ends by the signal."""
     for name in SIGNALS:
         for call, count, said in CALLS:
             command.put("film", case.film)
@@ -95,7 +98,8 @@ def new_files_ended(command):
 
 
 def killed_at_any_time(command, case):
-    """The same where the kill may fall into the middle of a write: the times are spread over those that a whole append takes."""
+    """The same where the kill may fall into the middle of a write: the times are spread over those that a whole append
+    takes."""
     command.put("film", case.film)
     words = words_of(command, case)
     start = time.monotonic()

@@ -1,4 +1,5 @@
-"""Claims that a film of 1 GiB is mapped, its boxes listed, got and appended to up to the limit, in little memory, and that a file over the limit is refused."""
+"""Claims that a film of 1 GiB is mapped, its boxes listed, got and appended to up to the limit, in little memory, and
+that a file over the limit is refused."""
 
 import os
 import sys
@@ -160,7 +161,8 @@ def input_over_the_limit(command):
 
 
 def boxes_over_the_limit(command):
-    """Boxes to go outside that no file has room for: 1 by their length, and 35 where a good chunk is not whole boxes or the film not mixed."""
+    """Boxes to go outside that no file has room for: 1 by their length, and 35 where a good chunk is not whole boxes or
+    the film not mixed."""
     file = film_of((0, [good(b"abcd")]), brand=PMFF)
     for name, size, length in [("boxes", 600_000_000, 600_000_000), ("cut", 600_000_000, 599_999_999), ("damage", 0, 9)]:
         command.put(name, size.to_bytes(4, "big") + b"mdat")

@@ -1,4 +1,5 @@
-"""Runs a command and writes its seconds and its peak memory in KiB to a file; the peak of a process counts that of its parent, so this one is small.
+"""Runs a command and writes its seconds and its peak memory in KiB to a file; the peak of a process counts that of its
+parent, so this one is small.
 
 usage: python3 tests/command_measure.py REPORT WORDS...
 """

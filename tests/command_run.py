@@ -1,4 +1,5 @@
-"""Runs the command as a person would, each time as a process of its own in a folder of its own, and holds its answer against what is wanted of it."""
+"""Runs the command as a person would, each time as a process of its own in a folder of its own, and holds its answer
+against what is wanted of it."""
 
 import os
 import re
@@ -47,7 +48,8 @@ class Command:
         os.remove(self.path(name))
 
     def start(self, *arguments, before=(), **how):
-        """A process of the command, both outputs in pipes unless `how` says otherwise; `before` are words that start a tracer."""
+        """A process of the command, both outputs in pipes unless `how` says otherwise; `before` are words that start a
+        tracer."""
         how = {"stdin": subprocess.DEVNULL, "stdout": subprocess.PIPE, "stderr": subprocess.PIPE} | how
         return subprocess.Popen([*before, *self.words, *arguments], cwd=self.folder, **how)
 
@@ -126,7 +128,8 @@ def told(answer):
 
 
 def claim(name, answer, status, out=b"", err=None):
-    """One claim on the status, every byte of standard output, and standard error, its form where no bytes are wanted."""
+    """One claim on the status, every byte of standard output, and standard error, its form where no bytes are
+    wanted."""
     found = answer.err if err is not None else told(answer) or answer.err
     expect(name, (answer.status, answer.out, found), (status, out, True if err is None else err))
 
@@ -152,7 +155,8 @@ def claim_each_refused(name, command, words, number):
 
 
 def claim_missing(name, answer, position, described=None):
-    """One line on standard error that has the position's number and why it is not served, by the described length where that is given, and nothing else."""
+    """One line on standard error that has the position's number and why it is not served, by the described length where
+    that is given, and nothing else."""
     whys = [b"is missing", b"is not below the described length"]
     if described is not None:
         whys = whys[:1] if position < described else whys[1:]

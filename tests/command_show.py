@@ -1,4 +1,5 @@
-"""Claims every byte that map, boxes, rows and get print, of files made by hand and generated, spoiled and cut, against the manual page and the model."""
+"""Claims every byte that map, boxes, rows and get print, of files made by hand and generated, spoiled and cut, against
+the manual page and the model."""
 
 import os
 import random
@@ -137,7 +138,8 @@ def outputs(command):
 
 
 def cut_short(command):
-    """A film that another program cuts while its bytes are written is what is told, and not standard output; no part of a new file is left."""
+    """A film that another program cuts while its bytes are written is what is told, and not standard output; no part of
+    a new file is left."""
     size = 3_000_000
     film = film_of((0, [good(bytes(size))], True))
     for turn in range(3):
@@ -189,7 +191,8 @@ def states(command):
 
 
 def vendors(command):
-    """By hand: whose a box is, in both forms of its size; types that do not print; and where the boxes break off, which one comes last."""
+    """By hand: whose a box is, in both forms of its size; types that do not print; and where the boxes break off, which
+    one comes last."""
     film = film_of((0, [good(b"abcd"), lost(6)]))
     front = b"0\t20\tftyp\n20\t35\tpfil\n55\t12\tpdat\n67\t54\tpseg\n"
     one, two = bytes.fromhex("00112233445566778899aabbccddeeff"), bytes(range(16))

@@ -1,4 +1,5 @@
-"""Claims that commands at work on one file at once wait for each other, and leave the file that one after the other would have left."""
+"""Claims that commands at work on one file at once wait for each other, and leave the file that one after the other
+would have left."""
 
 import fcntl
 import os
@@ -147,7 +148,8 @@ def no_waiting(command):
 
 
 def film_replaced(command):
-    """A film that takes the name while the lock of another is waited for is the one that is meant; where none does there is none."""
+    """A film that takes the name while the lock of another is waited for is the one that is meant; where none does
+    there is none."""
     grown = appended(FILM, 4, [good(b"xyz")])[1]
     for wanted in (grown, None):
         command.put("film", FILM)

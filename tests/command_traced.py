@@ -1,4 +1,5 @@
-"""Claims, by strace, in which order append writes and brings to the disk, and that the file is as it was when any of these calls fails."""
+"""Claims, by strace, in which order append writes and brings to the disk, and that the file is as it was when any of
+these calls fails."""
 
 import os
 import random
@@ -176,7 +177,8 @@ def failing_to_cut(command, case):
 
 
 def made(command, words, *options):
-    """An answer of a command that makes the file `new`, with calls that fail; whether one did; and what is new in the folder."""
+    """An answer of a command that makes the file `new`, with calls that fail; whether one did; and what is new in the
+    folder."""
     before = sorted(os.listdir(command.folder))
     tracer = ["strace", "-f", "-o", "log", "-e", "trace=" + ",".join(option.split(":")[0] for option in options)]
     for option in options:

@@ -96,7 +96,8 @@ def options(command):
 
 
 def values(command):
-    """A value stands behind its option or its `=`, options stand before, between and behind the operands, and `--` ends them."""
+    """A value stands behind its option or its `=`, options stand before, between and behind the operands, and `--` ends
+    them."""
     for text in ["append film --offset=4 --lost=1", "append --offset=4 --lost=1 film", "append --offset 4 film --lost 1", "append film --offset 4 --lost=1 --",
                  "append --offset 4 --lost 1 -- film", "append film --offset=4 --elsewhere=1", "append film --at=4 --lost=1", "append film --offset=4 --size=6 --good=piece"]:
         command.put("film", FILM)

@@ -105,7 +105,8 @@ def begun(url, mime=b"", brand=model.PAFF):
 
 
 def film_of(*additions, url=b"u", mime=b"", brand=model.PAFF):
-    """A file begun, and the taken additions, each an offset and its chunks and where it says so, last, its time and outside."""
+    """A file begun, and the taken additions, each an offset and its chunks and where it says so, last, its time and
+    outside."""
     file = begun(url, mime, brand)
     for addition in additions:
         number, file = appended(file, *addition)

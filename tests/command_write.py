@@ -1,4 +1,5 @@
-"""Claims every byte that begin and append leave in the file, and each refusal of an addition, which leaves the file as it was."""
+"""Claims every byte that begin and append leave in the file, and each refusal of an addition, which leaves the file as
+it was."""
 
 import os
 import random
@@ -105,7 +106,8 @@ def appends(command):
 
 
 def appends_far(command):
-    """By hand: a segment at the last offset of 32 bits, and one at the first of 64, whose header is four bytes longer; mapped and got across both, and to the limit."""
+    """By hand: a segment at the last offset of 32 bits, and one at the first of 64, whose header is four bytes longer;
+    mapped and got across both, and to the limit."""
     by_hand = bytes.fromhex("0000000a 70646174 6162 00000034 70736567 00000018 70736864 00000000 ffffffff 0000000000000000 00000014 706c6f63 00000000 11 0000 0001 4002fe"
                             "0000000a 70646174 6364 00000038 70736567 0000001c 70736864 01000001 0000000100000000 0000000000000000 00000014 706c6f63 00000000 11 0000 0001 4002fe")
     found = claim_append("at 2^32 - 1", command, begun(b"u"), WIDE - 1, [good(b"ab")])
@@ -127,7 +129,8 @@ def appends_far(command):
 
 
 def appends_elsewhere(command):
-    """By hand: chunks held elsewhere in the order of their words, of which no byte is kept; read back, mapped, and mended."""
+    """By hand: chunks held elsewhere in the order of their words, of which no byte is kept; read back, mapped, and
+    mended."""
     by_hand = bytes.fromhex("0000000d 70646174 61626364 65 0000003f 70736567 00000018 70736864 00000001 00000004 0000000000000006"
                             "0000001f 706c6f63 00000000 21 0000 0004 00012c 400002fb 000001 c00003fd")
     chunks = [elsewhere(300), good(b"ab"), elsewhere(1), damaged(b"cde")]
@@ -231,7 +234,8 @@ def open_segments(command):
 
 
 def times(command):
-    """By hand: a date and time of day as a timestamp of RFC 5905, whose second era begins in 2036; and the time of the test itself."""
+    """By hand: a date and time of day as a timestamp of RFC 5905, whose second era begins in 2036; and the time of the
+    test itself."""
     for text, timestamp in [
             ("1970-01-01T00:00:00Z", 2_208_988_800 << 32), ("2026-11-16T03:00:00Z", 4_003_786_800 << 32), ("1968-01-20T03:14:08Z", 2 ** 63), ("2036-02-07T06:28:15Z", (2 ** 32 - 1) << 32),
             ("2036-02-07T06:28:17Z", 1 << 32), ("2104-02-26T09:42:23Z", (2 ** 31 - 1) << 32), ("2024-02-29T23:59:59Z", 3_918_239_999 << 32)]:

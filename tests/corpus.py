@@ -2,8 +2,9 @@
 
 usage: python3 tests/corpus.py [--check]
 
-A record of `stdin` is four numbers of two bytes, most significant first: the length of its name, the numbers lent for segment rows and
-for chunk rows, the length of its file. Then the name and the file. `stdout` is made of the model's answers alone.
+A record of `stdin` is four numbers of two bytes, most significant first: the length of its name, the numbers lent for
+segment rows and for chunk rows, the length of its file. Then the name and the file. `stdout` is made of the model's
+answers alone.
 """
 
 import os
@@ -47,7 +48,8 @@ def records():
 # Their bytes.
 
 def rooms(record):
-    """How many numbers are lent for each table where none are stated: some to spare, and for a refused file full tables."""
+    """How many numbers are lent for each table where none are stated: some to spare, and for a refused file full
+    tables."""
     answer = model.read(record.file)
     ample = FULL_TABLES
     if answer[0] == "read":

@@ -257,7 +257,8 @@ def source_over_limit(rng, plan):
 
 
 def not_as_boxes(rng, plan):
-    """A chunk that is whole boxes but damaged or of a file that is not mixed, or nearly so, or has a box in it that no chunk may be made of, or is just one."""
+    """A chunk that is whole boxes but damaged or of a file that is not mixed, or nearly so, or has a box in it that no
+    chunk may be made of, or is just one."""
     if not plan.wholes():
         plan.items.insert(rng.randint(0, len(plan.items)), Whole([skipped_box(rng, "file"), FREE]))
     whole = rng.choice(plan.wholes())

@@ -107,7 +107,8 @@ def check_states(files):
 
 
 def check_far(files):
-    """Source offsets on both sides of the first that takes the 64-bit form of pshd, chunks across it, larger than it and behind it, and ends near the limit."""
+    """Source offsets on both sides of the first that takes the 64-bit form of pshd, chunks across it, larger than it
+    and behind it, and ends near the limit."""
     met = {f"an offset just below, form {form}": 0 for form in (0, 1)} | {"an offset just above": 0, "far above": 0, "across": 0, "larger": 0, "good behind": 0, "near the limit": 0}
     for file in files:
         segments, chunks = model.read(file)[1:]
@@ -130,7 +131,8 @@ def overlap(one, two):
 
 
 def check_damage(files):
-    """Damage is held and is under good chunks, in each order; beside lost ones and on their positions, in each order; and held ranges of one chunk, of several and of parts."""
+    """Damage is held and is under good chunks, in each order; beside lost ones and on their positions, in each order;
+    and held ranges of one chunk, of several and of parts."""
     met = Counter()
     for file in files:
         chunks = model.read(file)[2]
@@ -157,7 +159,8 @@ def check_damage(files):
 
 
 def check_elsewhere(files):
-    """Chunks held elsewhere: many, empty ones, at the end of what is described, and beside good ones of the same positions, before and behind."""
+    """Chunks held elsewhere: many, empty ones, at the end of what is described, and beside good ones of the same
+    positions, before and behind."""
     met = {"held elsewhere": 0, "empty": 0, "to the end": 0, "good behind": 0, "good before": 0}
     for file in files:
         described, chunks = model.length(file)[1], model.read(file)[2]
@@ -183,7 +186,8 @@ def outside_runs(file):
 
 
 def check_mixed(files):
-    """Mixed files with one brand or both, and in them chunks of one box and of several, before and behind their segment, whole and shared."""
+    """Mixed files with one brand or both, and in them chunks of one box and of several, before and behind their
+    segment, whole and shared."""
     heads = [(file, model.read_head(file)) for file in files]
     mixed = [file for file, head in heads if head.mixed]
     expect("a quarter of the files is mixed", 0.25 < len(mixed) / len(files) < 0.45)
@@ -369,7 +373,8 @@ def check_additions_far(rng, files):
 
 
 def check_additions_elsewhere(rng, files):
-    """Chunks held elsewhere are taken, alone and beside each other state, inside and outside; a list that is refused has any state above theirs."""
+    """Chunks held elsewhere are taken, alone and beside each other state, inside and outside; a list that is refused
+    has any state above theirs."""
     met, above = set(), set()
     for file in files:
         given = generate.addition(rng, file)
@@ -382,7 +387,8 @@ def check_additions_elsewhere(rng, files):
 
 
 def check_additions_outside(rng, files):
-    """Additions with the argument are taken with good chunks, of one box and of several, beside damaged ones and without, and with no good one in any file."""
+    """Additions with the argument are taken with good chunks, of one box and of several, beside damaged ones and
+    without, and with no good one in any file."""
     met = set()
     for file in files:
         given = generate.addition(rng, file)

@@ -2,9 +2,10 @@
 
 usage: python3 tests/lists.py [--check]
 
-A record of `stdin` is seven numbers of two bytes, most significant first: the length of its name, the length of its file, the numbers lent for
-segment rows, for chunk rows, for the list of what is had and for that of what is missing, and how many positions are asked. Then the name, the file
-and the positions, eight bytes each. `stdout` is made of the model's answers alone.
+A record of `stdin` is seven numbers of two bytes, most significant first: the length of its name, the length of its
+file, the numbers lent for segment rows, for chunk rows, for the list of what is had and for that of what is missing,
+and how many positions are asked. Then the name, the file and the positions, eight bytes each. `stdout` is made of the
+model's answers alone.
 """
 
 import os
@@ -58,7 +59,8 @@ def rooms(record):
 
 
 def positions(record):
-    """Every position of a small source and two behind it; of another those at the edges of chunks, and some far away."""
+    """Every position of a small source and two behind it; of another those at the edges of chunks, and some far
+    away."""
     if record.positions is not None:
         return record.positions
     described = model.length(record.file)

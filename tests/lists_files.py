@@ -1,4 +1,5 @@
-"""Makes records on the paper's files, on open and empty ones, on chunks of size 0, many small ranges, long parts, and the limits."""
+"""Makes records on the paper's files, on open and empty ones, on chunks of size 0, many small ranges, long parts, and
+the limits."""
 
 from boxes import box, entry, head, lost_segment, open_segment, ploc, pshd
 from foreign import DAMAGED, ELSEWHERE, GOOD, LIMIT, LOST, WIDE

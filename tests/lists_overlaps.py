@@ -35,7 +35,8 @@ def overlapping():
 
 
 def repaired():
-    """A range of 4 that is not good between two that are, and a later good chunk over any part of it and of its neighbours."""
+    """A range of 4 that is not good between two that are, and a later good chunk over any part of it and of its
+    neighbours."""
     for state in ("damaged", "lost", "elsewhere"):
         first = (0, f"good 4, {state} 4, good 4", LAST)
         yield listed("repaired", f"{state}, no repair", file_of(first), [(0, 4), (8, 4)], [(4, 4)])

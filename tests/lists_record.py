@@ -1,4 +1,5 @@
-"""Holds one record of the corpus of lists: a file with its name, what is wanted of it, the room of what is lent, and the positions to ask."""
+"""Holds one record of the corpus of lists: a file with its name, what is wanted of it, the room of what is lent, and
+the positions to ask."""
 
 from collections import namedtuple
 

@@ -2,9 +2,9 @@
 
 usage: python3 tests/maps.py [--check]
 
-A record of `stdin` is three numbers, most significant byte first: the length of its name in two bytes, then the length of its file and that of the lent
-buffer in three bytes each. Then the name and the file. `stdout` is made of the model's answers alone: that of the map, and then that of the map which does not
-name damage, each in a buffer of so many bytes.
+A record of `stdin` is three numbers, most significant byte first: the length of its name in two bytes, then the length
+of its file and that of the lent buffer in three bytes each. Then the name and the file. `stdout` is made of the model's
+answers alone: that of the map, and then that of the map which does not name damage, each in a buffer of so many bytes.
 """
 
 import os
@@ -65,7 +65,8 @@ def refused_shortest():
 
 
 def of_size(size):
-    """A file of so many bytes, nearly all of them in a box between its data and the segment that points back to them."""
+    """A file of so many bytes, nearly all of them in a box between its data and the segment that points back to
+    them."""
     data = Data(bytes(range(7, 16)))
     entries = [Entry(GOOD, 4, data, 0), Entry(LOST, 3), Entry(DAMAGED, 2, data, 4), Entry(GOOD, 3, data, 6)]
 
@@ -93,7 +94,8 @@ def files():
 # Their buffers.
 
 def rooms(file, turn):
-    """For all files a buffer that is exact for the map, whose text is never the shorter one, and one of the others; all of them for the paper's."""
+    """For all files a buffer that is exact for the map, whose text is never the shorter one, and one of the others; all
+    of them for the paper's."""
     needed, without_names = [len(text_of(file.content)) for text_of in TEXTS]
     if file.kind == "largest":
         return [LARGEST_BUFFER if file.stated != 27 else needed]

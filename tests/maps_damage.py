@@ -24,7 +24,8 @@ def one_state():
 
 
 def both():
-    """Two segments on the same positions: whichever comes first, a good chunk is had, and what one damaged chunk covers and no good one is held."""
+    """Two segments on the same positions: whichever comes first, a good chunk is had, and what one damaged chunk covers
+    and no good one is held."""
     parts = {"good": (2, "good 4"), "damaged": (4, "damaged 4"), "lost": (0, "lost 10", LAST), "elsewhere": (0, "elsewhere 10", LAST)}
     for absent in ABSENT:
         for order in permutations(["good", "damaged", absent]):

@@ -719,7 +719,8 @@ def check_outside(head, pairs, data, outside):
 
 
 def offsets_of(pairs, outside):
-    """For each chunk its offset from the pseg, None if not present; the pdat and then the chunks outside stand before it."""
+    """For each chunk its offset from the pseg, None if not present; the pdat and then the chunks outside stand before
+    it."""
     outside_at = -sum(size for size, state in pairs if goes_outside(state, outside))
     inside_at = outside_at - sum(size for size, state in pairs if goes_inside(state, outside))
     offsets = []
@@ -844,7 +845,8 @@ def line(*fields):
 
 
 def name_of(reading, p):
-    """What the map calls a position: one that is missing is held if some damaged chunk covers it, wherever that one stands in the file."""
+    """What the map calls a position: one that is missing is held if some damaged chunk covers it, wherever that one
+    stands in the file."""
     if supplier(reading, p) is not None:
         return "have"
     return "lost" if first_covering(reading, DAMAGED, p) is None else "held"
@@ -884,7 +886,8 @@ def text_of_ranges(data, most, ranges_of, names):
 
 
 def map_text(data, most=LIMITS["program input"]):
-    """What the program writes for its standard input; the command that maps a file by its name has no such limit and states its length."""
+    """What the program writes for its standard input; the command that maps a file by its name has no such limit and
+    states its length."""
     return text_of_ranges(data, most, named_ranges, ("have", "held", "lost"))
 
 

@@ -102,7 +102,8 @@ def check_lesson():
 
 
 def check_damaged():
-    """The second one, by hand: chunks of each state, then damage over good bytes and beside them, good bytes over damage and lost ones, and damage over lost ones."""
+    """The second one, by hand: chunks of each state, then damage over good bytes and beside them, good bytes over
+    damage and lost ones, and damage over lost ones."""
     first = [entry(0x40, 1, 6, 1, -14), entry(0xC0, 1, 5, 1, -8), entry(0x80, 1, 4), entry(0x00, 1, 2), entry(0x40, 1, 3, 1, -3)]
     file = head(b"a") + box(b"pdat", bytes(range(11, 25))) + box(b"pseg", pshd(0, 1), ploc(1, 1, first))
     for offset, flag_byte, size, data in [(4, 0xC0, 4, 31), (9, 0x40, 3, 41), (13, 0xC0, 2, 51)]:
@@ -372,7 +373,8 @@ def check_brands():
 
 
 def check_outside_places():
-    """By hand: which stretches of MOOF (18 bytes), MDAT (20 bytes, large) and the boxes beside them a good chunk may be."""
+    """By hand: which stretches of MOOF (18 bytes), MDAT (20 bytes, large) and the boxes beside them a good chunk may
+    be."""
     pdat = box(b"pdat", MOOF)
     four = MOOF + pdat + MDAT + MOOF
     for name, boxes, size, offset, wanted in [
@@ -520,7 +522,8 @@ def check_elsewhere_read():
 
 
 def check_elsewhere_written():
-    """By hand: what append writes of a chunk held elsewhere, which has no data and stands between the others as it is named."""
+    """By hand: what append writes of a chunk held elsewhere, which has no data and stands between the others as it is
+    named."""
     entries = [entry(0x00, 2, 300), entry(0x40, 2, 2, 1, -5), entry(0x00, 2, 1), entry(0xC0, 2, 3, 1, -3), entry(0x80, 2, 9), entry(0x00, 2, 7)]
     wanted = begun() + box(b"pdat", b"abcde") + box(b"pseg", pshd(4, 1, 6), ploc(2, 1, entries))
     expect("each state", appended(begun(), 4, [300, 3, 2, 2, 1, 3, 3, 1, 9, 0, 7, 3], b"abcde", True, 6), wanted)
@@ -590,7 +593,8 @@ def claim_maps(name, file, named, missing):
 
 
 def check_held_and_lost():
-    """By hand: what some damaged chunk covers is held, wherever that one stands; what is had stays so; neither other state is damaged."""
+    """By hand: what some damaged chunk covers is held, wherever that one stands; what is had stays so; neither other
+    state is damaged."""
     claim_maps("one damaged", appended(begun(), 2, [5, 1], b"abcde"), "source 7 open, lost 0 2, held 2 5, total 0 5 2", "source 7 open, miss 0 7, total 0 7")
     claim_maps("an open segment", head() + open_segment(7), "source 7 open, lost 0 7, total 0 0 7", "source 7 open, miss 0 7, total 0 7")
     claim_maps("no length", head() + open_segment(0), "source 0 open, total 0 0 0", "source 0 open, total 0 0")

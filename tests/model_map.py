@@ -1,4 +1,5 @@
-"""Prints the independent model's map of the partial file on standard input, with the word --missing the one that does not name damage.
+"""Prints the independent model's map of the partial file on standard input, with the word --missing the one that does
+not name damage.
 
 usage: python3 tests/model_map.py [--missing] <FILE
 """

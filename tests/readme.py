@@ -2,8 +2,9 @@
 
 usage: python3 tests/readme.py
 
-In an indented block the lines up to the first empty one are typed, and those behind it are printed. They are typed in a folder of their own, which has links to
-what a reader has in this one; the port that README.md names is taken by one such run at a time.
+In an indented block the lines up to the first empty one are typed, and those behind it are printed. They are typed in a
+folder of their own, which has links to what a reader has in this one; the port that README.md names is taken by one
+such run at a time.
 """
 
 import os

@@ -1,4 +1,5 @@
-"""Holds one record of the corpus: a file with its name, the refusal that is wanted of it, and the room of the lent tables."""
+"""Holds one record of the corpus: a file with its name, the refusal that is wanted of it, and the room of the lent
+tables."""
 
 from collections import namedtuple
 

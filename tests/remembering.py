@@ -1,4 +1,5 @@
-"""Lets the model remember what it said of the file or reading that it was last asked about, so that many calls on one file cost one reading."""
+"""Lets the model remember what it said of the file or reading that it was last asked about, so that many calls on one
+file cost one reading."""
 
 import model
 
@@ -7,7 +8,8 @@ REMEMBERED = ["accept", "read_earlier", "edges", "supplier", "run_length", "rang
 
 
 def remembered(step):
-    """The same function, each answer worked out once while its first argument stays the same; a refusal is raised again."""
+    """The same function, each answer worked out once while its first argument stays the same; a refusal is raised
+    again."""
     subject, known = None, {}
 
     def again(given, *more):

@@ -1,4 +1,5 @@
-"""Holds an implementation of include/vrazhupa.h against the model, on foreign, cut and spoiled files and in random runs of begin and append.
+"""Holds an implementation of include/vrazhupa.h against the model, on foreign, cut and spoiled files and in random runs
+of begin and append.
 
 usage: python3 tests/scale.py [--cases N] [--seed S] WORDS...
        python3 tests/scale.py [--seed S] --show CASE
@@ -7,9 +8,9 @@ WORDS are how the driver is run. It is made of tests/scale/*.c and whatever libr
 
     x86_64-linux-gnu-gcc -std=c11 -D_GNU_SOURCE -O2 -Iinclude -static -o target/command/scale tests/scale/*.c target/staticlib/libvrazhupa.a
 
-A case is one call, and the comparison ends with the file or run of appends in which case N is made. The driver prints each difference, and at last its counts;
-its status is the status here, or 1 where so many cases did not meet every refusal. --show prints a case of a seed with all that it is given, and compares
-nothing.
+A case is one call, and the comparison ends with the file or run of appends in which case N is made. The driver prints
+each difference, and at last its counts; its status is the status here, or 1 where so many cases did not meet every
+refusal. --show prints a case of a seed with all that it is given, and compares nothing.
 """
 
 import argparse

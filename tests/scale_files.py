@@ -1,4 +1,5 @@
-"""Chooses the files of the comparison at scale: foreign, cut, spoiled, with faults, of the corpora, and as large as a file may be or a little larger."""
+"""Chooses the files of the comparison at scale: foreign, cut, spoiled, with faults, of the corpora, and as large as a
+file may be or a little larger."""
 
 import corpus
 import generate
@@ -70,7 +71,8 @@ def many_boxes(rng):
 
 
 def many_outside(rng):
-    """A mixed file full of boxes, a pdat among them, and chunks that are one of them or many, now and then over the pdat or a byte off."""
+    """A mixed file full of boxes, a pdat among them, and chunks that are one of them or many, now and then over the
+    pdat or a byte off."""
     wholes = [Whole([rng.choice(FILLINGS) for _ in range(count)]) for count in (near(rng, 250), 251)]
     edges = [whole.edges() for whole in wholes]
     entries = []
@@ -115,7 +117,8 @@ def faulty_file(rng):
 
 
 def twice_faulty_file(rng):
-    """A file with two faults, of which the model says which one counts; that without segments comes last, as the others are put into them."""
+    """A file with two faults, of which the model says which one counts; that without segments comes last, as the others
+    are put into them."""
     plan = foreign_plan(rng)
     for number in sorted(rng.sample(sorted(FAULTS), 2), key=lambda number: number == 12):
         FAULTS[number](rng, plan)
@@ -127,12 +130,14 @@ def noise(rng):
 
 
 def of_corpora():
-    """Every file that the corpora of reading and listing have, once, and those on damage that the corpus of the maps has."""
+    """Every file that the corpora of reading and listing have, once, and those on damage that the corpus of the maps
+    has."""
     return sorted({record.file for record in [*corpus.records(), *lists.records()]} | {file.content for file in maps.of_damage()})
 
 
 def chooser(listed):
-    """A function that chooses files: first one with each fault and one of each large kind, then of each thousand about so many of each kind."""
+    """A function that chooses files: first one with each fault and one of each large kind, then of each thousand about
+    so many of each kind."""
     def listed_file(rng):
         return rng.choice(listed)
 

@@ -1,4 +1,5 @@
-"""Makes the cases on files, texts and data of as many bytes as a file may have, or one more; all their bytes are 0, so that they need not be sent."""
+"""Makes the cases on files, texts and data of as many bytes as a file may have, or one more; all their bytes are 0, so
+that they need not be sent."""
 
 import additions
 import model
@@ -11,7 +12,8 @@ MOST = model.LIMITS["file"]
 
 
 def data_to_end_at(end):
-    """The data with which a file that is begun ends there, all in one chunk, whose size and offset take four bytes each."""
+    """The data with which a file that is begun ends there, all in one chunk, whose size and offset take four bytes
+    each."""
     without = len(head()) + additions.added_length(0, [MOST, 2], b"") + 4
     return bytes(end - without)
 

@@ -1,4 +1,5 @@
-"""Makes the cases of reading a file: its rows, texts, served positions, lists, maps and boxes, with tables, lists and buffers of every awkward length."""
+"""Makes the cases of reading a file: its rows, texts, served positions, lists, maps and boxes, with tables, lists and
+buffers of every awkward length."""
 
 import model
 from maps import refusal_in
@@ -137,7 +138,8 @@ def hold_file(stream, file):
 
 
 def edges(file):
-    """The first and last position of each chunk, those beside them, both ends of what is described, and positions far away."""
+    """The first and last position of each chunk, those beside them, both ends of what is described, and positions far
+    away."""
     answer = model.length(file)
     if answer[0] == "refused":
         return [0, *FAR]

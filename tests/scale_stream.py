@@ -1,10 +1,12 @@
-"""Writes the stream that tests/scale/driver.c reads: blocks of bytes, and calls with what the model says must come of them.
+"""Writes the stream that tests/scale/driver.c reads: blocks of bytes, and calls with what the model says must come of
+them.
 
-A record opens with a byte. 0 is a block that the driver holds from then on: its index in a byte, its length, its bytes. 1 to 12 are the calls, in the order of
-FORMS: a byte that says how memory is lent; the answer; the call's numbers; for each memory its length in elements, the index of the block that it starts with
-and of the block that it must start with afterwards, a byte each, 255 for none; then how many numbers are told, in a byte, and these, none after a refusal.
-254 is a block of zeros that is too large to be sent: its index in a byte, its length. 255 ends the stream, with how many calls it has. Numbers have eight
-bytes, the least significant first.
+A record opens with a byte. 0 is a block that the driver holds from then on: its index in a byte, its length, its bytes.
+1 to 12 are the calls, in the order of FORMS: a byte that says how memory is lent; the answer; the call's numbers; for
+each memory its length in elements, the index of the block that it starts with and of the block that it must start with
+afterwards, a byte each, 255 for none; then how many numbers are told, in a byte, and these, none after a refusal. 254
+is a block of zeros that is too large to be sent: its index in a byte, its length. 255 ends the stream, with how many
+calls it has. Numbers have eight bytes, the least significant first.
 """
 
 import struct

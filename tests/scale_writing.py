@@ -1,4 +1,5 @@
-"""Makes the cases of begin and append: random runs on a file begun or on any other, with buffers of every awkward length, and the runs of the corpus."""
+"""Makes the cases of begin and append: random runs on a file begun or on any other, with buffers of every awkward
+length, and the runs of the corpus."""
 
 import additions
 import generate
@@ -57,7 +58,8 @@ def addition_case(stream, given):
 
 
 def addition_with_faults(rng, file):
-    """Arguments with two faults or more, of which the model says which one counts; only a file that append takes can be filled up."""
+    """Arguments with two faults or more, of which the model says which one counts; only a file that append takes can be
+    filled up."""
     given = additions.acceptable(rng, file)
     taken = model.attempt(model.read_earlier, file)[0] == 0
     fillings = rng.sample(FILLINGS, rng.choice([0] * 12 + [1, 1, 2, 3])) if taken else []
@@ -98,7 +100,8 @@ def append_cases(stream, rng, known, call):
 
 
 def with_bytes_behind(rng, file, stated):
-    """The file and some bytes behind it, which append must keep or write over, and which a stated length may count in."""
+    """The file and some bytes behind it, which append must keep or write over, and which a stated length may count
+    in."""
     behind = 20 if len(file) < stated <= len(file) + 20 else rng.choice([0, 0, 0, 30, 300])
     return file + rng.randbytes(behind)
 

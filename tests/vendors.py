@@ -29,7 +29,8 @@ def fault_in(file, place, end):
 
 
 def faulty_vendors(file):
-    """Of each container whose framing breaks off at a uuid: its name, the number, what stands in the header, and how many bytes are left."""
+    """Of each container whose framing breaks off at a uuid: its name, the number, what stands in the header, and how
+    many bytes are left."""
     for name, place, end in containers(file):
         number, at = fault_in(file, place, end)
         if number and file[at + 4:min(at + 8, end)] == b"uuid":
@@ -37,7 +38,8 @@ def faulty_vendors(file):
 
 
 def refused_for_its_size(file):
-    """Whether a file is refused with 4 for a uuid whose size holds the header of another type, so that it was no such fault before request 1."""
+    """Whether a file is refused with 4 for a uuid whose size holds the header of another type, so that it was no such
+    fault before request 1."""
     if model.attempt(model.read_earlier, file)[0] != model.SIZE_BELOW_HEADER:
         return False
     return any(number == model.SIZE_BELOW_HEADER and size >= plain for name, number, (kind, size, plain), left in faulty_vendors(file))

@@ -2,12 +2,13 @@
 
 usage: python3 tests/writes.py [--check]
 
-A record of `stdin` is a run. Four numbers of two bytes, most significant first: the length of its name, the bytes lent as the buffer, the length
-of the file that stands in it at first, and how many calls are made; then the name, the file and the calls. A begin is four numbers of two bytes,
-0, the brand (0 is `paff`, 1 `pmff`) and the lengths of the URL and of the MIME text, and the two texts. An append is 1, whether its good chunks go
-outside (1 where they do), how many numbers of its chunk list are given, and the length of its data; then five numbers of eight bytes, the stated length,
-source offset, repair time, flags, and the length of the list, which goes on with the same numbers again; then those numbers and the data. `stdout` is made
-of the model's answers alone.
+A record of `stdin` is a run. Four numbers of two bytes, most significant first: the length of its name, the bytes lent
+as the buffer, the length of the file that stands in it at first, and how many calls are made; then the name, the file
+and the calls. A begin is four numbers of two bytes, 0, the brand (0 is `paff`, 1 `pmff`) and the lengths of the URL and
+of the MIME text, and the two texts. An append is 1, whether its good chunks go outside (1 where they do), how many
+numbers of its chunk list are given, and the length of its data; then five numbers of eight bytes, the stated length,
+source offset, repair time, flags, and the length of the list, which goes on with the same numbers again; then those
+numbers and the data. `stdout` is made of the model's answers alone.
 
 Refusal 1 is not met: it takes a file of over 1,073,741,824 bytes.
 """

@@ -1,4 +1,5 @@
-"""Makes runs on chunks held elsewhere: what append writes of them, alone and beside others, what counts them, and the map after repairs."""
+"""Makes runs on chunks held elsewhere: what append writes of them, alone and beside others, what counts them, and the
+map after repairs."""
 
 from boxes import box, head, lost_segment
 from foreign import LIMIT
@@ -47,7 +48,8 @@ def counted():
 
 
 def repaired():
-    """The size of the source, what is served first and what is repaired, with one held elsewhere on the same positions."""
+    """The size of the source, what is served first and what is repaired, with one held elsewhere on the same
+    positions."""
     closed = add(0, "elsewhere 10", LAST)
     yield begun("25", "of a film held elsewhere", [closed, add(7, "elsewhere 4"), add(0, "elsewhere 9", LAST), add(4, "good 6"), add(0, "good 4")], [0, 25, 25, 0, 0], spare=99)
     yield begun("25", "held elsewhere past the known size", [add(0, "good 4, lost 6", LAST), add(9, "elsewhere 2"), add(4, "elsewhere 6")], [0, 25, 0], spare=99)

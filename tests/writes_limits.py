@@ -1,4 +1,5 @@
-"""Makes runs on what append writes and where its limits lie: widths, flags, open segments, boxes, segments, chunks, the source and its size."""
+"""Makes runs on what append writes and where its limits lie: widths, flags, open segments, boxes, segments, chunks, the
+source and its size."""
 
 from boxes import box, head, lost_segment, open_segment
 from foreign import LIMIT, WIDE

@@ -1,4 +1,5 @@
-"""Makes runs on mixed files: begun with either brand, good chunks stored outside as whole boxes, what may not go there, and the boxes that count."""
+"""Makes runs on mixed files: begun with either brand, good chunks stored outside as whole boxes, what may not go there,
+and the boxes that count."""
 
 from boxes import box, head, open_segment, sized, sized_large
 from model import PAFF, PMFF

@@ -1,4 +1,5 @@
-"""Makes seeded runs: a file begun or a foreign one, and appends to it, most of them taken, with other lengths and other faults between."""
+"""Makes seeded runs: a file begun or a foreign one, and appends to it, most of them taken, with other lengths and other
+faults between."""
 
 import random
 
@@ -13,7 +14,8 @@ FAULTS = {31: additions.spoil_chunk_list, 32: additions.spoil_data, 35: addition
 
 
 def other_length(rng, length, earlier):
-    """A stated length that is not the file's: cut there or at an earlier end, with bytes behind it, or past every buffer."""
+    """A stated length that is not the file's: cut there or at an earlier end, with bytes behind it, or past every
+    buffer."""
     return rng.choice([rng.randint(0, length), rng.choice(earlier), rng.choice(earlier), length + rng.randint(1, 20),
                        rng.choice([LARGEST + 1, 2 ** 32 + length, 2 ** 64 - 1])])
 

@@ -1,4 +1,5 @@
-"""Makes runs that meet the refusals of begin, and of append the stated length, the file's own, the chunk list, the data and the room."""
+"""Makes runs that meet the refusals of begin, and of append the stated length, the file's own, the chunk list, the data
+and the room."""
 
 import random
 

@@ -1,4 +1,5 @@
-"""Holds one run of the corpus of writing, a lent buffer with a file at its front and the calls on it, and has the model make the calls."""
+"""Holds one run of the corpus of writing, a lent buffer with a file at its front and the calls on it, and has the model
+make the calls."""
 
 from collections import namedtuple
 
@@ -32,7 +33,8 @@ def given_list(offset, numbers, data=b"", flags=0, repair=0, stated=None, count=
 
 
 def outside(offset, *chunks, flags=0, repair=0):
-    """An append whose good chunks go outside: bytes are good, a pair is damaged bytes or the size of a chunk that is not present."""
+    """An append whose good chunks go outside: bytes are good, a pair is damaged bytes or the size of a chunk that is
+    not present."""
     numbers, data = [], b""
     for chunk in chunks:
         state, content = (STATES["good"], chunk) if isinstance(chunk, bytes) else (STATES[chunk[0]], chunk[1])
@@ -42,7 +44,8 @@ def outside(offset, *chunks, flags=0, repair=0):
 
 
 def of_arguments(given, stated=None, flags=None):
-    """The append of arguments as tests/additions.py makes them, with another stated length or other flags where they are given."""
+    """The append of arguments as tests/additions.py makes them, with another stated length or other flags where they
+    are given."""
     numbers = tuple(given["chunk_list"])
     return Append(given["stated_length"] if stated is None else stated, given["source_offset"], given["repair_time"],
                   int(given["last"]) if flags is None else flags, given["outside"], numbers, len(numbers), given["data"])

@@ -1,12 +1,13 @@
-"""Tries the wrong programs of crates/NAME/wrong, which are no part of the gate: the prover has to refuse each because a fact fails.
+"""Tries the wrong programs of crates/NAME/wrong, which are no part of the gate: the prover has to refuse each because a
+fact fails.
 
 usage: python3 tests/wrong.py [CRATE | CRATE/LABEL]..     those of all crates, of some, or one alone, of must-fail/ too
        python3 tests/wrong.py --texts                     whether each `old:` text of wrong/ and must-fail/ stands exactly once
 
-Each is tried in a copy of the tree, two at a time, over what an incremental check of its crate kept, which is put back before
-each: a working result in seconds, where `rt must-fail` checks the crate from nothing. A line says why each was refused; the
-last line is `N passed, M failed`. One that is refused only since the proof no longer fits the code, or that does not compile,
-shows nothing about a contract and fails.
+Each is tried in a copy of the tree, two at a time, over what an incremental check of its crate kept, which is put back
+before each: a working result in seconds, where `rt must-fail` checks the crate from nothing. A line says why each was
+refused; the last line is `N passed, M failed`. One that is refused only since the proof no longer fits the code, or
+that does not compile, shows nothing about a contract and fails.
 """
 
 import os
@@ -96,7 +97,8 @@ def rooms(folder, of):
 
 
 def reason(said):
-    """Why the prover refused: `fact`, or that only the shape or the words of the program were wrong; and its first error."""
+    """Why the prover refused: `fact`, or that only the shape or the words of the program were wrong; and its first
+    error."""
     errors = [line.strip() for line in said.splitlines() if ": error" in line]
     first = errors[0] if errors else "no error line"
     if "Need-" in first and ("that can be named from here" in first or "but this has type `tie.Need" in first):
