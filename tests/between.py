@@ -144,7 +144,7 @@ def say(stream, found, shown):
 
 
 def main():
-    parser = argparse.ArgumentParser(description=__doc__.split("\n")[0])
+    parser = argparse.ArgumentParser(description=__doc__.split("\n\n")[0])
     parser.add_argument("--cases", type=int, default=40_000)
     parser.add_argument("--seed", type=int, default=1)
     parser.add_argument("--request", type=int, choices=sorted(CHANGES))
