@@ -60,21 +60,24 @@ def rt(room, *words):
     return done.returncode, done.stdout
 
 
-def kept(room, crate):
-    return os.path.join(room, "target", "kept", crate)
+def kept(folder, crate):
+    return os.path.join(folder, "kept", crate)
 
 
-def keep(room, crate):
-    """Checks a crate as it stands, and keeps what an incremental check of it leaves."""
-    status, said = rt(room, "dev", crate)
-    if status:
-        sys.exit("%s is not proved as it stands\n%s" % (crate, said[-2000:]))
-    os.makedirs(os.path.dirname(kept(room, crate)), exist_ok=True)
-    shutil.copytree(os.path.join(room, "target", "inc", crate), kept(room, crate), symlinks=True)
+def keep(free, folder, crate):
+    """Checks a crate as it stands in a free copy, and keeps what an incremental check of it leaves."""
+    room = free.get()
+    try:
+        status, said = rt(room, "dev", crate)
+        if status:
+            sys.exit("%s is not proved as it stands\n%s" % (crate, said[-2000:]))
+        shutil.copytree(os.path.join(room, "target", "inc", crate), kept(folder, crate), symlinks=True)
+    finally:
+        free.put(room)
 
 
 def rooms(folder, of):
-    """Copies of the tree in which the crates are proved and what their incremental checks keep is there."""
+    """Copies of the tree in which the crates are proved, each for one check at a time."""
     first = os.path.join(folder, "0")
     os.mkdir(first)
     for part in ("crates", "crates.txt"):
@@ -86,8 +89,6 @@ def rooms(folder, of):
     status, said = rt(first, "check", *of)
     if status:
         sys.exit("not proved as they stand\n%s" % said[-2000:])
-    with ThreadPoolExecutor(AT_A_TIME) as pool:
-        list(pool.map(lambda crate: keep(first, crate), of))
     free = Queue()
     free.put(first)
     for number in range(1, AT_A_TIME):
@@ -110,21 +111,22 @@ def reason(said):
     return "fact", first
 
 
-def attempt(free, crate, label, path):
+def attempt(free, folder, crate, label, path):
     """Tries one in a free copy: what came of it, `fact` where all is well, and the first error."""
     room = free.get()
-    folder = os.path.join(room, "crates", crate)
+    own_crate = os.path.join(room, "crates", crate)
     before = {}
     try:
-        texts = edits.edited(folder, path)
+        texts = edits.edited(own_crate, path)
         for file, text in texts.items():
-            with open(os.path.join(folder, file), encoding="utf-8") as source:
+            with open(os.path.join(own_crate, file), encoding="utf-8") as source:
                 before[file] = source.read()
-            with open(os.path.join(folder, file), "w", encoding="utf-8") as changed:
+            with open(os.path.join(own_crate, file), "w", encoding="utf-8") as changed:
                 changed.write(text)
         own = os.path.join(room, "target", "inc", crate)
         shutil.rmtree(own, ignore_errors=True)
-        subprocess.run(["cp", "-a", kept(room, crate), own], check=True)
+        os.makedirs(os.path.dirname(own), exist_ok=True)
+        subprocess.run(["cp", "-a", kept(folder, crate), own], check=True)
         status, said = rt(room, "dev", crate)
         if status == 0:
             return "not refused", ""
@@ -136,7 +138,7 @@ def attempt(free, crate, label, path):
         return "does not fit", str(bad)
     finally:
         for file, text in before.items():
-            with open(os.path.join(folder, file), "w", encoding="utf-8") as source:
+            with open(os.path.join(own_crate, file), "w", encoding="utf-8") as source:
                 source.write(text)
         free.put(room)
 
@@ -146,7 +148,8 @@ def try_all(jobs):
     with tempfile.TemporaryDirectory() as folder:
         free = rooms(folder, of)
         with ThreadPoolExecutor(AT_A_TIME) as pool:
-            for job, (found, first) in zip(jobs, pool.map(lambda job: attempt(free, *job), jobs)):
+            list(pool.map(lambda crate: keep(free, folder, crate), of))
+            for job, (found, first) in zip(jobs, pool.map(lambda job: attempt(free, folder, *job), jobs)):
                 print("%s/%s: %s: %s" % (job[0], job[1], found, first[:160]), flush=True)
                 expecting.expect("%s/%s" % job[:2], found, "fact")
 
