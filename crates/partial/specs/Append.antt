@@ -16,7 +16,7 @@ use Rattle.partial.specs.Sequences.{someOf, allOf}
 use Rattle.partial.specs.Segments.{Chunk, Segment, present, corrupted, hasPlace}
 use Rattle.partial.specs.Heading.{Heading, heading}
 use Rattle.partial.specs.Entries.{offsetPlace}
-use Rattle.partial.specs.Reading.{offsetWidth, segments, admitted}
+use Rattle.partial.specs.Reading.{offsetWidth, earlierSegments, admitted}
 use Rattle.partial.specs.Begin.{versionAndFlags}
 use Rattle.partial.specs.Mixed.{boxesMany}
 use Rattle.partial.specs.Addition.{Addition, flagsFor, Item, items, listRight, sizeOf, dataRight, goesOut, goesIn, dataFor, outsideRight}
@@ -161,7 +161,7 @@ appended limit buffer n a = do
   _ ← hold 30 (leb n (length buffer))
   let f = take n buffer
   h ← heading f
-  ss ← segments limit f h
+  ss ← earlierSegments limit f
   _ ← hold 31 (listRight (a .list))
   _ ← hold 32 (dataRight a)
   _ ← hold 35 (outsideRight h a)

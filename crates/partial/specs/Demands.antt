@@ -22,7 +22,7 @@ use Rattle.partial.specs.Heading.{Part, Heading, heading}
 use Rattle.partial.specs.Mixed.{allowed}
 use Rattle.partial.specs.Meaning.{givesSize, describedLength, covers, supplier, supplied, chunkNo, chunkFor, served, servedRun, missingRun}
 use Rattle.partial.specs.Meaning.{reply, servedFor, missingFor, notBelow}
-use Rattle.partial.specs.Reading.{segmentsFrom, segments, reading, earlierSegments}
+use Rattle.partial.specs.Reading.{segmentsFrom, reading, earlierSegments}
 use Rattle.partial.specs.Ranges.{had, rangesOf, ofClass, hadList, missingList, total, among, apart, inRow}
 use Rattle.partial.specs.Naming.{damagedAt, namedRanges, heldList, lostList}
 use Rattle.partial.specs.Memory.{after, written, textWritten}
@@ -340,7 +340,7 @@ pub record Acceptable (limit : ℕ) (buffer : List ℕ) (n : ℕ) (a : Addition)
   pub h : Heading
   pub ss : List Segment
   pub headed : heading (fileIn (lent buffer n)) ≡ given h
-  pub before : segments limit (fileIn (lent buffer n)) h ≡ given ss
+  pub before : earlierSegments limit (fileIn (lent buffer n)) ≡ given ss
   pub right : Right limit h ss n a
   pub room : n + length (added a) ≤ length buffer
 
@@ -371,7 +371,7 @@ pub record Reasons (limit : ℕ) (buffer : List ℕ) (n : ℕ) (a : Addition) : 
       (h : Heading) (ss : List Segment)
       → n ≤ length buffer
       → heading (fileIn (lent buffer n)) ≡ given h
-      → segments limit (fileIn (lent buffer n)) h ≡ given ss
+      → earlierSegments limit (fileIn (lent buffer n)) ≡ given ss
       → listRight (a .list) ≡ true
       → dataRight a ≡ true
       → outsideRight h a ≡ false
@@ -381,7 +381,7 @@ pub record Reasons (limit : ℕ) (buffer : List ℕ) (n : ℕ) (a : Addition) : 
       (h : Heading) (ss : List Segment)
       → n ≤ length buffer
       → heading (fileIn (lent buffer n)) ≡ given h
-      → segments limit (fileIn (lent buffer n)) h ≡ given ss
+      → earlierSegments limit (fileIn (lent buffer n)) ≡ given ss
       → listRight (a .list) ≡ true
       → dataRight a ≡ true
       → outsideRight h a ≡ true
@@ -393,7 +393,7 @@ pub record Reasons (limit : ℕ) (buffer : List ℕ) (n : ℕ) (a : Addition) : 
       (h : Heading) (ss : List Segment)
       → n ≤ length buffer
       → heading (fileIn (lent buffer n)) ≡ given h
-      → segments limit (fileIn (lent buffer n)) h ≡ given ss
+      → earlierSegments limit (fileIn (lent buffer n)) ≡ given ss
       → listRight (a .list) ≡ true
       → dataRight a ≡ true
       → outsideRight h a ≡ true

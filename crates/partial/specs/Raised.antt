@@ -1,9 +1,11 @@
 -- Document 02, [5]: "Prove that old files keep their maps and that the writer gives the same bytes for every segment
 -- accepted before", of any two source limits of which the one is not below the other.
 use Prim.Native.Nat.{ℕ}
+use mathlib.Core.Bool.{Bool}
 use mathlib.Core.List.{List}
 use mathlib.Core.Logic.{_⊎_}
 use mathlib.Core.Path.{_≡_}
+use lib.Dec.{T, eqb}
 use Rattle.boxes.specs.Answer.{Answer, refused, given}
 use Rattle.boxes.specs.Framing.{Box}
 use Rattle.partial.specs.Segments.{Segment}
@@ -15,12 +17,16 @@ use Rattle.partial.specs.Addition.{Addition}
 use Rattle.partial.specs.Append.{appended}
 use Rattle.partial.specs.Runs.{lent, append}
 
+-- the numbers of refusals that judge the limit
+abbrev pub judgesLimit : ℕ → Bool
+judgesLimit n = eqb n 23
+
 -- an answer under the lower limit, and the answer under the higher one
 pub record Kept {A : Type 0} (low high : Answer A) : Type 0 where
   -- what was given is given
   pub accepted : (a : A) → low ≡ given a → high ≡ given a
-  -- what is not the same was 23
-  pub elseWas23 : (high ≡ low) ⊎ (low ≡ refused 23)
+  -- what is not the same was refused for the limit
+  pub elseOver : (high ≡ low) ⊎ ((n : ℕ) × T (judgesLimit n) × (low ≡ refused n))
 
 -- what a source limit leaves as it was under a lower one
 pub record Raised (low high : ℕ) : Type 0 where
@@ -40,14 +46,15 @@ pub record Raised (low high : ℕ) : Type 0 where
       → reading low f ≡ given ss
       → textOf which high f ≡ textOf which low f
   -- "old files keep their maps", whatever a program prints of an accepted file and the most is that it takes; of any
-  -- input, a text that is not the same was the line of 23
+  -- input, a text that is not the same was the line of a refusal for the limit
   pub maps :
       (of : List Segment → List ℕ) (most : ℕ) (input : List ℕ) (ss : List Segment)
       → reading low input ≡ given ss
       → textFor of high most input ≡ textFor of low most input
-  pub mapElseWas23 :
+  pub mapElseOver :
       (of : List Segment → List ℕ) (most : ℕ) (input : List ℕ)
-      → (textFor of high most input ≡ textFor of low most input) ⊎ (textFor of low most input ≡ refusedLine 23)
+      → (textFor of high most input ≡ textFor of low most input)
+      ⊎ ((n : ℕ) × T (judgesLimit n) × (textFor of low most input ≡ refusedLine n))
   -- an addition that was accepted has the same answer, and "the writer gives the same bytes": the buffer and the length
   -- of the file in it
   pub appends : (buffer : List ℕ) (n : ℕ) (a : Addition) → Kept (appended low buffer n a) (appended high buffer n a)

@@ -90,12 +90,12 @@ reading limit f = do
   _ ← hold 12 (right File pseg (h .boxes))
   segments limit f h
 
--- the segments of a file that append takes: an acceptable file, or one whose only refusal is 12, which counts as
--- serving nothing
+-- the segments of a file that append takes: those of an acceptable file, or, of one whose only refusal is 12, none,
+-- since it counts as serving nothing
 unfoldable pub earlierSegments : ℕ → List ℕ → Answer (List Segment)
 earlierSegments limit f = do
   h ← heading f
-  segments limit f h
+  elim (right File pseg (h .boxes)) [ true ↦ reading limit f | false ↦ given [] ]
 
 -- 13, 22, 23, 25: a segment beside those before it; the segments with it
 unfoldable pub admitted : ℕ → List Segment → Segment → Answer (List Segment)

@@ -3,6 +3,7 @@
 use Prim.Native.Nat.{ℕ, _≤_, _<_}
 use mathlib.Core.Bool.{Bool, true, false}
 use mathlib.Core.List.{List, []}
+use mathlib.Core.Logic.{inl, inr}
 use mathlib.Core.Path.{_≡_, sym, ap, subst, _∙_}
 use borrow.Author.Tests.{le-leb, lt-leb}
 use lib.Dec.{leb}
@@ -16,6 +17,8 @@ use Rattle.partial.specs.Limits.{segmentLimit, sourceLimit}
 use Rattle.partial.specs.Meaning.{agree}
 use Rattle.partial.specs.Reading.{segmentsFrom, segments, reading}
 use Rattle.partial.specs.Segments.{Segment}
+use Rattle.partial.proofs.Meaning.SequenceLaws.{which}
+use Rattle.partial.proofs.Reading.RefusalLaws.{no-segments}
 use Rattle.heading.specs.Facts.{Facts, factsOf, factsBy, told, headedAnswer}
 use Rattle.heading.specs.declared.answers.Head.{Head}
 use Rattle.heading.specs.declared.answers.Headed.{Headed}
@@ -140,10 +143,6 @@ module _ (f : List ℕ) where
   reading-headless e = rw e
 
   module _ {h : Heading} (known : heading f ≡ given h) where
-    pub earlier-by : earlierTold f ≡ judgedIn f h
-    unfolding earlierTold
-    earlier-by = rw known
-
     pub reading-none : right File pseg (h .boxes) ≡ false → readingTold f ≡ refused 12
     unfolding readingTold
     reading-none lacks = rw (known, lacks)
@@ -151,6 +150,20 @@ module _ (f : List ℕ) where
     pub reading-by : right File pseg (h .boxes) ≡ true → readingTold f ≡ judgedIn f h
     unfolding readingTold
     reading-by some = rw (known, some)
+
+    pub earlier-cases : {t : Bool} → right File pseg (h .boxes) ≡ t
+        → earlierTold f ≡ elim t [ true ↦ readingTold f | false ↦ given (record { facts = factsOf f h; gathered = gatheredOf [] }) ]
+    unfolding earlierTold
+    earlier-cases e = rw known (ap (λ (t : Bool). elim t [ true ↦ readingTold f | false ↦ given (record { facts = factsOf f h; gathered = gatheredOf [] }) ]) e)
+
+    -- a file without a segment is told of by the same steps
+    pub earlier-by : earlierTold f ≡ judgedIn f h
+    unfolding judgedIn gatheredIn
+    earlier-by =
+        elim (which (right File pseg (h .boxes))) [
+          | inl some ↦ earlier-cases some ∙ reading-by some
+          | inr lacks ↦ earlier-cases lacks ∙ rw (no-segments sourceLimit f h lacks)
+        ]
 
   module _ (h : Heading) where
     pub judged-refused : {n : ℕ} → gatheredIn f h ≡ refused n → judgedIn f h ≡ refused n

@@ -1,6 +1,7 @@
 -- Document 01, refusals 1 to 25, as the calls are told of them before any table is filled.
 use Prim.Native.Nat.{ℕ}
-use mathlib.Core.List.{List}
+use mathlib.Core.Bool.{true, false}
+use mathlib.Core.List.{List, []}
 use mathlib.Core.Path.{_≡_}
 use Rattle.boxes.specs.Answer.{Answer, refused, given, _>>=_, hold}
 use Rattle.boxes.specs.Kinds.{pseg, right}
@@ -36,18 +37,18 @@ judgedIn f h = do
   g ← gatheredIn f h
   given (record { facts = factsOf f h; gathered = g })
 
--- of a file that append takes: stages 1 to 25 but for 12
-unfoldable pub earlierTold : List ℕ → Answer Judged
-earlierTold f = do
-  h ← heading f
-  judgedIn f h
-
 -- of an acceptable file: stages 1 to 25
 unfoldable pub readingTold : List ℕ → Answer Judged
 readingTold f = do
   h ← heading f
   _ ← hold 12 (right File pseg (h .boxes))
   judgedIn f h
+
+-- of a file that append takes: the same, but of one without a segment, whose only refusal is 12, that it has none
+unfoldable pub earlierTold : List ℕ → Answer Judged
+earlierTold f = do
+  h ← heading f
+  elim (right File pseg (h .boxes)) [ true ↦ readingTold f | false ↦ given (record { facts = factsOf f h; gathered = gatheredOf [] }) ]
 
 -- what an answer about the segments says
 unfoldable pub gatheredAnswer : Passed → Answer Gathered

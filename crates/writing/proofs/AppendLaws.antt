@@ -1,7 +1,8 @@
 -- Laws of appending a segment: what each test decides, and what the call leaves.
 use Prim.Native.Nat.{ℕ, _+_, _%_, _^_, _≤_, _<_}
 use mathlib.Core.Bool.{Bool, true, false, not, _&&_, and-false}
-use mathlib.Core.List.{List, _++_, append-assoc}
+use mathlib.Core.List.{List, [], _++_, append-assoc}
+use mathlib.Core.Logic.{inl, inr}
 use mathlib.Core.Path.{_≡_, refl, sym, ap, _∙_}
 use native.Mathlib.Omega.{arith}
 use borrow.Author.Tests.{le-leb, lt-leb, eq-eqb, ne-eqb}
@@ -9,7 +10,9 @@ use lib.Dec.{leb, eqb}
 use lib.ListN.{length, take, drop, length-append}
 use lib.Seq.{length-take-le}
 use Rattle.boxes.specs.Answer.{Answer, refused, given, _>>=_, hold}
-use Rattle.boxes.proofs.AnswerLaws.{refused-same, given-same, both-given}
+use Rattle.boxes.specs.Kinds.{pseg, right}
+use Rattle.boxes.specs.declared.kinds.Container.the-variants.{File}
+use Rattle.boxes.proofs.AnswerLaws.{not-both, refused-same, given-same, both-given}
 use Rattle.numerals.proofs.StoredLaws.{stored-room}
 use Rattle.partial.specs.Addition.{Addition, asks, items, listRight, dataSize, dataRight, outsideRight}
 use Rattle.partial.specs.Answers.{writtenAnswer}
@@ -17,22 +20,25 @@ use Rattle.partial.specs.Append.{added, admission, appended, result}
 use Rattle.partial.specs.Heading.{Heading, heading}
 use Rattle.partial.specs.Limits.{fileLimit, sourceLimit}
 use Rattle.partial.specs.Memory.{after, filled}
-use Rattle.partial.specs.Reading.{segments, earlierSegments}
+use Rattle.partial.specs.Reading.{earlierSegments}
 use Rattle.partial.specs.Segments.{Segment, isState}
 use Rattle.partial.specs.Sequences.{allOf}
 use Rattle.partial.specs.declared.answers.Written.{Written}
 use Rattle.partial.specs.declared.answers.Written.the-variants as Written
 use Rattle.partial.specs.declared.header.SegmentHeader.{SegmentHeader}
+use Rattle.partial.proofs.Meaning.SequenceLaws.{which}
+use Rattle.partial.proofs.Reading.RefusalLaws.{earlier-headless, earlier-some, earlier-none}
 use Rattle.partial.proofs.Writing.AddedBoxesLaws.{data-low, length-added}
-use Rattle.partial.proofs.Writing.ReadsBackLaws.{Offered, Admits, admits, earlier-of}
+use Rattle.partial.proofs.Writing.ReadsBackLaws.{Offered, Admits, admits}
 use Rattle.partial.proofs.Writing.ReasonLaws.{list-wrong, data-wrong, outside-wrong}
 use Rattle.partial.proofs.Writing.ResultLaws.{appended-offered}
 use Rattle.heading.specs.Facts.{factsOf, factsBy}
 use Rattle.filling.specs.Rows.{Put}
 use Rattle.gathering.specs.Gathered.{gatheredOf}
-use Rattle.reading.specs.Judged.{gatheredIn, judgedIn, earlierTold}
+use Rattle.reading.specs.Judged.{earlierTold}
 use Rattle.reading.specs.declared.judging.Judged.{Judged}
-use Rattle.reading.proofs.JudgedLaws.{first-refused}
+use Rattle.reading.proofs.JudgedLaws.{first-refused, earlier-cases, accepted, read-refused, read-given}
+use Rattle.reading.proofs.JudgedLaws.{earlier-headless as told-headless}
 use Rattle.outside.specs.declared.chunks.Outside.{Outside}
 use Rattle.adding.specs.Admission.{Beside, Asked, admittedLength}
 use Rattle.adding.specs.Counts.{countsOf, Counted, Sorted}
@@ -109,39 +115,49 @@ module _ (header : SegmentHeader) (o : Bool) (list bytes : List ℕ) {c : Counts
 
 -- a refusal of what is told of it is a refusal of its segments
 pub earlier-refused : (f : List ℕ) {k : ℕ} → earlierTold f ≡ refused k → earlierSegments sourceLimit f ≡ refused k
-unfolding earlierTold judgedIn gatheredIn earlierSegments
-earlier-refused f {k} e = go (heading f) e
+earlier-refused f {k} e = go (heading f) refl
   where
-    go : (x : Answer Heading) → (x >>= judgedIn f) ≡ refused k → (x >>= segments sourceLimit f) ≡ refused k
-    go (refused m) e = ap refused (refused-same e)
-    go (given h) e = first-refused (segments sourceLimit f h) gatheredOf (first-refused (gatheredIn f h) _ e)
+    go : (x : Answer Heading) → heading f ≡ x → earlierSegments sourceLimit f ≡ refused k
+    go (refused m) head = earlier-headless sourceLimit f head ∙ ap refused (refused-same (sym (told-headless f head) ∙ e))
+    go (given h) head =
+        elim (which (right File pseg (h .boxes))) [
+          | inl some ↦ earlier-some sourceLimit f head some ∙ read-refused f (sym (earlier-cases f head some) ∙ e)
+          | inr lacks ↦ absurd (not-both (sym e ∙ earlier-cases f head lacks))
+        ]
 
 -- a file that append takes: its heading and its segments, of which all is told
 pub record Earlier (f : List ℕ) (j : Judged) : Type 0 where
   pub h : Heading
   pub ss : List Segment
   pub head : heading f ≡ given h
-  pub read : segments sourceLimit f h ≡ given ss
+  pub read : earlierSegments sourceLimit f ≡ given ss
   pub beside : Beside h ss j
   pub mixed : j .head .mixed ≡ h .mixed
 
 pub earlier : (f : List ℕ) (j : Judged) → earlierTold f ≡ given (record { facts = factsBy (j .head); gathered = j .gathered }) → Earlier f j
-unfolding earlierTold judgedIn gatheredIn factsOf
+unfolding earlierTold factsOf
 earlier f j e =
-    let (h, head, e) = both-given (heading f) _ e in
-    let (g, gathered, e) = both-given (gatheredIn f h) _ e in
-    let (ss, read, same) = both-given (segments sourceLimit f h) _ gathered in
-    record {
-      h = h;
-      ss = ss;
-      head = head;
-      read = read;
-      beside = record {
-        boxes = sym (ap (λ x. x .facts .boxes) (given-same e));
-        segments = sym (given-same same ∙ ap (λ x. x .gathered) (given-same e));
-      };
-      mixed = sym (ap (λ x. x .facts .mixed) (given-same e));
-    }
+    let (h, head, _) = both-given (heading f) _ e in
+    elim (which (right File pseg (h .boxes))) [
+      | inl some ↦
+          let a = accepted f (sym (earlier-cases f head some) ∙ e) in
+          let same : a .h ≡ h = given-same (sym (a .head) ∙ head) in
+          of h (a .ss) head (earlier-some sourceLimit f head some ∙ read-given f a) (rw same at (a .facts)) (a .gathered)
+      | inr lacks ↦
+          let told = given-same (sym (earlier-cases f head lacks) ∙ e) in
+          of h [] head (earlier-none sourceLimit f head lacks) (ap (λ x. x .facts) told) (sym (ap (λ x. x .gathered) told))
+    ]
+  where
+    of : (h : Heading) (ss : List Segment) → heading f ≡ given h → earlierSegments sourceLimit f ≡ given ss → factsOf f h ≡ factsBy (j .head) → j .gathered ≡ gatheredOf ss → Earlier f j
+    of h ss head read facts gathered =
+        record {
+          h = h;
+          ss = ss;
+          head = head;
+          read = read;
+          beside = record { boxes = sym (ap (λ x. x .boxes) facts); segments = gathered };
+          mixed = sym (ap (λ x. x .mixed) facts);
+        }
 
 -- it has one heading
 pub headed-mixed : {f : List ℕ} {j : Judged} → Earlier f j → {h : Heading} → heading f ≡ given h → j .head .mixed ≡ h .mixed
@@ -150,17 +166,14 @@ headed-mixed file head = file .mixed ∙ ap (λ (h : Heading). h .mixed) (given-
 -- ---- the tests, in their order
 
 module _ (buffer : List ℕ) (n : ℕ) (header : SegmentHeader) (o : Bool) (list bytes : List ℕ) (fits : n ≤ length buffer) (j : Judged) (file : Earlier (take n buffer) j) where
-  stands : earlierSegments sourceLimit (take n buffer) ≡ given (file .ss)
-  stands = earlier-of sourceLimit (take n buffer) (file .h) (file .ss) (file .head) (file .read)
-
   pub wrong-list : listRight list ≡ false → appended sourceLimit buffer n (asks header o list bytes) ≡ refused 31
   unfolding asks
-  wrong-list wrong = list-wrong sourceLimit buffer n (asks header o list bytes) fits stands wrong
+  wrong-list wrong = list-wrong sourceLimit buffer n (asks header o list bytes) fits (file .head) (file .read) wrong
 
   module _ (right : listRight list ≡ true) where
     pub wrong-data : dataRight (asks header o list bytes) ≡ false → appended sourceLimit buffer n (asks header o list bytes) ≡ refused 32
     unfolding asks
-    wrong-data wrong = data-wrong sourceLimit buffer n (asks header o list bytes) fits stands right wrong
+    wrong-data wrong = data-wrong sourceLimit buffer n (asks header o list bytes) fits (file .head) (file .read) right wrong
 
     pub wrong-outside : dataRight (asks header o list bytes) ≡ true → outsideRight (file .h) (asks header o list bytes) ≡ false
         → appended sourceLimit buffer n (asks header o list bytes) ≡ refused 35

@@ -1,12 +1,12 @@
--- A file read under a source limit and under a higher one: the same answer, or 23 under the lower.
+-- A file read under a source limit and under a higher one: the same answer, or a refusal for the limit under the lower.
 use Prim.Native.Nat.{ℕ, zero, suc, _+_, _≤_}
-use mathlib.Core.Bool.{false}
+use mathlib.Core.Bool.{Bool, true, false}
 use mathlib.Core.List.{List, [], _∷_, _++_}
 use mathlib.Core.Logic.{_⊎_, inl, inr, ⊎-elim}
 use mathlib.Core.Path.{_≡_, refl, sym, _∙_}
 use native.Mathlib.Omega.{arith}
 use borrow.Author.Tests.{leb-true, le-leb}
-use lib.Dec.{leb, eqb}
+use lib.Dec.{T, leb, eqb}
 use lib.ListN.{length}
 use Rattle.boxes.specs.Answer.{Answer, refused, given, _>>=_, hold}
 use Rattle.boxes.specs.Framing.{Box, boxesIn}
@@ -17,29 +17,33 @@ use Rattle.partial.specs.Limits.{segmentLimit, chunkLimit}
 use Rattle.partial.specs.Segments.{Segment, chunksOf}
 use Rattle.partial.specs.Heading.{Heading, heading, Part}
 use Rattle.partial.specs.Entries.{Ploc, Cursor, plocHead, entry, chunkStep, chunksFrom}
-use Rattle.partial.specs.Reading.{pshdFields, pshdRight, segment, segmentsFrom, segments, reading}
+use Rattle.partial.specs.Reading.{pshdFields, pshdRight, segment, segmentsFrom, segments, reading, earlierSegments}
 use Rattle.partial.specs.Tables.{tabled, listed, asked, textOf}
 use Rattle.partial.specs.Map.{refusedLine, textFor}
-use Rattle.partial.specs.Raised.{Kept}
+use Rattle.partial.specs.Raised.{Kept, judgesLimit}
 use Rattle.partial.proofs.Meaning.SequenceLaws.{which}
 use Rattle.partial.proofs.Reading.PrintedLaws.{printed}
 
--- the same, or the first was 23
+-- the same, or the first was refused for the limit
 abbrev pub Same : {A : Type 0} → Answer A → Answer A → Type 0
-Same low high = (high ≡ low) ⊎ (low ≡ refused 23)
+Same low high = (high ≡ low) ⊎ ((n : ℕ) × T (judgesLimit n) × (low ≡ refused n))
 
 -- so what was accepted is accepted with the same
 pub kept : {A : Type 0} (low high : Answer A) → Same low high → Kept low high
-kept low high same = record { accepted = λ a e. ⊎-elim (λ s. s ∙ e) (λ was. absurd (not-both (sym was ∙ e))) same; elseWas23 = same }
+kept low high same = record { accepted = λ a e. ⊎-elim (λ s. s ∙ e) (λ was. absurd (not-both (sym (was .2) ∙ e))) same; elseOver = same }
 
 -- what follows the same is the same, where that is so of each value that was given
 pub same-then : {A B : Type 0} (x y : Answer A) (f g : A → Answer B) → Same x y → ((a : A) → Same (f a) (g a)) → Same (x >>= f) (y >>= g)
 same-then (refused n) y f g (inl e) rest = inl (rw e)
 same-then (given a) y f g (inl e) rest = rw e (rest a)
-same-then x y f g (inr e) rest = inr (rw e)
+same-then x y f g (inr (n, judges, e)) rest = inr (n, judges, rw e)
 
 pub same-after : {A B : Type 0} (x : Answer A) (f g : A → Answer B) → ((a : A) → Same (f a) (g a)) → Same (x >>= f) (x >>= g)
 same-after x f g rest = same-then x x f g (inl refl) rest
+
+same-either : {A : Type 0} (t : Bool) {x y : Answer A} (z : Answer A) → Same x y → Same {A = A} (elim t [ true ↦ x | false ↦ z ]) (elim t [ true ↦ y | false ↦ z ])
+same-either true z same = same
+same-either false z same = inl refl
 
 module _ (low high : ℕ) (raised : low ≤ high) where
   -- the test of 23: what passes it under the lower limit passes it under the higher
@@ -47,7 +51,7 @@ module _ (low high : ℕ) (raised : low ≤ high) where
   same-held n f g rest =
       elim (which (leb n low)) [
         | inl passes ↦ rw (passes, le-leb n high (omega (arith, leb-true n low passes))) rest
-        | inr fails ↦ inr (rw fails)
+        | inr fails ↦ inr (23, tt, rw fails)
       ]
 
   module _ (f : List ℕ) (h : Heading) where
@@ -91,7 +95,7 @@ module _ (low high : ℕ) (raised : low ≤ high) where
         same-then (segment low f h before b) (segment high f h before b) _ _ (segment-same before b)
         (λ s. segments-from-same (before ++ (s ∷ [])) bs)
 
-    pub segments-same : Same (segments low f h) (segments high f h)
+    segments-same : Same (segments low f h) (segments high f h)
     unfolding segments
     segments-same =
         let psegs = those pseg (h .boxes) in
@@ -101,6 +105,10 @@ module _ (low high : ℕ) (raised : low ≤ high) where
   pub reading-same : (f : List ℕ) → Same (reading low f) (reading high f)
   unfolding reading
   reading-same f = same-after (heading f) _ _ (λ h. same-after (hold 12 (right File pseg (h .boxes))) _ _ (λ _. segments-same f h))
+
+  pub earlier-same : (f : List ℕ) → Same (earlierSegments low f) (earlierSegments high f)
+  unfolding earlierSegments
+  earlier-same f = same-after (heading f) _ _ (λ h. same-either (right File pseg (h .boxes)) (given []) (reading-same f))
 
   pub tabled-same : (f a b : List ℕ) → Same (tabled low f a b) (tabled high f a b)
   unfolding tabled
@@ -133,12 +141,12 @@ module _ (low high : ℕ) (raised : low ≤ high) where
     maps-accepted ss e = text-by (kept _ _ (reading-same input) .accepted ss e ∙ sym e)
 
     abbrev TextSame : Type 0
-    TextSame = (textFor of high most input ≡ textFor of low most input) ⊎ (textFor of low most input ≡ refusedLine 23)
+    TextSame = (textFor of high most input ≡ textFor of low most input) ⊎ ((n : ℕ) × T (judgesLimit n) × (textFor of low most input ≡ refusedLine n))
 
-    text-was : reading low input ≡ refused 23 → TextSame
-    text-was was =
+    text-was : (n : ℕ) × T (judgesLimit n) × (reading low input ≡ refused n) → TextSame
+    text-was (n, judges, was) =
         elim (which (leb (length input) most)) [
-          | inl takes ↦ inr (printed of low most input .refusal 23 (leb-true (length input) most takes) was)
+          | inl takes ↦ inr (n, judges, printed of low most input .refusal n (leb-true (length input) most takes) was)
           | inr over ↦ inl (text-over over)
         ]
 

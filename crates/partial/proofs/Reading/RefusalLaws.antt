@@ -16,7 +16,7 @@ use Rattle.boxes.specs.Framing.{Box, boxesIn, boxLimit}
 use Rattle.boxes.specs.Kinds.{pseg, pshd, ploc, surl, right, those, boxAt, firstOf}
 use Rattle.boxes.specs.declared.kinds.Container.{Container}
 use Rattle.boxes.specs.declared.kinds.Container.the-variants.{File, Pfil, Pseg}
-use Rattle.boxes.proofs.AnswerLaws.{not-both, Only, refused-same, only-then, only-held, only-given, only-refused, only-either}
+use Rattle.boxes.proofs.AnswerLaws.{not-both, both-given, Only, refused-same, only-then, only-held, only-given, only-refused, only-either}
 use Rattle.boxes.proofs.ContainerLaws.{boxes-numbers}
 use Rattle.boxes.proofs.KindLaws.{some-right}
 use Rattle.partial.specs.Limits.{fileLimit, segmentLimit, chunkLimit}
@@ -36,6 +36,7 @@ use Rattle.partial.specs.Append.{addedBoxes, newSegment, added, appended
 use Rattle.partial.specs.Runs.{lent, sizeAfter, append}
 use Rattle.partial.specs.Demands.{beforeAgreement, ofStages, Never, Demand1, Takes}
 use Rattle.partial.proofs.Meaning.SequenceLaws.{inside, which}
+use Rattle.partial.proofs.Reading.ReadingLaws.{reading-segments}
 
 -- stages 1 to 11 and 13 to 24, by a kind that has their numbers, and 25
 module _ (P : ℕ → Type 0) (known : (n : ℕ) → T (beforeAgreement n) → P n) where
@@ -143,7 +144,7 @@ known-file n = beside (beforeAgreement n) (eqb n 25)
 
 -- append takes an acceptable file, or one whose only refusal is 12
 module _ (limit : ℕ) (f : List ℕ) where
-  no-segments : (h : Heading) → right File pseg (h .boxes) ≡ false → segments limit f h ≡ given []
+  pub no-segments : (h : Heading) → right File pseg (h .boxes) ≡ false → segments limit f h ≡ given []
   unfolding segments segmentsFrom agree knownSize
   no-segments h lacks =
       elim (decLe 1 (length (those pseg (h .boxes)))) [
@@ -152,6 +153,33 @@ module _ (limit : ℕ) (f : List ℕ) where
             let nothing : those pseg (h .boxes) ≡ [] = drop-of-length-le (those pseg (h .boxes)) {i = 0} (omega arith) in
             rw nothing
       ]
+
+  module _ {h : Heading} (head : heading f ≡ given h) where
+    earlier-by : {t : Bool} → right File pseg (h .boxes) ≡ t → earlierSegments limit f ≡ elim t [ true ↦ reading limit f | false ↦ given [] ]
+    unfolding earlierSegments
+    earlier-by e = rw head (ap (λ (t : Bool). elim t [ true ↦ reading limit f | false ↦ given [] ]) e)
+
+    pub earlier-some : right File pseg (h .boxes) ≡ true → earlierSegments limit f ≡ reading limit f
+    earlier-some there = earlier-by there
+
+    pub earlier-none : right File pseg (h .boxes) ≡ false → earlierSegments limit f ≡ given []
+    earlier-none lacks = earlier-by lacks
+
+    reading-none : right File pseg (h .boxes) ≡ false → reading limit f ≡ refused 12
+    unfolding reading
+    reading-none lacks = rw (reading, head, lacks)
+
+    reading-some : right File pseg (h .boxes) ≡ true → reading limit f ≡ segments limit f h
+    unfolding reading
+    reading-some there = rw (reading, head, there)
+
+    -- the segments of a file that append takes are those of its heading
+    pub earlier-read : {ss : List Segment} → earlierSegments limit f ≡ given ss → segments limit f h ≡ given ss
+    earlier-read e =
+        elim (which (right File pseg (h .boxes))) [
+          | inl there ↦ reading-segments limit f head (sym (earlier-some there) ∙ e)
+          | inr lacks ↦ no-segments h lacks ∙ sym (earlier-none lacks) ∙ e
+        ]
 
   -- reading differs from what append goes by only in 12
   twelve-apart : (reading limit f ≡ earlierSegments limit f) ⊎ ((reading limit f ≡ refused 12) × (earlierSegments limit f ≡ given []))
@@ -163,21 +191,39 @@ module _ (limit : ℕ) (f : List ℕ) where
       go (refused n) e = inl (rw e)
       go (given h) e =
           elim (which (right File pseg (h .boxes))) [
-            | inl there ↦ inl (rw (e, there))
-            | inr lacks ↦ inr (rw (e, lacks), rw e (no-segments h lacks))
+            | inl there ↦ inl (sym (earlier-some e there))
+            | inr lacks ↦ inr (reading-none e lacks, earlier-none e lacks)
           ]
 
-  earlier-only : Only OfFile (earlierSegments limit f)
-  unfolding earlierSegments within
-  earlier-only =
-      only-then OfFile (heading f) _ (heading-only OfFile known-file f) (λ h. segments-only OfFile known-file tt limit f h)
+  -- such a file has a heading
+  pub earlier-headed : {ss : List Segment} → earlierSegments limit f ≡ given ss → (h : Heading) × (heading f ≡ given h)
+  unfolding earlierSegments
+  earlier-headed e =
+      let (h, head, _) = both-given (heading f) _ e in
+      (h, head)
+
+  pub earlier-headless : {n : ℕ} → heading f ≡ refused n → earlierSegments limit f ≡ refused n
+  unfolding earlierSegments
+  earlier-headless e = rw (earlierSegments, e)
+
+  module _ (P : ℕ → Type 0) (known : (n : ℕ) → T (beforeAgreement n) → P n) (last : P 25) where
+    earlier-only : Only P (earlierSegments limit f)
+    earlier-only n e = go (heading f) refl
+      where
+        go : (x : Answer Heading) → heading f ≡ x → P n
+        go (refused m) head = heading-only P known f n (head ∙ ap refused (refused-same (sym (earlier-headless head) ∙ e)))
+        go (given h) head =
+            elim (which (right File pseg (h .boxes))) [
+              | inl there ↦ segments-only P known last limit f h n (sym (earlier-some head there ∙ reading-some head there) ∙ e)
+              | inr lacks ↦ absurd (not-both (sym e ∙ earlier-none head lacks))
+            ]
 
   pub takes : Takes limit f
   unfolding within
   takes =
       record {
         acceptable = λ ss e. ⊎-elim (λ same. sym same ∙ e) (λ t. absurd (not-both (sym (t .0) ∙ e))) twelve-apart;
-        onlyTwelve = λ e. ⊎-elim (λ same. absurd (earlier-only 12 (sym same ∙ e))) (λ t. t .1) twelve-apart;
+        onlyTwelve = λ e. ⊎-elim (λ same. absurd (earlier-only OfFile known-file tt 12 (sym same ∙ e))) (λ t. t .1) twelve-apart;
         itsOwn = λ k e other. ⊎-elim (λ same. sym same ∙ e) (λ t. absurd (other (refused-same (sym e ∙ t .0)))) twelve-apart;
       }
 
@@ -232,7 +278,7 @@ module _ (limit : ℕ) where
       only-held OfAddition 30 (leb n (length buffer)) _ tt
       (only-then OfAddition (heading f) _ (heading-only OfAddition known-added f)
       (λ h.
-      only-then OfAddition (segments limit f h) _ (segments-only OfAddition known-added tt limit f h)
+      only-then OfAddition (earlierSegments limit f) _ (earlier-only limit f OfAddition known-added tt)
       (λ ss.
       only-held OfAddition 31 (listRight (a .list)) _ tt
       (only-held OfAddition 32 (dataRight a) _ tt

@@ -24,7 +24,7 @@ use Rattle.partial.proofs.Writing.GrownLaws.{grown}
 use Rattle.partial.proofs.Writing.RepairTimeLaws.{cut, added-cut, taken-cut}
 use Rattle.partial.proofs.Writing.ReadsBackLaws.{Taken, taken-any, taken, taken-sayable, reading-added, file-after, admits, Offered, Admits}
 use Rattle.partial.proofs.Writing.ReadsBackLaws.{admission-of}
-use Rattle.partial.proofs.Reading.RefusalLaws.{takes}
+use Rattle.partial.proofs.Reading.RefusalLaws.{takes, earlier-read}
 use Rattle.partial.proofs.Meaning.SequenceLaws.{passes}
 use Rattle.partial.proofs.Meaning.AgreementLaws.{in-agreement, agreement}
 use Rattle.partial.proofs.Writing.ResultLaws.{appended-offered}
@@ -37,7 +37,7 @@ module _ (limit : ℕ) (f : List ℕ) (h : Heading) (ss : List Segment) (a : Add
       let same = added-cut a in
       let cut-taken = taken-cut limit f h ss a t in
       let read : reading limit (f ++ added a) ≡ given (ss ++ new) = rw same at (reading-added limit f h ss (cut a) cut-taken (taken-sayable limit f h ss (cut a) cut-taken below (mod-lt (a .repairTime) (lit< tt)))) in
-      let grew : Grown f (f ++ added a) ss (ss ++ new) (cut a) = rw same at (grown f h ss (cut a) (accepted limit f h (t .offered .headed) (t .offered .before)) (cut-taken .offered .carried) (admits limit h ss (length f) (cut a) (cut-taken .admits) .0 .agreed)) in
+      let grew : Grown f (f ++ added a) ss (ss ++ new) (cut a) = rw same at (grown f h ss (cut a) (accepted limit f h (t .offered .headed) (earlier-read limit f (t .offered .headed) (t .offered .before))) (cut-taken .offered .carried) (admits limit h ss (length f) (cut a) (cut-taken .admits) .0 .agreed)) in
       (ss ++ new, read, record { kept = grew .kept; noShorter = grew .noShorter })
 
 -- after each accepted addition

@@ -5,7 +5,7 @@ use lib.ListN.{take}
 use Rattle.partial.specs.Addition.{Addition}
 use Rattle.partial.specs.Runs.{fileIn}
 use Rattle.partial.specs.Demands.{Reasons, Demand3}
-use Rattle.partial.proofs.Reading.RefusalLaws.{demand1, takes}
+use Rattle.partial.proofs.Reading.RefusalLaws.{demand1, takes, earlier-headed}
 use Rattle.partial.proofs.Writing.ReasonLaws.{length-over, file-refused, list-wrong, data-wrong, outside-wrong}
 use Rattle.partial.proofs.Writing.ResultLaws.{by-result, too-many}
 use Rattle.partial.proofs.Writing.BegunLaws.{just-begun, begins}
@@ -19,8 +19,8 @@ reasons limit buffer n a =
     record {
       lengthOver = length-over limit buffer n a;
       fileRefused = λ k fits e other. file-refused limit buffer n a fits (takes limit (take n buffer) .itsOwn k e other);
-      listWrong = λ ss fits e list. list-wrong limit buffer n a fits e list;
-      dataWrong = λ ss fits e list carried. data-wrong limit buffer n a fits e list carried;
+      listWrong = λ ss fits e. list-wrong limit buffer n a fits (earlier-headed limit (take n buffer) e .1) e;
+      dataWrong = λ ss fits e. data-wrong limit buffer n a fits (earlier-headed limit (take n buffer) e .1) e;
       outsideWrong = λ h ss fits head read. outside-wrong limit buffer n a fits head read;
       byResult = by-result limit buffer n a;
       tooMany = too-many limit buffer n a;

@@ -1,8 +1,8 @@
 -- A file just begun has a heading and no segment, so that append takes it.
 use Prim.Native.Nat.{ℕ, zero, suc, _+_, _-_, _≤_, _<_, _/_, _%_, _^_}
-use mathlib.Core.Bool.{Bool, true, not, _&&_, _||_, or-false}
+use mathlib.Core.Bool.{Bool, true, false, not, _&&_, _||_, or-false}
 use mathlib.Core.List.{List, [], _∷_, _++_}
-use mathlib.Core.Logic.{_↔_}
+use mathlib.Core.Logic.{_↔_, inl, inr}
 use mathlib.Core.Path.{_≡_, refl, sym, ap, _∙_}
 use native.Mathlib.Nat.{add-assoc, zero-add, add-zero}
 use native.Mathlib.Numerals.{add-one}
@@ -14,28 +14,28 @@ use lib.Seq.{take-at}
 use Rattle.boxes.specs.Answer.{given}
 use Rattle.numerals.specs.Numbers.{number, bytesOf}
 use Rattle.boxes.specs.Framing.{Box, frontSize, boxed, boxesIn}
-use Rattle.boxes.specs.Kinds.{ftyp, pfil, pfhd, surl, those, boxAt, firstOf, pseg}
+use Rattle.boxes.specs.Kinds.{ftyp, pfil, pfhd, surl, right, those, boxAt, firstOf, pseg}
 use Rattle.boxes.specs.declared.kinds.Container.the-variants.{File, Pfil}
 use Rattle.boxes.proofs.AnswerLaws.{held, given-same}
 use Rattle.numerals.proofs.NumberLaws.{length-bytesOf, number-byte, bytesOf-zero}
 use Rattle.boxes.proofs.BoxedLaws.{boxedAt, length-boxed, boxed-stand}
-use Rattle.boxes.proofs.KindLaws.{some-right, firstOf-those, one-right, is-eqb, boxAt-getD, first-is}
+use Rattle.boxes.proofs.KindLaws.{some-right, right-some, firstOf-those, one-right, is-eqb, boxAt-getD, first-is}
 use Rattle.partial.specs.Limits.{fileLimit}
 use Rattle.partial.specs.Sequences.{someOf, allOf, stretch}
 use Rattle.partial.specs.Heading.{Heading, paff, pmff, ftypRight, brandsFrom, brands, branded, brandRight, pfilRight, pfhdFormed}
 use Rattle.partial.specs.Heading.{pfhdRight, text, url, mime, surlFormed, surlRight}
-use Rattle.partial.specs.Meaning.{knownSize, agree}
-use Rattle.partial.specs.Reading.{segmentsFrom, segments, earlierSegments}
+use Rattle.partial.specs.Reading.{earlierSegments}
 use Rattle.partial.specs.Memory.{after, filled}
 use Rattle.partial.specs.declared.brand.Brand.{Brand}
 use Rattle.partial.specs.declared.brand.Brand.the-variants.{Paff, Pmff}
 use Rattle.partial.specs.Begin.{versionAndFlags, brandCode, beginning, isText, begun}
 use Rattle.partial.specs.Runs.{lent, fileIn, sizeAfter, begin}
-use Rattle.partial.proofs.Meaning.SequenceLaws.{both, passes}
+use Rattle.partial.proofs.Meaning.SequenceLaws.{both, passes, which}
 use Rattle.partial.proofs.Writing.StandsLaws.{Stands, stands-behind, stands-head, stands-tail, stands-left, stands-right}
 use Rattle.partial.proofs.Writing.StandsLaws.{stands-number}
 use Rattle.partial.proofs.Writing.BoxesStandLaws.{stands-two, only-second, second-box, neither, only-first, first-box}
 use Rattle.partial.proofs.Reading.HeadingAppendLaws.{Headed, heading-of}
+use Rattle.partial.proofs.Reading.RefusalLaws.{earlier-none}
 
 -- a text with no zero byte ends where the first zero byte stands
 text-back : (f : List ℕ) (u rest : List ℕ) (at more : ℕ) → Stands f at (u ++ (0 ∷ rest)) → isText u ≡ true → length u < more
@@ -253,13 +253,18 @@ module _ (brand : Brand) (u m : List ℕ) where
       }
 
   -- and no segment
-  pub begun-segments : (limit : ℕ) → segments limit (beginning brand u m) begunHeading ≡ given []
-  unfolding segments segmentsFrom agree knownSize
-  begun-segments limit = rw (neither pseg brandBox fileBox (is-eqb pseg brandBox) (is-eqb pseg fileBox))
+  begun-none : right File pseg (begunHeading .boxes) ≡ false
+  begun-none =
+      elim (which (right File pseg (begunHeading .boxes))) [
+        | inl there ↦
+            let none = neither pseg brandBox fileBox (is-eqb pseg brandBox) (is-eqb pseg fileBox) in
+            absurd (omega (arith, right-some pseg (begunHeading .boxes) refl there, ap length none))
+        | inr lacks ↦ lacks
+      ]
 
-  begun-taken : (limit : ℕ) → length (beginning brand u m) ≤ fileLimit → isText u ≡ true → isText m ≡ true → earlierSegments limit (beginning brand u m) ≡ given []
-  unfolding earlierSegments
-  begun-taken limit small plain-url plain-mime = rw (heading-of (beginning brand u m) begunHeading (begun-headed small plain-url plain-mime)) (begun-segments limit)
+  pub begun-taken : (limit : ℕ) → length (beginning brand u m) ≤ fileLimit → isText u ≡ true → isText m ≡ true → earlierSegments limit (beginning brand u m) ≡ given []
+  begun-taken limit small plain-url plain-mime =
+      earlier-none limit (beginning brand u m) (heading-of (beginning brand u m) begunHeading (begun-headed small plain-url plain-mime)) begun-none
 
 -- a beginning is given a length exactly if it has two texts, within the limit and the buffer; it is its own length
 pub begins : (buffer : List ℕ) (brand : Brand) (u m : List ℕ) (n : ℕ)

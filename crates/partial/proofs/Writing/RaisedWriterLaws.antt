@@ -11,13 +11,13 @@ use Rattle.boxes.specs.Framing.{boxLimit}
 use Rattle.partial.specs.Limits.{fileLimit, segmentLimit, chunkLimit}
 use Rattle.partial.specs.Segments.{Segment, chunksOf, endOf}
 use Rattle.partial.specs.Heading.{Heading, heading}
-use Rattle.partial.specs.Reading.{segments, admitted}
+use Rattle.partial.specs.Reading.{earlierSegments, admitted}
 use Rattle.partial.specs.Tables.{servedPart}
 use Rattle.partial.specs.Addition.{Addition, listRight, dataRight, outsideRight}
 use Rattle.partial.specs.Append.{addedBoxes, added, psegPlace, newSegment, admission, appended}
 use Rattle.partial.specs.Runs.{lent, append}
 use Rattle.partial.specs.Raised.{Raised}
-use Rattle.partial.proofs.Reading.RaisedLaws.{Same, kept, same-then, same-after, same-held, segments-same, reading-same, tabled-same, listed-same}
+use Rattle.partial.proofs.Reading.RaisedLaws.{Same, kept, same-then, same-after, same-held, earlier-same, reading-same, tabled-same, listed-same}
 use Rattle.partial.proofs.Reading.RaisedLaws.{asked-same, texts-same, maps-accepted, maps-same}
 
 module _ (low high : ℕ) (raised : low ≤ high) where
@@ -45,7 +45,7 @@ module _ (low high : ℕ) (raised : low ≤ high) where
       (λ _.
       same-after (heading f) _ _
       (λ h.
-      same-then (segments low f h) (segments high f h) _ _ (segments-same low high raised f h)
+      same-then (earlierSegments low f) (earlierSegments high f) _ _ (earlier-same low high raised f)
       (λ ss.
       same-after (hold 31 (listRight (a .list))) _ _
       (λ _.
@@ -68,7 +68,7 @@ module _ (low high : ℕ) (raised : low ≤ high) where
         serves = λ f a b p ss e. ap (λ r. servedPart r p) (kept _ _ (tabled-same low high raised f a b) .accepted ss e ∙ sym e);
         texts = texts-same low high raised;
         maps = maps-accepted low high raised;
-        mapElseWas23 = maps-same low high raised;
+        mapElseOver = maps-same low high raised;
         appends = λ buffer n a. kept _ _ (appended-same buffer n a);
         bytes = bytes-same;
       }

@@ -32,6 +32,7 @@ use Rattle.partial.proofs.Writing.PlacedLaws.{list-formed, sizes-placed
 use Rattle.partial.proofs.Reading.HeadingAppendLaws.{headed, heading-of, headed-appended, lies, boxes-lie, those-all, withBoxes}
 use Rattle.partial.proofs.Reading.KeptLaws.{segments-kept}
 use Rattle.partial.proofs.Reading.LimitLaws.{segments-many}
+use Rattle.partial.proofs.Reading.RefusalLaws.{earlier-read}
 use Rattle.partial.proofs.Writing.FieldsBackLaws.{sizes-eight}
 use Rattle.partial.proofs.Writing.WholeLaws.{allowed-other, filled-row, row-starts}
 use Rattle.partial.proofs.Writing.AddedBoxesLaws.{segmentBox, newBoxes, boxes-added, added-moved, those-new, data-low, length-added}
@@ -51,7 +52,7 @@ module _ (limit : ℕ) (f : List ℕ) (h : Heading) where
 -- an addition, right in itself, to a file that append takes
 pub record Offered (limit : ℕ) (f : List ℕ) (h : Heading) (ss : List Segment) (a : Addition) : Type 0 where
   pub headed : heading f ≡ given h
-  pub before : segments limit f h ≡ given ss
+  pub before : earlierSegments limit f ≡ given ss
   pub list : listRight (a .list) ≡ true
   pub carried : dataRight a ≡ true
   pub outside : outsideRight h a ≡ true
@@ -115,7 +116,7 @@ taken-any limit buffer n a size e =
     let f : List ℕ = take n buffer in
     let (lent-enough, e1) = held 30 (leb n (length buffer)) _ e in
     let (h, head, e2) = both-given (heading f) _ e1 in
-    let (ss, before, e3) = both-given (segments limit f h) _ e2 in
+    let (ss, before, e3) = both-given (earlierSegments limit f) _ e2 in
     let (list, e4) = held 31 (listRight (a .list)) _ e3 in
     let (carried, e5) = held 32 (dataRight a) _ e4 in
     let (outer, e6) = held 35 (outsideRight h a) _ e5 in
@@ -138,17 +139,10 @@ taken-any limit buffer n a size e =
 pub taken : (limit : ℕ) (buffer : List ℕ) (n : ℕ) (a : Addition) (size : ℕ) (ss : List Segment) → earlierSegments limit (take n buffer) ≡ given ss
     → appended limit buffer n a ≡ given size
     → (h : Heading) × Taken limit (take n buffer) h ss a × (n ≡ length (take n buffer)) × (size ≡ n + length (added a))
-unfolding earlierSegments
 taken limit buffer n a size ss before e =
     let (h, ts, t, long, total, _) = taken-any limit buffer n a size e in
-    let same : ts ≡ ss = given-same (sym (t .offered .before) ∙ (rw (earlierSegments, t .offered .headed) at before)) in
+    let same : ts ≡ ss = given-same (sym (t .offered .before) ∙ before) in
     (h, subst (λ us. Taken limit (take n buffer) h us a) same t, long, total)
-
--- the segments of a file that append takes are those of its heading
-pub earlier-of : (limit : ℕ) (f : List ℕ) (h : Heading) (ss : List Segment) → heading f ≡ given h → segments limit f h ≡ given ss
-    → earlierSegments limit f ≡ given ss
-unfolding earlierSegments
-earlier-of limit f h ss head read = rw (earlierSegments, head) read
 
 module _ (limit : ℕ) (f : List ℕ) (h : Heading) (ss : List Segment) (a : Addition) where
   -- the heading of the longer file
@@ -211,7 +205,7 @@ module _ (limit : ℕ) (f : List ℕ) (h : Heading) (ss : List Segment) (a : Add
           let n = length f in
           let new : Segment = newSegment (psegPlace n a) a in
           let old : List Box = those pseg (h .boxes) in
-          let (enough, e1) = held 13 (leb (length old) segmentLimit) _ (t .before) in
+          let (enough, e1) = held 13 (leb (length old) segmentLimit) _ (earlier-read limit f (t .headed) (t .before)) in
           let (us, read, e2) = both-given (segmentsFrom limit f h [] old) _ e1 in
           let (agreed, e3) = held 25 (agree us) _ e2 in
           let before : segmentsFrom limit f h [] old ≡ given ss = read ∙ e3 in

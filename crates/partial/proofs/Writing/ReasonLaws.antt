@@ -3,21 +3,17 @@
 use Prim.Native.Nat.{ℕ, _≤_, _<_}
 use mathlib.Core.Bool.{true, false}
 use mathlib.Core.List.{List}
-use mathlib.Core.Path.{_≡_}
+use mathlib.Core.Path.{_≡_, refl, sym, ap, _∙_}
 use borrow.Author.Tests.{le-leb, lt-leb}
 use lib.ListN.{length, take}
-use Rattle.boxes.specs.Answer.{Answer, refused, given, _>>=_}
-use Rattle.boxes.proofs.AnswerLaws.{both-given}
+use Rattle.boxes.specs.Answer.{Answer, refused, given}
+use Rattle.boxes.proofs.AnswerLaws.{refused-same}
 use Rattle.partial.specs.Segments.{Segment}
 use Rattle.partial.specs.Heading.{Heading, heading}
-use Rattle.partial.specs.Reading.{segments, earlierSegments}
+use Rattle.partial.specs.Reading.{earlierSegments}
 use Rattle.partial.specs.Addition.{Addition, listRight, dataRight, outsideRight}
 use Rattle.partial.specs.Append.{appended}
-
--- a refusal on the way is the refusal of the whole
-stays : {A B C : Type 0} (x : Answer A) (y : A → Answer B) (rest : A → B → Answer C) {k : ℕ} → (x >>= y) ≡ refused k → (x >>= λ a. y a >>= rest a) ≡ refused k
-stays (refused n) y rest e = cc
-stays (given a) y rest e = rw e
+use Rattle.partial.proofs.Reading.RefusalLaws.{earlier-headless}
 
 module _ (limit : ℕ) (buffer : List ℕ) (n : ℕ) (a : Addition) where
   pub length-over : length buffer < n → appended limit buffer n a ≡ refused 30
@@ -26,26 +22,23 @@ module _ (limit : ℕ) (buffer : List ℕ) (n : ℕ) (a : Addition) where
 
   module _ (fits : n ≤ length buffer) where
     pub file-refused : {k : ℕ} → earlierSegments limit (take n buffer) ≡ refused k → appended limit buffer n a ≡ refused k
-    unfolding appended earlierSegments
-    file-refused e = rw (le-leb n (length buffer) fits) (stays (heading (take n buffer)) (segments limit (take n buffer)) _ e)
-
-    module _ {ss : List Segment} (stands : earlierSegments limit (take n buffer) ≡ given ss) where
-      pub list-wrong : listRight (a .list) ≡ false → appended limit buffer n a ≡ refused 31
-      unfolding appended earlierSegments
-      list-wrong wrong =
-          let (h, head, read) = both-given (heading (take n buffer)) _ stands in
-          rw (le-leb n (length buffer) fits, head, read, wrong)
-
-      pub data-wrong : listRight (a .list) ≡ true → dataRight a ≡ false → appended limit buffer n a ≡ refused 32
-      unfolding appended earlierSegments
-      data-wrong list wrong =
-          let (h, head, read) = both-given (heading (take n buffer)) _ stands in
-          rw (le-leb n (length buffer) fits, head, read, list, wrong)
-
-    pub outside-wrong : {h : Heading} {ss : List Segment} → heading (take n buffer) ≡ given h → segments limit (take n buffer) h ≡ given ss
-        → listRight (a .list) ≡ true
-        → dataRight a ≡ true
-        → outsideRight h a ≡ false
-        → appended limit buffer n a ≡ refused 35
     unfolding appended
-    outside-wrong head read list carried wrong = rw (le-leb n (length buffer) fits, head, read, list, carried, wrong)
+    file-refused {k} e = go (heading (take n buffer)) refl
+      where
+        go : (x : Answer Heading) → heading (take n buffer) ≡ x → appended limit buffer n a ≡ refused k
+        go (refused m) head = rw (le-leb n (length buffer) fits, head) (ap refused (refused-same (sym (earlier-headless limit (take n buffer) head) ∙ e)))
+        go (given h) head = rw (le-leb n (length buffer) fits, head, e)
+
+    module _ {h : Heading} {ss : List Segment} (head : heading (take n buffer) ≡ given h) (stands : earlierSegments limit (take n buffer) ≡ given ss) where
+      pub list-wrong : listRight (a .list) ≡ false → appended limit buffer n a ≡ refused 31
+      unfolding appended
+      list-wrong wrong = rw (le-leb n (length buffer) fits, head, stands, wrong)
+
+      module _ (list : listRight (a .list) ≡ true) where
+        pub data-wrong : dataRight a ≡ false → appended limit buffer n a ≡ refused 32
+        unfolding appended
+        data-wrong wrong = rw (le-leb n (length buffer) fits, head, stands, list, wrong)
+
+        pub outside-wrong : dataRight a ≡ true → outsideRight h a ≡ false → appended limit buffer n a ≡ refused 35
+        unfolding appended
+        outside-wrong carried wrong = rw (le-leb n (length buffer) fits, head, stands, list, carried, wrong)

@@ -18,7 +18,7 @@ use Rattle.partial.specs.Limits.{fileLimit, segmentLimit, chunkLimit}
 use Rattle.partial.specs.Sequences.{allOf}
 use Rattle.partial.specs.Segments.{Segment, chunksOf}
 use Rattle.partial.specs.Heading.{Heading, heading}
-use Rattle.partial.specs.Reading.{reading, admitted, segments}
+use Rattle.partial.specs.Reading.{reading, admitted, earlierSegments}
 use Rattle.partial.specs.Addition.{items, Addition, listRight, dataRight, outsideRight, sayable}
 use Rattle.partial.specs.Append.{addedBoxes, added, appended, result, placedWith, placed, admission, psegPlace}
 use Rattle.partial.specs.Runs.{lent, fileIn}
@@ -59,7 +59,7 @@ module _ (limit : ℕ) (buffer : List ℕ) (n : ℕ) (a : Addition) where
 
   pub by-result : (h : Heading) (ss : List Segment) → n ≤ length buffer
       → heading (fileIn (lent buffer n)) ≡ given h
-      → segments limit (fileIn (lent buffer n)) h ≡ given ss
+      → earlierSegments limit (fileIn (lent buffer n)) ≡ given ss
       → listRight (a .list) ≡ true
       → dataRight a ≡ true
       → outsideRight h a ≡ true
@@ -78,7 +78,7 @@ module _ (limit : ℕ) (buffer : List ℕ) (n : ℕ) (a : Addition) where
   -- of more chunks than `chunk_count` can say it is 22, unless 1, 6 or 13 comes before
   pub too-many : (h : Heading) (ss : List Segment) → n ≤ length buffer
       → heading (fileIn (lent buffer n)) ≡ given h
-      → segments limit (fileIn (lent buffer n)) h ≡ given ss
+      → earlierSegments limit (fileIn (lent buffer n)) ≡ given ss
       → listRight (a .list) ≡ true
       → dataRight a ≡ true
       → outsideRight h a ≡ true

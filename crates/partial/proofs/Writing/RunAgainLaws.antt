@@ -17,7 +17,7 @@ use Rattle.boxes.proofs.AnswerLaws.{given-same}
 use Rattle.partial.specs.Sequences.{allOf}
 use Rattle.partial.specs.Segments.{Segment}
 use Rattle.partial.specs.Heading.{Heading, heading}
-use Rattle.partial.specs.Reading.{segments}
+use Rattle.partial.specs.Reading.{earlierSegments}
 use Rattle.partial.specs.Memory.{after, filled}
 use Rattle.partial.specs.Addition.{Addition, dataRight}
 use Rattle.partial.specs.Append.{added, newSegment, appended, result, psegPlace}
@@ -25,14 +25,14 @@ use Rattle.partial.specs.Runs.{Lent, lent, fileIn, sizeAfter, append, ap
 use Rattle.partial.specs.Again.{again, settled}
 use Rattle.partial.proofs.Meaning.SequenceLaws.{both, all-append}
 use Rattle.partial.proofs.Reading.HeadingAppendLaws.{headed, boxes-lie}
-use Rattle.partial.proofs.Reading.ReadingLaws.{reading-segments}
+use Rattle.partial.proofs.Reading.RefusalLaws.{takes}
 use Rattle.partial.proofs.Writing.DataLaws.{settled-added, settled-right, settled-admission}
 use Rattle.partial.proofs.Writing.WholeLaws.{beyond, row-beyond}
 use Rattle.partial.proofs.Writing.AddedBoxesLaws.{newBoxes, new-row}
 use Rattle.partial.proofs.Writing.ToldOutsideLaws.{outside-told}
 use Rattle.partial.proofs.Writing.AgainLaws.{same-again}
 use Rattle.partial.proofs.Writing.RepairTimeLaws.{cut, added-cut, taken-cut}
-use Rattle.partial.proofs.Writing.ReadsBackLaws.{Taken, earlier-of, taken, taken-sayable, grownHeading, heading-added}
+use Rattle.partial.proofs.Writing.ReadsBackLaws.{Taken, taken, taken-sayable, grownHeading, heading-added}
 use Rattle.partial.proofs.Writing.ReadsBackLaws.{reading-added, file-after, admits}
 use Rattle.partial.proofs.Writing.ResultLaws.{appended-offered}
 
@@ -96,7 +96,7 @@ pub record Rewrites (limit : ℕ) (g : List ℕ) (h : Heading) (ss : List Segmen
   pub boxes : heading′ .boxes ≡ h .boxes ++ later
   pub behind : allOf (beyond (length g)) later ≡ true
   pub added′ : List Segment
-  pub read : segments limit whole heading′ ≡ given (ss ++ added′)
+  pub read : earlierSegments limit whole ≡ given (ss ++ added′)
   pub rewritten : (other : List ℕ) → take (length g) other ≡ g → length whole ≤ length other
       → fileIn (appendAll limit (lent other (length g)) (map (again whole heading′) added′)) ≡ whole
 
@@ -148,10 +148,10 @@ module _ (limit : ℕ) (below : limit < 2 ^ 64) where
       }
 
   step-rewrite : (l : Lent) (a : Addition) (whole : List ℕ) (h : Heading) (ss : List Segment) → heading (fileIn l) ≡ given h
-      → segments limit (fileIn l) h ≡ given ss
+      → earlierSegments limit (fileIn l) ≡ given ss
       → ((k : Heading) (ts : List Segment)
       → heading (fileIn (append limit l a)) ≡ given k
-      → segments limit (fileIn (append limit l a)) k ≡ given ts
+      → earlierSegments limit (fileIn (append limit l a)) ≡ given ts
       → Rewrites limit (fileIn (append limit l a)) k ts whole)
       → Rewrites limit (fileIn l) h ss whole
   unfolding fileIn
@@ -165,7 +165,7 @@ module _ (limit : ℕ) (below : limit < 2 ^ 64) where
           let same : fileIn (append limit (lent buffer n) a) ≡ f = append-refused limit buffer n a k e in
           subst (λ (g : List ℕ). Rewrites limit g h ss whole) same (rest h ss (rw same head) (rw same read))
       go (given size) e =
-          let (h′, t′, long, total) = taken limit buffer n a size ss (earlier-of limit f h ss head read) e in
+          let (h′, t′, long, total) = taken limit buffer n a size ss read e in
           let t : Taken limit f h ss a = subst (λ (k : Heading). Taken limit f k ss a) (given-same (sym (t′ .offered .headed) ∙ head)) t′ in
           let c = cut a in
           let u = taken-cut limit f h ss a t in
@@ -173,13 +173,13 @@ module _ (limit : ℕ) (below : limit < 2 ^ 64) where
           let k = grownHeading limit f h ss c in
           let (ok, _) = admits limit h ss (length f) c (u .admits) in
           let new-head = heading-added limit f h ss c (u .offered) (ok .small) (ok .boxes) in
-          let new-read = reading-segments limit (f ++ added c) new-head (reading-added limit f h ss c u (taken-sayable limit f h ss c u below (mod-lt (a .repairTime) (lit< tt)))) in
+          let new-read = takes limit (f ++ added c) .acceptable _ (reading-added limit f h ss c u (taken-sayable limit f h ss c u below (mod-lt (a .repairTime) (lit< tt)))) in
           let ts = ss ++ (newSegment (psegPlace (length f) c) c ∷ []) in
           one-rewrite f h ss c u whole
           (subst (λ (g : List ℕ). Rewrites limit g k ts whole) same (rest k ts (rw same new-head) (rw same new-read)))
 
   pub rewrites : (additions : List Addition) (l : Lent) (h : Heading) (ss : List Segment) → heading (fileIn l) ≡ given h
-      → segments limit (fileIn l) h ≡ given ss
+      → earlierSegments limit (fileIn l) ≡ given ss
       → Rewrites limit (fileIn l) h ss (fileIn (appendAll limit l additions))
   unfolding appendAll fileIn allOf
   rewrites [] l h ss head read =

@@ -26,9 +26,9 @@ use Rattle.partial.specs.Addition.{Addition}
 use Rattle.partial.specs.Append.{appended}
 use Rattle.partial.specs.Runs.{Lent, lent, fileIn, sizeAfter, begin, append, appendAll}
 use Rattle.partial.specs.Again.{writeAgain}
-use Rattle.partial.proofs.Reading.ReadingLaws.{reading-segments}
+use Rattle.partial.proofs.Reading.RefusalLaws.{takes}
 use Rattle.partial.proofs.Reading.HeadingAppendLaws.{heading-of, url-kept, mime-kept}
-use Rattle.partial.proofs.Writing.BegunLaws.{isMixed, begunHeading, sourceBox, begun-url, begun-mime, begun-headed, begun-segments}
+use Rattle.partial.proofs.Writing.BegunLaws.{isMixed, begunHeading, sourceBox, begun-url, begun-mime, begun-headed, begun-taken}
 use Rattle.partial.proofs.Writing.BegunLaws.{first-source, source-inside, url-stands, mime-stands, source-stands, source-ends}
 use Rattle.partial.proofs.Writing.BegunLaws.{source-long, begin-given, begin-fits}
 use Rattle.partial.proofs.Writing.RunAgainLaws.{Rewrites, rewrites, filled-take, filled-long}
@@ -105,7 +105,7 @@ module _ (limit : ℕ) (brand : Brand) (u m : List ℕ) (plain-url : isText u �
   unfolding writeAgain
   on-again whole h ss r known read other room =
       let b = beginning brand u m in
-      let same : ss ≡ r .added′ = given-same (sym (reading-segments limit whole (r .headed) read) ∙ r .read) in
+      let same : ss ≡ r .added′ = given-same (sym (takes limit whole .acceptable ss read) ∙ r .read) in
       let same-head : h ≡ r .heading′ = given-same (sym known ∙ r .headed) in
       let there = rw (r .longer) at read in
       let head = rw (r .longer) at (r .headed) in
@@ -136,5 +136,5 @@ written-again limit below buffer brand u m additions other h ss known read room 
     go (given n) e =
         let (plain-url, plain-mime, small, file) = begin-given buffer brand u m n e in
         let head = heading-of (beginning brand u m) (begunHeading brand u m) (begun-headed brand u m small plain-url plain-mime) in
-        let r = rewrites limit below additions (begin buffer brand u m) (begunHeading brand u m) [] (rw file head) (rw file (begun-segments brand u m limit)) in
+        let r = rewrites limit below additions (begin buffer brand u m) (begunHeading brand u m) [] (rw file head) (rw file (begun-taken brand u m limit small plain-url plain-mime)) in
         on-again limit brand u m plain-url plain-mime small f h ss (subst (λ (g : List ℕ). Rewrites limit g (begunHeading brand u m) [] f) file r) known read other room
