@@ -10,7 +10,8 @@ use native.Mathlib.Omega.{arith}
 use borrow.Author.Tests.{le-leb, lt-leb, leb-true, eqb-true, eqb-false}
 use lib.Dec.{leb, lit<}
 use lib.ListN.{length}
-use Rattle.boxes.specs.Answer.{refused, given}
+use Rattle.boxes.specs.Answer.{refused, given, _>>=_}
+use Rattle.boxes.proofs.AnswerLaws.{then-then}
 use Rattle.boxes.specs.Framing.{boxLimit}
 use Rattle.partial.specs.Addition.{Addition, items, flagsFor}
 use Rattle.partial.specs.Append.{added, addedBoxes, newSegment, psegPlace, admission}
@@ -22,10 +23,12 @@ use Rattle.partial.specs.Segments.{Segment, isLast, endOf, chunksOf}
 use Rattle.partial.specs.Sequences.{sum}
 use Rattle.partial.specs.declared.header.SegmentHeader.{SegmentHeader}
 use Rattle.partial.proofs.Writing.NewSegmentLaws.{length-new, end-new}
+use Rattle.gathering.specs.Gathered.{gatheredOf}
+use Rattle.gathering.specs.declared.gathered.Gathered.{Gathered}
 use Rattle.gathering.proofs.GatheredLaws.{gathered-segments, gathered-chunks}
 use Rattle.outside.specs.declared.chunks.Outside.{Outside}
 use Rattle.reading.specs.declared.judging.Judged.{Judged}
-use Rattle.adding.specs.Admission.{Beside, Asked, admittedLength}
+use Rattle.adding.specs.Admission.{Tells, admittedBeside, Beside, Asked, admittedLength}
 use Rattle.adding.specs.Counts.{capped}
 use Rattle.adding.specs.declared.counts.Counts.{Counts}
 use Rattle.adding.specs.declared.layout.Layout.{Layout}
@@ -52,6 +55,57 @@ flags-last flags false e = even (flags % 2) (mod-lt flags (lit< tt)) (eqb-false 
 abbrev pub new : ℕ → Addition → Segment
 new n a = newSegment (psegPlace n a) a
 
+-- ---- a segment beside those before it
+
+-- the tests, by what the code has at hand
+module _ (ss : List Segment) {s : Segment} {g : Gathered} {header : SegmentHeader} {c : Counts} (known : g ≡ gatheredOf ss) (tells : Tells s header c) where
+  pub segments-full : segmentLimit ≤ g .segments → leb (length ss + 1) segmentLimit ≡ false
+  segments-full full = lt-leb (length ss + 1) segmentLimit (omega (arith, gathered-segments ss known))
+
+  pub segments-few : g .segments < segmentLimit → leb (length ss + 1) segmentLimit ≡ true
+  segments-few few = le-leb (length ss + 1) segmentLimit (omega (arith, gathered-segments ss known))
+
+  pub chunk-test : {b : Bool} → b ≡ leb (g .chunks + c .items) chunkLimit → b ≡ leb (length (chunksOf ss) + length (s .chunks)) chunkLimit
+  chunk-test test = test ∙ ap₂ (λ (n m : ℕ). leb (n + m) chunkLimit) (gathered-chunks ss known) (tells .items)
+
+  pub source-test : {b : Bool} → b ≡ leb (header .offset .0 + c .sum) sourceLimit → b ≡ leb (endOf s) sourceLimit
+  unfolding endOf
+  source-test test =
+      test
+      ∙ ap₂ (λ (n m : ℕ). leb (n + m) sourceLimit) (tells .offset) (tells .sum)
+      ∙ capped-ends (s .sourceOffset) (sum (map (λ c. c .size) (s .chunks))) sourceLimit (2 ^ 64 - 1) (omega arith)
+
+  pub source-end : true ≡ leb (header .offset .0 + c .sum) sourceLimit → header .offset .0 + c .sum ≡ endOf s
+  unfolding endOf
+  source-end test = omega (arith, leb-true (header .offset .0 + c .sum) sourceLimit (sym test), tells .offset, tells .sum)
+
+-- the answer, by the first test that fails
+module _ (ss : List Segment) (s : Segment) where
+  pub admitted-13 : leb (length ss + 1) segmentLimit ≡ false → refused 13 ≡ admittedBeside ss s
+  unfolding admittedBeside admitted
+  admitted-13 over = rw over
+
+  module _ (few : leb (length ss + 1) segmentLimit ≡ true) where
+    pub admitted-22 : false ≡ leb (length (chunksOf ss) + length (s .chunks)) chunkLimit → refused 22 ≡ admittedBeside ss s
+    unfolding admittedBeside admitted
+    admitted-22 over = rw (few, ← over)
+
+    module _ (chunks : true ≡ leb (length (chunksOf ss) + length (s .chunks)) chunkLimit) where
+      pub admitted-23 : false ≡ leb (endOf s) sourceLimit → refused 23 ≡ admittedBeside ss s
+      unfolding admittedBeside admitted
+      admitted-23 over = rw (few, ← chunks, ← over)
+
+      module _ (low : true ≡ leb (endOf s) sourceLimit) where
+        pub admitted-25 : false ≡ agree (ss ++ (s ∷ [])) → refused 25 ≡ admittedBeside ss s
+        unfolding admittedBeside admitted
+        admitted-25 differ = rw (few, ← chunks, ← low, ← differ)
+
+        pub admitted-given : true ≡ agree (ss ++ (s ∷ [])) → given tt ≡ admittedBeside ss s
+        unfolding admittedBeside admitted
+        admitted-given same = rw (few, ← chunks, ← low, ← same)
+
+-- ---- an addition to a file
+
 -- the tests, by what the code has at hand
 module _ {h : Heading} {ss : List Segment} {j : Judged} {a : Addition} {header : SegmentHeader} {c : Counts} {o : Outside} {l : Layout} (n : ℕ) (beside : Beside h ss j) (asked : Asked a header c o l) where
   pub file-test : {b : Bool} → b ≡ leb (n + l .added) fileLimit → b ≡ leb (n + length (added a)) fileLimit
@@ -67,34 +121,20 @@ module _ {h : Heading} {ss : List Segment} {j : Judged} {a : Addition} {header :
   unfolding boxLimit
   box-test more test = test ∙ ap₂ (λ (n m : ℕ). leb (n + m) 512) (beside .boxes) more ∙ capped-ends (length (h .boxes)) (addedBoxes a) 512 (2 ^ 64 - 1) (omega arith)
 
-  pub segments-full : segmentLimit ≤ j .gathered .segments → leb (length ss + 1) segmentLimit ≡ false
-  segments-full full = lt-leb (length ss + 1) segmentLimit (omega (arith, gathered-segments ss (beside .segments)))
+  -- the segment that it makes is told of
+  sizes-new : sum (map (λ c. c .size) (new n a .chunks)) ≡ sum (map (λ i. i .size) (items (a .list)))
+  unfolding endOf newSegment
+  sizes-new = omega (arith, end-new (psegPlace n a) a)
 
-  pub segments-few : j .gathered .segments < segmentLimit → leb (length ss + 1) segmentLimit ≡ true
-  segments-few few = le-leb (length ss + 1) segmentLimit (omega (arith, gathered-segments ss (beside .segments)))
-
-  pub items-new : c .items ≡ length (new n a .chunks)
-  items-new = counted-items (items (a .list)) (asked .sorted .counted .items .counts) ∙ sym (length-new (psegPlace n a) a)
-
-  pub chunk-test : {b : Bool} → b ≡ leb (j .gathered .chunks + c .items) chunkLimit → b ≡ leb (length (chunksOf ss) + length (new n a .chunks)) chunkLimit
-  chunk-test test = test ∙ ap₂ (λ (n m : ℕ). leb (n + m) chunkLimit) (gathered-chunks ss (beside .segments)) items-new
-
-  sum-of : c .sum ≡ min (sum (map (λ i. i .size) (items (a .list)))) (2 ^ 64 - 1)
-  sum-of = counted-sum (items (a .list)) (asked .sorted .counted .items .counts)
-
-  pub source-test : {b : Bool} → b ≡ leb (header .offset .0 + c .sum) sourceLimit → b ≡ leb (endOf (new n a)) sourceLimit
-  source-test test =
-      test
-      ∙ ap₂ (λ (n m : ℕ). leb (n + m) sourceLimit) (asked .offset) sum-of
-      ∙ capped-ends (a .sourceOffset) (sum (map (λ i. i .size) (items (a .list)))) sourceLimit (2 ^ 64 - 1) (omega arith)
-      ∙ ap (λ (m : ℕ). leb m sourceLimit) (sym (end-new (psegPlace n a) a))
-
-  pub source-end : true ≡ leb (header .offset .0 + c .sum) sourceLimit → header .offset .0 + c .sum ≡ endOf (new n a)
-  source-end test = omega (arith, leb-true (header .offset .0 + c .sum) sourceLimit (sym test), asked .offset, sum-of, end-new (psegPlace n a) a)
-
-  pub flags-new : header .flags % 2 ≡ new n a .flags
+  pub tells-new : Tells (new n a) header c
   unfolding newSegment
-  flags-new = flags-last (header .flags) (a .last) (asked .last)
+  tells-new =
+      record {
+        offset = asked .offset;
+        flags = flags-last (header .flags) (a .last) (asked .last);
+        items = counted-items (items (a .list)) (asked .sorted .counted .items .counts) ∙ sym (length-new (psegPlace n a) a);
+        sum = counted-sum (items (a .list)) (asked .sorted .counted .items .counts) ∙ ap capped (sym sizes-new);
+      }
 
 -- the answer, by the first test that fails
 module _ (h : Heading) (ss : List Segment) (n : ℕ) (a : Addition) where
@@ -108,25 +148,7 @@ module _ (h : Heading) (ss : List Segment) (n : ℕ) (a : Addition) where
     admission-6 over = rw (← small, ← over)
 
     module _ (boxes : true ≡ leb (length (h .boxes) + addedBoxes a) boxLimit) where
-      pub admission-13 : leb (length ss + 1) segmentLimit ≡ false → refused 13 ≡ admittedLength h ss n a
-      unfolding admittedLength admission admitted
-      admission-13 over = rw (← small, ← boxes, over)
-
-      module _ (few : leb (length ss + 1) segmentLimit ≡ true) where
-        pub admission-22 : false ≡ leb (length (chunksOf ss) + length (new n a .chunks)) chunkLimit → refused 22 ≡ admittedLength h ss n a
-        unfolding admittedLength admission admitted
-        admission-22 over = rw (← small, ← boxes, few, ← over)
-
-        module _ (chunks : true ≡ leb (length (chunksOf ss) + length (new n a .chunks)) chunkLimit) where
-          pub admission-23 : false ≡ leb (endOf (new n a)) sourceLimit → refused 23 ≡ admittedLength h ss n a
-          unfolding admittedLength admission admitted
-          admission-23 over = rw (← small, ← boxes, few, ← chunks, ← over)
-
-          module _ (low : true ≡ leb (endOf (new n a)) sourceLimit) where
-            pub admission-25 : false ≡ agree (ss ++ (new n a ∷ [])) → refused 25 ≡ admittedLength h ss n a
-            unfolding admittedLength admission admitted
-            admission-25 differ = rw (← small, ← boxes, few, ← chunks, ← low, ← differ)
-
-            pub admission-given : true ≡ agree (ss ++ (new n a ∷ [])) → given (n + length (added a)) ≡ admittedLength h ss n a
-            unfolding admittedLength admission admitted
-            admission-given same = rw (← small, ← boxes, few, ← chunks, ← low, ← same)
+      -- and else by whether its segment is admitted
+      pub admission-by : (admittedBeside ss (new n a) >>= λ _. given (n + length (added a))) ≡ admittedLength h ss n a
+      unfolding admittedLength admission admittedBeside
+      admission-by = rw (← small, ← boxes) (then-then (admitted sourceLimit ss (new n a)) (λ _. given tt) (λ _. given (n + length (added a))))

@@ -4,6 +4,7 @@ use crate::layout::Layout;
 use boxes::limits::BOX_LIMIT;
 use boxes::refusals::TOO_MANY_BOXES;
 use ends::sizes::gives_size;
+use gathering::gathered::Gathered;
 use numerals::order::ends_by;
 use numerals::order::sum_of;
 use outside::chunks::Outside;
@@ -28,7 +29,8 @@ ghost use Rattle.partial.specs.Append.{addedBoxes};
 ghost use Rattle.partial.specs.Answers.{writtenAnswer};
 ghost use Rattle.partial.specs.Heading.{Heading};
 ghost use Rattle.partial.specs.Segments.{Segment};
-ghost use Rattle.adding.specs.Admission.{Beside, Asked, admittedLength};
+ghost use Rattle.gathering.specs.Gathered.{gatheredOf};
+ghost use Rattle.adding.specs.Admission.{Tells, admittedBeside, admittedAnswer, Beside, Asked, admittedLength};
 ghost use Rattle.outside.specs.Chunks.{outsideOf};
 ghost use Rattle.adding.specs.Counts.{capped, Sorted};
 
@@ -52,6 +54,36 @@ fn added_boxes(counts: Counts, outside: Outside) -> u64
     sum_of(outside.boxes, 2)
 }
 
+// Whether a segment is admitted beside those before it, or the number of its refusal.
+pub enum Verdict {
+    Refused(u64),
+    Taken,
+}
+
+// 13, 22, 23 and 25 of the new segment, by what was gathered of those before it.
+fn admitted(gathered: Gathered, header: SegmentHeader, counts: Counts) -> Verdict
+    ensures { λ r. ⌜ ((ss : List Segment) (s : Segment) → gathered ≡ gatheredOf ss → Tells s header counts → admittedAnswer r ≡ admittedBeside ss s) ⌝ }
+{
+    let offset = header.offset;
+    if SEGMENT_LIMIT <= gathered.segments {
+        return Verdict::Refused(TOO_MANY_SEGMENTS);
+    }
+    if !ends_by(gathered.chunks, counts.items, CHUNK_LIMIT) {
+        return Verdict::Refused(TOO_MANY_CHUNKS);
+    }
+    if !ends_by(offset.0, counts.sum, SOURCE_LIMIT) {
+        return Verdict::Refused(SOURCE_TOO_LONG);
+    }
+    let gives = gives_size(header.flags as u64 % 2, counts.items);
+    let sizes = gathered.sizes;
+    let end = offset.0 + counts.sum;
+    let with = sizes.with(Position(end), gives);
+    if !with.agree() {
+        return Verdict::Refused(SIZES_DIFFER);
+    }
+    Verdict::Taken
+}
+
 // The length of a file of n bytes with the addition, or the number of the first refusal that the result would have.
 pub fn admission(
     judged: Judged,
@@ -64,29 +96,14 @@ pub fn admission(
     ensures { λ r. ⌜ ((h : Heading) (ss : List Segment) (a : Addition) → Beside h ss judged → Asked a header counts outside layout → writtenAnswer r ≡ admittedLength h ss n a) ⌝ }
 {
     let head = judged.head;
-    let gathered = judged.gathered;
-    let offset = header.offset;
     if !ends_by(n, layout.added, FILE_LIMIT) {
         return Written::Refused(FILE_TOO_LONG);
     }
     if !ends_by(head.boxes, added_boxes(counts, outside), BOX_LIMIT) {
         return Written::Refused(TOO_MANY_BOXES);
     }
-    if SEGMENT_LIMIT <= gathered.segments {
-        return Written::Refused(TOO_MANY_SEGMENTS);
+    match admitted(judged.gathered, header, counts) {
+        Verdict::Refused(k) => Written::Refused(k),
+        Verdict::Taken => Written::Length(n + layout.added),
     }
-    if !ends_by(gathered.chunks, counts.items, CHUNK_LIMIT) {
-        return Written::Refused(TOO_MANY_CHUNKS);
-    }
-    if !ends_by(offset.0, counts.sum, SOURCE_LIMIT) {
-        return Written::Refused(SOURCE_TOO_LONG);
-    }
-    let gives = gives_size(header.flags as u64 % 2, counts.items);
-    let sizes = gathered.sizes;
-    let end = offset.0 + counts.sum;
-    let with = sizes.with(Position(end), gives);
-    if !with.agree() {
-        return Written::Refused(SIZES_DIFFER);
-    }
-    Written::Length(n + layout.added)
 }
