@@ -11,7 +11,7 @@ use lib.Dec.{eqb}
 use lib.ListN.{length, getD, length-append}
 use Rattle.boxes.specs.Answer.{given}
 use Rattle.numerals.specs.Numbers.{number, bytesOf, holds}
-use Rattle.boxes.specs.Framing.{Box, uuid, header, frontSize, front, boxed, boxesIn}
+use Rattle.boxes.specs.Framing.{Box, uuid, header, frontSize, front, boxed, boxedAt, boxesIn}
 use Rattle.boxes.specs.declared.kinds.Container.{Container}
 use Rattle.boxes.proofs.ContainerLaws.{Filled, full, next, box-limit, filled-boxes, filled-moved, filled-appended}
 use Rattle.boxes.proofs.HeaderLaws.{user-none, sized-fits, header-short, moved}
@@ -51,11 +51,7 @@ pub length-boxed : (kind : ℕ) (body : List ℕ) → length (boxed kind body) �
 unfolding boxed
 length-boxed kind body = rw (length-append, length-front)
 
--- a box that was written, of another type than `uuid`, is read back: the box of that kind, at that place, with a body
--- of n bytes
-abbrev pub boxedAt : ℕ → ℕ → ℕ → Box
-boxedAt at kind n = record { kind = kind; at = at; user = at + frontSize; body = at + frontSize; end = at + (frontSize + n) }
-
+-- a box that was written, of another type than `uuid`, is read back
 module _ (p q : List ℕ) (kind : ℕ) (body : List ℕ) where
   boxed-in : List ℕ
   boxed-in = p ++ (boxed kind body ++ q)

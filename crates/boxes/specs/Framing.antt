@@ -120,3 +120,7 @@ front kind n = bytesOf 4 (frontSize + n) ++ bytesOf 4 kind
 -- a box as we write it
 unfoldable pub boxed : ℕ → List ℕ → List ℕ
 boxed kind body = front kind (length body) ++ body
+
+-- that box, of another type than `uuid`, at a place and with a body of n bytes
+abbrev pub boxedAt : ℕ → ℕ → ℕ → Box
+boxedAt at kind n = record { kind = kind; at = at; user = at + frontSize; body = at + frontSize; end = at + (frontSize + n) }

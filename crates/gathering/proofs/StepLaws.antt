@@ -12,7 +12,7 @@ use Rattle.boxes.specs.Framing.{Box, boxesIn, boxOf}
 use Rattle.boxes.specs.Kinds.{pshd, ploc, surl, is, right, those, boxAt, firstOf}
 use Rattle.boxes.specs.declared.framing.Framed.{Framed}
 use Rattle.boxes.specs.declared.kinds.Container.the-variants.{Pseg}
-use Rattle.boxes.proofs.AnswerLaws.{both-given, held, given-same, then-then}
+use Rattle.boxes.proofs.AnswerLaws.{refused-same, both-given, held, given-same, then-then}
 use Rattle.boxes.proofs.KindLaws.{first-is}
 use Rattle.boxes.proofs.ToldLaws.{box-fields}
 use Rattle.partial.specs.Entries.{Ploc, plocHead, chunksFrom}
@@ -54,11 +54,12 @@ header-whole f b {p} e =
     let same : b ≡ p .header = sym (first-is pshd (lit< tt) inner kind) ∙ ap (λ (x : Box × Fields). x .0) (given-same given-header) ∙ ap (λ p. p .header) (given-same e) in
     subst (λ (b : Box). b .body ≤ b .end) same whole
 
--- a segment of these parts and chunks, whose box stands at a place
-abbrev pub built : ℕ → Parts → List Chunk → Segment
-built at p cs =
+-- a segment of these boxes, parts and chunks, whose box stands at a place
+abbrev pub built : ℕ → List Box → Parts → List Chunk → Segment
+built at inner p cs =
     record {
       place = at;
+      inner = inner;
       sourceOffset = p .fields .offset .0;
       flags = p .fields .flags;
       repairTime = p .fields .repair;
@@ -68,12 +69,12 @@ built at p cs =
     }
 
 -- what is asked of a segment once its parts are known: 22, 23, its chunks
-abbrev judged : ℕ → List ℕ → Heading → List Segment → ℕ → Parts → Answer Segment
-judged limit f h before at p = do
+abbrev judged : ℕ → List ℕ → Heading → List Segment → ℕ → List Box → Parts → Answer Segment
+judged limit f h before at inner p = do
   _ ← hold 22 (leb (length (chunksOf before) + p .location .count) chunkLimit)
   _ ← hold 23 (leb (p .fields .offset .0) limit)
   cs ← chunksFrom limit f h at (p .location) (p .location .count) (record { at = p .location .first; start = p .fields .offset .0 })
-  given (built at p cs)
+  given (built at inner p cs)
 
 -- the same tests, grouped as the parts of a segment's box are
 regrouped : (header : Box × Fields) (next : Parts → Answer Segment) (x y z : Bool) (w : Answer Ploc)
@@ -85,41 +86,67 @@ regrouped header next true true false w = refl
 regrouped header next true true true (refused n) = refl
 regrouped header next true true true (given l) = refl
 
-segment-parts : (limit : ℕ) (f : List ℕ) (h : Heading) (before : List Segment) (b : Box)
-    → segment limit f h before b ≡ (partsIn f b >>= judged limit f h before (b .at))
-unfolding segment partsIn headerIn
-segment-parts limit f h before b =
-    let next = judged limit f h before (b .at) in
-    (λ i. boxesIn Pseg f (b .body) (b .end) >>= λ inner. regrouped (firstOf pshd inner, valuesOf (pshdFields f (firstOf pshd inner))) next (pshdRight f inner) (right Pseg ploc inner) (eqb (length (those surl inner)) 0) (plocHead f (firstOf ploc inner)) i)
-    ∙ sym (then-then (boxesIn Pseg f (b .body) (b .end)) _ next)
+-- the parts among these boxes
+abbrev partsWith : List ℕ → List Box → Answer Parts
+partsWith f inner = do
+  header ← headerIn f inner
+  _ ← hold 15 (right Pseg ploc inner)
+  _ ← hold 16 (eqb (length (those surl inner)) 0)
+  l ← plocHead f (firstOf ploc inner)
+  given (record { header = header .0; fields = header .1; location = l })
 
 module _ (f : List ℕ) (h : Heading) (ss : List Segment) (b : Framed) where
-  by-parts : segment sourceLimit f h ss (boxOf b) ≡ (partsIn f (boxOf b) >>= judged sourceLimit f h ss (b .at .0))
-  by-parts = segment-parts sourceLimit f h ss (boxOf b) ∙ ap (λ (x : Box). partsIn f (boxOf b) >>= judged sourceLimit f h ss (x .at)) (box-fields b)
+  module _ {inner : List Box} (boxes : boxesIn Pseg f (boxOf b .body) (boxOf b .end) ≡ given inner) where
+    parts-with : partsIn f (boxOf b) ≡ partsWith f inner
+    unfolding partsIn
+    parts-with = rw boxes
+
+    segment-with : segment sourceLimit f h ss (boxOf b) ≡ (partsWith f inner >>= judged sourceLimit f h ss (b .at .0) inner)
+    unfolding segment headerIn
+    segment-with =
+        let next = judged sourceLimit f h ss (boxOf b .at) inner in
+        let header : Box × Fields = (firstOf pshd inner, valuesOf (pshdFields f (firstOf pshd inner))) in
+        rw boxes (regrouped header next (pshdRight f inner) (right Pseg ploc inner) (eqb (length (those surl inner)) 0) (plocHead f (firstOf ploc inner)))
+        ∙ ap (λ (x : Box). partsWith f inner >>= judged sourceLimit f h ss (x .at) inner) (box-fields b)
 
   pub segment-fault : {n : ℕ} → partsIn f (boxOf b) ≡ refused n → segment sourceLimit f h ss (boxOf b) ≡ refused n
-  segment-fault e = by-parts ∙ rw e
+  unfolding segment partsIn
+  segment-fault {n} e = go (boxesIn Pseg f (boxOf b .body) (boxOf b .end)) refl
+    where
+      go : (x : Answer (List Box)) → boxesIn Pseg f (boxOf b .body) (boxOf b .end) ≡ x → segment sourceLimit f h ss (boxOf b) ≡ refused n
+      go (refused m) boxes = rw boxes (ap refused (refused-same (rw boxes at e)))
+      go (given inner) boxes = segment-with boxes ∙ rw (sym (parts-with boxes) ∙ e)
 
   module _ (p : CodeParts) (parts : partsIn f (boxOf b) ≡ given (partsOf p)) where
+    -- the boxes inside
+    pub inside : (inner : List Box) × (boxesIn Pseg f (boxOf b .body) (boxOf b .end) ≡ given inner)
+    unfolding partsIn
+    inside =
+        let (inner, boxes, _) = both-given (boxesIn Pseg f (boxOf b .body) (boxOf b .end)) _ parts in
+        (inner, boxes)
+
+    by-parts : segment sourceLimit f h ss (boxOf b) ≡ judged sourceLimit f h ss (b .at .0) (inside .0) (partsOf p)
+    by-parts = segment-with (inside .1) ∙ rw (sym (parts-with (inside .1)) ∙ parts)
+
     pub segment-crowded : chunkLimit - length (chunksOf ss) < p .location .count → segment sourceLimit f h ss (boxOf b) ≡ refused 22
-    segment-crowded many = by-parts ∙ rw (parts, lt-leb (length (chunksOf ss) + p .location .count) chunkLimit (omega arith))
+    segment-crowded many = by-parts ∙ rw (lt-leb (length (chunksOf ss) + p .location .count) chunkLimit (omega arith))
 
     module _ (few : length (chunksOf ss) + p .location .count ≤ chunkLimit) where
       pub segment-far : sourceLimit < p .fields .offset .0 → segment sourceLimit f h ss (boxOf b) ≡ refused 23
-      segment-far far = by-parts ∙ rw (parts, le-leb (length (chunksOf ss) + p .location .count) chunkLimit few, lt-leb (p .fields .offset .0) sourceLimit far)
+      segment-far far = by-parts ∙ rw (le-leb (length (chunksOf ss) + p .location .count) chunkLimit few, lt-leb (p .fields .offset .0) sourceLimit far)
 
       module _ (near : p .fields .offset .0 ≤ sourceLimit) (last : Framed) where
         -- the cursor at the first entry
         abbrev first : Cursor
         first = record { at = p .location .first; start = p .fields .offset; last = last }
 
-        by-chunks : segment sourceLimit f h ss (boxOf b) ≡ (chunksBy f h (b .at .0) (p .location) first >>= λ cs. given (built (b .at .0) (partsOf p) cs))
-        by-chunks = by-parts ∙ rw (parts, le-leb (length (chunksOf ss) + p .location .count) chunkLimit few, le-leb (p .fields .offset .0) sourceLimit near)
+        by-chunks : segment sourceLimit f h ss (boxOf b) ≡ (chunksBy f h (b .at .0) (p .location) first >>= λ cs. given (built (b .at .0) (inside .0) (partsOf p) cs))
+        by-chunks = by-parts ∙ rw (le-leb (length (chunksOf ss) + p .location .count) chunkLimit few, le-leb (p .fields .offset .0) sourceLimit near)
 
         pub segment-cut : {n : ℕ} → chunksBy f h (b .at .0) (p .location) first ≡ refused n → segment sourceLimit f h ss (boxOf b) ≡ refused n
         segment-cut e = by-chunks ∙ rw e
 
-        pub segment-read : {cs : List Chunk} → chunksBy f h (b .at .0) (p .location) first ≡ given cs → segment sourceLimit f h ss (boxOf b) ≡ given (built (b .at .0) (partsOf p) cs)
+        pub segment-read : {cs : List Chunk} → chunksBy f h (b .at .0) (p .location) first ≡ given cs → segment sourceLimit f h ss (boxOf b) ≡ given (built (b .at .0) (inside .0) (partsOf p) cs)
         segment-read e = by-chunks ∙ rw e
 
         pub segment-told : {before g : Gathered} {t₀ t u₀ u : List ℕ} {cs : List Chunk} {c : Cursor} → before ≡ gatheredOf ss
@@ -129,7 +156,7 @@ module _ (f : List ℕ) (h : Heading) (ss : List Segment) (b : Framed) where
             → Segmented f h ss (boxOf b) t₀ t u₀ u (Given g (c .last))
         unfolding Segmented endOf segmentRow
         segment-told {cs = cs} so-far e many ran put gathers =
-            let s = built (b .at .0) (partsOf p) cs in
+            let s = built (b .at .0) (inside .0) (partsOf p) cs in
             let number = gathered-segments ss so-far in (
               s,
               segment-read e,

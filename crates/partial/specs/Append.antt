@@ -7,7 +7,7 @@ use lib.ListN.{length, take}
 use lib.Dec.{leb}
 use Rattle.boxes.specs.Answer.{Answer, given, _>>=_, hold}
 use Rattle.numerals.specs.Numbers.{bytesOf, twosComplement, holds, holdsOffset, leastWidth}
-use Rattle.boxes.specs.Framing.{frontSize, boxed, boxLimit}
+use Rattle.boxes.specs.Framing.{Box, frontSize, boxed, boxedAt, boxLimit}
 use Rattle.boxes.specs.Kinds.{pseg, pshd, ploc, pdat}
 use Rattle.numerals.specs.declared.numbers.Offset.{Offset}
 use Rattle.numerals.specs.declared.numbers.Offset.the-variants.{Ahead, Back}
@@ -134,11 +134,21 @@ newChunks at start (p ∷ ps) =
     }
     ∷ newChunks at (start + p .size) ps
 
+-- the boxes inside a new `pseg` at a place: its `pshd` and its `ploc`
+unfoldable pub newInner : ℕ → Addition → List Box
+newInner at a =
+    let first = at + frontSize in
+    let pshdSize = length (pshdBody a) in
+    boxedAt first (pshd .code) pshdSize
+    ∷ boxedAt (first + (frontSize + pshdSize)) (ploc .code) (length (plocBody (placed (a .outside) (items (a .list)))))
+    ∷ []
+
 -- the segment that an addition makes, its `pseg` at a place; the body of its `pshd` stands after two headers
 unfoldable pub newSegment : ℕ → Addition → Segment
 newSegment at a =
     record {
       place = at;
+      inner = newInner at a;
       sourceOffset = a .sourceOffset;
       flags = flagsFor (a .last);
       repairTime = a .repairTime;

@@ -59,6 +59,7 @@ segment limit f h before b = do
   given
       (record {
         place = b .at;
+        inner = inner;
         sourceOffset = fields .sourceOffset;
         flags = fields .flags;
         repairTime = fields .repairTime;

@@ -3,6 +3,7 @@ use Prim.Native.Nat.{ℕ, _+_, _%_}
 use mathlib.Core.Bool.{Bool, true, false, _&&_, _||_}
 use mathlib.Core.List.{List, [], _∷_, _++_, map}
 use lib.Dec.{leb, ltb, eqb}
+use Rattle.boxes.specs.Framing.{Box}
 use Rattle.partial.specs.Sequences.{sum}
 
 -- the states: 3 held elsewhere, 2 good, 1 damaged but kept, 0 lost
@@ -45,10 +46,11 @@ pub record Chunk : Type 0 where
 abbrev pub noChunk : Chunk
 noChunk = record { start = 0; size = 0; state = lost; place = 0 }
 
--- a segment: the place of its box, its source offset, flags and repair time, the place and length of its `pshd` body,
--- its chunks
+-- a segment: the place of its box, the boxes inside, its source offset, flags and repair time, the place and length of
+-- its `pshd` body, its chunks
 pub record Segment : Type 0 where
   pub place : ℕ
+  pub inner : List Box
   pub sourceOffset : ℕ
   pub flags : ℕ
   pub repairTime : ℕ

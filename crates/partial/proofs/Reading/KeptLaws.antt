@@ -43,6 +43,7 @@ abbrev pub found : List ℕ → Box → List Box → List Chunk → Segment
 found f b inner cs =
     record {
       place = b .at;
+      inner = inner;
       sourceOffset = pshdFields f (firstOf pshd inner) .sourceOffset;
       flags = pshdFields f (firstOf pshd inner) .flags;
       repairTime = pshdFields f (firstOf pshd inner) .repairTime;

@@ -10,13 +10,13 @@ use native.Mathlib.Omega.{arith}
 use borrow.Author.Tests.{le-leb, lt-ltb}
 use lib.Dec.{eqb, lit<}
 use lib.ListN.{length, length-append, length-map}
-use Rattle.boxes.specs.Framing.{Box, frontSize, boxed}
+use Rattle.boxes.specs.Framing.{Box, frontSize, boxed, boxedAt}
 use Rattle.boxes.specs.Kinds.{pseg, pdat, is, those}
 use Rattle.boxes.specs.declared.kinds.Container.the-variants.{File}
 use Rattle.boxes.specs.declared.kinds.Kind.{Kind}
 use Rattle.boxes.proofs.HeaderLaws.{moved}
 use Rattle.boxes.proofs.ContainerLaws.{Filled, full, filled-appended}
-use Rattle.boxes.proofs.BoxedLaws.{boxedAt, front-size, length-boxed, boxed-alone, moved-boxedAt}
+use Rattle.boxes.proofs.BoxedLaws.{front-size, length-boxed, boxed-alone, moved-boxedAt}
 use Rattle.boxes.proofs.KindLaws.{those-nil, those-other, those-append, is-eqb}
 use Rattle.partial.specs.Sequences.{someOf, allOf}
 use Rattle.partial.specs.Segments.{good}

@@ -13,12 +13,12 @@ use lib.ListN.{length, getD, drop, length-append}
 use lib.Seq.{take-at}
 use Rattle.boxes.specs.Answer.{given}
 use Rattle.numerals.specs.Numbers.{number, bytesOf}
-use Rattle.boxes.specs.Framing.{Box, frontSize, boxed, boxesIn}
+use Rattle.boxes.specs.Framing.{Box, frontSize, boxed, boxesIn, boxedAt}
 use Rattle.boxes.specs.Kinds.{ftyp, pfil, pfhd, surl, right, those, boxAt, firstOf, pseg}
 use Rattle.boxes.specs.declared.kinds.Container.the-variants.{File, Pfil}
 use Rattle.boxes.proofs.AnswerLaws.{held, given-same}
 use Rattle.numerals.proofs.NumberLaws.{length-bytesOf, number-byte, bytesOf-zero}
-use Rattle.boxes.proofs.BoxedLaws.{boxedAt, length-boxed, boxed-stand}
+use Rattle.boxes.proofs.BoxedLaws.{length-boxed, boxed-stand}
 use Rattle.boxes.proofs.KindLaws.{some-right, right-some, firstOf-those, one-right, is-eqb, boxAt-getD, first-is}
 use Rattle.partial.specs.Limits.{fileLimit}
 use Rattle.partial.specs.Sequences.{someOf, allOf, stretch}

@@ -20,7 +20,7 @@ use Rattle.partial.specs.Segments.{Segment, good, present}
 use Rattle.partial.specs.Heading.{Heading}
 use Rattle.partial.specs.Addition.{Item, items, Addition, sizeOf, dataSize, dataRight, goesOut, goesIn, dataFor, boxesFor, outsideRight}
 use Rattle.partial.specs.Append.{insideData, outsideData, anyInside, dataBox, stored, addedBoxes, back, Placed, placedWith, placed}
-use Rattle.partial.specs.Append.{pshdBody, psegBody, added, psegPlace, newSegment, admission}
+use Rattle.partial.specs.Append.{pshdBody, psegBody, added, psegPlace, newInner, newSegment, admission}
 use Rattle.partial.specs.Again.{settled}
 use Rattle.partial.proofs.Meaning.SequenceLaws.{which, both, Each}
 
@@ -335,7 +335,7 @@ module _ (a : Addition) where
   settled-boxes = rw (any-settled, outside-settled)
 
   settled-segment : (at : ℕ) → newSegment at (settled a) ≡ newSegment at a
-  unfolding newSegment pshdBody
+  unfolding newSegment newInner pshdBody
   settled-segment at = rw placed-settled
 
   -- and is as right

@@ -11,10 +11,10 @@ use lib.Dec.{leb, lit<}
 use lib.ListN.{length}
 use Rattle.boxes.specs.Answer.{Answer, refused, given, _>>=_, hold}
 use Rattle.numerals.specs.Numbers.{holds}
-use Rattle.boxes.specs.Framing.{Box, frontSize, boxed}
+use Rattle.boxes.specs.Framing.{Box, frontSize, boxed, boxedAt}
 use Rattle.boxes.specs.Kinds.{pseg, pshd, ploc, right, boxAt, firstOf, those, surl}
 use Rattle.boxes.specs.declared.kinds.Container.the-variants.{Pseg}
-use Rattle.boxes.proofs.BoxedLaws.{boxedAt, boxed-stand}
+use Rattle.boxes.proofs.BoxedLaws.{boxed-stand}
 use Rattle.boxes.proofs.KindLaws.{first-is, one-right, firstOf-those, is-eqb, boxAt-getD}
 use Rattle.partial.specs.Limits.{chunkLimit}
 use Rattle.partial.specs.Sequences.{allOf, sum}
@@ -22,7 +22,7 @@ use Rattle.partial.specs.Segments.{Segment, endOf, chunksOf}
 use Rattle.partial.specs.Heading.{Heading}
 use Rattle.partial.specs.Reading.{pshdRight, segment, pshdFields}
 use Rattle.partial.specs.Addition.{items, Addition, flagsFor, sizeOf, dataSize, dataRight, goesOut}
-use Rattle.partial.specs.Append.{stored, plocBody, pshdBody, added, newChunks, newSegment, Placed, placed, psegBody, psegPlace}
+use Rattle.partial.specs.Append.{stored, plocBody, pshdBody, added, newChunks, newInner, newSegment, Placed, placed, psegBody, psegPlace}
 use Rattle.partial.proofs.Writing.DataLaws.{sizes-split}
 use Rattle.partial.proofs.Writing.PlacedLaws.{formed, sizes-placed, length-placed, OutLie, placed-tell, offsets-eight}
 use Rattle.partial.proofs.Writing.StandsLaws.{Stands, stands-behind, stands-right}
@@ -100,7 +100,7 @@ module _ (limit : ℕ) (g : List ℕ) (h : Heading) (before : List Segment) (a :
       → segment limit g h before (boxedAt at (pseg .code) (length (psegBody a)))
       ≡ (hold 22 (leb (length (chunksOf before) + length (newSegment at a .chunks)) chunkLimit)
       >>= λ _. hold 23 (leb (endOf (newSegment at a)) limit) >>= λ _. given (newSegment at a))
-  unfolding segment newSegment psegBody placed
+  unfolding segment newSegment newInner psegBody placed
   segment-at says listed small stands data-low data-small lie outer =
       let list = items (a .list) in
       let ps = placed (a .outside) list in
@@ -134,6 +134,7 @@ module _ (limit : ℕ) (g : List ℕ) (h : Heading) (before : List Segment) (a :
       both-tests : (few low : Bool)
           → (hold 22 few >>= λ _. hold 23 low >>= (λ _. given (newChunks at (a .sourceOffset) (placed (a .outside) (items (a .list))))) >>= λ cs. given (record {
             place = at;
+            inner = newInner at a;
             sourceOffset = a .sourceOffset;
             flags = flagsFor (a .last);
             repairTime = a .repairTime;
