@@ -11,7 +11,7 @@ use lib.Dec.{eqb}
 use lib.ListN.{length, getD, take, length-append, List·getD-append, List·getD-eq-default}
 use lib.Seq.{getD-append-add}
 use Rattle.boxes.specs.Framing.{Box}
-use Rattle.boxes.specs.Kinds.{is, those, keeps, containerNo, rightCount, right, noBox, boxAt, firstOf}
+use Rattle.boxes.specs.Kinds.{rules, is, those, keeps, ruleIn, rightCount, right, noBox, boxAt, firstOf}
 use Rattle.boxes.specs.declared.kinds.Container.{Container}
 use Rattle.boxes.specs.declared.kinds.Count.{Count}
 use Rattle.boxes.specs.declared.kinds.Count.the-variants.{One, OneOrMore}
@@ -179,34 +179,29 @@ pub right-append : (c : Container) (k : Kind) (bs cs : List Box) → those k cs 
 unfolding right
 right-append c k bs cs none = rw (those-append, none, append-nil)
 
--- a kind of another container has no rule
-pub count-elsewhere : (c : Container) (k : Kind) (n : ℕ) → (containerNo c ≡ containerNo (k .container) → ⊥) → rightCount c k n ≡ true
+-- the rule is the one that the table has of the kind in the container
+pub count-rule : (c : Container) (k : Kind) (n : ℕ) → rightCount c k n ≡ keeps (ruleIn rules c k) n
 unfolding rightCount
-count-elsewhere c k n h = simp (rightCount, ne-eqb (containerNo c) (containerNo (k .container)) h)
+count-rule c k n = refl
 
--- in its own container a kind has the rule of the table
-module _ (k : Kind) where
-  pub count-here : (c : Container) (n : ℕ) → containerNo c ≡ containerNo (k .container) → rightCount c k n ≡ keeps (k .count) n
-  unfolding rightCount
-  count-here c n h = simp (rightCount, eq-eqb (containerNo c) (containerNo (k .container)) h)
+-- as the table says: `right-one Pfil pfhd bs refl`
+module _ (c : Container) (k : Kind) (bs : List Box) where
+  right-by : {count : Count} → ruleIn rules c k ≡ count → right c k bs ≡ keeps count (length (those k bs))
+  right-by e =
+      right-count c k bs ∙ count-rule c k (length (those k bs)) ∙ ap (λ count. keeps count (length (those k bs))) e
 
-  module _ (bs : List Box) where
-    right-by : {rule : Count} → k .count ≡ rule → right (k .container) k bs ≡ keeps rule (length (those k bs))
-    unfolding right
-    right-by e = count-here (k .container) (length (those k bs)) refl ∙ ap (λ rule. keeps rule (length (those k bs))) e
+  pub right-one : ruleIn rules c k ≡ One → right c k bs ≡ true → length (those k bs) ≡ 1
+  unfolding keeps
+  right-one rule h = eqb-true (length (those k bs)) 1 (sym (right-by rule) ∙ h)
 
-    pub right-one : k .count ≡ One → right (k .container) k bs ≡ true → length (those k bs) ≡ 1
-    unfolding keeps
-    right-one rule h = eqb-true (length (those k bs)) 1 (sym (right-by rule) ∙ h)
+  pub one-right : ruleIn rules c k ≡ One → length (those k bs) ≡ 1 → right c k bs ≡ true
+  unfolding keeps
+  one-right rule h = right-by rule ∙ eq-eqb (length (those k bs)) 1 h
 
-    pub one-right : k .count ≡ One → length (those k bs) ≡ 1 → right (k .container) k bs ≡ true
-    unfolding keeps
-    one-right rule h = right-by rule ∙ eq-eqb (length (those k bs)) 1 h
+  pub right-some : ruleIn rules c k ≡ OneOrMore → right c k bs ≡ true → 1 ≤ length (those k bs)
+  unfolding keeps
+  right-some rule h = leb-true 1 (length (those k bs)) (sym (right-by rule) ∙ h)
 
-    pub right-some : k .count ≡ OneOrMore → right (k .container) k bs ≡ true → 1 ≤ length (those k bs)
-    unfolding keeps
-    right-some rule h = leb-true 1 (length (those k bs)) (sym (right-by rule) ∙ h)
-
-    pub some-right : k .count ≡ OneOrMore → 1 ≤ length (those k bs) → right (k .container) k bs ≡ true
-    unfolding keeps
-    some-right rule h = right-by rule ∙ le-leb 1 (length (those k bs)) h
+  pub some-right : ruleIn rules c k ≡ OneOrMore → 1 ≤ length (those k bs) → right c k bs ≡ true
+  unfolding keeps
+  some-right rule h = right-by rule ∙ le-leb 1 (length (those k bs)) h

@@ -1,6 +1,27 @@
 // The table of the eight kinds of box: type code, container and count rule.
 ghost use mathlib.Core.Path.{_≡_};
-ghost use Rattle.boxes.specs.Kinds.{kinds};
+ghost use Rattle.boxes.specs.Kinds.{rules};
+
+// A kind of box: its type.
+pub struct Kind {
+    pub code: u32,
+}
+
+pub const FTYP: Kind = Kind { code: 0x66747970 };
+
+pub const PFIL: Kind = Kind { code: 0x7066696c };
+
+pub const PFHD: Kind = Kind { code: 0x70666864 };
+
+pub const SURL: Kind = Kind { code: 0x7375726c };
+
+pub const PSEG: Kind = Kind { code: 0x70736567 };
+
+pub const PSHD: Kind = Kind { code: 0x70736864 };
+
+pub const PLOC: Kind = Kind { code: 0x706c6f63 };
+
+pub const PDAT: Kind = Kind { code: 0x70646174 };
 
 // Where a kind of box stands.
 pub enum Container {
@@ -9,73 +30,69 @@ pub enum Container {
     Pseg,
 }
 
-// How many of a kind its container holds.
+// How many of a kind a container holds.
 pub enum Count {
     One,
     OneOrMore,
     Any,
 }
 
-// A kind of box.
-pub struct Kind {
-    pub code: u32,
+// A row of the table: a kind, a container that it stands in, and how many of it that holds.
+pub struct Rule {
+    pub kind: Kind,
     pub container: Container,
     pub count: Count,
 }
 
-pub const FTYP: Kind = Kind {
-    code: 0x66747970,
-    container: Container::File,
-    count: Count::One,
-};
+// How many rows the table has.
+pub const RULE_COUNT: usize = 8;
 
-pub const PFIL: Kind = Kind {
-    code: 0x7066696c,
-    container: Container::File,
-    count: Count::One,
-};
-
-pub const PFHD: Kind = Kind {
-    code: 0x70666864,
-    container: Container::Pfil,
-    count: Count::One,
-};
-
-pub const SURL: Kind = Kind {
-    code: 0x7375726c,
-    container: Container::Pfil,
-    count: Count::OneOrMore,
-};
-
-pub const PSEG: Kind = Kind {
-    code: 0x70736567,
-    container: Container::File,
-    count: Count::OneOrMore,
-};
-
-pub const PSHD: Kind = Kind {
-    code: 0x70736864,
-    container: Container::Pseg,
-    count: Count::One,
-};
-
-pub const PLOC: Kind = Kind {
-    code: 0x706c6f63,
-    container: Container::Pseg,
-    count: Count::One,
-};
-
-pub const PDAT: Kind = Kind {
-    code: 0x70646174,
-    container: Container::File,
-    count: Count::Any,
-};
-
-pub const KINDS: [Kind; 8] = [FTYP, PFIL, PFHD, SURL, PSEG, PSHD, PLOC, PDAT];
+pub const RULES: [Rule; RULE_COUNT] = [
+    Rule {
+        kind: FTYP,
+        container: Container::File,
+        count: Count::One,
+    },
+    Rule {
+        kind: PFIL,
+        container: Container::File,
+        count: Count::One,
+    },
+    Rule {
+        kind: PFHD,
+        container: Container::Pfil,
+        count: Count::One,
+    },
+    Rule {
+        kind: SURL,
+        container: Container::Pfil,
+        count: Count::OneOrMore,
+    },
+    Rule {
+        kind: PSEG,
+        container: Container::File,
+        count: Count::OneOrMore,
+    },
+    Rule {
+        kind: PSHD,
+        container: Container::Pseg,
+        count: Count::One,
+    },
+    Rule {
+        kind: PLOC,
+        container: Container::Pseg,
+        count: Count::One,
+    },
+    Rule {
+        kind: PDAT,
+        container: Container::File,
+        count: Count::Any,
+    },
+];
 
 // The table.
-pub fn table() -> [Kind; 8]
-    ensures { λ r. ⌜ r ≡ kinds ⌝ }
+pub fn table() -> [Rule; RULE_COUNT]
+    ensures { λ r. ⌜ r ≡ rules ⌝ }
 {
-    KINDS
+    RULES
 }

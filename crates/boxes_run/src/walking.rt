@@ -5,7 +5,6 @@ use crate::report::of_kind;
 use crate::report::rule;
 use crate::report::whole;
 use boxes::kinds::Container;
-use boxes::kinds::Count;
 use boxes::kinds::FTYP;
 use boxes::kinds::Kind;
 use boxes::kinds::PDAT;
@@ -16,16 +15,12 @@ use boxes::kinds::PSEG;
 use boxes::kinds::PSHD;
 use boxes::kinds::SURL;
 use numerals::place::Place;
+use tallying::counting::tally;
 use tallying::rules::keeps;
-use tallying::rules::tally;
 use tallying::tally::Tally;
 
 // A kind that the table has not.
-const FREE: Kind = Kind {
-    code: 0x66726565,
-    container: Container::File,
-    count: Count::Any,
-};
+const FREE: Kind = Kind { code: 0x66726565 };
 
 fn boxes_in(asked: &[u8], s: &[u8], start: u64, end: u64) {
     boxes(asked, tally(s, Container::File, Place(start), Place(end)));

@@ -37,7 +37,7 @@ module _ (f : List ℕ) (bs : List Box) where
 
   module _ (single : right Pseg pshd bs ≡ true) where
     pub header-there : 0 < length bs
-    header-there = omega (arith, right-one pshd bs refl single, those-few pshd bs)
+    header-there = omega (arith, right-one Pseg pshd bs refl single, those-few pshd bs)
 
     -- else it goes by the fields of the first box
     pub header-by : is pshd (boxAt 0 bs) ≡ true → headerIn f bs ≡ _>>=_ {B = Box × Fields} (fieldsOf f (boxAt 0 bs)) (λ x. given (boxAt 0 bs, x))

@@ -15,9 +15,9 @@ use fields::location::location_of;
 use partial::refusals::PLOC_NOT_SINGLE;
 use partial::refusals::PSHD_WRONG;
 use partial::refusals::SURL_IN_SEGMENT;
+use tallying::counting::tally;
 use tallying::find::first_of;
 use tallying::rules::keeps;
-use tallying::rules::tally;
 use tallying::tally::Tally;
 ghost use mathlib.Core.Path.{_≡_};
 ghost use mathlib.Core.List.{List};
@@ -82,7 +82,7 @@ pub(crate) fn parts_of(file: &[u8], b: Framed) -> PartsRead
     if inner.of(SURL) != 0 {
         return PartsRead::Refused(SURL_IN_SEGMENT);
     }
-    match location_of(file, first_of(file, PLOC, b.body, b.end)) {
+    match location_of(file, first_of(file, Container::Pseg, PLOC, b.body, b.end)) {
         LocationRead::Given(location) => PartsRead::Given(Parts {
             header,
             fields,

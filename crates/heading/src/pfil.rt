@@ -16,9 +16,9 @@ use numerals::numbers::unsigned;
 use numerals::place::Place;
 use partial::refusals::PFHD_WRONG;
 use partial::refusals::SURL_WRONG;
+use tallying::counting::tally;
 use tallying::find::first_of;
 use tallying::rules::keeps;
-use tallying::rules::tally;
 use tallying::tally::Tally;
 ghost use Prim.Native.Nat.{_≤_};
 ghost use mathlib.Core.List.{List};
@@ -113,13 +113,17 @@ pub(crate) fn inner_of(file: &[u8], b: Framed, boxes: Tally, mixed: bool) -> Hea
     if inner.fault != 0 {
         return Headed::Refused(inner.fault);
     }
-    if !pfhd_right(file, first_of(file, PFHD, start, end), inner) {
+    if !pfhd_right(
+        file,
+        first_of(file, Container::Pfil, PFHD, start, end),
+        inner,
+    ) {
         return Headed::Refused(PFHD_WRONG);
     }
     if !surl_right(file, start, end, inner) {
         return Headed::Refused(SURL_WRONG);
     }
-    let first = first_of(file, SURL, start, end);
+    let first = first_of(file, Container::Pfil, SURL, start, end);
     Headed::Found(Head {
         boxes: boxes.boxes,
         segments: boxes.of(PSEG),

@@ -14,7 +14,7 @@ use partial::refusals::BRAND_MISSING;
 use partial::refusals::FILE_TOO_LONG;
 use partial::refusals::FTYP_WRONG;
 use partial::refusals::PFIL_WRONG;
-use tallying::rules::tally;
+use tallying::counting::tally;
 ghost use mathlib.Core.Path.{_≡_};
 ghost use Rattle.partial.specs.Heading.{heading};
 ghost use Rattle.heading.specs.Facts.{told, headedAnswer};

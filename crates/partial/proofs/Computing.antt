@@ -29,7 +29,7 @@ unfolding
     Framing.userSize Framing.sized Framing.large Framing.header Framing.walked Framing.faultless Framing.boxesFrom Framing.boxLimit Framing.walkedIn
     Framing.boxesIn Framing.boxOf
     Framing.headerAnswer Framing.frontSize Framing.front Framing.boxed
-    Kinds.is Kinds.those Kinds.keeps Kinds.containerNo Kinds.rightCount Kinds.right Kinds.boxAt Kinds.firstOf
+    Kinds.is Kinds.those Kinds.keeps Kinds.rightCount Kinds.right Kinds.boxAt Kinds.firstOf
     Sequences.someOf Sequences.allOf Sequences.sum Sequences.largest Sequences.within Sequences.stretch
     Segments.isState Segments.present Segments.corrupted Segments.hasPlace Segments.isOpen Segments.isLast Segments.endOf
     Segments.chunksOf

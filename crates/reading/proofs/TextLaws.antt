@@ -50,7 +50,7 @@ first-surl f {h} known =
     let ends = lies-ends (length f) (boxAt 1 bs) (all-boxAt (lies (length f)) bs 1 second (boxes-lie File f 0 (length f) bs (t .boxes))) in
     let inner = boxes-lie Pfil f (boxAt 1 bs .body) (boxAt 1 bs .end) (h .inner) (t .inner) in
     let (some, formed) = both (right Pfil surl (h .inner)) (allOf (surlFormed f) (those surl (h .inner))) (t .surl) in
-    let there : 0 < length (those surl (h .inner)) = right-some surl (h .inner) refl some in (
+    let there : 0 < length (those surl (h .inner)) = right-some Pfil surl (h .inner) refl some in (
       rw firstOf-those (all-boxAt (surlFormed f) (those surl (h .inner)) 0 there formed),
       lies-ends (length f) (firstOf surl (h .inner)) (first-lies (length f) surl (h .inner) there (further-lie (boxAt 1 bs .end) (length f) ends (h .inner) inner)),
     )

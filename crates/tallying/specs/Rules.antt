@@ -6,24 +6,25 @@ use lib.ListN.{length, getD, drop}
 use lib.Dec.{eqb}
 use Rattle.boxes.specs.Answer.{Answer, refused, given}
 use Rattle.boxes.specs.Framing.{Box}
-use Rattle.boxes.specs.Kinds.{kinds, those}
+use Rattle.boxes.specs.Kinds.{rules, those}
 use Rattle.boxes.specs.declared.kinds.Kind.{Kind}
+use Rattle.boxes.specs.declared.kinds.Rule.{Rule}
 use Rattle.tallying.specs.declared.tally.Tally.{Tally}
 
--- how many there are of each kind, in the table's order
+-- how many there are of the kind of each row of the table
 unfoldable pub countsOf : List Box → List ℕ
-countsOf bs = map (λ k. length (those k bs)) kinds
+countsOf bs = map (λ row. length (those (row .kind) bs)) rules
 
--- what is told of a container: the number of its first fault and nothing else, or the numbers of its boxes
+-- what is told of a container: the number of its first fault and no box, or the numbers of its boxes
 unfoldable pub tallyOf : Answer (List Box) → Tally
-tallyOf (refused n) = record { fault = n; boxes = 0; counts = 0 ∷ 0 ∷ 0 ∷ 0 ∷ 0 ∷ 0 ∷ 0 ∷ 0 ∷ [] }
+tallyOf (refused n) = record { fault = n; boxes = 0; counts = countsOf [] }
 tallyOf (given bs) = record { fault = 0; boxes = length bs; counts = countsOf bs }
 
--- of counts in the order of a table, the one at a kind's row; 0 for a kind that the table has not
-unfoldable pub countIn : List Kind → Kind → List ℕ → ℕ
+-- of counts in the order of a table, the one at the first row of a kind; 0 for a kind that the table has not
+unfoldable pub countIn : List Rule → Kind → List ℕ → ℕ
 countIn [] k counts = 0
-countIn (row ∷ rows) k counts = elim (eqb (row .code) (k .code)) [ true ↦ getD counts 0 0 | false ↦ countIn rows k (drop 1 counts) ]
+countIn (row ∷ rows) k counts = elim (eqb (row .kind .code) (k .code)) [ true ↦ getD counts 0 0 | false ↦ countIn rows k (drop 1 counts) ]
 
--- the count at a kind's row of the table of kinds
+-- the count at the first row of a kind in the table
 unfoldable pub tallyFor : Kind → List ℕ → ℕ
-tallyFor = countIn kinds
+tallyFor = countIn rules

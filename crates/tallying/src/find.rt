@@ -1,5 +1,6 @@
 // The first box of a kind, looked for in a container whose framing is known to be right.
 use boxes::framing::Framed;
+use boxes::kinds::Container;
 use boxes::kinds::Kind;
 use boxes::walk::Step;
 use boxes::walk::Walk;
@@ -20,10 +21,9 @@ pub const NO_BOX: Framed = Framed {
 };
 
 // The first box of a kind in the container that starts and ends at these places.
-pub fn first_of(file: &[u8], kind: Kind, start: Place, end: Place) -> Framed
-    ensures { λ r. ⌜ ((bs : List Box) → boxesIn (kind .container) (now (file .entry)) (start .0) (end .0) ≡ given bs → boxOf r ≡ firstOf kind bs) ⌝ }
+pub fn first_of(file: &[u8], container: Container, kind: Kind, start: Place, end: Place) -> Framed
+    ensures { λ r. ⌜ ((bs : List Box) → boxesIn container (now (file .entry)) (start .0) (end .0) ≡ given bs → boxOf r ≡ firstOf kind bs) ⌝ }
 {
-    let container = kind.container;
     let mut walk = Walk::new(container, start, end);
     loop {
         match walk.step(file) {

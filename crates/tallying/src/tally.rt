@@ -1,15 +1,16 @@
 // What one walk over a container tells of it.
-use boxes::kinds::KINDS;
 use boxes::kinds::Kind;
+use boxes::kinds::RULE_COUNT;
+use boxes::kinds::RULES;
 ghost use mathlib.Core.Path.{_≡_};
 ghost use Rattle.tallying.specs.Rules.{tallyFor};
 
-// The number of the first fault, 0 for none; how many boxes there are, and how many of each kind in the table's order,
-// none where there is a fault.
+// The number of the first fault, 0 for none; how many boxes there are, and how many of the kind of each row of the
+// table, none where there is a fault.
 pub struct Tally {
     pub fault: u64,
     pub boxes: u64,
-    pub counts: [u64; 8],
+    pub counts: [u64; RULE_COUNT],
 }
 
 impl Tally {
@@ -19,9 +20,9 @@ impl Tally {
     {
         let counts = self.counts;
         let mut i = 0;
-        while i < 8 {
-            let row = KINDS[i];
-            if row.code == kind.code {
+        while i < RULE_COUNT {
+            let row = RULES[i];
+            if row.kind.code == kind.code {
                 return counts[i];
             }
             i += 1;

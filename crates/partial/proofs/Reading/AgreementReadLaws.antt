@@ -1,5 +1,5 @@
 -- A file that reaches 25 is accepted exactly if its sizes agree, and no other is; it is 25 exactly if they do not.
-use Prim.Native.Nat.{ℕ, _<_}
+use Prim.Native.Nat.{ℕ}
 use mathlib.Core.Bool.{Bool, true, false}
 use mathlib.Core.List.{List, []}
 use mathlib.Core.Logic.{_↔_, inl, inr}
@@ -9,11 +9,10 @@ use borrow.Author.Tests.{le-leb, leb-true}
 use lib.Dec.{T, leb}
 use lib.ListN.{length}
 use Rattle.boxes.specs.Answer.{Answer, refused, given, _>>=_, hold}
-use Rattle.boxes.specs.Framing.{Box}
-use Rattle.boxes.specs.Kinds.{pseg, those, right, rightCount, keeps, containerNo}
+use Rattle.boxes.specs.Kinds.{pseg, those, right}
 use Rattle.boxes.specs.declared.kinds.Container.the-variants.{File}
 use Rattle.boxes.proofs.AnswerLaws.{Only, not-both, given-same, refused-same, both-given, held}
-use Rattle.boxes.proofs.KindLaws.{some-right}
+use Rattle.boxes.proofs.KindLaws.{right-some, some-right}
 use Rattle.partial.specs.Limits.{segmentLimit}
 use Rattle.partial.specs.Sequences.{within}
 use Rattle.partial.specs.Segments.{Segment}
@@ -37,11 +36,6 @@ passed : {A : Type 0} (k : ℕ) (t : Bool) (next : Unit {0} → Answer A) {n : �
 passed k true next other e = (refl, e)
 passed k false next other e = absurd (other (refused-same e))
 
--- there are `pseg` boxes where their rule is kept
-some-there : (bs : List Box) → right File pseg bs ≡ true → 0 < length (those pseg bs)
-unfolding right rightCount keeps containerNo
-some-there bs h = omega (arith, leb-true 1 (length (those pseg bs)) h)
-
 -- no stage before 25 has its number
 not-25 : (n : ℕ) → T (beforeAgreement n) → n ≡ 25 → ⊥
 unfolding within
@@ -52,7 +46,7 @@ module _ (limit : ℕ) (f : List ℕ) where
   reached : {ss : List Segment} → Reaches25 limit f ss → reading limit f ≡ (hold 25 (agree ss) >>= λ _. given ss)
   unfolding reading segments
   reached r =
-      rw (r .headed, some-right pseg (r .h .boxes) refl (r .any), le-leb (length (those pseg (r .h .boxes))) segmentLimit (r .few), r .read)
+      rw (r .headed, some-right File pseg (r .h .boxes) refl (r .any), le-leb (length (those pseg (r .h .boxes))) segmentLimit (r .few), r .read)
 
   pub agrees : (ss : List Segment) → (reading limit f ≡ given ss) ↔ (Reaches25 limit f ss × InAgreement ss)
   unfolding reading segments
@@ -66,7 +60,7 @@ module _ (limit : ℕ) (f : List ℕ) where
           let (ts, read, e4) = both-given (segmentsFrom limit f h [] (those pseg (h .boxes))) _ e3 in
           let (agreed, e5) = held 25 (agree ts) _ e4 in
           let same = given-same e5 in (
-            record { h = h; headed = head; any = some-there (h .boxes) there; few = leb-true _ segmentLimit few; read = rw same at read },
+            record { h = h; headed = head; any = right-some File pseg (h .boxes) refl there; few = leb-true _ segmentLimit few; read = rw same at read },
             agreement ss (rw same at agreed),
           )
 
@@ -82,7 +76,7 @@ module _ (limit : ℕ) (f : List ℕ) where
           let (few, e3) = passed 13 (leb (length bs) segmentLimit) _ (λ z. omega arith) e2 in
           let (ss, read, e4) = passed-on (segmentsFrom limit f h [] bs) _ (segments-from-only (λ k. k ≡ 25 → ⊥) not-25 limit f h [] bs) e3 in (
             ss,
-            record { h = h; headed = head; any = some-there (h .boxes) there; few = leb-true _ segmentLimit few; read = read },
+            record { h = h; headed = head; any = right-some File pseg (h .boxes) refl there; few = leb-true _ segmentLimit few; read = read },
             λ agreed. not-both (sym (rw (in-agreement ss agreed) at e4)),
           )
 

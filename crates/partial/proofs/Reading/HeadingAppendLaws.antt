@@ -121,7 +121,7 @@ module _ (f g : List ℕ) where
   unfolding pfhdRight
   pfhdRight-kept bs h l =
       let (one, formed) = both (right Pfil pfhd bs) (pfhdFormed f (firstOf pfhd bs)) h in
-      let single = right-one pfhd bs refl one in
+      let single = right-one Pfil pfhd bs refl one in
       rw (one, pfhd-kept f g (firstOf pfhd bs) formed (first-lies (length f) pfhd bs (omega arith) l))
 
   pub surlRight-kept : (bs : List Box) → surlRight f bs ≡ true → allOf (lies (length f)) bs ≡ true → surlRight (f ++ g) bs ≡ true

@@ -179,7 +179,7 @@ module _ (f g : List ℕ) where
         let (inner, l, cs, t, same) = stepped limit f h before b e in
         let lie = further-lie (b .end) (length f) ends inner (boxes-lie Pseg f (b .body) (b .end) inner (t .boxes)) in
         let (first, fields, header) = pshdRight-kept inner lie (t .header) in
-        let one = right-one ploc inner refl (t .single) in
+        let one = right-one Pseg ploc inner refl (t .single) in
         let ploc-ends = lies-ends (length f) (firstOf ploc inner) (first-lies (length f) ploc inner (omega arith) lie) in
         let (head, end-same) = ploc-kept (firstOf ploc inner) l ploc-ends (t .head) in
         let same-fields : pshdFields (f ++ g) (firstOf pshd inner) ≡ pshdFields f (firstOf pshd inner) = rw first fields in

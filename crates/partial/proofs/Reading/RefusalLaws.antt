@@ -148,7 +148,7 @@ module _ (limit : ℕ) (f : List ℕ) where
   unfolding segments segmentsFrom agree knownSize
   no-segments h lacks =
       elim (decLe 1 (length (those pseg (h .boxes)))) [
-        | yes there ↦ absurd (true≢false (sym (some-right pseg (h .boxes) refl there) ∙ lacks))
+        | yes there ↦ absurd (true≢false (sym (some-right File pseg (h .boxes) refl there) ∙ lacks))
         | no few ↦
             let nothing : those pseg (h .boxes) ≡ [] = drop-of-length-le (those pseg (h .boxes)) {i = 0} (omega arith) in
             rw nothing

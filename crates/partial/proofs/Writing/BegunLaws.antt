@@ -177,7 +177,7 @@ module _ (brand : Brand) (u m : List ℕ) where
   begun-surl : isText u ≡ true → isText m ≡ true → surlRight (beginning brand u m) (begunHeading .inner) ≡ true
   unfolding surlRight allOf
   begun-surl plain-url plain-mime =
-      let some-source = some-right surl (begunHeading .inner) refl (rw only-source (omega arith)) in
+      let some-source = some-right Pfil surl (begunHeading .inner) refl (rw only-source (omega arith)) in
       rw (some-source, only-source, surl-back u m (beginning brand u m) sourceBox source-stands source-ends plain-url plain-mime)
 
   pub first-source : firstOf surl (begunHeading .inner) ≡ sourceBox
@@ -196,7 +196,7 @@ module _ (brand : Brand) (u m : List ℕ) where
   unfolding ftypRight
   begun-ftyp =
       let long = brand-long in
-      let one = one-right ftyp (begunHeading .boxes) refl (ap length (only-first ftyp brandBox fileBox (is-eqb ftyp brandBox) (is-eqb ftyp fileBox))) in
+      let one = one-right File ftyp (begunHeading .boxes) refl (ap length (only-first ftyp brandBox fileBox (is-eqb ftyp brandBox) (is-eqb ftyp fileBox))) in
       rw (
         first-box ftyp brandBox fileBox,
         is-eqb ftyp brandBox,
@@ -225,13 +225,13 @@ module _ (brand : Brand) (u m : List ℕ) where
   begun-pfil : pfilRight (begunHeading .boxes) ≡ true
   unfolding pfilRight
   begun-pfil =
-      let one = one-right pfil (begunHeading .boxes) refl (ap length (only-second pfil brandBox fileBox (is-eqb pfil brandBox) (is-eqb pfil fileBox))) in
+      let one = one-right File pfil (begunHeading .boxes) refl (ap length (only-second pfil brandBox fileBox (is-eqb pfil brandBox) (is-eqb pfil fileBox))) in
       rw (second-box pfil brandBox fileBox, is-eqb pfil fileBox, one)
 
   begun-pfhd : pfhdRight (beginning brand u m) (begunHeading .inner) ≡ true
   unfolding pfhdRight pfhdFormed
   begun-pfhd =
-      let one = one-right pfhd (begunHeading .inner) refl (ap length (only-first pfhd plainBox sourceBox (is-eqb pfhd plainBox) (is-eqb pfhd sourceBox))) in
+      let one = one-right Pfil pfhd (begunHeading .inner) refl (ap length (only-first pfhd plainBox sourceBox (is-eqb pfhd plainBox) (is-eqb pfhd sourceBox))) in
       let first = first-is pfhd (lit< tt) (begunHeading .inner) (rw (first-box pfhd plainBox sourceBox) (is-eqb pfhd plainBox)) ∙ first-box pfhd plainBox sourceBox in
       let long = length-bytesOf 4 0 in
       let plain = stands-two (beginning brand u m) filePlace (pfhd .code) (surl .code) versionAndFlags (sourceBody u m) stands-file .0 in

@@ -74,7 +74,7 @@ module _ (limit : ℕ) (g : List ℕ) (h : Heading) (before : List Segment) (a :
   first-header = first-is pshd (lit< tt) inners (rw (first-box pshd headerBox locationBox) (is-eqb pshd headerBox)) ∙ first-box pshd headerBox locationBox
 
   one-header : right Pseg pshd inners ≡ true
-  one-header = one-right pshd inners refl (ap length (only-first pshd headerBox locationBox (is-eqb pshd headerBox) (is-eqb pshd locationBox)))
+  one-header = one-right Pseg pshd inners refl (ap length (only-first pshd headerBox locationBox (is-eqb pshd headerBox) (is-eqb pshd locationBox)))
 
   only-location : those ploc inners ≡ locationBox ∷ []
   only-location = only-second ploc headerBox locationBox (is-eqb ploc headerBox) (is-eqb ploc locationBox)
@@ -124,10 +124,10 @@ module _ (limit : ℕ) (g : List ℕ) (h : Heading) (before : List Segment) (a :
       rw (length-new at a, end-new at a, ← sizes, ← count)
       (elim (decLe (a .sourceOffset) limit) [
         | yes low ↦
-            rw (boxes, right-header, one-right ploc inners refl (ap length only-location), no-source, first-location, head, first-header, fields, le-leb (a .sourceOffset) limit low, chunks low, long)
+            rw (boxes, right-header, one-right Pseg ploc inners refl (ap length only-location), no-source, first-location, head, first-header, fields, le-leb (a .sourceOffset) limit low, chunks low, long)
             (both-tests (leb (length (chunksOf before) + length ps) chunkLimit) (leb total limit))
         | no over ↦
-            rw (boxes, right-header, one-right ploc inners refl (ap length only-location), no-source, first-location, head, first-header, fields, lt-leb (a .sourceOffset) limit (omega arith), lt-leb total limit (omega arith))
+            rw (boxes, right-header, one-right Pseg ploc inners refl (ap length only-location), no-source, first-location, head, first-header, fields, lt-leb (a .sourceOffset) limit (omega arith), lt-leb total limit (omega arith))
             (one-test (leb (length (chunksOf before) + length ps) chunkLimit))
       ])
     where

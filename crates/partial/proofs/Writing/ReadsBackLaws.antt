@@ -171,7 +171,7 @@ module _ (limit : ℕ) (f : List ℕ) (h : Heading) (ss : List Segment) (a : Add
     pseg-there : right File pseg (grownHeading .boxes) ≡ true
     pseg-there =
         let long = length-append (those pseg (h .boxes)) (newBox ∷ []) in
-        some-right pseg (grownHeading .boxes) refl (rw psegs-added (omega arith))
+        some-right File pseg (grownHeading .boxes) refl (rw psegs-added (omega arith))
 
     heading-large : fileLimit < length f + length (added a) → heading (f ++ added a) ≡ refused 1
     unfolding heading fileBoxes

@@ -1,6 +1,5 @@
 -- `tallying::rules::container_no` meets its contract: each arm is a case of the definition.
 use borrow.Author.Needs.{needs}
-use Rattle.boxes.specs.Kinds.{containerNo}
 use Rattle.tallying.proofs.rules.container_no.Statement.{statement}
 use Rattle.tallying.proofs.rules.container_no.Tie as tie
 
@@ -14,15 +13,12 @@ enum-told-3 : tie.Need-enum-told-3
 enum-told-3 c = search needs
 
 returns : tie.Need-returns
-unfolding containerNo
 returns c = rw (c .enum-told .given .1)
 
 returns-2 : tie.Need-returns-2
-unfolding containerNo
 returns-2 c = rw (c .enum-told2 .given .1)
 
 returns-3 : tie.Need-returns-3
-unfolding containerNo
 returns-3 c = rw (c .enum-told3 .given .1)
 
 pub container-no-spec : {M : Type 1} → statement M

@@ -1,4 +1,4 @@
--- `tallying::rules::tally` meets its contract. The loop's invariant: the walk has passed as many boxes, and of each
+-- `tallying::counting::tally` meets its contract. The loop's invariant: the walk has passed as many boxes, and of each
 -- kind as many, as were counted.
 use mathlib.Core.List.{List, [], _∷_, _++_}
 use mathlib.Core.Path.{_≡_, refl, sym, ap}
@@ -11,8 +11,8 @@ use Rattle.boxes.proofs.WalkLaws.{Passed, passed-none, passed-more, all-boxes, 
 use Rattle.boxes.proofs.WalkLaws.{a-fault}
 use Rattle.tallying.specs.Rules.{countsOf, tallyOf}
 use Rattle.tallying.proofs.RuleLaws.{counts-few}
-use Rattle.tallying.proofs.rules.tally.Statement.{statement}
-use Rattle.tallying.proofs.rules.tally.Tie as tie
+use Rattle.tallying.proofs.counting.tally.Statement.{statement}
+use Rattle.tallying.proofs.counting.tally.Tie as tie
 
 abbrev Inv-loop : tie.InvT-loop
 Inv-loop s walk₀ boxes₀ counts₀ walk boxes counts = (bs : List Box) × Passed s walk₀ bs walk × (boxes ≡ length bs) × (counts ≡ countsOf bs)
@@ -76,7 +76,7 @@ enum-known-n : tie.Need-enum-known-n Inv-loop μ-loop
 enum-known-n c = search needs
 
 returns-2 : tie.Need-returns-2 Inv-loop μ-loop
-unfolding tallyOf
+unfolding tallyOf countsOf those
 returns-2 c =
     let at-loop = c .before .before .before .before in
     let fault = a-fault (c .before .before .before .step .ensures) (c .before .n .given .1) in

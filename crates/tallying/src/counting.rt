@@ -1,0 +1,64 @@
+// The boxes of a container counted in one walk, by the rows of the table of kinds.
+use crate::tally::Tally;
+use boxes::kinds::Container;
+use boxes::kinds::RULE_COUNT;
+use boxes::kinds::RULES;
+use boxes::walk::Step;
+use boxes::walk::Walk;
+use numerals::place::Place;
+ghost use Prim.Native.Nat.{ℕ, _≤_};
+ghost use mathlib.Core.List.{List, [], _∷_, _++_};
+ghost use mathlib.Core.Path.{_≡_};
+ghost use lib.ListN.{getD};
+ghost use Rattle.boxes.specs.Framing.{Box, boxesIn};
+ghost use Rattle.tallying.specs.Rules.{countsOf, tallyOf};
+
+// The counts after one more box, of that type.
+fn counted(counts: [u64; RULE_COUNT], code: u32) -> [u64; RULE_COUNT]
+    requires { ⌜ ((k : ℕ) → getD counts k 0 ≤ 512) ⌝ }
+    ensures { λ r. ⌜ ((bs : List Box) (b : Box) → counts ≡ countsOf bs → b .kind ≡ code → r ≡ countsOf (bs ++ (b ∷ []))) ⌝ }
+{
+    let mut after = counts;
+    let mut i = 0;
+    while i < RULE_COUNT {
+        let row = RULES[i];
+        if code == row.kind.code {
+            after[i] = after[i] + 1;
+        }
+        i += 1;
+    }
+    after
+}
+
+// How many boxes of each kind the container that starts and ends at these places holds, or its first fault.
+pub fn tally(s: &[u8], container: Container, start: Place, end: Place) -> Tally
+    ensures { λ r. ⌜ r ≡ tallyOf (boxesIn container (now (s .entry)) (start .0) (end .0)) ⌝ }
+{
+    let mut walk = Walk::new(container, start, end);
+    let mut boxes: u64 = 0;
+    let mut counts = [0u64; RULE_COUNT];
+    loop {
+        match walk.step(s) {
+            Step::Next(b, next) => {
+                walk = next;
+                boxes += 1;
+                let more = counted(counts, b.kind);
+                counts = more;
+            }
+            Step::End => {
+                return Tally {
+                    fault: 0,
+                    boxes,
+                    counts,
+                };
+            }
+            Step::Refused(n) => {
+                return Tally {
+                    fault: n,
+                    boxes: 0,
+                    counts: [0u64; RULE_COUNT],
+                };
+            }
+        }
+    }
+}
