@@ -258,7 +258,7 @@ module _ (brand : Brand) (u m : List ℕ) where
       elim (which (right File pseg (begunHeading .boxes))) [
         | inl there ↦
             let none = neither pseg brandBox fileBox (is-eqb pseg brandBox) (is-eqb pseg fileBox) in
-            absurd (omega (arith, right-some pseg (begunHeading .boxes) refl there, ap length none))
+            absurd (omega (arith, right-some File pseg (begunHeading .boxes) refl there, ap length none))
         | inr lacks ↦ lacks
       ]
 
