@@ -1,14 +1,13 @@
 # Builds the library's archive, which is proved first, and the command `paff` over it. `make test` holds the archive and
-# the plain C program against the model, runs the command as a person would, a build of it that stops at undefined
-# behaviour and one over the plain C program under both sanitizers, passes the clerk's evening, types the lines of
-# README.md, keeps a real film in a mixed file, and builds a program over what `make install` installs. `make bench`
-# measures the library beside the plain C program, and `make instructions` counts what both take (docs/PERFORMANCE.md).
+# the plain C program against the model, runs the command as a person would and a build of it over the plain C program
+# under both sanitizers, passes the clerk's evening, types the lines of README.md, keeps a real film in a mixed file, and
+# builds a program over what `make install` installs. `make bench` measures the library beside the plain C program, and
+# `make instructions` counts what both take (docs/PERFORMANCE.md).
 
 # Debian has this name for its own compiler on x86-64 and for its cross compiler elsewhere (gcc-x86-64-linux-gnu).
 CC := x86_64-linux-gnu-gcc
 WARNINGS := -Wall -Wextra -Wpedantic -Wconversion -Wshadow -Wcast-qual -Wcast-align -Wformat=2 -Wstrict-prototypes -Wmissing-prototypes -Wundef -Werror
 CFLAGS := -std=c11 -D_GNU_SOURCE -O2 $(WARNINGS) -Iinclude
-UNDEFINED := -fsanitize=undefined -fsanitize-undefined-trap-on-error
 
 # The address sanitizer runs on the machine's own processor only, so this build takes the plain C program in the place
 # of the archive.
@@ -28,7 +27,7 @@ LIBRARY := crates.txt $(shell find crates -type f \( -name '*.rt' -o -name '*.an
 EMULATOR := $(shell sh command/emulator)
 
 # What `make test` runs, each by itself, so that `make -j2 test` runs two at a time.
-TESTS := test-scale test-scale-plain test-command test-command-undefined test-command-sanitized test-films test-readme test-installed
+TESTS := test-scale test-scale-plain test-command test-command-sanitized test-films test-readme test-installed
 
 # Where `make install` puts things, as they are used, and the folder that stands before that where a package is made.
 PREFIX := /usr/local
@@ -58,10 +57,6 @@ install: $(OUT)/paff
 
 uninstall:
 	rm -f $(INSTALLED)/bin/paff $(INSTALLED)/share/man/man1/paff.1 $(INSTALLED)/include/vrazhupa.h $(INSTALLED)/lib/libvrazhupa.a $(INSTALLED)/lib/pkgconfig/vrazhupa.pc
-
-$(OUT)/paff-undefined: $(SOURCES) $(HEADERS) $(ARCHIVE)
-	mkdir -p $(OUT)
-	$(CC) $(CFLAGS) $(UNDEFINED) -static -o $@ $(SOURCES) $(ARCHIVE)
 
 $(OUT)/paff-sanitized: $(SOURCES) $(HEADERS) $(PLAIN) $(PLAIN_HEADERS)
 	mkdir -p $(OUT)
@@ -112,9 +107,6 @@ test-scale-plain: $(OUT)/scale-sanitized
 test-command: $(OUT)/paff
 	mandoc -T lint -W warning command/paff.1
 	python3 tests/command.py $(EMULATOR) $(OUT)/paff
-
-test-command-undefined: $(OUT)/paff-undefined
-	python3 tests/command.py $(EMULATOR) $(OUT)/paff-undefined
 
 test-command-sanitized: $(OUT)/paff-sanitized
 	ASAN_OPTIONS=detect_leaks=0 python3 tests/command.py $(OUT)/paff-sanitized

@@ -311,32 +311,26 @@ otherOf size = segmentAt 0 false (size ∷ 0 ∷ []) []
 abbrev openAt : ℕ → Addition
 openAt offset = segmentAt offset false [] []
 
--- a last segment of ten and that one, in both orders: what reading says, and what append answers for the second
+-- a last segment of ten and that one, in both orders: what append answers for the second
 abbrev besideTen : Addition → List ℤ
-besideTen a =
-    says (lengthIn (begunBytes ++ (added (lastOf 10) ++ added a)))
-    ++ (says (lengthIn (begunBytes ++ (added a ++ added (lastOf 10))))
-    ++ (answerTo (begunBytes ++ added (lastOf 10)) a ++ answerTo (begunBytes ++ added a) (lastOf 10)))
+besideTen a = answerTo (begunBytes ++ added (lastOf 10)) a ++ answerTo (begunBytes ++ added a) (lastOf 10)
 
 -- "two known sizes differ, or a segment end or open offset lies above the known size": 25, whichever stands first
 abbrev sizesDiffer : Example
 sizesDiffer =
     record {
       defined = besideTen (lastOf 5) ++ (besideTen (otherOf 11) ++ besideTen (openAt 11));
-      paper = map pos (replicate 12 25);
+      paper = map pos (replicate 6 25);
     }
 
--- the same size a second time, and an end and an open offset just there, are taken: ten are described and missing. To
--- 55 bytes come two segments of 51, or one and an open one of 49
+-- the same size a second time, and an end and an open offset just there, are taken: to 55 bytes come two segments of 51,
+-- or one and an open one of 49
 abbrev sizesAgree : Example
 sizesAgree =
     record {
       defined = besideTen (lastOf 10) ++ (besideTen (otherOf 10) ++ besideTen (openAt 10));
       paper =
-          map pos
-          (10 ∷ 1 ∷ 0 ∷ 10 ∷ 10 ∷ 1 ∷ 0 ∷ 10 ∷ 157 ∷ 157
-          ∷ 10 ∷ 1 ∷ 0 ∷ 10 ∷ 10 ∷ 1 ∷ 0 ∷ 10 ∷ 157 ∷ 157
-          ∷ 10 ∷ 1 ∷ 0 ∷ 10 ∷ 10 ∷ 1 ∷ 0 ∷ 10 ∷ 155 ∷ 155 ∷ []);
+          map pos (157 ∷ 157 ∷ 157 ∷ 157 ∷ 155 ∷ 155 ∷ []);
     }
 
 -- last_segment beside other flags is last_segment, and other flags alone are not
