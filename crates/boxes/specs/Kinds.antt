@@ -1,4 +1,5 @@
--- Document 01, "Framing": the types the base knows, with their container and how many of each, in one table.
+-- Document 01, "Framing", and document 02, [7]: the types that are known, with their containers and how many of each, in
+-- one table.
 use Prim.Native.Nat.{ℕ}
 use mathlib.Core.Bool.{Bool, true, false, _&&_}
 use mathlib.Core.List.{List, [], _∷_}
@@ -8,9 +9,9 @@ use Rattle.boxes.specs.Framing.{Box}
 use Rattle.boxes.specs.declared.kinds.Kind.{Kind}
 use Rattle.boxes.specs.declared.kinds.Rule.{Rule}
 use Rattle.boxes.specs.declared.kinds.Container.{Container}
-use Rattle.boxes.specs.declared.kinds.Container.the-variants.{File, Pfil, Pseg}
+use Rattle.boxes.specs.declared.kinds.Container.the-variants.{File, Pfil, Pseg, Fidx, Bidx}
 use Rattle.boxes.specs.declared.kinds.Count.{Count}
-use Rattle.boxes.specs.declared.kinds.Count.the-variants.{One, OneOrMore, Any}
+use Rattle.boxes.specs.declared.kinds.Count.the-variants.{One, OneOrMore, AtMostOne, Any}
 
 abbrev pub ftyp : Kind
 ftyp = record { code = 0x66747970 }
@@ -36,6 +37,15 @@ ploc = record { code = 0x706c6f63 }
 abbrev pub pdat : Kind
 pdat = record { code = 0x70646174 }
 
+abbrev pub fidx : Kind
+fidx = record { code = 0x66696478 }
+
+abbrev pub bidx : Kind
+bidx = record { code = 0x62696478 }
+
+abbrev pub frpa : Kind
+frpa = record { code = 0x66727061 }
+
 -- a row of the table: a kind, a container that it stands in, and how many of it that holds
 abbrev pub rule : Kind → Container → Count → Rule
 rule k c count = record { kind = k; container = c; count = count }
@@ -50,6 +60,11 @@ rules =
     ∷ rule pshd Pseg One
     ∷ rule ploc Pseg One
     ∷ rule pdat File Any
+    ∷ rule fidx Pfil AtMostOne
+    ∷ rule fidx Pseg AtMostOne
+    ∷ rule bidx Fidx Any
+    ∷ rule bidx Bidx Any
+    ∷ rule frpa Bidx AtMostOne
     ∷ []
 
 -- whether a box is of a kind
@@ -65,6 +80,7 @@ those k (b ∷ bs) = elim (is k b) [ true ↦ b ∷ those k bs | false ↦ those
 unfoldable pub keeps : Count → ℕ → Bool
 keeps One n = eqb n 1
 keeps OneOrMore n = leb 1 n
+keeps AtMostOne n = leb n 1
 keeps Any n = true
 
 -- the containers by number, to tell them apart
@@ -72,6 +88,8 @@ abbrev pub containerNo : Container → ℕ
 containerNo File = 0
 containerNo Pfil = 1
 containerNo Pseg = 2
+containerNo Fidx = 3
+containerNo Bidx = 4
 
 -- whether a row is that of a kind in a container
 abbrev pub isRow : Container → Kind → Rule → Bool

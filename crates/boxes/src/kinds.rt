@@ -1,4 +1,4 @@
-// The table of the eight kinds of box: type code, container and count rule.
+// The table of the kinds of box: type code, container and count rule.
 ghost use mathlib.Core.Path.{_≡_};
 ghost use Rattle.boxes.specs.Kinds.{rules};
 
@@ -23,17 +23,26 @@ pub const PLOC: Kind = Kind { code: 0x706c6f63 };
 
 pub const PDAT: Kind = Kind { code: 0x70646174 };
 
+pub const FIDX: Kind = Kind { code: 0x66696478 };
+
+pub const BIDX: Kind = Kind { code: 0x62696478 };
+
+pub const FRPA: Kind = Kind { code: 0x66727061 };
+
 // Where a kind of box stands.
 pub enum Container {
     File,
     Pfil,
     Pseg,
+    Fidx,
+    Bidx,
 }
 
 // How many of a kind a container holds.
 pub enum Count {
     One,
     OneOrMore,
+    AtMostOne,
     Any,
 }
 
@@ -45,7 +54,7 @@ pub struct Rule {
 }
 
 // How many rows the table has.
-pub const RULE_COUNT: usize = 8;
+pub const RULE_COUNT: usize = 13;
 
 pub const RULES: [Rule; RULE_COUNT] = [
     Rule {
@@ -87,6 +96,31 @@ pub const RULES: [Rule; RULE_COUNT] = [
         kind: PDAT,
         container: Container::File,
         count: Count::Any,
+    },
+    Rule {
+        kind: FIDX,
+        container: Container::Pfil,
+        count: Count::AtMostOne,
+    },
+    Rule {
+        kind: FIDX,
+        container: Container::Pseg,
+        count: Count::AtMostOne,
+    },
+    Rule {
+        kind: BIDX,
+        container: Container::Fidx,
+        count: Count::Any,
+    },
+    Rule {
+        kind: BIDX,
+        container: Container::Bidx,
+        count: Count::Any,
+    },
+    Rule {
+        kind: FRPA,
+        container: Container::Bidx,
+        count: Count::AtMostOne,
     },
 ];
 

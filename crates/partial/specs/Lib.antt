@@ -5,6 +5,7 @@ pub mod Heading
 pub mod Mixed
 pub mod Entries
 pub mod Meaning
+pub mod Index
 pub mod Reading
 pub mod Ranges
 pub mod Naming

@@ -15,6 +15,7 @@ fn keeps_rule(count: Count, n: u64) -> bool
     match count {
         Count::One => n == 1,
         Count::OneOrMore => 1 <= n,
+        Count::AtMostOne => n <= 1,
         Count::Any => true,
     }
 }
@@ -27,6 +28,8 @@ fn container_no(c: Container) -> u64
         Container::File => 0,
         Container::Pfil => 1,
         Container::Pseg => 2,
+        Container::Fidx => 3,
+        Container::Bidx => 4,
     }
 }
 

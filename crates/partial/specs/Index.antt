@@ -1,0 +1,204 @@
+-- Document 02, [7], with 5.2.2, 5.2.3 and 5.2.6 of source document 000: the box index and refusals 36 to 39. An index
+-- list holds indexed boxes, and each of those may hold a list.
+use Prim.Native.Nat.{ℕ, zero, suc, _+_, _-_}
+use mathlib.Core.Bool.{Bool, true, false, not, _&&_, _||_}
+use mathlib.Core.List.{List, [], _∷_, _++_, map}
+use mathlib.Core.Option.{Option, none, some}
+use lib.ListN.{length}
+use lib.Dec.{leb, eqb}
+use Rattle.boxes.specs.Answer.{Answer, refused, given, _>>=_, hold}
+use Rattle.numerals.specs.Numbers.{number}
+use Rattle.boxes.specs.Framing.{Box, userSize, boxesIn}
+use Rattle.boxes.specs.Kinds.{fidx, bidx, frpa, right, those, firstOf}
+use Rattle.boxes.specs.declared.kinds.Container.{Container}
+use Rattle.boxes.specs.declared.kinds.Container.the-variants.{Pfil, Pseg, Fidx, Bidx}
+use Rattle.partial.specs.Sequences.{someOf, allOf, stretch}
+use Rattle.partial.specs.Segments.{Segment}
+use Rattle.partial.specs.Heading.{Heading}
+use Rattle.partial.specs.Meaning.{knownSize, supplied}
+
+-- ---- an indexed box
+
+-- what the fields of a `bidx` say of a box of the source: its size, none for one that runs to the end; how many bytes
+-- its header has; its type. And where in the file the list of the `bidx` starts
+pub record Fields : Type 0 where
+  pub size : Option ℕ
+  pub front : ℕ
+  pub kind : ℕ
+  pub list : ℕ
+
+-- the size by `indexed_box_size`: 0 runs to the end, 1 means that a 64-bit size follows the type
+unfoldable pub statedSize : List ℕ → ℕ → Option ℕ
+statedSize f at =
+    let size = number f at 4 in
+    elim (eqb size 0) [ true ↦ none | false ↦ some (elim (eqb size 1) [ true ↦ number f (at + 8) 8 | false ↦ size ]) ]
+
+-- 5.2.3.2: size and type, a 64-bit size where the first says so, the user type of a `uuid`; 36 where one is cut
+unfoldable pub indexFields : List ℕ → Box → Answer Fields
+indexFields f b = do
+  _ ← hold 36 (leb (b .body + 8) (b .end))
+  let kind = number f (b .body + 4) 4
+  let front : ℕ = (elim (eqb (number f (b .body) 4) 1) [ true ↦ 16 | false ↦ 8 ]) + userSize kind
+  _ ← hold 36 (leb (b .body + front) (b .end))
+  given (record { size = statedSize f (b .body); front = front; kind = kind; list = b .body + front })
+
+-- where a box ends that starts at a place: a size of 0 runs to the end of what encloses it, where that is known
+unfoldable pub endFrom : Option ℕ → ℕ → Fields → Option ℕ
+endFrom enclosing place x = elim (x .size) [ some size ↦ some (place + size) | none ↦ enclosing ]
+
+-- "no unknown end is judged": a test of an end holds of one that is not known
+unfoldable pub wherever : (ℕ → Bool) → Option ℕ → Bool
+wherever test none = true
+wherever test (some end) = test end
+
+-- 36: no size under its header, no end over the limit of 23
+unfoldable pub endRight : ℕ → ℕ → Fields → Option ℕ → Bool
+endRight limit place x = wherever (λ end. leb (place + x .front) end && leb end limit)
+
+-- 5.2.6: how many bytes of the box's content the front part in its list has; none where there is none
+unfoldable pub frontPart : List Box → ℕ
+frontPart inner = firstOf frpa inner .end - firstOf frpa inner .body
+
+-- "a framing fault" of an index list is 36
+unfoldable pub framed : {A : Type 0} → Answer A → Answer A
+framed (refused n) = refused 36
+framed (given a) = given a
+
+-- a box of the index: its level, its place in the source, its end where that is known, its type
+pub record Indexed : Type 0 where
+  pub level : ℕ
+  pub place : ℕ
+  pub end : Option ℕ
+  pub kind : ℕ
+
+-- boxes of the index, one before those of its list, and where the last of one list ends, if it has one and that is known
+pub record Told : Type 0 where
+  pub boxes : List Indexed
+  pub end : Option ℕ
+
+-- a list without a box
+abbrev pub nothingTold : Told
+nothingTold = record { boxes = []; end = none }
+
+-- whether a size of 0 stands last in its list, or there is none
+unfoldable pub lastOrSized : List ℕ → Box → List Box → Bool
+lastOrSized f b [] = true
+lastOrSized f b (_ ∷ _) = elim (statedSize f (b .body)) [ some size ↦ true | none ↦ false ]
+
+-- a box before the others of its list, which start where it ends
+unfoldable pub before : Told → List Box → Told → Told
+before one [] rest = one
+before one (_ ∷ _) rest = record { boxes = one .boxes ++ rest .boxes; end = rest .end }
+
+-- the boxes of a list in a row from a place on, by what is told of each at its place
+unfoldable pub inARow : List ℕ → (ℕ → Box → Answer Told) → ℕ → List Box → Answer Told
+inARow f one place [] = given nothingTold
+inARow f one place (b ∷ bs) = do
+  _ ← hold 36 (lastOrSized f b bs)
+  told ← one place b
+  rest ← inARow f one (elim (told .end) [ some end ↦ end | none ↦ place ]) bs
+  given (before told bs rest)
+
+-- a box of a ninth level, which is not looked into
+unfoldable pub untold : ℕ → Box → Indexed
+untold level b = record { level = level; place = 0; end = none; kind = 0 }
+
+-- ---- the list and the box, which call each other: a level has two of so many calls
+
+module _ (limit : ℕ) (f : List ℕ) where
+  unfoldable mutual
+    -- the `bidx` boxes of a list on a level, which what encloses them ends there: from a place on, each where the one
+    -- before it ends
+    pub indexList : ℕ → ℕ → Option ℕ → ℕ → List Box → Answer Told
+    indexList zero level enclosing place bs = given (record { boxes = map (untold level) bs; end = none })
+    indexList (suc calls) level enclosing place bs = inARow f (λ at b. indexedBox calls level enclosing at b) place bs
+
+    -- one of them at its place: its own fields, then the list inside, behind its header and front part, whose boxes
+    -- have to fill it where there are some
+    pub indexedBox : ℕ → ℕ → Option ℕ → ℕ → Box → Answer Told
+    indexedBox zero level enclosing place b = given nothingTold
+    indexedBox (suc calls) level enclosing place b = do
+      x ← indexFields f b
+      let end = endFrom enclosing place x
+      _ ← hold 36 (endRight limit place x end)
+      inner ← framed (boxesIn Bidx f (x .list) (b .end))
+      _ ← hold 36 (right Bidx frpa inner)
+      told ← indexList calls (level + 1) end (place + x .front + frontPart inner) (those bidx inner)
+      _ ← hold 36 (wherever (λ last. wherever (eqb last) end) (told .end))
+      given (record { boxes = record { level = level; place = place; end = end; kind = x .kind } ∷ told .boxes; end = end })
+
+-- ---- the index of a file
+
+-- "down to eight levels"
+abbrev pub levelLimit : ℕ
+levelLimit = 8
+
+-- the calls that eight levels take: a list and a box each
+abbrev pub callLimit : ℕ
+callLimit = 16
+
+-- the index in a container: its `fidx`, if it has one, whose boxes start at a place of the source
+unfoldable pub indexIn : ℕ → List ℕ → Container → List Box → Option ℕ → ℕ → Answer (List Indexed)
+indexIn limit f c bs size start = do
+  _ ← hold 36 (right c fidx bs)
+  elim (those fidx bs) [
+    | [] ↦ given []
+    | b ∷ _ ↦ do
+      inner ← framed (boxesIn Fidx f (b .body) (b .end))
+      told ← indexList limit f callLimit 1 size start (those bidx inner)
+      given (told .boxes)
+  ]
+
+-- those of segments, each from its `source_byte_offset` on
+unfoldable pub indexOfSegments : ℕ → List ℕ → Option ℕ → List Segment → Answer (List Indexed)
+indexOfSegments limit f size [] = given []
+indexOfSegments limit f size (s ∷ ss) = do
+  first ← indexIn limit f Pseg (s .inner) size (s .sourceOffset)
+  later ← indexOfSegments limit f size ss
+  given (first ++ later)
+
+-- 36: the index in `pfil`, from the first byte of the source on, and those in segments, in file order
+unfoldable pub indexOf : ℕ → List ℕ → Heading → List Segment → Answer (List Indexed)
+indexOf limit f h ss = do
+  first ← indexIn limit f Pfil (h .inner) (knownSize ss) 0
+  later ← indexOfSegments limit f (knownSize ss) ss
+  given (first ++ later)
+
+-- whether a container has an index
+unfoldable pub hasIndex : List Box → Bool
+hasIndex bs = elim (those fidx bs) [ [] ↦ false | _ ∷ _ ↦ true ]
+
+-- stages 36 to 39, each over the whole file: no box of a ninth level, indexes in `pfil` or in segments, every end known
+unfoldable pub indexed : ℕ → List ℕ → Heading → List Segment → Answer (List Indexed)
+indexed limit f h ss = do
+  boxes ← indexOf limit f h ss
+  _ ← hold 37 (allOf (λ i. leb (i .level) levelLimit) boxes)
+  _ ← hold 38 (not (hasIndex (h .inner) && someOf (λ s. hasIndex (s .inner)) ss))
+  _ ← hold 39 (allOf (λ i. elim (i .end) [ some end ↦ true | none ↦ false ]) boxes)
+  given boxes
+
+-- ---- its rows
+
+-- whether none, some or all of so many positions from a place on are served: 0, 1 or 2
+unfoldable pub servedOf : List Segment → ℕ → ℕ → ℕ
+servedOf ss place size =
+    elim (eqb (stretch (supplied ss) size place) size) [
+      | true ↦ 2
+      | false ↦ elim (eqb (stretch (λ p. not (supplied ss p)) size place) size) [ true ↦ 0 | false ↦ 1 ]
+    ]
+
+-- how many bytes a box has whose end is known
+unfoldable pub sizeOf : Indexed → ℕ
+sizeOf i = elim (i .end) [ some end ↦ end - i .place | none ↦ 0 ]
+
+-- how many numbers there are in a row of the index
+abbrev pub indexRowLength : ℕ
+indexRowLength = 5
+
+-- level, source place, size, type, whether none, some or all of its bytes are served
+unfoldable pub indexRow : List Segment → Indexed → List ℕ
+indexRow ss i = i .level ∷ i .place ∷ sizeOf i ∷ i .kind ∷ servedOf ss (i .place) (sizeOf i) ∷ []
+
+unfoldable pub indexRows : List Segment → List Indexed → List ℕ
+indexRows ss [] = []
+indexRows ss (i ∷ is) = indexRow ss i ++ indexRows ss is
