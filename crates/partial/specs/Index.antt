@@ -21,7 +21,7 @@ use Rattle.partial.specs.Meaning.{knownSize, supplied}
 
 -- what the fields of a `bidx` say of a box of the source: its size, none for one that runs to the end; how many bytes
 -- its header has; its type. And where in the file the list of the `bidx` starts
-pub record Fields : Type 0 where
+pub record IndexFields : Type 0 where
   pub size : Option ℕ
   pub front : ℕ
   pub kind : ℕ
@@ -34,7 +34,7 @@ statedSize f at =
     elim (eqb size 0) [ true ↦ none | false ↦ some (elim (eqb size 1) [ true ↦ number f (at + 8) 8 | false ↦ size ]) ]
 
 -- 5.2.3.2: size and type, a 64-bit size where the first says so, the user type of a `uuid`; 36 where one is cut
-unfoldable pub indexFields : List ℕ → Box → Answer Fields
+unfoldable pub indexFields : List ℕ → Box → Answer IndexFields
 indexFields f b = do
   _ ← hold 36 (leb (b .body + 8) (b .end))
   let kind = number f (b .body + 4) 4
@@ -43,7 +43,7 @@ indexFields f b = do
   given (record { size = statedSize f (b .body); front = front; kind = kind; list = b .body + front })
 
 -- where a box ends that starts at a place: a size of 0 runs to the end of what encloses it, where that is known
-unfoldable pub endFrom : Option ℕ → ℕ → Fields → Option ℕ
+unfoldable pub endFrom : Option ℕ → ℕ → IndexFields → Option ℕ
 endFrom enclosing place x = elim (x .size) [ some size ↦ some (place + size) | none ↦ enclosing ]
 
 -- "no unknown end is judged": a test of an end holds of one that is not known
@@ -52,7 +52,7 @@ wherever test none = true
 wherever test (some end) = test end
 
 -- 36: no size under its header, no end over the limit of 23
-unfoldable pub endRight : ℕ → ℕ → Fields → Option ℕ → Bool
+unfoldable pub endRight : ℕ → ℕ → IndexFields → Option ℕ → Bool
 endRight limit place x = wherever (λ end. leb (place + x .front) end && leb end limit)
 
 -- 5.2.6: how many bytes of the box's content the front part in its list has; none where there is none
@@ -60,9 +60,9 @@ unfoldable pub frontPart : List Box → ℕ
 frontPart inner = firstOf frpa inner .end - firstOf frpa inner .body
 
 -- "a framing fault" of an index list is 36
-unfoldable pub framed : {A : Type 0} → Answer A → Answer A
-framed (refused n) = refused 36
-framed (given a) = given a
+unfoldable pub listFramed : {A : Type 0} → Answer A → Answer A
+listFramed (refused n) = refused 36
+listFramed (given a) = given a
 
 -- a box of the index: its level, its place in the source, its end where that is known, its type
 pub record Indexed : Type 0 where
@@ -80,24 +80,27 @@ pub record Told : Type 0 where
 abbrev pub nothingTold : Told
 nothingTold = record { boxes = []; end = none }
 
--- whether a size of 0 stands last in its list, or there is none
-unfoldable pub lastOrSized : List ℕ → Box → List Box → Bool
-lastOrSized f b [] = true
-lastOrSized f b (_ ∷ _) = elim (statedSize f (b .body)) [ some size ↦ true | none ↦ false ]
+-- 36: a size of 0 stands last in its list
+unfoldable pub lastOrSized : Bool → IndexFields → Bool
+lastOrSized last x = last || elim (x .size) [ some size ↦ true | none ↦ false ]
+
+-- whether no box follows
+unfoldable pub noneFollows : List Box → Bool
+noneFollows [] = true
+noneFollows (_ ∷ _) = false
 
 -- a box before the others of its list, which start where it ends
-unfoldable pub before : Told → List Box → Told → Told
-before one [] rest = one
-before one (_ ∷ _) rest = record { boxes = one .boxes ++ rest .boxes; end = rest .end }
+unfoldable pub withRest : Told → List Box → Told → Told
+withRest one [] rest = one
+withRest one (_ ∷ _) rest = record { boxes = one .boxes ++ rest .boxes; end = rest .end }
 
--- the boxes of a list in a row from a place on, by what is told of each at its place
-unfoldable pub inARow : List ℕ → (ℕ → Box → Answer Told) → ℕ → List Box → Answer Told
-inARow f one place [] = given nothingTold
-inARow f one place (b ∷ bs) = do
-  _ ← hold 36 (lastOrSized f b bs)
-  told ← one place b
-  rest ← inARow f one (elim (told .end) [ some end ↦ end | none ↦ place ]) bs
-  given (before told bs rest)
+-- the boxes of a list in a row from a place on, by what is told of each, the last or another, at its place
+unfoldable pub inARow : (Bool → ℕ → Box → Answer Told) → ℕ → List Box → Answer Told
+inARow one place [] = given nothingTold
+inARow one place (b ∷ bs) = do
+  told ← one (noneFollows bs) place b
+  rest ← inARow one (elim (told .end) [ some end ↦ end | none ↦ place ]) bs
+  given (withRest told bs rest)
 
 -- a box of a ninth level, which is not looked into
 unfoldable pub untold : ℕ → Box → Indexed
@@ -111,20 +114,21 @@ module _ (limit : ℕ) (f : List ℕ) where
     -- before it ends
     pub indexList : ℕ → ℕ → Option ℕ → ℕ → List Box → Answer Told
     indexList zero level enclosing place bs = given (record { boxes = map (untold level) bs; end = none })
-    indexList (suc calls) level enclosing place bs = inARow f (λ at b. indexedBox calls level enclosing at b) place bs
+    indexList (suc calls) level enclosing place bs = inARow (λ last at b. indexedBox calls level enclosing last at b) place bs
 
-    -- one of them at its place: its own fields, then the list inside, behind its header and front part, whose boxes
-    -- have to fill it where there are some
-    pub indexedBox : ℕ → ℕ → Option ℕ → ℕ → Box → Answer Told
-    indexedBox zero level enclosing place b = given nothingTold
-    indexedBox (suc calls) level enclosing place b = do
+    -- one of them at its place, the last or another: its own fields, then the list inside, behind its header and front
+    -- part, whose boxes have to fill it where there are some
+    pub indexedBox : ℕ → ℕ → Option ℕ → Bool → ℕ → Box → Answer Told
+    indexedBox zero level enclosing last place b = given nothingTold
+    indexedBox (suc calls) level enclosing last place b = do
       x ← indexFields f b
+      _ ← hold 36 (lastOrSized last x)
       let end = endFrom enclosing place x
       _ ← hold 36 (endRight limit place x end)
-      inner ← framed (boxesIn Bidx f (x .list) (b .end))
+      inner ← listFramed (boxesIn Bidx f (x .list) (b .end))
       _ ← hold 36 (right Bidx frpa inner)
       told ← indexList calls (level + 1) end (place + x .front + frontPart inner) (those bidx inner)
-      _ ← hold 36 (wherever (λ last. wherever (eqb last) end) (told .end))
+      _ ← hold 36 (wherever (λ filled. wherever (eqb filled) end) (told .end))
       given (record { boxes = record { level = level; place = place; end = end; kind = x .kind } ∷ told .boxes; end = end })
 
 -- ---- the index of a file
@@ -144,7 +148,7 @@ indexIn limit f c bs size start = do
   elim (those fidx bs) [
     | [] ↦ given []
     | b ∷ _ ↦ do
-      inner ← framed (boxesIn Fidx f (b .body) (b .end))
+      inner ← listFramed (boxesIn Fidx f (b .body) (b .end))
       told ← indexList limit f callLimit 1 size start (those bidx inner)
       given (told .boxes)
   ]
@@ -188,8 +192,8 @@ servedOf ss place size =
     ]
 
 -- how many bytes a box has whose end is known
-unfoldable pub sizeOf : Indexed → ℕ
-sizeOf i = elim (i .end) [ some end ↦ end - i .place | none ↦ 0 ]
+unfoldable pub indexedSize : Indexed → ℕ
+indexedSize i = elim (i .end) [ some end ↦ end - i .place | none ↦ 0 ]
 
 -- how many numbers there are in a row of the index
 abbrev pub indexRowLength : ℕ
@@ -197,7 +201,7 @@ indexRowLength = 5
 
 -- level, source place, size, type, whether none, some or all of its bytes are served
 unfoldable pub indexRow : List Segment → Indexed → List ℕ
-indexRow ss i = i .level ∷ i .place ∷ sizeOf i ∷ i .kind ∷ servedOf ss (i .place) (sizeOf i) ∷ []
+indexRow ss i = i .level ∷ i .place ∷ indexedSize i ∷ i .kind ∷ servedOf ss (i .place) (indexedSize i) ∷ []
 
 unfoldable pub indexRows : List Segment → List Indexed → List ℕ
 indexRows ss [] = []
