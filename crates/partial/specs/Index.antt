@@ -27,20 +27,23 @@ pub record IndexFields : Type 0 where
   pub kind : ℕ
   pub list : ℕ
 
--- the size by `indexed_box_size`: 0 runs to the end, 1 means that a 64-bit size follows the type
-unfoldable pub statedSize : List ℕ → ℕ → Option ℕ
-statedSize f at =
-    let size = number f at 4 in
-    elim (eqb size 0) [ true ↦ none | false ↦ some (elim (eqb size 1) [ true ↦ number f (at + 8) 8 | false ↦ size ]) ]
+-- the size by `indexed_box_size` and the 64 bits that may follow the type: 0 runs to the end, 1 means that they do follow
+unfoldable pub sizeBy : ℕ → ℕ → Option ℕ
+sizeBy size large = elim (eqb size 0) [ true ↦ none | false ↦ some (elim (eqb size 1) [ true ↦ large | false ↦ size ]) ]
 
--- 5.2.3.2: size and type, a 64-bit size where the first says so, the user type of a `uuid`; 36 where one is cut
+-- the bytes of a header: size and type, the 64-bit size where there is one, the user type of a `uuid`
+unfoldable pub frontBy : ℕ → ℕ → ℕ
+frontBy size kind = (elim (eqb size 1) [ true ↦ 16 | false ↦ 8 ]) + userSize kind
+
+-- 5.2.3.2: the fields are the header of the box, and the list follows; 36 where one is cut
 unfoldable pub indexFields : List ℕ → Box → Answer IndexFields
 indexFields f b = do
   _ ← hold 36 (leb (b .body + 8) (b .end))
+  let size = number f (b .body) 4
   let kind = number f (b .body + 4) 4
-  let front : ℕ = (elim (eqb (number f (b .body) 4) 1) [ true ↦ 16 | false ↦ 8 ]) + userSize kind
-  _ ← hold 36 (leb (b .body + front) (b .end))
-  given (record { size = statedSize f (b .body); front = front; kind = kind; list = b .body + front })
+  let list = b .body + frontBy size kind
+  _ ← hold 36 (leb list (b .end))
+  given (record { size = sizeBy size (number f (b .body + 8) 8); front = frontBy size kind; kind = kind; list = list })
 
 -- where a box ends that starts at a place: a size of 0 runs to the end of what encloses it, where that is known
 unfoldable pub endFrom : Option ℕ → ℕ → IndexFields → Option ℕ
