@@ -2,6 +2,7 @@
 -- printed, and the rows of tables.
 pub mod AgreementReadLaws
 pub mod HeadingAppendLaws
+pub mod IndexGivenLaws
 pub mod IndexKeptLaws
 pub mod KeptLaws
 pub mod LieLaws

@@ -45,6 +45,11 @@ indexFields f b = do
   _ ← hold 36 (leb list (b .end))
   given (record { size = sizeBy size (number f (b .body + 8) 8); front = frontBy size kind; kind = kind; list = list })
 
+-- whether a size or an end is known
+unfoldable pub isKnown : Option ℕ → Bool
+isKnown none = false
+isKnown (some n) = true
+
 -- where a box ends that starts at a place: a size of 0 runs to the end of what encloses it, where that is known
 unfoldable pub endFrom : Option ℕ → ℕ → IndexFields → Option ℕ
 endFrom enclosing place x = elim (x .size) [ some size ↦ some (place + size) | none ↦ enclosing ]
@@ -85,7 +90,7 @@ nothingTold = record { boxes = []; end = none }
 
 -- 36: a size of 0 stands last in its list
 unfoldable pub lastOrSized : Bool → IndexFields → Bool
-lastOrSized last x = last || elim (x .size) [ some size ↦ true | none ↦ false ]
+lastOrSized last x = last || isKnown (x .size)
 
 -- whether no box follows
 unfoldable pub noneFollows : List Box → Bool
@@ -181,7 +186,7 @@ indexed limit f h ss = do
   boxes ← indexOf limit f h ss
   _ ← hold 37 (allOf (λ i. leb (i .level) levelLimit) boxes)
   _ ← hold 38 (not (hasIndex (h .inner) && someOf (λ s. hasIndex (s .inner)) ss))
-  _ ← hold 39 (allOf (λ i. elim (i .end) [ some end ↦ true | none ↦ false ]) boxes)
+  _ ← hold 39 (allOf (λ i. isKnown (i .end)) boxes)
   given boxes
 
 -- ---- its rows
