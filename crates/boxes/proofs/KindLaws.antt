@@ -14,7 +14,7 @@ use Rattle.boxes.specs.Framing.{Box}
 use Rattle.boxes.specs.Kinds.{rules, is, those, keeps, ruleIn, rightCount, right, noBox, boxAt, firstOf}
 use Rattle.boxes.specs.declared.kinds.Container.{Container}
 use Rattle.boxes.specs.declared.kinds.Count.{Count}
-use Rattle.boxes.specs.declared.kinds.Count.the-variants.{One, OneOrMore}
+use Rattle.boxes.specs.declared.kinds.Count.the-variants.{One, OneOrMore, AtMostOne}
 use Rattle.boxes.specs.declared.kinds.Kind.{Kind}
 
 -- ---- the box of a number
@@ -205,3 +205,7 @@ module _ (c : Container) (k : Kind) (bs : List Box) where
   pub some-right : ruleIn rules c k ≡ OneOrMore → 1 ≤ length (those k bs) → right c k bs ≡ true
   unfolding keeps
   some-right rule h = right-by rule ∙ le-leb 1 (length (those k bs)) h
+
+  pub few-right : ruleIn rules c k ≡ AtMostOne → length (those k bs) ≤ 1 → right c k bs ≡ true
+  unfolding keeps
+  few-right rule h = right-by rule ∙ le-leb (length (those k bs)) 1 h

@@ -4,6 +4,7 @@ pub mod AgreementReadLaws
 pub mod HeadingAppendLaws
 pub mod IndexGivenLaws
 pub mod IndexKeptLaws
+pub mod IndexedLaws
 pub mod KeptLaws
 pub mod LieLaws
 pub mod LimitLaws

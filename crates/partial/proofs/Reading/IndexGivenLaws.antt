@@ -178,10 +178,10 @@ end-stated place x size e = go (x .size) e
     go (some n) e = refl
     go none e = absurd (true≢false (sym e))
 
-module _ (limit : ℕ) (f : List ℕ) where
-  abbrev known : Indexed → Bool
-  known i = isKnown (i .end)
+abbrev pub known : Indexed → Bool
+known i = isKnown (i .end)
 
+module _ (limit : ℕ) (f : List ℕ) where
   box-sized : (calls level : ℕ) (size : Option ℕ) (last : Bool) (place : ℕ) (b : Box) (told : Told) → indexedBox limit f calls level none last place b ≡ given told
       → allOf known (told .boxes) ≡ true
       → indexedBox limit f calls level size last place b ≡ given told
