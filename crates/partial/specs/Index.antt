@@ -5,7 +5,7 @@ use mathlib.Core.Bool.{Bool, true, false, not, _&&_, _||_}
 use mathlib.Core.List.{List, [], _∷_, _++_, map}
 use mathlib.Core.Option.{Option, none, some}
 use lib.ListN.{length}
-use lib.Dec.{leb, eqb}
+use lib.Dec.{leb, ltb, eqb}
 use Rattle.boxes.specs.Answer.{Answer, refused, given, _>>=_, hold}
 use Rattle.numerals.specs.Numbers.{number}
 use Rattle.boxes.specs.Framing.{Box, userSize, boxesIn}
@@ -178,7 +178,7 @@ indexOf limit f h ss = do
 
 -- whether a container has an index
 unfoldable pub hasIndex : List Box → Bool
-hasIndex bs = elim (those fidx bs) [ [] ↦ false | _ ∷ _ ↦ true ]
+hasIndex bs = ltb 0 (length (those fidx bs))
 
 -- stages 36 to 39, each over the whole file: no box of a ninth level, indexes in `pfil` or in segments, every end known
 unfoldable pub indexed : ℕ → List ℕ → Heading → List Segment → Answer (List Indexed)

@@ -247,3 +247,33 @@ module _ (low high : ℕ) (raised : low ≤ high) (f : List ℕ) where
           fills = t .fills;
         })
         ∙ ap given same
+
+  in-raised : (c : Container) (bs : List Box) (size : Option ℕ) (start : ℕ) (boxes : List Indexed) → indexIn low f c bs size start ≡ given boxes → indexIn high f c bs size start ≡ given boxes
+  unfolding indexIn
+  in-raised c bs size start boxes e =
+      let (single, e1) = held 36 (right c fidx bs) _ e in
+      rw single (go (those fidx bs) e1)
+    where
+      go : (cs : List Box)
+          → _≡_ {A = Answer (List Indexed)} (elim cs [ [] ↦ given [] | b ∷ _ ↦ listFramed (boxesIn Fidx f (b .body) (b .end)) >>= λ inner. indexList low f callLimit 1 size start (those bidx inner) >>= λ told. given (told .boxes) ]) (given boxes)
+          → _≡_ {A = Answer (List Indexed)} (elim cs [ [] ↦ given [] | b ∷ _ ↦ listFramed (boxesIn Fidx f (b .body) (b .end)) >>= λ inner. indexList high f callLimit 1 size start (those bidx inner) >>= λ told. given (told .boxes) ]) (given boxes)
+      go [] e = e
+      go (b ∷ cs) e =
+          let (inner, framed, e1) = both-given (listFramed (boxesIn Fidx f (b .body) (b .end))) _ e in
+          let (told, list, e2) = both-given (indexList low f callLimit 1 size start (those bidx inner)) _ e1 in
+          rw (framed, list-raised callLimit 1 size start (those bidx inner) told list) e2
+
+  segments-raised : (size : Option ℕ) (ss : List Segment) (boxes : List Indexed) → indexOfSegments low f size ss ≡ given boxes → indexOfSegments high f size ss ≡ given boxes
+  unfolding indexOfSegments
+  segments-raised size [] boxes e = e
+  segments-raised size (s ∷ ss) boxes e =
+      let (first, here, e1) = both-given (indexIn low f Pseg (s .inner) size (s .sourceOffset)) _ e in
+      let (later, there, e2) = both-given (indexOfSegments low f size ss) _ e1 in
+      rw (in-raised Pseg (s .inner) size (s .sourceOffset) first here, segments-raised size ss later there) e2
+
+  pub index-raised : (h : Heading) (ss : List Segment) (boxes : List Indexed) → indexOf low f h ss ≡ given boxes → indexOf high f h ss ≡ given boxes
+  unfolding indexOf
+  index-raised h ss boxes e =
+      let (first, here, e1) = both-given (indexIn low f Pfil (h .inner) (knownSize ss) 0) _ e in
+      let (later, there, e2) = both-given (indexOfSegments low f (knownSize ss) ss) _ e1 in
+      rw (in-raised Pfil (h .inner) (knownSize ss) 0 first here, segments-raised (knownSize ss) ss later there) e2

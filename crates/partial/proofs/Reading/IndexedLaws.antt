@@ -4,8 +4,10 @@ use mathlib.Core.Bool.{Bool, true, false, not, _&&_, _||_, or-false}
 use mathlib.Core.List.{List, [], _∷_, _++_, append-nil}
 use mathlib.Core.Option.{Option, none, some}
 use mathlib.Core.Path.{_≡_, refl, sym, ap, subst, _∙_}
+use native.Mathlib.Decide.{decLe}
 use native.Mathlib.Omega.{arith}
-use lib.Dec.{leb}
+use borrow.Author.Tests.{eq-eqb, ne-eqb, lt-ltb, le-ltb}
+use lib.Dec.{leb, eqb}
 use lib.ListN.{length}
 use Rattle.boxes.specs.Answer.{Answer, refused, given, _>>=_, hold}
 use Rattle.boxes.specs.Framing.{Box, boxesIn}
@@ -35,7 +37,16 @@ module _ (limit : ℕ) (f : List ℕ) (bs : List Box) (lacks : those fidx bs ≡
 
   pub has-none : hasIndex bs ≡ false
   unfolding hasIndex
-  has-none = rw (hasIndex, lacks)
+  has-none = rw lacks
+
+-- whether it has one, by how many there are
+pub has-counted : (bs : List Box) {n : ℕ} → n ≡ length (those fidx bs) → not (eqb n 0) ≡ hasIndex bs
+unfolding hasIndex
+has-counted bs {n} same =
+    elim (decLe 1 n) [
+      | yes there ↦ ap not (ne-eqb n 0 (λ e. omega arith)) ∙ sym (lt-ltb 0 (length (those fidx bs)) (omega (arith, same)))
+      | no few ↦ ap not (eq-eqb n 0 (omega arith)) ∙ sym (le-ltb 0 (length (those fidx bs)) (omega (arith, same)))
+    ]
 
 -- ---- the size of the source, known later
 
@@ -116,13 +127,10 @@ module _ (limit : ℕ) (f : List ℕ) (h : Heading) where
     no-index : (size : Option ℕ) → indexIn limit f Pseg (s .inner) size (s .sourceOffset) ≡ given []
     no-index size = index-none limit f (s .inner) lacks Pseg size (s .sourceOffset) (few-right Pseg fidx (s .inner) refl (rw lacks (omega arith)))
 
-    segments-more : (size : Option ℕ) (ss : List Segment) (boxes : List Indexed) → indexOfSegments limit f size ss ≡ given boxes → indexOfSegments limit f size (ss ++ (s ∷ [])) ≡ given boxes
+    segments-last : (size : Option ℕ) (ss : List Segment) → indexOfSegments limit f size (ss ++ (s ∷ [])) ≡ indexOfSegments limit f size ss
     unfolding indexOfSegments
-    segments-more size [] boxes e = rw (no-index size) e
-    segments-more size (t ∷ ss) boxes e =
-        let (first, here, e1) = both-given (indexIn limit f Pseg (t .inner) size (t .sourceOffset)) _ e in
-        let (later, there, e2) = both-given (indexOfSegments limit f size ss) _ e1 in
-        rw (here, segments-more size ss later there) e2
+    segments-last size [] = rw (no-index size)
+    segments-last size (t ∷ ss) = rw (segments-last size ss)
 
     still-apart : (ss : List Segment) → someOf (λ s. hasIndex (s .inner)) (ss ++ (s ∷ [])) ≡ someOf (λ s. hasIndex (s .inner)) ss
     unfolding someOf
@@ -137,12 +145,20 @@ module _ (limit : ℕ) (f : List ℕ) (h : Heading) where
         let size = known-append ss (s ∷ []) in
         whole-indexed (ss ++ (s ∷ [])) {first = first} {later = later} (record {
           inPfil = rw size (u .inPfil);
-          inSegments = rw size (segments-more _ ss later (u .inSegments));
+          inSegments = rw size (segments-last _ ss ∙ u .inSegments);
           shallow = u .shallow;
           apart = rw (still-apart ss) (u .apart);
           ended = u .ended;
         })
         ∙ ap given same
+
+-- of two such segments only the size of the source is told apart
+pub indexed-alike : (limit : ℕ) (f : List ℕ) (h : Heading) (ss : List Segment) (s t : Segment) → those fidx (s .inner) ≡ [] → those fidx (t .inner) ≡ []
+    → knownSize (ss ++ (s ∷ [])) ≡ knownSize (ss ++ (t ∷ []))
+    → indexed limit f h (ss ++ (s ∷ [])) ≡ indexed limit f h (ss ++ (t ∷ []))
+unfolding indexed indexOf
+indexed-alike limit f h ss s t lacks lacks′ size =
+    rw (size, segments-last limit f h s lacks _ ss, segments-last limit f h t lacks′ _ ss, still-apart limit f h s lacks ss, still-apart limit f h t lacks′ ss)
 
 -- ---- more bytes behind the file
 
