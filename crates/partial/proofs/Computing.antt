@@ -8,6 +8,7 @@ use Rattle.partial.specs.Heading
 use Rattle.partial.specs.Mixed
 use Rattle.partial.specs.Entries
 use Rattle.partial.specs.Meaning
+use Rattle.partial.specs.Index
 use Rattle.partial.specs.Reading
 use Rattle.partial.specs.Ranges
 use Rattle.partial.specs.Naming
@@ -43,6 +44,8 @@ unfolding
     Reading.earlierSegments Reading.admitted
     Meaning.givesSize Meaning.knownSize Meaning.describedLength Meaning.isClosed Meaning.agree Meaning.covers Meaning.supplier
     Meaning.supplied Meaning.placeOfByte Meaning.served Meaning.onward Meaning.servedRun Meaning.missingRun Meaning.reply
+    Index.sizeBy Index.frontBy Index.indexFields Index.isKnown Index.endFrom Index.wherever Index.endRight Index.frontPart Index.listFramed
+    Index.lastOrSized Index.noneFollows Index.withRest Index.inARow Index.untold Index.indexList Index.indexIn
     Ranges.joined Ranges.ranges Ranges.classOf Ranges.rangesOf Ranges.ofClass Ranges.hadList Ranges.missingList Ranges.total
     Ranges.among Ranges.apart Ranges.inRow
     Memory.fits Memory.filled Memory.after Memory.textWritten

@@ -37,7 +37,7 @@ pub record Example : Type 0 where
   pub paper : List ℤ
 
 -- a refusal as its number
-abbrev says : Answer (List ℤ) → List ℤ
+abbrev pub says : Answer (List ℤ) → List ℤ
 says (refused n) = pos n ∷ []
 says (given ns) = ns
 

@@ -22,5 +22,6 @@ pub mod Carried
 pub mod Answers
 pub mod Lesson
 pub mod Examples
+pub mod IndexExamples
 pub mod Demands
 pub mod Raised
