@@ -4,6 +4,8 @@ pub mod AgreementReadLaws
 pub mod HeadingAppendLaws
 pub mod IndexGivenLaws
 pub mod IndexKeptLaws
+pub mod IndexServedLaws
+pub mod IndexShapeLaws
 pub mod IndexedLaws
 pub mod KeptLaws
 pub mod LieLaws

@@ -6,6 +6,7 @@ pub mod Mixed
 pub mod Entries
 pub mod Meaning
 pub mod Index
+pub mod IndexShape
 pub mod Reading
 pub mod Ranges
 pub mod Naming
