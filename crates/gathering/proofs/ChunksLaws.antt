@@ -1,8 +1,10 @@
 -- Laws of the chunks of a `ploc`, read one after another: what the next entry decides, and that nothing may be left
 -- over.
 use Prim.Native.Nat.{ℕ, zero, suc, _+_, _-_, _*_, _<_, _≤_}
+use mathlib.Core.Bool.{Bool}
 use mathlib.Core.List.{List, [], _∷_, _++_, append-nil, append-assoc, map}
 use mathlib.Core.Path.{_≡_, refl, sym, ap, _∙_}
+use native.Mathlib.Nat.{mul-add}
 use native.Mathlib.Omega.{arith}
 use borrow.Author.Tests.{eq-eqb, ne-eqb}
 use lib.ListN.{length, length-append}
@@ -14,7 +16,6 @@ use Rattle.partial.specs.Heading.{Heading}
 use Rattle.partial.specs.Limits.{sourceLimit}
 use Rattle.partial.specs.Segments.{Chunk}
 use Rattle.partial.specs.Sequences.{sum}
-use Rattle.partial.specs.Tables.{chunkRowLength, chunkRow, chunkRowsOf}
 use Rattle.partial.proofs.Reading.ReadingLaws.{step-told}
 use Rattle.fields.specs.Location.{plocOf}
 use Rattle.fields.specs.declared.location.Location.{Location}
@@ -23,11 +24,12 @@ use Rattle.segment.specs.Data.{Searched}
 use Rattle.segment.specs.declared.chunk.Chunk.{Chunk as CodeChunk}
 use Rattle.segment.specs.declared.chunk.Cursor.{Cursor}
 use Rattle.filling.specs.Rows.{Put}
-use Rattle.filling.proofs.RowLaws.{put-none, put-more}
+use Rattle.filling.proofs.RowLaws.{put-none, put-more, put-same}
+use Rattle.gathering.specs.Forms.{formLength, putOf, putsOf}
 use Rattle.gathering.specs.Chunks.{chunksBy, Ran, Chunked}
 use Rattle.gathering.specs.declared.chunks.ChunksRead.the-variants.{Given}
 use Rattle.gathering.specs.declared.gathered.Gathered.{Gathered}
-use Rattle.partial.proofs.Reading.RowLaws.{chunk-rows-long, chunk-rows-last}
+use Rattle.gathering.proofs.FormLaws.{puts-none, puts-long, puts-last}
 
 module _ (limit : ℕ) (f : List ℕ) (h : Heading) (pseg : ℕ) (l : Ploc) (c : At) where
   chunks-refused : (more : ℕ) {n : ℕ} → chunkStep limit f h pseg l c ≡ refused n → chunksFrom limit f h pseg l (suc more) c ≡ refused n
@@ -53,29 +55,29 @@ sizes-last [] c = omega arith
 sizes-last (x ∷ cs) c = omega (arith, sizes-last cs c)
 
 -- the chunks of so many entries were read, and the entries that are left decide
-pub record Midway (f : List ℕ) (h : Heading) (pseg : ℕ) (l : Location) (first : Cursor) (before : Gathered) (t₀ : List ℕ) (i : ℕ) (c : Cursor) (t : List ℕ) : Type 0 where
+pub record Midway (f : List ℕ) (h : Heading) (pseg : ℕ) (l : Location) (first : Cursor) (before : Gathered) (numbered : Bool) (t₀ : List ℕ) (i : ℕ) (c : Cursor) (t : List ℕ) : Type 0 where
   pub done : List Chunk
   pub many : length done ≡ i
-  pub ran : Ran f (h .boxes) first before t₀ done c t
+  pub ran : Ran f (h .boxes) first before numbered t₀ done c t
   pub rest : chunksBy f h pseg l first ≡ (chunksFrom sourceLimit f h pseg (plocOf l) (l .count - i) (cursorOf c) >>= λ cs. given (done ++ cs))
 
-module _ (f : List ℕ) (h : Heading) (pseg : ℕ) (l : Location) (first : Cursor) (before : Gathered) (t₀ : List ℕ) where
+module _ (f : List ℕ) (h : Heading) (pseg : ℕ) (l : Location) (first : Cursor) (before : Gathered) (numbered : Bool) (t₀ : List ℕ) where
   -- the chunks of so many entries from a cursor on
   abbrev from : ℕ → Cursor → Answer (List Chunk)
   from more c = chunksFrom sourceLimit f h pseg (plocOf l) more (cursorOf c)
 
-  pub midway-none : Searched f (boxOf (first .last)) (h .boxes) → Midway f h pseg l first before t₀ 0 first t₀
-  unfolding sum chunkRowsOf
+  pub midway-none : Searched f (boxOf (first .last)) (h .boxes) → Midway f h pseg l first before numbered t₀ 0 first t₀
+  unfolding sum
   midway-none known =
       let all : l .count ≡ l .count - 0 = omega arith in
       record {
         done = [];
         many = refl;
-        ran = record { ends = omega arith; known = known; rows = put-none t₀ _ };
+        ran = record { ends = omega arith; known = known; rows = put-same refl (sym (puts-none numbered (before .segments))) (put-none t₀ _) };
         rest = sym (then-given (from (l .count) first)) ∙ ap (λ (n : ℕ). from n first >>= given) all;
       }
 
-  module _ {i : ℕ} {c : Cursor} {t : List ℕ} (m : Midway f h pseg l first before t₀ i c t) where
+  module _ {i : ℕ} {c : Cursor} {t : List ℕ} (m : Midway f h pseg l first before numbered t₀ i c t) where
     module _ (short : i < l .count) where
       left-one : l .count - i ≡ suc (l .count - (i + 1))
       left-one = omega arith
@@ -88,7 +90,7 @@ module _ (f : List ℕ) (h : Heading) (pseg : ℕ) (l : Location) (first : Curso
       module _ {chunk : CodeChunk} (next : Cursor) {t′ : List ℕ}
           (step : chunkStep sourceLimit f h pseg (plocOf l) (cursorOf c) ≡ given (chunkOf chunk, cursorOf next))
           (known : Searched f (boxOf (next .last)) (h .boxes))
-          (row : Put t (chunkRowLength * (before .chunks + i)) (chunkRow (before .segments) i (chunkOf chunk)) t′) where
+          (row : Put t (formLength numbered * (before .chunks + i)) (putOf numbered (before .segments) i (chunkOf chunk)) t′) where
         further : chunksBy f h pseg l first ≡ (from (l .count - (i + 1)) next >>= λ cs. given ((m .done ++ (chunkOf chunk ∷ [])) ++ cs))
         further =
             let now = ap (λ (n : ℕ). from n c) left-one ∙ chunks-more sourceLimit f h pseg (plocOf l) (cursorOf c) (l .count - (i + 1)) step in
@@ -98,15 +100,14 @@ module _ (f : List ℕ) (h : Heading) (pseg : ℕ) (l : Location) (first : Curso
             ∙ then-then later (λ cs. given (chunkOf chunk ∷ cs)) (λ cs. given (m .done ++ cs))
             ∙ (λ j. later >>= λ cs. given (sym (append-assoc (m .done) (chunkOf chunk ∷ []) cs) j))
 
-        behind : Put t₀ (chunkRowLength * before .chunks) (chunkRowsOf (before .segments) 0 (m .done ++ (chunkOf chunk ∷ []))) t′
+        behind : Put t₀ (formLength numbered * before .chunks) (putsOf numbered (before .segments) (m .done ++ (chunkOf chunk ∷ []))) t′
         behind =
-            let rows = chunkRowsOf (before .segments) 0 (m .done) in
-            let long : chunkRowLength * (before .chunks + i) ≡ chunkRowLength * before .chunks + length rows = omega (arith, chunk-rows-long (before .segments) 0 (m .done), m .many) in
-            let index : 0 + length (m .done) ≡ i = omega (arith, m .many) in
-            let last = chunk-rows-last (before .segments) 0 (m .done) (chunkOf chunk) ∙ ap (λ (n : ℕ). rows ++ chunkRow (before .segments) n (chunkOf chunk)) index in
-            rw last (put-more (chunkRowLength * before .chunks) rows _ (m .ran .rows) (rw long at row))
+            let rows = putsOf numbered (before .segments) (m .done) in
+            let long : formLength numbered * (before .chunks + i) ≡ formLength numbered * before .chunks + length rows = mul-add (formLength numbered) (before .chunks) i ∙ ap (λ (n : ℕ). formLength numbered * before .chunks + n) (sym (puts-long numbered (before .segments) (m .done) ∙ ap (λ (n : ℕ). formLength numbered * n) (m .many))) in
+            let last = puts-last numbered (before .segments) (m .done) (chunkOf chunk) ∙ ap (λ (n : ℕ). rows ++ putOf numbered (before .segments) n (chunkOf chunk)) (m .many) in
+            rw last (put-more (formLength numbered * before .chunks) rows _ (m .ran .rows) (rw long at row))
 
-        pub midway-more : Midway f h pseg l first before t₀ (i + 1) next t′
+        pub midway-more : Midway f h pseg l first before numbered t₀ (i + 1) next t′
         midway-more =
             let (_, on, _) = step-told sourceLimit f h pseg (plocOf l) (cursorOf c) step in
             record {
@@ -130,7 +131,7 @@ module _ (f : List ℕ) (h : Heading) (pseg : ℕ) (l : Location) (first : Curso
           let now = ap (λ (n : ℕ). from n c) none-left ∙ chunks-left sourceLimit f h pseg (plocOf l) (cursorOf c) apart in
           m .rest ∙ ap (λ (x : Answer (List Chunk)). x >>= λ cs. given (m .done ++ cs)) now
 
-      pub midway-end : i ≤ l .count → c .at .0 ≡ l .end .0 → Chunked f h pseg l first before t₀ t (Given c)
+      pub midway-end : i ≤ l .count → c .at .0 ≡ l .end .0 → Chunked f h pseg l first before numbered t₀ t (Given c)
       unfolding Chunked
       midway-end most same =
           let now = ap (λ (n : ℕ). from n c) none-left ∙ chunks-end sourceLimit f h pseg (plocOf l) (cursorOf c) same in

@@ -1,7 +1,11 @@
 pub mod PartsLaws
 pub mod RowLaws
+pub mod NumberLaws
+pub mod FormLaws
 pub mod GatheredLaws
 pub mod ChunksLaws
 pub mod StepLaws
 pub mod PassLaws
+pub mod KeptLaws
+pub mod KeptPutLaws
 pub mod Determined

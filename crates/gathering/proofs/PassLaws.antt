@@ -1,9 +1,10 @@
 -- Laws of the pass over a file's segments: those that were read, and the boxes that are left, which decide.
 use Prim.Native.Nat.{ℕ, _+_, _*_}
-use mathlib.Core.Bool.{true, false, false≢true}
+use mathlib.Core.Bool.{Bool, true, false, false≢true}
 use mathlib.Core.List.{List, [], _∷_, _++_}
 use mathlib.Core.Option.{none, some}
 use mathlib.Core.Path.{_≡_, refl, sym, ap, subst, _∙_}
+use native.Mathlib.Nat.{zero-add}
 use native.Mathlib.Omega.{arith}
 use lib.Dec.{eqb}
 use lib.ListN.{length}
@@ -22,10 +23,11 @@ use Rattle.partial.specs.Heading.{Heading}
 use Rattle.partial.specs.Limits.{sourceLimit}
 use Rattle.partial.specs.Reading.{segment, segmentsFrom}
 use Rattle.partial.specs.Segments.{Segment, chunksOf}
-use Rattle.partial.specs.Tables.{segmentRowLength, chunkRowLength, segmentRow, segmentRows, chunkRows, chunkRowsFrom, chunkRowsOf}
+use Rattle.partial.specs.Tables.{segmentRowLength, segmentRow, segmentRows}
 use Rattle.segment.specs.Data.{Searched}
 use Rattle.filling.specs.Rows.{Put}
 use Rattle.filling.proofs.RowLaws.{put-none, put-more, put-same}
+use Rattle.gathering.specs.Forms.{formLength, putsOf, allPuts}
 use Rattle.gathering.specs.Gathered.{gatheredOf}
 use Rattle.gathering.specs.Pass.{segmentsBy, Gathers}
 use Rattle.gathering.specs.Step.{Segmented}
@@ -33,7 +35,8 @@ use Rattle.gathering.specs.declared.gathered.Gathered.{Gathered}
 use Rattle.gathering.specs.declared.pass.Passed.{Passed}
 use Rattle.gathering.specs.declared.pass.Passed.the-variants.{Refused, Given}
 use Rattle.gathering.specs.declared.step.SegmentRead.the-variants as SegmentRead
-use Rattle.partial.proofs.Reading.RowLaws.{segment-rows-long, segment-rows-last, all-rows-long, all-rows-last}
+use Rattle.partial.proofs.Reading.RowLaws.{segment-rows-long, segment-rows-last}
+use Rattle.gathering.proofs.FormLaws.{all-puts-none, all-puts-long, all-puts-last}
 
 -- a box of no kind may be looked at first
 pub searched-none : {f : List ℕ} {bs : List Box} (b : Framed) → b .kind ≡ 0 → boxesIn File f 0 (length f) ≡ given bs → Searched f (boxOf b) bs
@@ -52,16 +55,14 @@ module _ (ss : List Segment) (s : Segment) where
       let here : segmentRowLength * length ss ≡ 0 + length (segmentRows ss) = omega (arith, segment-rows-long ss) in
       put-same refl (sym (segment-rows-last ss s)) (put-more 0 (segmentRows ss) (segmentRow s) p (put-same here refl q))
 
-  pub chunks-put : {t₀ t t′ : List ℕ} → Put t₀ 0 (chunkRows ss) t → Put t (chunkRowLength * length (chunksOf ss)) (chunkRowsOf (length ss) 0 (s .chunks)) t′
-      → Put t₀ 0 (chunkRows (ss ++ (s ∷ []))) t′
-  unfolding chunkRows
-  chunks-put p q =
-      let here : chunkRowLength * length (chunksOf ss) ≡ 0 + length (chunkRowsFrom 0 ss) = omega (arith, all-rows-long 0 ss) in
-      let number : length ss ≡ 0 + length ss = omega arith in
-      put-same refl (sym (all-rows-last 0 ss s)) (put-more 0 (chunkRowsFrom 0 ss) _ p (put-same here (ap (λ (n : ℕ). chunkRowsOf n 0 (s .chunks)) number) q))
+  pub chunks-put : (numbered : Bool) {t₀ t t′ : List ℕ} → Put t₀ 0 (allPuts numbered ss) t → Put t (formLength numbered * length (chunksOf ss)) (putsOf numbered (length ss) (s .chunks)) t′
+      → Put t₀ 0 (allPuts numbered (ss ++ (s ∷ []))) t′
+  chunks-put numbered p q =
+      let here : formLength numbered * length (chunksOf ss) ≡ 0 + length (allPuts numbered ss) = sym (all-puts-long numbered ss) ∙ sym (zero-add _) in
+      put-same refl (sym (all-puts-last numbered ss s)) (put-more 0 (allPuts numbered ss) _ p (put-same here refl q))
 
 -- the segments before were read, and the boxes that are left decide
-pub record Midway (f : List ℕ) (h : Heading) (t₀ u₀ t u : List ℕ) (w : Walk) (g : Gathered) (last : Framed) : Type 0 where
+pub record Midway (f : List ℕ) (h : Heading) (numbered : Bool) (t₀ u₀ t u : List ℕ) (w : Walk) (g : Gathered) (last : Framed) : Type 0 where
   pub before : List Segment
   pub rest : List Box
   pub left : ahead f w ≡ given rest
@@ -69,18 +70,18 @@ pub record Midway (f : List ℕ) (h : Heading) (t₀ u₀ t u : List ℕ) (w : W
   pub gathered : g ≡ gatheredOf before
   pub known : Searched f (boxOf last) (h .boxes)
   pub segments : Put t₀ 0 (segmentRows before) t
-  pub chunks : Put u₀ 0 (chunkRows before) u
+  pub chunks : Put u₀ 0 (allPuts numbered before) u
 
-module _ (f : List ℕ) (h : Heading) (t₀ u₀ : List ℕ) where
+module _ (f : List ℕ) (h : Heading) (numbered : Bool) (t₀ u₀ : List ℕ) where
   pub midway-none : {w : Walk} {g : Gathered} {last : Framed} → ahead f w ≡ given (h .boxes) → g ≡ gatheredOf [] → Searched f (boxOf last) (h .boxes)
-      → Midway f h t₀ u₀ t₀ u₀ w g last
-  unfolding segmentRows chunkRows chunkRowsFrom
+      → Midway f h numbered t₀ u₀ t₀ u₀ w g last
+  unfolding segmentRows
   midway-none all nothing known =
-      record { before = []; rest = h .boxes; left = all; decide = refl; gathered = nothing; known = known; segments = put-none t₀ 0; chunks = put-none u₀ 0 }
+      record { before = []; rest = h .boxes; left = all; decide = refl; gathered = nothing; known = known; segments = put-none t₀ 0; chunks = put-same refl (sym (all-puts-none numbered)) (put-none u₀ 0) }
 
-  module _ {t u : List ℕ} {w : Walk} {g : Gathered} {last : Framed} (m : Midway f h t₀ u₀ t u w g last) where
+  module _ {t u : List ℕ} {w : Walk} {g : Gathered} {last : Framed} (m : Midway f h numbered t₀ u₀ t u w g last) where
     module _ {b : Box} {w′ : Walk} (step : stepped f w ≡ given (some (b, w′))) where
-      pub midway-other : is pseg b ≡ false → Midway f h t₀ u₀ t u w′ g last
+      pub midway-other : is pseg b ≡ false → Midway f h numbered t₀ u₀ t u w′ g last
       midway-other other =
           let (more, after, split) = known-next f w (m .left) step in
           record {
@@ -104,7 +105,7 @@ module _ (f : List ℕ) (h : Heading) (t₀ u₀ : List ℕ) where
         unfolding segmentsFrom
         midway-refused fault = next .2 ∙ rw fault
 
-        pub midway-more : {t′ u′ : List ℕ} {g′ : Gathered} {last′ : Framed} → Segmented f h (m .before) b t t′ u u′ (SegmentRead.Given g′ last′) → Midway f h t₀ u₀ t′ u′ w′ g′ last′
+        pub midway-more : {t′ u′ : List ℕ} {g′ : Gathered} {last′ : Framed} → Segmented f h (m .before) b numbered t t′ u u′ (SegmentRead.Given g′ last′) → Midway f h numbered t₀ u₀ t′ u′ w′ g′ last′
         unfolding Segmented segmentsFrom
         midway-more told =
             let (s, read, gathered, known, segment-row, chunk-rows) = told in
@@ -117,10 +118,10 @@ module _ (f : List ℕ) (h : Heading) (t₀ u₀ : List ℕ) where
               gathered = gathered;
               known = known;
               segments = segments-put (m .before) s (m .segments) segment-row;
-              chunks = chunks-put (m .before) s (m .chunks) chunk-rows;
+              chunks = chunks-put (m .before) s numbered (m .chunks) chunk-rows;
             }
 
-    pub midway-end : stepped f w ≡ given none → Gathers f h t₀ t u₀ u (Given g)
+    pub midway-end : stepped f w ≡ given none → Gathers f h numbered t₀ t u₀ u (Given g)
     unfolding Gathers segmentsFrom
     midway-end step =
         let over = ap (λ (bs : List Box). segmentsFrom sourceLimit f h (m .before) bs) (ap (those pseg) (known-end f w (m .left) step) ∙ those-nil pseg) in
@@ -130,10 +131,10 @@ module _ (f : List ℕ) (h : Heading) (t₀ u₀ : List ℕ) where
     midway-sound step = known-sound f w (m .left) step
 
 -- the pass over a file whose segments are known puts their rows
-pub rows-put : (f : List ℕ) (h : Heading) {t₀ t u₀ u : List ℕ} (r : Passed) {ss : List Segment} → Gathers f h t₀ t u₀ u r → segmentsBy f h ≡ given ss
-    → Put t₀ 0 (segmentRows ss) t × Put u₀ 0 (chunkRows ss) u
+pub rows-put : (f : List ℕ) (h : Heading) (numbered : Bool) {t₀ t u₀ u : List ℕ} (r : Passed) {ss : List Segment} → Gathers f h numbered t₀ t u₀ u r → segmentsBy f h ≡ given ss
+    → Put t₀ 0 (segmentRows ss) t × Put u₀ 0 (allPuts numbered ss) u
 unfolding Gathers
-rows-put f h (Refused n) fault read = absurd (not-both (sym fault ∙ read))
-rows-put f h {t₀ = t₀} {t = t} {u₀ = u₀} {u = u} (Given g) (ss, read′, _, one, two) read =
+rows-put f h numbered (Refused n) fault read = absurd (not-both (sym fault ∙ read))
+rows-put f h numbered {t₀ = t₀} {t = t} {u₀ = u₀} {u = u} (Given g) (ss, read′, _, one, two) read =
     let same = given-same (sym read′ ∙ read) in
-    (subst (λ (ss : List Segment). Put t₀ 0 (segmentRows ss) t) same one, subst (λ (ss : List Segment). Put u₀ 0 (chunkRows ss) u) same two)
+    (subst (λ (ss : List Segment). Put t₀ 0 (segmentRows ss) t) same one, subst (λ (ss : List Segment). Put u₀ 0 (allPuts numbered ss) u) same two)

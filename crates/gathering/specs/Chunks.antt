@@ -1,6 +1,7 @@
 -- Document 01, "Chunks follow each other in the source from `source_byte_offset`": what is told of the chunks of a
 -- `ploc`.
 use Prim.Native.Nat.{ℕ, _+_, _*_}
+use mathlib.Core.Bool.{Bool}
 use mathlib.Core.List.{List, map}
 use mathlib.Core.Path.{_≡_}
 use lib.ListN.{length}
@@ -11,13 +12,13 @@ use Rattle.partial.specs.Heading.{Heading}
 use Rattle.partial.specs.Limits.{sourceLimit}
 use Rattle.partial.specs.Segments.{Chunk}
 use Rattle.partial.specs.Sequences.{sum}
-use Rattle.partial.specs.Tables.{chunkRowLength, chunkRowsOf}
 use Rattle.fields.specs.Location.{plocOf}
 use Rattle.fields.specs.declared.location.Location.{Location}
 use Rattle.segment.specs.Chunk.{cursorOf}
 use Rattle.segment.specs.Data.{Searched}
 use Rattle.segment.specs.declared.chunk.Cursor.{Cursor}
 use Rattle.filling.specs.Rows.{Put}
+use Rattle.gathering.specs.Forms.{formLength, putsOf}
 use Rattle.gathering.specs.declared.chunks.ChunksRead.{ChunksRead}
 use Rattle.gathering.specs.declared.chunks.ChunksRead.the-variants.{Refused, Given}
 use Rattle.gathering.specs.declared.gathered.Gathered.{Gathered}
@@ -27,14 +28,14 @@ abbrev pub chunksBy : List ℕ → Heading → ℕ → Location → Cursor → A
 chunksBy f h pseg l c = chunksFrom sourceLimit f h pseg (plocOf l) (l .count) (cursorOf c)
 
 -- chunks were read from a cursor on: where they end in the source, the box to be looked at first after them, and their
--- rows, put behind those of the segments before
-pub record Ran (f : List ℕ) (bs : List Box) (first : Cursor) (before : Gathered) (t₀ : List ℕ) (cs : List Chunk) (c : Cursor) (t : List ℕ) : Type 0 where
+-- numbers or rows, put behind those of the segments before
+pub record Ran (f : List ℕ) (bs : List Box) (first : Cursor) (before : Gathered) (numbered : Bool) (t₀ : List ℕ) (cs : List Chunk) (c : Cursor) (t : List ℕ) : Type 0 where
   pub ends : c .start .0 ≡ first .start .0 + sum (map (λ c. c .size) cs)
   pub known : Searched f (boxOf (c .last)) bs
-  pub rows : Put t₀ (chunkRowLength * before .chunks) (chunkRowsOf (before .segments) 0 cs) t
+  pub rows : Put t₀ (formLength numbered * before .chunks) (putsOf numbered (before .segments) cs) t
 
 -- what an answer about them says: their refusal, or that they were read
-unfoldable pub Chunked : List ℕ → Heading → ℕ → Location → Cursor → Gathered → List ℕ → List ℕ → ChunksRead → Type 0
-Chunked f h pseg l first before t₀ t (Refused n) = chunksBy f h pseg l first ≡ refused n
-Chunked f h pseg l first before t₀ t (Given c) =
-    (cs : List Chunk) × (chunksBy f h pseg l first ≡ given cs) × (length cs ≡ l .count) × Ran f (h .boxes) first before t₀ cs c t
+unfoldable pub Chunked : List ℕ → Heading → ℕ → Location → Cursor → Gathered → Bool → List ℕ → List ℕ → ChunksRead → Type 0
+Chunked f h pseg l first before numbered t₀ t (Refused n) = chunksBy f h pseg l first ≡ refused n
+Chunked f h pseg l first before numbered t₀ t (Given c) =
+    (cs : List Chunk) × (chunksBy f h pseg l first ≡ given cs) × (length cs ≡ l .count) × Ran f (h .boxes) first before numbered t₀ cs c t

@@ -1,5 +1,8 @@
 pub mod Parts
 pub mod Rows
+pub mod Numbers
+pub mod Forms
+pub mod Kept
 pub mod Gathered
 pub mod Chunks
 pub mod Step

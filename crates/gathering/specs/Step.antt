@@ -1,6 +1,7 @@
 -- Document 01, "In one `pseg`: framing, 14, 15, 16, then 17 (head), 18, 19, 22, 23 (offset), entries": what is told of
 -- one segment.
 use Prim.Native.Nat.{ℕ, _+_, _*_, _≤_}
+use mathlib.Core.Bool.{Bool}
 use mathlib.Core.List.{List, [], _∷_, _++_}
 use mathlib.Core.Path.{_≡_}
 use lib.ListN.{length}
@@ -10,9 +11,10 @@ use Rattle.partial.specs.Heading.{Heading}
 use Rattle.partial.specs.Limits.{chunkLimit, sourceLimit}
 use Rattle.partial.specs.Reading.{segment}
 use Rattle.partial.specs.Segments.{Segment, chunksOf}
-use Rattle.partial.specs.Tables.{segmentRowLength, chunkRowLength, segmentRow, chunkRowsOf}
+use Rattle.partial.specs.Tables.{segmentRowLength, segmentRow}
 use Rattle.segment.specs.Data.{Searched}
 use Rattle.filling.specs.Rows.{Put}
+use Rattle.gathering.specs.Forms.{formLength, putsOf}
 use Rattle.gathering.specs.Gathered.{gatheredOf}
 use Rattle.gathering.specs.declared.gathered.Gathered.{Gathered}
 use Rattle.gathering.specs.declared.step.SegmentRead.{SegmentRead}
@@ -23,14 +25,14 @@ unfoldable pub Counted : Gathered → SegmentRead → Type 0
 Counted before (Refused n) = Unit {0}
 Counted before (Given g last) = (g .segments ≡ before .segments + 1) × (g .chunks ≤ chunkLimit)
 
--- what an answer about a segment says: its refusal, or that it was read, with its rows behind those of the segments
--- before it
-unfoldable pub Segmented : List ℕ → Heading → List Segment → Box → List ℕ → List ℕ → List ℕ → List ℕ → SegmentRead → Type 0
-Segmented f h ss b t₀ t u₀ u (Refused n) = segment sourceLimit f h ss b ≡ refused n
-Segmented f h ss b t₀ t u₀ u (Given g last) =
+-- what an answer about a segment says: its refusal, or that it was read, with its row and its chunks behind
+-- those of the segments before it
+unfoldable pub Segmented : List ℕ → Heading → List Segment → Box → Bool → List ℕ → List ℕ → List ℕ → List ℕ → SegmentRead → Type 0
+Segmented f h ss b numbered t₀ t u₀ u (Refused n) = segment sourceLimit f h ss b ≡ refused n
+Segmented f h ss b numbered t₀ t u₀ u (Given g last) =
     (s : Segment)
     × (segment sourceLimit f h ss b ≡ given s)
     × (g ≡ gatheredOf (ss ++ (s ∷ [])))
     × Searched f (boxOf last) (h .boxes)
     × Put t₀ (segmentRowLength * length ss) (segmentRow s) t
-    × Put u₀ (chunkRowLength * length (chunksOf ss)) (chunkRowsOf (length ss) 0 (s .chunks)) u
+    × Put u₀ (formLength numbered * length (chunksOf ss)) (putsOf numbered (length ss) (s .chunks)) u

@@ -1,4 +1,4 @@
-// The chunks of a `ploc`: each is judged, and its row is put into the table.
+// The chunks of a `ploc`: each is judged, and its number or its row is put into the table.
 use crate::gathered::Gathered;
 use crate::rows::put_chunk;
 use fields::location::Location;
@@ -32,12 +32,13 @@ pub(crate) fn chunks_of(
     l: Location,
     first: Cursor,
     before: Gathered,
+    numbered: bool,
     table: &mut [u64],
 ) -> ChunksRead
     requires { ⌜ before .chunks + l .count ≤ chunkLimit ⌝ }
     ensures { λ r. ⌜ ((h : Heading) → mixed ≡ h .mixed → Searched (now (file .entry)) (boxOf (first .last)) (h .boxes)
         → Tops (h .boxes) (now (tops .entry))
-        → Chunked (now (file .entry)) h (pseg .0) l first before (now (table .entry)) (now (table .exit)) r) ⌝ }
+        → Chunked (now (file .entry)) h (pseg .0) l first before numbered (now (table .entry)) (now (table .exit)) r) ⌝ }
 {
     let end = l.end;
     let mut cursor = first;
@@ -46,7 +47,14 @@ pub(crate) fn chunks_of(
         match cursor.step(file, tops, mixed, pseg, l) {
             ChunkStep::Refused(n) => return ChunksRead::Refused(n),
             ChunkStep::Given(chunk, next) => {
-                put_chunk(table, before.chunks + i, before.segments, i, chunk);
+                put_chunk(
+                    table,
+                    numbered,
+                    before.chunks + i,
+                    before.segments,
+                    i,
+                    chunk,
+                );
                 cursor = next;
                 i += 1;
             }

@@ -2,6 +2,8 @@
 // and what all of them say is gathered.
 mod chunks;
 pub mod gathered;
+pub mod kept;
+pub mod numbers;
 mod parts;
 pub mod pass;
 pub mod rows;

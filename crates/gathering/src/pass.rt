@@ -25,12 +25,18 @@ pub enum Passed {
     Given(Gathered),
 }
 
-// Judges the segments of a file, which is mixed or not, in their order, and puts the rows into the tables that have
-// room for them all.
-pub fn pass(file: &[u8], mixed: bool, segments: &mut [u64], chunks: &mut [u64]) -> Passed
+// Judges the segments of a file, which is mixed or not, in their order, and puts their rows and the numbers or the
+// rows of their chunks into the tables that have room for them all.
+pub fn pass(
+    file: &[u8],
+    mixed: bool,
+    numbered: bool,
+    segments: &mut [u64],
+    chunks: &mut [u64],
+) -> Passed
     ensures { λ r. ⌜ ((h : Heading)
         → boxesIn File (now (file .entry)) 0 (length (now (file .entry))) ≡ given (h .boxes) → mixed ≡ h .mixed
-        → Gathers (now (file .entry)) h (now (segments .entry)) (now (segments .exit)) (now (chunks .entry)) (now (chunks .exit)) r) ⌝ }
+        → Gathers (now (file .entry)) h numbered (now (segments .entry)) (now (segments .exit)) (now (chunks .entry)) (now (chunks .exit)) r) ⌝ }
 {
     let mut tops = [NO_TOP; TOPS];
     tops_of(file, &mut tops);
@@ -43,7 +49,17 @@ pub fn pass(file: &[u8], mixed: bool, segments: &mut [u64], chunks: &mut [u64]) 
             Step::Next(b, next) => {
                 walk = next;
                 if b.kind == PSEG.code {
-                    match segment_of(file, &tops, mixed, b, gathered, last, segments, chunks) {
+                    match segment_of(
+                        file,
+                        &tops,
+                        mixed,
+                        b,
+                        gathered,
+                        last,
+                        numbered,
+                        segments,
+                        chunks,
+                    ) {
                         SegmentRead::Refused(n) => return Passed::Refused(n),
                         SegmentRead::Given(more, held) => {
                             gathered = more;

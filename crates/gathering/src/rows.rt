@@ -1,4 +1,5 @@
-// The rows of segments and of chunks, put into a lent table.
+// Segments and chunks, put into a table: the row of a segment, the number or the row of a chunk.
+use crate::numbers::number_of;
 use boxes::framing::Framed;
 use fields::fields::Fields;
 use filling::rows::put_row;
@@ -9,17 +10,30 @@ use segment::chunk::Chunk;
 ghost use Prim.Native.Nat.{_*_, _≤_};
 ghost use Rattle.boxes.specs.Framing.{boxLimit, boxOf};
 ghost use Rattle.partial.specs.Limits.{chunkLimit};
-ghost use Rattle.partial.specs.Tables.{segmentRowLength, chunkRowLength, chunkRow};
+ghost use Rattle.partial.specs.Tables.{segmentRowLength};
 ghost use Rattle.segment.specs.Chunk.{chunkOf};
 ghost use Rattle.filling.specs.Rows.{Put};
+ghost use Rattle.gathering.specs.Forms.{formLength, putOf};
 ghost use Rattle.gathering.specs.Rows.{rowBy};
 
-// Writes the row of a chunk behind so many others: the number of its segment, its index there, its start, size, state
-// and place.
-pub(crate) fn put_chunk(table: &mut [u64], before: u64, segment: u64, index: u64, c: Chunk)
+// Writes a chunk behind so many others, by its number or by its row: the number of its segment, its index there, its
+// start, size, state and place.
+pub(crate) fn put_chunk(
+    table: &mut [u64],
+    numbered: bool,
+    before: u64,
+    segment: u64,
+    index: u64,
+    c: Chunk,
+)
     requires { ⌜ before ≤ chunkLimit ⌝ }
-    ensures { λ _. ⌜ Put (now (table .entry)) (chunkRowLength * before) (chunkRow segment index (chunkOf c)) (now (table .exit)) ⌝ }
+    ensures { λ _. ⌜ Put (now (table .entry)) (formLength numbered * before) (putOf numbered segment index (chunkOf c)) (now (table .exit)) ⌝ }
 {
+    if numbered {
+        let number = [number_of(c)];
+        put_row(table, before as usize, &number);
+        return;
+    }
     let row = [segment, index, c.start.0, c.size, c.state, c.place.0];
     put_row(table, (CHUNK_ROW * before) as usize, &row);
 }

@@ -38,6 +38,7 @@ pub(crate) fn segment_of(
     b: Framed,
     before: Gathered,
     last: Framed,
+    numbered: bool,
     segments: &mut [u64],
     chunks: &mut [u64],
 ) -> SegmentRead
@@ -45,7 +46,7 @@ pub(crate) fn segment_of(
     ensures { λ r. ⌜ Counted before r × ((h : Heading) (ss : List Segment) → mixed ≡ h .mixed
         → Searched (now (file .entry)) (boxOf last) (h .boxes) → Tops (h .boxes) (now (tops .entry))
         → before ≡ gatheredOf ss
-        → Segmented (now (file .entry)) h ss (boxOf b) (now (segments .entry)) (now (segments .exit))
+        → Segmented (now (file .entry)) h ss (boxOf b) numbered (now (segments .entry)) (now (segments .exit))
         (now (chunks .entry)) (now (chunks .exit)) r) ⌝ }
 {
     let place = b.at;
@@ -65,7 +66,17 @@ pub(crate) fn segment_of(
                 return SegmentRead::Refused(SOURCE_TOO_LONG);
             }
             let first = Cursor { at, start, last };
-            match chunks_of(file, tops, mixed, place, location, first, before, chunks) {
+            match chunks_of(
+                file,
+                tops,
+                mixed,
+                place,
+                location,
+                first,
+                before,
+                numbered,
+                chunks,
+            ) {
                 ChunksRead::Refused(n) => SegmentRead::Refused(n),
                 ChunksRead::Given(cursor) => {
                     put_segment(segments, before.segments, place, fields, count, header);

@@ -1,16 +1,20 @@
 // Listing into the two lent lists, after reading into the two lent tables.
 use crate::lists::Totals;
 use crate::lists::put_lists;
-use gathering::pass::pass;
+use fields::state::GOOD;
+use filling::rows::put_row;
+use gathering::kept::fill_rows;
 use partial::answers::Listed;
 use partial::position::Position;
 use partial::refusals::TABLE_TOO_SHORT;
-use partial::rows::ALL_CHUNK_ROWS;
+use partial::rows::ALL_NUMBERS;
+use partial::rows::ALL_SEGMENT_ROWS;
 use partial::rows::CHUNK_ROW;
 use partial::rows::RANGE_ROW;
 use partial::rows::SEGMENT_ROW;
 use reading::judging::Judgement;
 use reading::judging::judge_into;
+use spans::chunks::ALL_SPANS;
 use spans::files::file_spans;
 ghost use mathlib.Core.List.{List};
 ghost use Rattle.partial.specs.Segments.{Segment};
@@ -40,15 +44,17 @@ pub fn list(
     ensures { λ r. ⌜ Listing (now (file .entry)) (now (segments .entry)) (now (segments .exit)) (now (chunks .entry))
         (now (chunks .exit)) (now (had .entry)) (now (had .exit)) (now (missing .entry)) (now (missing .exit)) r ⌝ }
 {
-    // The table is the call's own, so that it is filled while the file is judged, in one pass.
-    let mut spans = [0; ALL_CHUNK_ROWS];
-    match judge_into(file, &mut spans) {
+    // What is kept goes into tables of the call's own, so that the file is judged and kept in one pass.
+    let mut rows = [0; ALL_SEGMENT_ROWS];
+    let mut numbers = [0; ALL_NUMBERS];
+    match judge_into(file, &mut rows, &mut numbers) {
         Judgement::Refused(n) => Listed::Refused(n),
         Judgement::Given(judged) => {
             let gathered = judged.gathered;
             let sizes = gathered.sizes;
             let end = sizes.described();
-            let n = file_spans(&mut spans, gathered.chunks, end);
+            let mut spans = [0; ALL_SPANS];
+            let n = file_spans(GOOD, &rows, gathered.segments, &numbers, end, &mut spans);
             let totals = counted(&spans, n, end);
             if segments.len() as u64 / SEGMENT_ROW < gathered.segments {
                 return Listed::Refused(TABLE_TOO_SHORT);
@@ -62,7 +68,9 @@ pub fn list(
             if missing.len() as u64 / RANGE_ROW < totals.missing {
                 return Listed::Refused(TABLE_TOO_SHORT);
             }
-            pass(file, judged.head.mixed, segments, chunks);
+            let rows_end = (SEGMENT_ROW * gathered.segments) as usize;
+            put_row(segments, 0, &rows[..rows_end]);
+            fill_rows(&rows, gathered.segments, &numbers, chunks);
             put_lists(&spans, n, end, had, missing);
             Listed::Lists {
                 had: totals.had,

@@ -1,33 +1,36 @@
 -- Laws of what is told of a file by two tables of spans: the ranges and the text are the file's.
-use Prim.Native.Nat.{ℕ, _<_}
+use Prim.Native.Nat.{ℕ, _-_, _*_, _<_, _≤_}
 use mathlib.Core.Bool.{Bool, true, false, _&&_}
 use mathlib.Core.List.{List, [], _∷_, _++_, map}
 use mathlib.Core.Path.{_≡_, refl, sym, ap, subst, _∙_}
 use native.Mathlib.Omega.{arith}
-use lib.ListN.{length}
+use borrow.Rule.Slice.PartMut.{putMid, same-len-mid}
+use lib.ListN.{length, getD, take, drop, length-drop, List·getD-append}
+use lib.Seq.{length-take-le, getD-take, take-at, drop-at}
 use Rattle.ends.specs.Sizes.{sizesOf}
 use Rattle.ends.specs.declared.sizes.Sizes.{Sizes}
 use Rattle.numerals.proofs.StoredLaws.{stored-none}
+use Rattle.partial.specs.Limits.{sourceLimit}
 use Rattle.partial.specs.Map.{ascii, decimal, line, sourceLine, rangeLines, totalLine, mapOf, missmapOf, textFor, mapText, missmapText}
-use Rattle.partial.specs.Meaning.{coversAs, supplied, describedLength, isClosed}
+use Rattle.partial.specs.Meaning.{supplied, describedLength, isClosed}
 use Rattle.partial.specs.Naming.{held, lost, damagedAt, namedClass, namedRanges, heldList, lostList}
 use Rattle.partial.specs.Ranges.{Range as Stretch, missing, had, ranges, classOf, rangesOf, hadList, missingList, total}
-use Rattle.partial.specs.Segments.{Chunk, Segment, damaged}
-use Rattle.partial.specs.Sequences.{someOf}
+use Rattle.partial.specs.Segments.{Segment, good, damaged, chunksOf}
 use Rattle.partial.specs.declared.position.Position.{Position}
 use Rattle.partial.specs.declared.answers.Written.{Written}
 use Rattle.partial.specs.declared.answers.Written.the-variants.{Refused}
 use Rattle.partial.proofs.Meaning.NamingLaws.{as-had}
 use Rattle.spans.specs.Chunks.{SpansOf}
-use Rattle.spans.specs.Files.{Known, Spanned}
+use Rattle.spans.specs.Files.{Spanned}
 use Rattle.sweeping.specs.Naming.{nameBy}
-use Rattle.spans.specs.Spans.{coveredBy, classBy, Same}
+use Rattle.spans.specs.Spans.{coveredBy, classBy, Ordered}
 use Rattle.sweeping.proofs.RangeLaws.{ranges-same}
-use Rattle.spans.proofs.SpanLaws.{same-covered}
+use Rattle.spans.proofs.FileLaws.{spanned-by, spans-ordered}
+use Rattle.spans.proofs.SpanLaws.{front-same, front-ordered}
 use Rattle.texts.specs.Pieces.{PutsPiece}
 use Rattle.texts.specs.Writes.{Writes}
 use Rattle.texts.proofs.WritesLaws.{writes-short}
-use Rattle.mapping.specs.Outline.{textOf, classIn, wordOf, listsOf, Damage, rangesIn, Outlined}
+use Rattle.mapping.specs.Outline.{textOf, classIn, wordOf, listsOf, behind, Damage, Drawn, rangesIn, Outlined}
 use Rattle.mapping.specs.Totals.{Counts, toldOf}
 use Rattle.mapping.specs.declared.outline.Outline.{Outline}
 use Rattle.mapping.specs.declared.totals.Totals.{Totals}
@@ -39,14 +42,10 @@ pub none-damaged : (ss : List Segment) (t : List ℕ) (end : ℕ) {named : Bool}
 unfolding coveredBy
 none-damaged ss t end without = record { covers = λ q below. rw without }
 
--- the ordered spans of the damaged chunks of a file's rows
-pub damaged-by : {count end : ℕ} {ss : List Segment} {rows t t′ : List ℕ} {n : ℕ} → Known rows count end ss → SpansOf damaged rows count end t n → Same n t t′
-    → {named : Bool}
-    → named ≡ true
-    → Damage ss named t′ n end
+-- the spans of a file's damaged chunks
+pub damaged-by : {end : ℕ} {ss : List Segment} {t : List ℕ} {n : ℕ} → SpansOf damaged (chunksOf ss) end t n → {named : Bool} → named ≡ true → Damage ss named t n end
 unfolding damagedAt
-damaged-by k spans same by =
-    record { covers = λ q below. rw by (same-covered same q ∙ spans .covers q below ∙ ap (λ (cs : List Chunk). someOf (coversAs damaged q) cs) (k .rows)) }
+damaged-by spans by = record { covers = λ q below. rw by (spans .covers q below) }
 
 -- ---- a file's outline
 
@@ -77,6 +76,35 @@ outlined-by {ss} {t} {u} {n} {m} {named = named} spanned damage known =
       closed = known;
       class = λ q below. class-by named ss t n u m q (spanned .class q below) (damage .covers q below);
     }
+
+-- ---- two kinds of spans in one table
+
+-- where the spans of one kind stand in front, and the part behind them became that of the other
+module _ (t : List ℕ) (n : ℕ) (d : List ℕ) (room : 2 * n ≤ length t) (long : length d ≡ length (behind t n)) where
+  abbrev both : List ℕ
+  both = putMid (2 * n) (length t - 2 * n) t d
+
+  both-long : length both ≡ length t
+  both-long = same-len-mid (2 * n) (length t - 2 * n) t d long
+
+  both-front : (i : ℕ) → i < 2 * n → getD both i 0 ≡ getD t i 0
+  both-front i less = List·getD-append (take (2 * n) t) _ 0 i (omega (arith, length-take-le (2 * n) t room)) ∙ getD-take (2 * n) t i 0 less
+
+  both-behind : behind both n ≡ d
+  both-behind =
+      let size : length d ≡ length both - 2 * n = omega (arith, long, length-take-le (length t - 2 * n) (drop (2 * n) t) (omega (arith, length-drop (2 * n) t)), both-long) in
+      ap (take (length both - 2 * n)) (drop-at (take (2 * n) t) _ (2 * n) (length-take-le (2 * n) t room)) ∙ take-at d _ (length both - 2 * n) size
+
+  pub drawn-both : {m : ℕ} {end : Position} {closed named : Bool} → end .0 ≤ sourceLimit → Ordered t n (end .0) → Ordered d m (end .0)
+      → Drawn both (behind both n) (record { good = n; damaged = m; end = end; closed = closed; named = named })
+  drawn-both low good others = record { low = low; ofGood = front-ordered both-long both-front good; ofDamaged = rw both-behind others }
+
+  -- of a file
+  pub outlined-both : {ss : List Segment} {m : ℕ} {end : Position} {closed named : Bool} → end .0 ≡ describedLength ss → closed ≡ isClosed ss → SpansOf good (chunksOf ss) (end .0) t n
+      → Damage ss named d m (end .0)
+      → Outlined ss both (behind both n) (record { good = n; damaged = m; end = end; closed = closed; named = named })
+  outlined-both ends is-closed spans damage =
+      outlined-by (spanned-by ends (spans-ordered spans (front-same both-long both-front))) (rw both-behind damage) is-closed
 
 -- the ranges of a file, named or not
 abbrev rangesFor : Bool → List Segment → List Stretch

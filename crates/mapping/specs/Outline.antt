@@ -1,9 +1,10 @@
 -- The two maps of a file, by whether the missing positions are named, and what is told of a file by two tables of
 -- spans.
-use Prim.Native.Nat.{ℕ, _<_, _≤_}
+use Prim.Native.Nat.{ℕ, _-_, _*_, _<_, _≤_}
 use mathlib.Core.Bool.{Bool, true, false, _&&_}
 use mathlib.Core.List.{List, [], _∷_}
 use mathlib.Core.Path.{_≡_}
+use lib.ListN.{length, take, drop}
 use Rattle.partial.specs.Limits.{sourceLimit}
 use Rattle.partial.specs.Map.{mapWord, mapOf, missWord, missmapOf}
 use Rattle.partial.specs.Meaning.{describedLength, isClosed}
@@ -27,6 +28,10 @@ wordOf named = elim named [ true ↦ mapWord | false ↦ missWord ]
 
 unfoldable pub listsOf : Bool → List Segment → List (List Stretch)
 listsOf named ss = elim named [ true ↦ hadList ss ∷ heldList ss ∷ lostList ss ∷ [] | false ↦ hadList ss ∷ missingList ss ∷ [] ]
+
+-- the part of a table behind its first n spans
+abbrev pub behind : List ℕ → ℕ → List ℕ
+behind t n = take (length t - 2 * n) (drop (2 * n) t)
 
 -- below an end, spans cover what the damaged chunks of a file do; nothing where the missing positions are not named
 pub record Damage (ss : List Segment) (named : Bool) (t : List ℕ) (n end : ℕ) : Type 0 where

@@ -1,34 +1,30 @@
 // The maps of a file as text.
-use crate::damage::ALL_SPANS;
-use crate::damage::file_damage;
 use crate::lines::put_source;
 use crate::lines::put_total;
 use crate::outline::Outline;
+use crate::outline::outline_of;
 use crate::ranges::put_ranges;
 use crate::totals::Totals;
 use crate::totals::counted;
-use gathering::gathered::Gathered;
 use partial::answers::Written;
-use partial::position::Position;
 use partial::refusals::BUFFER_TOO_SHORT;
 use partial::refusals::INPUT_TOO_LONG;
-use partial::rows::ALL_CHUNK_ROWS;
+use partial::rows::ALL_NUMBERS;
+use partial::rows::ALL_SEGMENT_ROWS;
 use reading::judging::Judgement;
 use reading::judging::judge_into;
-use spans::files::file_spans;
+use spans::chunks::ALL_SPANS;
 use texts::lines::put_refused;
 ghost use Prim.Native.Nat.{_+_, _*_, _≤_};
 ghost use mathlib.Core.Bool.{true};
 ghost use mathlib.Core.List.{List};
 ghost use mathlib.Core.Path.{_≡_};
 ghost use Rattle.filling.specs.Rows.{Puts};
-ghost use Rattle.partial.specs.Limits.{chunkLimit, sourceLimit};
+ghost use Rattle.partial.specs.Limits.{sourceLimit};
 ghost use Rattle.partial.specs.Map.{textFor, mapText, missmapText, refusedLine};
-ghost use Rattle.partial.specs.Meaning.{isClosed};
 ghost use Rattle.partial.specs.Segments.{Segment};
-ghost use Rattle.spans.specs.Files.{Known};
 ghost use Rattle.texts.specs.Writes.{Writes};
-ghost use Rattle.mapping.specs.Outline.{textOf, Drawn, Outlined, rangesIn};
+ghost use Rattle.mapping.specs.Outline.{textOf, behind, Drawn, Outlined, rangesIn};
 ghost use Rattle.mapping.specs.Totals.{Counts};
 
 // The bytes of the line of a range are no more than this; those of the first line and the last together are no more
@@ -55,49 +51,23 @@ fn put_outline(buffer: &mut [u8], good: &[u64], damaged: &[u64], o: Outline, tot
     put_total(buffer, last, totals, o.named)
 }
 
-// Writes the map of a file by the same. Where it may not fit, it is first put where there is no room for it, to learn
-// how long it is, since a buffer that is too short is left as it was.
-fn write_outline(buffer: &mut [u8], good: &[u64], damaged: &[u64], o: Outline) -> Written
-    requires { ⌜ Drawn (now good) (now damaged) o ⌝ }
-    ensures { λ r. ⌜ ((ss : List Segment) → Outlined ss (now (good .entry)) (now (damaged .entry)) o → Writes (textOf (o .named) ss) (now (buffer .entry)) (now (buffer .exit)) r) ⌝ }
+// Writes the map of a file by the spans in one table. Where it may not fit, it is first put where there is no room for
+// it, to learn how long it is, since a buffer that is too short is left as it was.
+fn write_outline(buffer: &mut [u8], spans: &[u64], o: Outline) -> Written
+    requires { ⌜ Drawn (now spans) (behind (now spans) (o .good)) o ⌝ }
+    ensures { λ r. ⌜ ((ss : List Segment) → Outlined ss (now (spans .entry)) (behind (now (spans .entry)) (o .good)) o → Writes (textOf (o .named) ss) (now (buffer .entry)) (now (buffer .exit)) r) ⌝ }
 {
-    let totals = counted(good, damaged, o);
+    let behind = 2 * o.good;
+    let damaged = &spans[behind..];
+    let totals = counted(spans, damaged, o);
     if !surely_fits(buffer.len() as u64, totals.ranges) {
         let mut no_room = [0; 1];
-        let size = put_outline(&mut no_room, good, damaged, o, totals);
+        let size = put_outline(&mut no_room, spans, damaged, o, totals);
         if (buffer.len() as u64) < size {
             return Written::Refused(BUFFER_TOO_SHORT);
         }
     }
-    Written::Length(put_outline(buffer, good, damaged, o, totals))
-}
-
-// Writes the map of an accepted file by the rows of its chunks and what was gathered of it. The spans of the damaged
-// chunks are made first, since those of the good ones take the place of the rows.
-fn write_rows(
-    buffer: &mut [u8],
-    rows: &mut [u64],
-    gathered: Gathered,
-    end: Position,
-    named: bool,
-) -> Written
-    requires { ⌜ (gathered .chunks ≤ chunkLimit) × (end .0 ≤ sourceLimit) ⌝ }
-    ensures { λ r. ⌜ ((ss : List Segment) → Known (now (rows .entry)) (gathered .chunks) (end .0) ss
-        → gathered .sizes .known ≡ isClosed ss
-        → Writes (textOf named ss) (now (buffer .entry)) (now (buffer .exit)) r) ⌝ }
-{
-    let mut damage = [0; ALL_SPANS];
-    let damaged = file_damage(rows, gathered.chunks, end, named, &mut damage);
-    let good = file_spans(rows, gathered.chunks, end);
-    let sizes = gathered.sizes;
-    let o = Outline {
-        good,
-        damaged,
-        end,
-        closed: sizes.known,
-        named,
-    };
-    write_outline(buffer, rows, &damage, o)
+    Written::Length(put_outline(buffer, spans, damaged, o, totals))
 }
 
 // Writes the line of a refusal. It is one piece, put whole or not at all, so that nothing has to be measured first.
@@ -118,13 +88,17 @@ fn write_map(file: &[u8], most: u64, buffer: &mut [u8], named: bool) -> Written
     if most < file.len() as u64 {
         return write_refused(buffer, INPUT_TOO_LONG);
     }
-    let mut rows = [0; ALL_CHUNK_ROWS];
-    match judge_into(file, &mut rows) {
+    let mut rows = [0; ALL_SEGMENT_ROWS];
+    let mut numbers = [0; ALL_NUMBERS];
+    match judge_into(file, &mut rows, &mut numbers) {
         Judgement::Refused(n) => write_refused(buffer, n),
         Judgement::Given(judged) => {
             let gathered = judged.gathered;
-            let end = gathered.sizes.described();
-            write_rows(buffer, &mut rows, gathered, end, named)
+            let sizes = gathered.sizes;
+            let end = sizes.described();
+            let mut spans = [0; ALL_SPANS];
+            let o = outline_of(&rows, &numbers, gathered, end, named, &mut spans);
+            write_outline(buffer, &spans, o)
         }
     }
 }

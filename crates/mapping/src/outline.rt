@@ -1,12 +1,58 @@
-// What the text of a map is made by, beside the two tables of spans.
+// What the text of a map is made by, beside a table of spans.
+use crate::damage::file_damage;
+use fields::state::GOOD;
+use gathering::gathered::Gathered;
 use partial::position::Position;
+use partial::rows::ALL_NUMBERS;
+use partial::rows::ALL_SEGMENT_ROWS;
+use spans::files::file_spans;
+ghost use Prim.Native.Nat.{_*_, _≤_};
+ghost use mathlib.Core.List.{List};
+ghost use mathlib.Core.Path.{_≡_};
+ghost use lib.ListN.{length};
+ghost use Rattle.partial.specs.Limits.{chunkLimit, sourceLimit};
+ghost use Rattle.partial.specs.Meaning.{describedLength, isClosed};
+ghost use Rattle.partial.specs.Segments.{Segment};
+ghost use Rattle.gathering.specs.Kept.{Kept};
+ghost use Rattle.mapping.specs.Outline.{behind, Drawn, Outlined};
 
-// How many spans are in the table of what good chunks supply and in that of what damaged ones cover, the described
-// length, whether the size is known, and whether the missing positions are named.
+// How many spans there are of what good chunks supply and of what damaged ones cover, the described length, whether the
+// size is known, and whether the missing positions are named.
 pub struct Outline {
     pub good: usize,
     pub damaged: usize,
     pub end: Position,
     pub closed: bool,
     pub named: bool,
+}
+
+// The outline of a file by what is kept of it and gathered. A chunk is good or damaged or neither, so that a table with
+// room for a span of each chunk has room for both kinds, the damaged ones behind the good ones.
+pub(crate) fn outline_of(
+    rows: &[u64; ALL_SEGMENT_ROWS],
+    numbers: &[u64; ALL_NUMBERS],
+    gathered: Gathered,
+    end: Position,
+    named: bool,
+    spans: &mut [u64],
+) -> Outline
+    requires { ⌜ end .0 ≤ sourceLimit ⌝ }
+    ensures { λ o. ⌜ Drawn (now (spans .exit)) (behind (now (spans .exit)) (o .good)) o × (o .named ≡ named)
+        × ((ss : List Segment) → 2 * chunkLimit ≤ length (now (spans .entry))
+        → Kept (now (rows .entry)) (gathered .segments) (now (numbers .entry)) ss
+        → end .0 ≡ describedLength ss → gathered .sizes .known ≡ isClosed ss
+        → Outlined ss (now (spans .exit)) (behind (now (spans .exit)) (o .good)) o) ⌝ }
+{
+    let many = gathered.segments;
+    let good = file_spans(GOOD, rows, many, numbers, end, spans);
+    let behind = 2 * good;
+    let damaged = file_damage(rows, many, numbers, end, named, &mut spans[behind..]);
+    let sizes = gathered.sizes;
+    Outline {
+        good,
+        damaged,
+        end,
+        closed: sizes.known,
+        named,
+    }
 }

@@ -17,4 +17,5 @@ pub mod RaisedLaws
 pub mod ReadingLaws
 pub mod RefusalLaws
 pub mod RowLaws
+pub mod SmallLaws
 pub mod TextLengthLaws

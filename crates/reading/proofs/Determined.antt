@@ -1,16 +1,16 @@
 -- Each public call's contract determines its answer, and what it leaves in the lent tables: two that it allows of the
 -- same arguments are equal. A part of the lent file is determined by where it lies and by its bytes. What `judge_into`
--- leaves in its table is determined where the file is accepted and all rows fit.
+-- leaves in a table is determined where the file is accepted and all of that fits.
 use Prim.Native.Nat.{ℕ, _≤_}
 use mathlib.Core.List.{List}
 use mathlib.Core.Path.{_≡_, sym, ap, _∙_}
-use native.Mathlib.Omega.{arith}
 use denote.Ref.{now, ptr}
 use lib.ListN.{length}
 use Rattle.numerals.proofs.Determined.{OneResult, OneLeft}
 use Rattle.boxes.specs.Answer.{given}
 use Rattle.boxes.proofs.ToldLaws.{Tells}
-use Rattle.gathering.proofs.Determined.{OneLeftKnown}
+use Rattle.gathering.specs.Numbers.{numbersOf}
+use Rattle.gathering.proofs.Determined.{OneLeftKnown, one-put}
 use Rattle.heading.specs.Facts.{partOf, factsBy}
 use Rattle.heading.proofs.Determined.{head-told}
 use Rattle.partial.specs.Answers.{readAnswer}
@@ -18,7 +18,7 @@ use Rattle.partial.specs.Heading.{Part}
 use Rattle.partial.specs.Limits.{sourceLimit}
 use Rattle.partial.specs.Reading.{reading}
 use Rattle.partial.specs.Segments.{Segment}
-use Rattle.partial.specs.Tables.{Summary, chunkRows}
+use Rattle.partial.specs.Tables.{Summary, segmentRows}
 use Rattle.partial.specs.declared.answers.Read.the-variants as Read
 use Rattle.reading.specs.Judged.{Judged, judgedAnswer}
 use Rattle.reading.specs.Parts.{HandedBack, locatedAnswer}
@@ -83,9 +83,14 @@ judge-into-result : OneResult judge-into.Post
 judge-into-result κs args x y after after′ p q = judged-told x y (p .0 ∙ sym (q .0))
 
 judge-into-rows : OneLeftKnown judge-into.Post
-    (λ κs args (ss : List Segment). (reading sourceLimit (now (args .0)) ≡ given ss) × (length (chunkRows ss) ≤ length (now (args .1 .0))))
+    (λ κs args (ss : List Segment). (reading sourceLimit (now (args .0)) ≡ given ss) × (length (segmentRows ss) ≤ length (now (args .1 .0))))
     (λ κs after. now (after .1 .0))
-judge-into-rows κs args ss (read, room) x y after after′ p q = p .1 ss read .held (omega arith) ∙ sym (q .1 ss read .held (omega arith))
+judge-into-rows κs args ss (read, room) x y after after′ p q = one-put room (p .1 ss read .0) (q .1 ss read .0)
+
+judge-into-numbers : OneLeftKnown judge-into.Post
+    (λ κs args (ss : List Segment). (reading sourceLimit (now (args .0)) ≡ given ss) × (length (numbersOf ss) ≤ length (now (args .1 .1 .0))))
+    (λ κs after. now (after .1 .1 .0))
+judge-into-numbers κs args ss (read, room) x y after after′ p q = one-put room (p .1 ss read .1) (q .1 ss read .1)
 
 judge-result : OneResult judge.Post
 judge-result κs args x y after after′ p q = judged-told x y (p ∙ sym q)

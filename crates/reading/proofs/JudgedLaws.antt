@@ -23,13 +23,14 @@ use Rattle.heading.specs.Facts.{Facts, factsOf, factsBy, told, headedAnswer}
 use Rattle.heading.specs.declared.answers.Head.{Head}
 use Rattle.heading.specs.declared.answers.Headed.{Headed}
 use Rattle.heading.specs.declared.answers.Headed.the-variants as Headed
+use Rattle.gathering.specs.Forms.{allPuts}
 use Rattle.gathering.specs.Gathered.{gatheredOf}
 use Rattle.gathering.specs.Pass.{segmentsBy, Gathers}
 use Rattle.gathering.proofs.PassLaws.{rows-put}
 use Rattle.gathering.specs.declared.gathered.Gathered.{Gathered}
 use Rattle.gathering.specs.declared.pass.Passed.{Passed}
 use Rattle.gathering.specs.declared.pass.Passed.the-variants as Passed
-use Rattle.reading.specs.Judged.{Judged, gatheredIn, judgedIn, earlierTold, readingTold, gatheredAnswer, judgedAnswer, RowsIn}
+use Rattle.reading.specs.Judged.{Judged, gatheredIn, judgedIn, earlierTold, readingTold, gatheredAnswer, judgedAnswer, KeptIn}
 use Rattle.reading.specs.declared.judging.Judgement.{Judgement}
 use Rattle.reading.specs.declared.judging.Judgement.the-variants as Judgement
 use Rattle.reading.specs.declared.judging.Judged.{Judged as CodeJudged}
@@ -91,19 +92,20 @@ segments-by f h e =
     read ∙ same
 
 -- what the pass over them told
-module _ (f : List ℕ) (h : Heading) (a₀ a t₀ t : List ℕ) (r : Passed) (gathers : Gathers f h a₀ a t₀ t r) where
+module _ (f : List ℕ) (h : Heading) (t₀ t u₀ u : List ℕ) (r : Passed) (gathers : Gathers f h true t₀ t u₀ u r) where
   pub passed-refused : {n : ℕ} → r ≡ Passed.Refused n → segmentsBy f h ≡ refused n
   unfolding Gathers
-  passed-refused e = subst (Gathers f h a₀ a t₀ t) e gathers
+  passed-refused e = subst (Gathers f h true t₀ t u₀ u) e gathers
 
   pub passed-given : {g : Gathered} → r ≡ Passed.Given g → (ss : List Segment) × (segmentsBy f h ≡ given ss) × (g ≡ gatheredOf ss)
   unfolding Gathers
   passed-given e =
-      let (ss, read, same, _, _) = subst (Gathers f h a₀ a t₀ t) e gathers in
+      let (ss, read, same, _, _) = subst (Gathers f h true t₀ t u₀ u) e gathers in
       (ss, read, same)
 
-  pub passed-rows : RowsIn (segments sourceLimit f h) t₀ t
-  passed-rows = λ ss all. rows-put f h r gathers (segments-by f h all) .1
+  pub passed-kept : KeptIn (segments sourceLimit f h) t₀ t u₀ u
+  unfolding allPuts
+  passed-kept = λ ss all. rows-put f h true r gathers (segments-by f h all)
 
 -- what each answer about the segments says
 module _ {r : Passed} {x : Answer Gathered} (answer : gatheredAnswer r ≡ x) where
@@ -115,19 +117,19 @@ module _ {r : Passed} {x : Answer Gathered} (answer : gatheredAnswer r ≡ x) wh
   unfolding gatheredAnswer
   answer-given e = sym answer ∙ ap gatheredAnswer e
 
--- ---- the rows of the chunks, of which nothing is said after a refusal
+-- ---- what is kept, of which nothing is said after a refusal
 
-pub rows-refused : {read : Answer (List Segment)} {t₀ t : List ℕ} {n : ℕ} → read ≡ refused n → RowsIn read t₀ t
-rows-refused e = λ ss all. absurd (not-both (sym e ∙ all))
+pub kept-refused : {read : Answer (List Segment)} {t₀ t u₀ u : List ℕ} {n : ℕ} → read ≡ refused n → KeptIn read t₀ t u₀ u
+kept-refused e = λ ss all. absurd (not-both (sym e ∙ all))
 
-module _ (f : List ℕ) (h : Heading) {t₀ t : List ℕ} where
-  pub rows-ungathered : {n : ℕ} → gatheredIn f h ≡ refused n → RowsIn (segments sourceLimit f h) t₀ t
+module _ (f : List ℕ) (h : Heading) {t₀ t u₀ u : List ℕ} where
+  pub kept-ungathered : {n : ℕ} → gatheredIn f h ≡ refused n → KeptIn (segments sourceLimit f h) t₀ t u₀ u
   unfolding gatheredIn
-  rows-ungathered e = rows-refused (first-refused (segments sourceLimit f h) gatheredOf e)
+  kept-ungathered e = kept-refused (first-refused (segments sourceLimit f h) gatheredOf e)
 
-  pub rows-read : heading f ≡ given h → RowsIn (segments sourceLimit f h) t₀ t → RowsIn (reading sourceLimit f) t₀ t
+  pub kept-read : heading f ≡ given h → KeptIn (segments sourceLimit f h) t₀ t u₀ u → KeptIn (reading sourceLimit f) t₀ t u₀ u
   unfolding reading
-  rows-read known rows = λ ss all.
+  kept-read known rows = λ ss all.
       let (_, all) = held 12 (right File pseg (h .boxes)) _ (rw known at all) in
       rows ss all
 

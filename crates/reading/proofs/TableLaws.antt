@@ -2,13 +2,14 @@
 use Prim.Native.Nat.{ℕ, _*_, _≤_, _<_}
 use mathlib.Core.Bool.{and-false}
 use mathlib.Core.List.{List}
-use mathlib.Core.Path.{_≡_, refl}
+use mathlib.Core.Path.{_≡_, refl, ap, _∙_}
 use native.Mathlib.Omega.{arith}
 use borrow.Author.Tests.{le-leb, lt-leb}
-use lib.ListN.{length}
+use lib.ListN.{length, take}
+use lib.Seq.{take-at}
 use Rattle.boxes.specs.Answer.{refused, given}
 use Rattle.partial.specs.Answers.{readAnswer}
-use Rattle.partial.specs.Limits.{chunkLimit, sourceLimit}
+use Rattle.partial.specs.Limits.{segmentLimit, chunkLimit, sourceLimit}
 use Rattle.partial.specs.Meaning.{describedLength}
 use Rattle.partial.specs.Memory.{fits, filled, after}
 use Rattle.partial.specs.Reading.{reading}
@@ -18,14 +19,18 @@ use Rattle.partial.specs.declared.answers.Read.{Read}
 use Rattle.partial.specs.declared.answers.Read.the-variants as Read
 use Rattle.partial.specs.declared.position.Position.{Position}
 use Rattle.filling.specs.Rows.{Put}
+use Rattle.filling.proofs.RowLaws.{put-fills}
 use Rattle.ends.specs.Sizes.{sizesOf}
+use Rattle.gathering.specs.Kept.{Kept}
 use Rattle.gathering.specs.Gathered.{gatheredOf}
 use Rattle.gathering.specs.declared.gathered.Gathered.{Gathered}
-use Rattle.partial.proofs.Reading.LimitLaws.{chunks-few}
+use Rattle.partial.proofs.Reading.LimitLaws.{segments-limited, chunks-few}
+use Rattle.partial.proofs.Reading.SmallLaws.{all-small}
 use Rattle.partial.proofs.Reading.RowLaws.{segment-rows-long, all-rows-long}
-use Rattle.gathering.proofs.GatheredLaws.{gathered-chunks}
+use Rattle.gathering.proofs.GatheredLaws.{gathered-segments}
+use Rattle.gathering.proofs.KeptPutLaws.{kept-put}
 use Rattle.gathering.proofs.RowLaws.{put-filled}
-use Rattle.reading.specs.Judged.{Judged, RowsIn}
+use Rattle.reading.specs.Judged.{Judged, KeptIn}
 use Rattle.reading.specs.Tables.{Reads}
 use Rattle.reading.proofs.JudgedLaws.{Accepted, read-given}
 
@@ -80,9 +85,19 @@ segments-filled ss put room = put-filled (segmentRows ss) put (omega (arith, seg
 pub chunks-filled : (ss : List Segment) {b b′ : List ℕ} → Put b 0 (chunkRows ss) b′ → chunkRowLength * length (chunksOf ss) ≤ length b → b′ ≡ filled (chunkRows ss) b
 chunks-filled ss put room = put-filled (chunkRows ss) put (omega (arith, chunk-rows-all ss))
 
--- the rows of an accepted file fill a table that has room for those of as many chunks as a file may have
-pub all-filled : {f : List ℕ} {j : Judged} (a : Accepted f j) {t₀ t : List ℕ} → RowsIn (reading sourceLimit f) t₀ t → chunkRowLength * chunkLimit ≤ length t₀
-    → ((t₀ : List ℕ) × (t ≡ filled (chunkRows (a .ss)) t₀)) × (j .gathered .chunks ≡ length (chunksOf (a .ss)))
-all-filled {f} a {t₀} rows room =
-    let few = chunks-few sourceLimit f (a .h) (a .all) in
-    ((t₀, chunks-filled (a .ss) (rows (a .ss) (read-given f a)) (omega (arith, few))), gathered-chunks (a .ss) (a .gathered))
+-- own tables with room for as much as a file may have keep an accepted one
+module _ {f : List ℕ} {j : Judged} (a : Accepted f j) {t₀ t u₀ u : List ℕ} (kept : KeptIn (reading sourceLimit f) t₀ t u₀ u) (room : segmentRowLength * segmentLimit ≤ length t₀) where
+  pub accepted-few : j .gathered .segments ≤ segmentLimit
+  accepted-few = omega (arith, gathered-segments (a .ss) (a .gathered), segments-limited sourceLimit f (a .h) (a .all))
+
+  pub accepted-rows : take (segmentRowLength * j .gathered .segments) t ≡ segmentRows (a .ss)
+  accepted-rows =
+      let many = gathered-segments (a .ss) (a .gathered) in
+      let full = put-fills (segmentRows (a .ss)) (kept (a .ss) (read-given f a) .0) (omega (arith, segment-rows-long (a .ss), accepted-few)) in
+      ap (take (segmentRowLength * j .gathered .segments)) full ∙ take-at (segmentRows (a .ss)) _ (segmentRowLength * j .gathered .segments) (omega (arith, segment-rows-long (a .ss)))
+
+  pub accepted-kept : chunkLimit ≤ length u₀ → Kept t (j .gathered .segments) u (a .ss)
+  accepted-kept space =
+      let (rows, numbers) = kept (a .ss) (read-given f a) in
+      kept-put (a .ss) (all-small sourceLimit f (a .h) (a .head) (a .all)) (segments-limited sourceLimit f (a .h) (a .all)) (chunks-few sourceLimit f (a .h) (a .all))
+      (gathered-segments (a .ss) (a .gathered)) room space rows numbers

@@ -10,9 +10,10 @@ use Rattle.partial.specs.Heading.{Heading, heading}
 use Rattle.partial.specs.Limits.{sourceLimit}
 use Rattle.partial.specs.Reading.{segments}
 use Rattle.partial.specs.Segments.{Segment}
-use Rattle.partial.specs.Tables.{chunkRows}
+use Rattle.partial.specs.Tables.{segmentRows}
 use Rattle.filling.specs.Rows.{Put}
 use Rattle.heading.specs.Facts.{Facts, factsOf, factsBy}
+use Rattle.gathering.specs.Numbers.{numbersOf}
 use Rattle.gathering.specs.Gathered.{gatheredOf}
 use Rattle.gathering.specs.declared.gathered.Gathered.{Gathered}
 use Rattle.gathering.specs.declared.pass.Passed.{Passed}
@@ -60,6 +61,7 @@ unfoldable pub judgedAnswer : Judgement → Answer Judged
 judgedAnswer (Refused n) = refused n
 judgedAnswer (Given j) = given (record { facts = factsBy (j .head); gathered = j .gathered })
 
--- where segments were read, the rows of their chunks were put into a table; after a refusal it may hold anything
-abbrev pub RowsIn : Answer (List Segment) → List ℕ → List ℕ → Type 0
-RowsIn read t₀ t = (ss : List Segment) → read ≡ given ss → Put t₀ 0 (chunkRows ss) t
+-- where segments were read, their rows and the numbers of their chunks were put into two tables; after a refusal these
+-- may hold anything
+abbrev pub KeptIn : Answer (List Segment) → List ℕ → List ℕ → List ℕ → List ℕ → Type 0
+KeptIn read t₀ t u₀ u = (ss : List Segment) → read ≡ given ss → Put t₀ 0 (segmentRows ss) t × Put u₀ 0 (numbersOf ss) u

@@ -21,7 +21,7 @@ ghost use Rattle.boxes.specs.declared.kinds.Container.the-variants.{File};
 ghost use Rattle.partial.specs.Heading.{Heading};
 ghost use Rattle.partial.specs.Limits.{sourceLimit};
 ghost use Rattle.partial.specs.Reading.{segments, reading};
-ghost use Rattle.reading.specs.Judged.{gatheredIn, gatheredAnswer, judgedAnswer, earlierTold, readingTold, RowsIn};
+ghost use Rattle.reading.specs.Judged.{gatheredIn, gatheredAnswer, judgedAnswer, earlierTold, readingTold, KeptIn};
 
 // What the heading of a file tells, and what is gathered of its segments.
 pub struct Judged {
@@ -35,19 +35,24 @@ pub enum Judgement {
     Given(Judged),
 }
 
-// Stages 13 to 25 of a file, mixed or not, whose framing is right and that has so many `pseg` boxes; the rows of its
-// chunks go into a table that has room for them all.
-fn segments_of(file: &[u8], mixed: bool, count: u64, chunks: &mut [u64]) -> Passed
+// Stages 13 to 25 of a file, mixed or not, whose framing is right and that has so many `pseg` boxes; their rows and
+// the numbers of their chunks go into tables that have room for them all.
+fn segments_of(
+    file: &[u8],
+    mixed: bool,
+    count: u64,
+    rows: &mut [u64],
+    numbers: &mut [u64],
+) -> Passed
     ensures { λ r. ⌜ ((h : Heading)
         → boxesIn File (now (file .entry)) 0 (length (now (file .entry))) ≡ given (h .boxes) → mixed ≡ h .mixed
         → count ≡ length (those pseg (h .boxes)) → (gatheredAnswer r ≡ gatheredIn (now (file .entry)) h)
-        × RowsIn (segments sourceLimit (now (file .entry)) h) (now (chunks .entry)) (now (chunks .exit))) ⌝ }
+        × KeptIn (segments sourceLimit (now (file .entry)) h) (now (rows .entry)) (now (rows .exit)) (now (numbers .entry)) (now (numbers .exit))) ⌝ }
 {
     if SEGMENT_LIMIT < count {
         return Passed::Refused(TOO_MANY_SEGMENTS);
     }
-    let mut no_segments = [0; 1];
-    match pass(file, mixed, &mut no_segments, chunks) {
+    match pass(file, mixed, true, rows, numbers) {
         Passed::Refused(n) => Passed::Refused(n),
         Passed::Given(gathered) => {
             let sizes = gathered.sizes;
@@ -63,20 +68,28 @@ fn segments_of(file: &[u8], mixed: bool, count: u64, chunks: &mut [u64]) -> Pass
 pub fn earlier_of(file: &[u8]) -> Judgement
     ensures { λ r. ⌜ judgedAnswer r ≡ earlierTold (now (file .entry)) ⌝ }
 {
-    let mut no_chunks = [0; 1];
+    let mut no_rows = [0; 1];
+    let mut no_numbers = [0; 1];
     match heading_of(file) {
         Headed::Refused(n) => Judgement::Refused(n),
-        Headed::Found(head) => match segments_of(file, head.mixed, head.segments, &mut no_chunks) {
+        Headed::Found(head) => match segments_of(
+            file,
+            head.mixed,
+            head.segments,
+            &mut no_rows,
+            &mut no_numbers,
+        ) {
             Passed::Refused(n) => Judgement::Refused(n),
             Passed::Given(gathered) => Judgement::Given(Judged { head, gathered }),
         },
     }
 }
 
-// What an acceptable file says; the rows of its chunks go into a table that has room for them all. The table is the
-// caller's own: after a refusal it may hold some.
-pub fn judge_into(file: &[u8], chunks: &mut [u64]) -> Judgement
-    ensures { λ r. ⌜ (judgedAnswer r ≡ readingTold (now (file .entry))) × RowsIn (reading sourceLimit (now (file .entry))) (now (chunks .entry)) (now (chunks .exit)) ⌝ }
+// What an acceptable file says; the rows of its segments and the numbers of its chunks go into tables that have room
+// for them all. The tables are the caller's own: after a refusal they may hold some.
+pub fn judge_into(file: &[u8], rows: &mut [u64], numbers: &mut [u64]) -> Judgement
+    ensures { λ r. ⌜ (judgedAnswer r ≡ readingTold (now (file .entry)))
+        × KeptIn (reading sourceLimit (now (file .entry))) (now (rows .entry)) (now (rows .exit)) (now (numbers .entry)) (now (numbers .exit)) ⌝ }
 {
     match heading_of(file) {
         Headed::Refused(n) => Judgement::Refused(n),
@@ -84,7 +97,7 @@ pub fn judge_into(file: &[u8], chunks: &mut [u64]) -> Judgement
             if !keeps(Container::File, PSEG, head.segments) {
                 return Judgement::Refused(NO_SEGMENT);
             }
-            match segments_of(file, head.mixed, head.segments, chunks) {
+            match segments_of(file, head.mixed, head.segments, rows, numbers) {
                 Passed::Refused(n) => Judgement::Refused(n),
                 Passed::Given(gathered) => Judgement::Given(Judged { head, gathered }),
             }
@@ -92,10 +105,11 @@ pub fn judge_into(file: &[u8], chunks: &mut [u64]) -> Judgement
     }
 }
 
-// The same where no row is wanted: the table holds none.
+// The same where neither is wanted.
 pub fn judge(file: &[u8]) -> Judgement
     ensures { λ r. ⌜ judgedAnswer r ≡ readingTold (now (file .entry)) ⌝ }
 {
-    let mut no_chunks = [0; 1];
-    judge_into(file, &mut no_chunks)
+    let mut no_rows = [0; 1];
+    let mut no_numbers = [0; 1];
+    judge_into(file, &mut no_rows, &mut no_numbers)
 }

@@ -24,7 +24,7 @@ pub fn read(file: &[u8], segments: &mut [u64], chunks: &mut [u64]) -> Read
             if chunks.len() as u64 / CHUNK_ROW < gathered.chunks {
                 return Read::Refused(TABLE_TOO_SHORT);
             }
-            pass(file, judged.head.mixed, segments, chunks);
+            pass(file, judged.head.mixed, false, segments, chunks);
             Read::Tables {
                 segments: gathered.segments,
                 chunks: gathered.chunks,

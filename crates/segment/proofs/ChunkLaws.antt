@@ -42,6 +42,10 @@ module _ (limit : ℕ) (f : List ℕ) (h : Heading) (pseg : ℕ) (l : Ploc) (c :
       unfolding chunkStep
       step-placed at = simp (chunkStep, read, near, at)
 
+-- what a chunk says determines it
+pub chunk-told : (c d : CodeChunk) → chunkOf c ≡ chunkOf d → c ≡ d
+chunk-told c d e = λ i. record { start = record { 0 = e i .start }; size = e i .size; state = e i .state; place = record { 0 = e i .place } }
+
 -- the box to be looked at first after a chunk
 abbrev After : List ℕ → CodeCursor → List Box → CodeChunk → CodeCursor → Type 0
 After f c bs chunk next = Onward f (boxOf (c .last)) bs (hasPlace (chunk .state) (chunk .size)) (chunk .place .0) (chunk .size) (boxOf (next .last))
@@ -86,7 +90,7 @@ module _ {f tops : List ℕ} {mixed : Bool} {pseg : ℕ} {l : Ploc} {c : CodeCur
       cc
   one-step h mix p t (Given j a) (Given k b) u v =
       let same : _≡_ {A = Chunk × Cursor} (chunkOf j, cursorOf a) (chunkOf k, cursorOf b) = given-same (u .answer h mix p t ∙ sym (v .answer h mix p t)) in
-      let chunk : j ≡ k = λ i. record { start = record { 0 = same i .0 .start }; size = same i .0 .size; state = same i .0 .state; place = record { 0 = same i .0 .place } } in
+      let chunk : j ≡ k = chunk-told j k (ap (λ (x : Chunk × Cursor). x .0) same) in
       let last : a .last ≡ b .last = one-onward (a .last) (b .last) (u .onward h mix p t refl) (subst (λ (k : CodeChunk). After f c (h .boxes) k b) (sym chunk) (v .onward h mix p t refl)) in
       ap₂ Given chunk (λ i. record { at = record { 0 = same i .1 .at }; start = record { 0 = same i .1 .start }; last = last i })
 

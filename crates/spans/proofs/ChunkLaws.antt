@@ -1,25 +1,24 @@
--- Laws of the spans of chunks: where the span of one ends, what a chunk more adds to them, and the rows that are left
--- where the spans are written over them.
-use Prim.Native.Nat.{ℕ, _+_, _*_, _/_, _<_, _≤_}
+-- Laws of the spans of chunks: where the span of one ends, how many chunks are of a state, and what a chunk more adds.
+use Prim.Native.Nat.{ℕ, _+_, _*_, _<_, _≤_}
 use mathlib.Core.Bool.{Bool, true, false, _||_, or-false, or-true}
-use mathlib.Core.List.{List, [], _∷_}
+use mathlib.Core.List.{List, [], _∷_, _++_, append-nil, append-assoc}
 use mathlib.Core.Logic.{_⊎_, inl, inr}
 use mathlib.Core.Path.{_≡_, refl, sym, ap, subst, _∙_}
 use native.Mathlib.Decide.{decLe}
 use native.Mathlib.Omega.{arith}
-use borrow.Author.Tests.{ltb-true}
-use lib.Dec.{ltb}
-use lib.ListN.{length, getD}
+use borrow.Author.Tests.{eq-eqb, eqb-true}
+use lib.Dec.{eqb}
+use lib.ListN.{length, take, drop, take-append-drop}
 use Rattle.partial.specs.Meaning.{coversAs}
-use Rattle.partial.specs.Segments.{Chunk, noChunk, good}
+use Rattle.partial.specs.Segments.{Chunk, Segment, good, damaged, chunksOf}
 use Rattle.partial.specs.Sequences.{someOf}
-use Rattle.partial.specs.Tables.{chunkRowLength}
 use Rattle.partial.proofs.Meaning.RunLaws.{covers-true, does-cover}
 use Rattle.partial.proofs.Meaning.SequenceLaws.{which, some-append}
-use Rattle.supplying.specs.Rows.{chunkIn, chunksFrom, chunksIn}
-use Rattle.supplying.proofs.RowsLaws.{rows-last}
+use Rattle.partial.proofs.Meaning.SupplyLaws.{chunks-append}
+use Rattle.gathering.specs.Kept.{ChunksKept}
+use Rattle.gathering.proofs.KeptLaws.{nextChunk, next-taken, NextSegment}
 use Rattle.spans.specs.Spans.{firstAt, endAt, coveredBy, Spans, Joined}
-use Rattle.spans.specs.Chunks.{SpanEnd, Taken, SpansOf}
+use Rattle.spans.specs.Chunks.{manyOf, SpanEnd, Taken, SpansOf}
 use Rattle.spans.proofs.SpanLaws.{same-truth, covered-at, covered-by, no-spans}
 
 -- ---- where a span ends
@@ -54,6 +53,44 @@ module _ (state : ℕ) (c : Chunk) (end : ℕ) where
   pub span-state : {to : ℕ} → SpanEnd state c end to → c .start < to → c .state ≡ state
   span-state span some = covers-true c (c .start) state (span .all (c .start) (omega arith) some) .0
 
+-- ---- how many chunks are of a state
+
+pub many-both : (state : ℕ) (cs ds : List Chunk) → manyOf state (cs ++ ds) ≡ manyOf state cs + manyOf state ds
+unfolding manyOf
+many-both state [] ds = omega arith
+many-both state (c ∷ cs) ds = omega (arith, many-both state cs ds)
+
+pub many-one : (state : ℕ) (c : Chunk) → c .state ≡ state → manyOf state (c ∷ []) ≡ 1
+unfolding manyOf
+many-one state c is = rw (eq-eqb (c .state) state is)
+
+-- of the first ones no more than of all
+pub many-taken : (state : ℕ) (i : ℕ) (cs : List Chunk) → manyOf state (take i cs) ≤ manyOf state cs
+many-taken state i cs = omega (arith, many-both state (take i cs) (drop i cs), ap (manyOf state) (take-append-drop i cs))
+
+pub many-few : (state : ℕ) (cs : List Chunk) → manyOf state cs ≤ length cs
+unfolding manyOf
+many-few state [] = omega arith
+many-few state (c ∷ cs) = go (eqb (c .state) state) (many-few state cs)
+  where
+    go : (is : Bool) → manyOf state cs ≤ length cs → (elim is [ true ↦ 1 | false ↦ 0 ]) + manyOf state cs ≤ length (c ∷ cs)
+    go true few = omega arith
+    go false few = omega arith
+
+-- a chunk is good or damaged or neither
+pub many-apart : (cs : List Chunk) → manyOf good cs + manyOf damaged cs ≤ length cs
+unfolding manyOf
+many-apart [] = omega arith
+many-apart (c ∷ cs) = go (which (eqb (c .state) good)) (which (eqb (c .state) damaged)) (many-apart cs)
+  where
+    go : (eqb (c .state) good ≡ true) ⊎ (eqb (c .state) good ≡ false) → (eqb (c .state) damaged ≡ true) ⊎ (eqb (c .state) damaged ≡ false)
+        → manyOf good cs + manyOf damaged cs ≤ length cs
+        → manyOf good (c ∷ cs) + manyOf damaged (c ∷ cs) ≤ length (c ∷ cs)
+    go (inl a) (inl b) few = absurd (omega (arith, eqb-true (c .state) good a, eqb-true (c .state) damaged b))
+    go (inl a) (inr b) few = rw (a, b) (omega arith)
+    go (inr a) (inl b) few = rw (a, b) (omega arith)
+    go (inr a) (inr b) few = rw (a, b) (omega arith)
+
 -- ---- a chunk more
 
 -- one of two tests passes
@@ -77,9 +114,8 @@ module _ (state end : ℕ) (c : Chunk) (t : List ℕ) (n : ℕ) {to : ℕ} (span
       record {
         long = refl;
         many = omega arith;
-        behind = λ i from. refl;
         spans = λ s. s;
-        covers = λ s q below.
+        covers = λ room s q below.
             same-truth _ _ (or-left (coveredBy t n q) (coversAs state q c))
             (λ e.
             elim (or-either (coveredBy t n q) (coversAs state q c) e) [
@@ -88,6 +124,16 @@ module _ (state end : ℕ) (c : Chunk) (t : List ℕ) (n : ℕ) {to : ℕ} (span
                   let (_, from, _) = covers-true c q state last in
                   absurd (omega (arith, span .only q below last))
             ]);
+      }
+
+  -- with one for which there is no room
+  pub taken-full : c .start < to → length t < 2 * n + 2 → Taken state end c t n t n
+  taken-full some full =
+      record {
+        long = refl;
+        many = omega arith;
+        spans = λ s. s;
+        covers = λ room. absurd (omega (arith, room (span-state state c end span some)));
       }
 
   -- with one, which is stored or makes the last longer
@@ -178,68 +224,70 @@ module _ (state end : ℕ) (c : Chunk) (t : List ℕ) (n : ℕ) {to : ℕ} (span
     taken-span =
         record {
           long = j .stored .long;
-          many = omega (arith, j .many, j .low);
-          behind = λ i from. j .stored .behind i (omega (arith, j .low));
+          many = omega (arith, j .many, j .low, many-one state c (span-state state c end span some));
           spans = new-spans;
-          covers = λ s q below. same-truth _ _ (to-either s q below) (from-either s q below);
+          covers = λ room s q below. same-truth _ _ (to-either s q below) (from-either s q below);
         }
 
--- ---- the rows so far
+-- the same chunk
+pub taken-same : {state end : ℕ} {c d : Chunk} {t : List ℕ} {n : ℕ} {t′ : List ℕ} {n′ : ℕ} → c ≡ d → Taken state end c t n t′ n′ → Taken state end d t n t′ n′
+taken-same {state} {end} {t = t} {n = n} {t′ = t′} {n′ = n′} e taken = subst (λ (x : Chunk). Taken state end x t n t′ n′) e taken
 
-module _ (state : ℕ) (rows : List ℕ) (end : ℕ) where
-  pub spans-none : (t : List ℕ) → SpansOf state rows 0 end t 0
-  unfolding coveredBy chunksFrom someOf
-  spans-none t = record { spans = no-spans t end; covers = λ q below. refl }
+-- ---- the chunks so far
 
-  module _ {k : ℕ} {t : List ℕ} {n : ℕ} (s : SpansOf state rows k end t n) where
-    pub spans-more : (c : Chunk) → c ≡ chunkIn rows k → {t′ : List ℕ} {n′ : ℕ} → Taken state end c t n t′ n′ → SpansOf state rows (k + 1) end t′ n′
-    unfolding someOf
-    spans-more c row {t′} {n′} taken =
-        record {
-          spans = taken .spans (s .spans);
-          covers = λ q below.
-              let test : Chunk → Bool = coversAs state q in
-              taken .covers (s .spans) q below
-              ∙ (λ i. s .covers q below i || sym (or-false (test (row i))) i)
-              ∙ sym (some-append test (chunksIn rows k) (chunkIn rows k ∷ []))
-              ∙ ap (someOf test) (sym (rows-last rows k));
-        }
+-- the same ones
+pub spans-same : {state : ℕ} {cs ds : List Chunk} {end : ℕ} {t : List ℕ} {n : ℕ} → cs ≡ ds → SpansOf state cs end t n → SpansOf state ds end t n
+spans-same {state} {end = end} {t = t} {n = n} e s = subst (λ (l : List Chunk). SpansOf state l end t n) e s
 
-    pub spans-all : {count : ℕ} → k ≡ count → SpansOf state rows count end t n
-    spans-all all = subst (λ (i : ℕ). SpansOf state rows i end t n) all s
+module _ (state end : ℕ) where
+  pub spans-none : (t : List ℕ) → SpansOf state [] end t 0
+  unfolding coveredBy someOf
+  spans-none t = record { spans = no-spans t end; few = omega arith; covers = λ q below. refl }
 
--- ---- spans over rows
+  pub spans-more : {cs : List Chunk} {t : List ℕ} {n : ℕ} → SpansOf state cs end t n → (c : Chunk) → 2 * manyOf state (cs ++ (c ∷ [])) ≤ length t → {t′ : List ℕ} {n′ : ℕ}
+      → Taken state end c t n t′ n′
+      → SpansOf state (cs ++ (c ∷ [])) end t′ n′
+  unfolding someOf
+  spans-more {cs} {n = n} s c room taken =
+      let all = many-both state cs (c ∷ []) in
+      record {
+        spans = taken .spans (s .spans);
+        few = omega (arith, taken .many, s .few, all);
+        covers = λ q below.
+            let test : Chunk → Bool = coversAs state q in
+            taken .covers (λ is. omega (arith, s .few, all, many-one state c is)) (s .spans) q below
+            ∙ (λ i. s .covers q below i || sym (or-false (test c)) i)
+            ∙ sym (some-append test cs (c ∷ []));
+      }
 
--- a good chunk stands in a row that is there
-pub row-long : (t : List ℕ) (k : ℕ) → chunkIn t k .state ≡ good → chunkRowLength * k + chunkRowLength ≤ length t
-unfolding chunkIn
-row-long t k state =
-    elim (which (ltb k (length t / chunkRowLength))) [
-      | inl there ↦ omega (arith, ltb-true k (length t / chunkRowLength) there)
-      | inr none ↦
-          let lost : chunkIn t k .state ≡ 0 = rw (chunkIn, none) in
-          omega arith
-    ]
+-- one chunk more of a segment's, behind some
+pub spans-next : (state end : ℕ) (done cs : List Chunk) (numbers : List ℕ) (at i start : ℕ) → i < length cs → ChunksKept numbers (at + i) start (drop i cs) → {t : List ℕ} {n : ℕ}
+    → 2 * manyOf state (done ++ cs) ≤ length t
+    → SpansOf state (done ++ take i cs) end t n
+    → {t′ : List ℕ} {n′ : ℕ}
+    → Taken state end (nextChunk numbers at cs i start) t n t′ n′
+    → SpansOf state (done ++ take (i + 1) cs) end t′ n′
+spans-next state end done cs numbers at i start some kept {t} room s taken =
+    let c = nextChunk numbers at cs i start in
+    let more : (done ++ take i cs) ++ (c ∷ []) ≡ done ++ take (i + 1) cs =
+    append-assoc done (take i cs) (c ∷ []) ∙ ap (λ (l : List Chunk). done ++ l) (sym (next-taken numbers at cs i start some kept)) in
+    let fits : 2 * manyOf state ((done ++ take i cs) ++ (c ∷ [])) ≤ length t =
+    omega (arith, room, ap (manyOf state) more, many-both state done (take (i + 1) cs), many-both state done cs, many-taken state (i + 1) cs) in
+    spans-same more (spans-more state end s c fits taken)
 
--- the rows of a table from one on are as they were
-pub record Left (t₀ : List ℕ) (k : ℕ) (t : List ℕ) : Type 0 where
-  pub long : length t ≡ length t₀
-  pub rest : (i : ℕ) → chunkRowLength * k ≤ i → getD t i 0 ≡ getD t₀ i 0
-
-pub left-all : (t : List ℕ) → Left t 0 t
-left-all t = record { long = refl; rest = λ i from. refl }
-
-module _ {t₀ t : List ℕ} {k : ℕ} (l : Left t₀ k t) where
-  -- the row that is next
-  pub left-row : chunkIn t k ≡ chunkIn t₀ k
-  unfolding chunkIn
-  left-row =
-      let start = l .rest (chunkRowLength * k + 2) (omega arith) in
-      let size = l .rest (chunkRowLength * k + 3) (omega arith) in
-      let state = l .rest (chunkRowLength * k + 4) (omega arith) in
-      let place = l .rest (chunkRowLength * k + 5) (omega arith) in
-      λ j. elim (ltb k (l .long j / chunkRowLength)) [ true ↦ record { start = start j; size = size j; state = state j; place = place j } | false ↦ noChunk ]
-
-  -- a chunk more, taken into no more spans than rows are read
-  pub left-more : {n : ℕ} → n ≤ k → {state end : ℕ} {c : Chunk} {t′ : List ℕ} {n′ : ℕ} → Taken state end c t n t′ n′ → Left t₀ (k + 1) t′
-  left-more few taken = record { long = taken .long ∙ l .long; rest = λ i from. taken .behind i (omega arith) ∙ l .rest i (omega arith) }
+-- one segment more
+pub spans-segment : (state end : ℕ) (ss : List Segment) (k : ℕ) {rows numbers : List ℕ} {at : ℕ} → k < length ss → (next : NextSegment rows numbers ss k at) → {t : List ℕ} {n : ℕ}
+    → 2 * manyOf state (chunksOf ss) ≤ length t
+    → SpansOf state (chunksOf (take k ss)) end t n
+    → {t′ : List ℕ} {n′ : ℕ}
+    → (2 * manyOf state (chunksOf (take k ss) ++ next .s .chunks) ≤ length t → SpansOf state (chunksOf (take k ss)) end t n → SpansOf state (chunksOf (take k ss) ++ next .s .chunks) end t′ n′)
+    → SpansOf state (chunksOf (take (k + 1) ss)) end t′ n′
+unfolding chunksOf
+spans-segment state end ss k some next {t} room s more =
+    let all : chunksOf (take (k + 1) ss) ≡ chunksOf (take k ss) ++ next .s .chunks =
+    ap chunksOf (next .taken) ∙ chunks-append (take k ss) (next .s ∷ []) ∙ ap (λ (cs : List Chunk). chunksOf (take k ss) ++ cs) (append-nil (next .s .chunks)) in
+    let parts : chunksOf ss ≡ chunksOf (take (k + 1) ss) ++ chunksOf (drop (k + 1) ss) =
+    sym (ap chunksOf (take-append-drop (k + 1) ss)) ∙ chunks-append (take (k + 1) ss) (drop (k + 1) ss) in
+    let fits : 2 * manyOf state (chunksOf (take k ss) ++ next .s .chunks) ≤ length t =
+    omega (arith, room, ap (manyOf state) all, ap (manyOf state) parts, many-both state (chunksOf (take (k + 1) ss)) (chunksOf (drop (k + 1) ss))) in
+    spans-same (sym all) (more fits s)

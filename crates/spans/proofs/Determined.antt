@@ -5,11 +5,11 @@ use mathlib.Core.List.{List}
 use mathlib.Core.Path.{_≡_, sym, _∙_}
 use denote.Ref.{now}
 use lib.ListN.{length}
-use Rattle.partial.specs.Segments.{Segment}
-use Rattle.spans.specs.Files.{Known}
-use Rattle.spans.specs.Spans.{coveredBy, classBy}
+use Rattle.partial.specs.Segments.{Segment, chunksOf}
+use Rattle.gathering.specs.Kept.{Kept}
+use Rattle.spans.specs.Chunks.{manyOf}
+use Rattle.spans.specs.Spans.{coveredBy}
 use Rattle.spans.proofs.SpanLaws.{same-covered}
-use Rattle.spans.proofs.chunks.damaged_spans.Reads as damaged-spans
 use Rattle.spans.proofs.chunks.spans_of.Reads as spans-of
 use Rattle.spans.proofs.files.file_spans.Reads as file-spans
 use Rattle.spans.proofs.ordering.order.Reads as order
@@ -24,19 +24,19 @@ module _ {L : Type 0} {A R E : L → Type 0} (post : (κs : L) → A κs → R �
       → post κs args y after′
       → of κs args x after what ≡ of κs args y after′ what
 
-spans-of-covered : OneMade spans-of.Post (λ κs args (q : ℕ). q < args .1 .1 .0 .0) (λ κs args r after q. coveredBy (now (after .0)) r q)
-spans-of-covered κs args q below x y after after′ a b = a .covers q below ∙ sym (b .covers q below)
+-- what is kept of a file, with a position below an end, where the table has room
+abbrev Known : ℕ → List ℕ → ℕ → List ℕ → ℕ → List ℕ → List Segment × ℕ → Type 0
+Known state rows many numbers end table (ss, q) = Kept rows many numbers ss × (2 * manyOf state (chunksOf ss) ≤ length table) × (q < end)
 
-damaged-spans-covered : OneMade damaged-spans.Post
-    (λ κs args (q : ℕ). (2 * args .1 .0 ≤ length (now (args .1 .1 .1 .0))) × (q < args .1 .1 .0 .0))
-    (λ κs args r after q. coveredBy (now (after .1 .1 .1 .0)) r q)
-damaged-spans-covered κs args q (room, below) x y after after′ a b = a .1 room .covers q below ∙ sym (b .1 room .covers q below)
+spans-of-covered : OneMade spans-of.Post
+    (λ κs args. Known (args .0) (now (args .1 .0)) (args .1 .1 .0) (now (args .1 .1 .1 .0)) (args .1 .1 .1 .1 .0 .0) (now (args .1 .1 .1 .1 .1 .0)))
+    (λ κs args r after (ss, q). coveredBy (now (after .1 .1 .1 .1 .1 .0)) r q)
+spans-of-covered κs args (ss, q) (kept, room, below) x y after after′ a b = a .1 ss kept room .covers q below ∙ sym (b .1 ss kept room .covers q below)
 
 order-covered : OneMade order.Post (λ κs args (q : ℕ). 2 * args .1 .0 ≤ length (now (args .0))) (λ κs args r after q. coveredBy (now (after .0)) (args .1 .0) q)
 order-covered κs args q room x y after after′ a b = same-covered (a room .0) q ∙ sym (same-covered (b room .0) q)
 
--- of the rows of a file, below its described length
-file-spans-class : OneMade file-spans.Post
-    (λ κs args ((ss, q) : List Segment × ℕ). Known (now (args .0)) (args .1 .0) (args .1 .1 .0 .0) ss × (q < args .1 .1 .0 .0))
-    (λ κs args n after (ss, q). classBy (now (after .0)) n q)
-file-spans-class κs args (ss, q) (known, below) x y after after′ a b = a .1 ss known .class q below ∙ sym (b .1 ss known .class q below)
+file-spans-covered : OneMade file-spans.Post
+    (λ κs args. Known (args .0) (now (args .1 .0)) (args .1 .1 .0) (now (args .1 .1 .1 .0)) (args .1 .1 .1 .1 .0 .0) (now (args .1 .1 .1 .1 .1 .0)))
+    (λ κs args n after (ss, q). coveredBy (now (after .1 .1 .1 .1 .1 .0)) n q)
+file-spans-covered κs args (ss, q) (kept, room, below) x y after after′ a b = a .1 ss kept room .covers q below ∙ sym (b .1 ss kept room .covers q below)

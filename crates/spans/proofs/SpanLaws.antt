@@ -7,7 +7,7 @@ use mathlib.Core.Path.{_≡_, refl, sym, ap, _∙_}
 use native.Mathlib.Decide.{decLe}
 use native.Mathlib.Omega.{arith}
 use borrow.Author.Tests.{le-leb, lt-ltb, leb-true, ltb-true}
-use lib.ListN.{length, set, length-set}
+use lib.ListN.{length, getD, set, length-set}
 use lib.Seq.{getD-set-same, getD-set-other}
 use Rattle.partial.proofs.Meaning.SequenceLaws.{which, both}
 use Rattle.spans.specs.Spans.{firstAt, endAt, coveredBy, Spans, Ascending, Ordered, Same, Stored, Joined}
@@ -144,7 +144,7 @@ module _ {n : ℕ} {t t′ : List ℕ} (s : Same n t t′) where
       let (j, low, first, end) = s .kept k less in
       covered-by t′ n q j low (omega arith) (omega arith))
 
-  same-spans : {end : ℕ} → Spans t n end → Spans t′ n end
+  pub same-spans : {end : ℕ} → Spans t n end → Spans t′ n end
   same-spans {end} spans =
       record {
         room = omega (arith, s .long, spans .room);
@@ -159,3 +159,19 @@ module _ {n : ℕ} {t t′ : List ℕ} (s : Same n t t′) where
   -- spans that were put in order
   pub same-ordered : {end : ℕ} → Spans t n end → Ascending t′ n → Ordered t′ n end
   same-ordered spans order = record { spans = same-spans spans; order = order }
+
+-- ---- a table that changes behind its first spans
+
+module _ {t t′ : List ℕ} {n : ℕ} (long : length t′ ≡ length t) (front : (i : ℕ) → i < 2 * n → getD t′ i 0 ≡ getD t i 0) where
+  pub front-same : Same n t t′
+  front-same =
+      record {
+        long = long;
+        kept = λ k less. (k, less, sym (front (2 * k) (omega arith)), sym (front (2 * k + 1) (omega arith)));
+        old = λ k less. (k, less, front (2 * k) (omega arith), front (2 * k + 1) (omega arith));
+      }
+
+  pub front-ordered : {end : ℕ} → Ordered t n end → Ordered t′ n end
+  front-ordered ordered =
+      same-ordered front-same (ordered .spans)
+      (record { up = λ j k low less. omega (arith, ordered .order .up j k low less, front (2 * j) (omega arith), front (2 * k) (omega arith)) })

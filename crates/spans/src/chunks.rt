@@ -1,19 +1,27 @@
-// The spans of the chunks of one state in a table of rows: of the good ones written over the rows, since nothing else
-// is kept of them, of the damaged ones apart.
+// The spans of the chunks of one state of a file, made of what is kept of it.
 use crate::put::join_span;
-use fields::state::DAMAGED;
-use fields::state::GOOD;
+use gathering::numbers::chunk_by;
 use numerals::order::smaller;
+use numerals::order::sum_of;
+use partial::limits::CHUNK_LIMIT;
+use partial::limits::SEGMENT_LIMIT;
 use partial::position::Position;
+use partial::rows::ALL_NUMBERS;
+use partial::rows::ALL_SEGMENT_ROWS;
+use partial::rows::SEGMENT_ROW;
 use segment::chunk::Chunk;
-use supplying::rows::chunk_at;
 ghost use Prim.Native.Nat.{_+_, _*_, _≤_};
-ghost use mathlib.Core.Path.{_≡_};
+ghost use mathlib.Core.List.{List};
 ghost use lib.ListN.{length};
-ghost use Rattle.partial.specs.Segments.{good, damaged};
+ghost use Rattle.partial.specs.Limits.{chunkLimit};
+ghost use Rattle.partial.specs.Segments.{Segment, chunksOf};
 ghost use Rattle.segment.specs.Chunk.{chunkOf};
-ghost use Rattle.spans.specs.Chunks.{SpanEnd, Taken, SpansOf};
+ghost use Rattle.gathering.specs.Kept.{Kept};
+ghost use Rattle.spans.specs.Chunks.{manyOf, SpanEnd, Taken, SpansOf, Extends};
 ghost use Rattle.spans.specs.Spans.{Spans};
+
+// The numbers of the spans of as many chunks as a file may have.
+pub const ALL_SPANS: usize = 2_048;
 
 // Where the span of a chunk ends that starts where the chunk does and holds what a chunk of a state covers below an
 // end; at its start where that is nothing.
@@ -31,9 +39,8 @@ fn span_end(c: Chunk, state: u64, end: Position) -> u64
 }
 
 // Takes a chunk into a table of so many spans, and answers how many there are then: no more where it is of another
-// state, or covers nothing below an end.
+// state, or covers nothing below an end, or has no room.
 fn take_chunk(table: &mut [u64], n: usize, c: Chunk, state: u64, end: Position) -> usize
-    requires { ⌜ (c .state ≡ state → 2 * n + 2 ≤ length (now table)) ⌝ }
     ensures { λ r. ⌜ Taken state (end .0) (chunkOf c) (now (table .entry)) n (now (table .exit)) r ⌝ }
 {
     let start = c.start;
@@ -41,38 +48,71 @@ fn take_chunk(table: &mut [u64], n: usize, c: Chunk, state: u64, end: Position) 
     if to <= start.0 {
         return n;
     }
+    if table.len() / 2 <= n {
+        return n;
+    }
     join_span(table, n, start.0, to)
 }
 
-// The rows of so many chunks become the spans of what the good ones cover below an end, from the front, and the answer
-// is how many. A span takes fewer numbers than a row, so that none is written over a row that is not read yet.
-pub fn spans_of(table: &mut [u64], count: u64, end: Position) -> usize
-    ensures { λ r. ⌜ SpansOf good (now (table .entry)) count (end .0) (now (table .exit)) r ⌝ }
+// Takes so many chunks of a segment into a table of so many spans, by the numbers from one on, of which the first
+// starts there.
+fn take_segment(
+    numbers: &[u64; ALL_NUMBERS],
+    at: u64,
+    count: u64,
+    first: Position,
+    state: u64,
+    end: Position,
+    table: &mut [u64],
+    before: usize,
+) -> usize
+    requires { ⌜ at + count ≤ chunkLimit ⌝ }
+    ensures { λ r. ⌜ (Spans (now (table .entry)) before (end .0) → Spans (now (table .exit)) r (end .0))
+        × Extends state (now (numbers .entry)) at count (first .0) (end .0) (now (table .entry)) before (now (table .exit)) r ⌝ }
 {
-    let mut n = 0;
-    let mut k = 0;
-    while k < count {
-        let c = chunk_at(table, k);
-        n = take_chunk(table, n, c, GOOD, end);
-        k += 1;
+    let mut n = before;
+    let mut start = first;
+    let mut i = 0;
+    while i < count {
+        let c = chunk_by(numbers[(at + i) as usize], start);
+        n = take_chunk(table, n, c, state, end);
+        start = Position(sum_of(start.0, c.size));
+        i += 1;
     }
     n
 }
 
-// Puts the spans of what the damaged chunks of so many rows cover below an end into a table of their own, and answers
-// how many; none where the table has no room for a span of each.
-pub fn damaged_spans(rows: &[u64], count: u64, end: Position, table: &mut [u64]) -> usize
-    ensures { λ r. ⌜ Spans (now (table .exit)) r (end .0) × (2 * count ≤ length (now (table .entry)) → SpansOf damaged (now (rows .entry)) count (end .0) (now (table .exit)) r) ⌝ }
+// Puts the spans of what the chunks of a state cover below an end into a table, and answers how many they are, by what
+// is kept of so many segments; of all of them where the table has room for a span of each.
+pub fn spans_of(
+    state: u64,
+    segments: &[u64; ALL_SEGMENT_ROWS],
+    many: u64,
+    numbers: &[u64; ALL_NUMBERS],
+    end: Position,
+    table: &mut [u64],
+) -> usize
+    ensures { λ r. ⌜ Spans (now (table .exit)) r (end .0)
+        × ((ss : List Segment) → Kept (now (segments .entry)) many (now (numbers .entry)) ss
+        → 2 * manyOf state (chunksOf ss) ≤ length (now (table .entry))
+        → SpansOf state (chunksOf ss) (end .0) (now (table .exit)) r) ⌝ }
 {
-    if table.len() as u64 / 2 < count {
+    if SEGMENT_LIMIT < many {
         return 0;
     }
     let mut n = 0;
-    let mut row = 0;
-    while row < count {
-        let c = chunk_at(rows, row);
-        n = take_chunk(table, n, c, DAMAGED, end);
-        row += 1;
+    let mut at = 0;
+    let mut k = 0;
+    while k < many {
+        let row = (SEGMENT_ROW * k) as usize;
+        let first = segments[row + 1];
+        let count = segments[row + 4];
+        if CHUNK_LIMIT - at < count {
+            return n;
+        }
+        n = take_segment(numbers, at, count, Position(first), state, end, table, n);
+        at += count;
+        k += 1;
     }
     n
 }

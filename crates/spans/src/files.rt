@@ -1,17 +1,32 @@
-// The spans of the good chunks of a file, in order.
+// The spans of the chunks of one state of a file, in order.
 use crate::chunks::spans_of;
 use crate::ordering::order;
 use partial::position::Position;
+use partial::rows::ALL_NUMBERS;
+use partial::rows::ALL_SEGMENT_ROWS;
+ghost use Prim.Native.Nat.{_*_, _≤_};
 ghost use mathlib.Core.List.{List};
-ghost use Rattle.partial.specs.Segments.{Segment};
-ghost use Rattle.spans.specs.Files.{Known, Spanned};
+ghost use lib.ListN.{length};
+ghost use Rattle.partial.specs.Segments.{Segment, chunksOf};
+ghost use Rattle.gathering.specs.Kept.{Kept};
+ghost use Rattle.spans.specs.Chunks.{manyOf, SpansOf};
 ghost use Rattle.spans.specs.Spans.{Ordered};
 
-// The rows of the chunks of a file become its spans, ordered; the answer is how many.
-pub fn file_spans(table: &mut [u64], count: u64, end: Position) -> usize
-    ensures { λ n. ⌜ Ordered (now (table .exit)) n (end .0) × ((ss : List Segment) → Known (now (table .entry)) count (end .0) ss → Spanned ss (now (table .exit)) n (end .0)) ⌝ }
+// Puts them into a table, and answers how many they are, by what is kept of so many segments.
+pub fn file_spans(
+    state: u64,
+    segments: &[u64; ALL_SEGMENT_ROWS],
+    many: u64,
+    numbers: &[u64; ALL_NUMBERS],
+    end: Position,
+    table: &mut [u64],
+) -> usize
+    ensures { λ n. ⌜ Ordered (now (table .exit)) n (end .0)
+        × ((ss : List Segment) → Kept (now (segments .entry)) many (now (numbers .entry)) ss
+        → 2 * manyOf state (chunksOf ss) ≤ length (now (table .entry))
+        → SpansOf state (chunksOf ss) (end .0) (now (table .exit)) n) ⌝ }
 {
-    let n = spans_of(table, count, end);
+    let n = spans_of(state, segments, many, numbers, end, table);
     order(table, n);
     n
 }

@@ -59,13 +59,6 @@ rows-both table (suc a) b k =
     ap (λ (n : ℕ). chunksFrom table n k) one
     ∙ ap (λ (cs : List Chunk). chunkIn table k ∷ cs) (rows-both table a b (suc k) ∙ ap (λ (n : ℕ). chunksFrom table a (suc k) ++ chunksFrom table b n) on)
 
--- one row more
-pub rows-last : (table : List ℕ) (k : ℕ) → chunksIn table (k + 1) ≡ chunksIn table k ++ (chunkIn table k ∷ [])
-unfolding chunksFrom
-rows-last table k =
-    let here : 0 + k ≡ k = omega arith in
-    rows-both table k 1 0 ∙ ap (λ (n : ℕ). chunksIn table k ++ (chunkIn table n ∷ [])) here
-
 all-rows : (front rest : List ℕ) (k n : ℕ) (ss : List Segment) → length front ≡ chunkRowLength * k → chunksFrom (front ++ (chunkRowsFrom n ss ++ rest)) (length (chunksOf ss)) k ≡ chunksOf ss
 unfolding chunksFrom chunkRowsFrom chunksOf
 all-rows front rest k n [] long = refl

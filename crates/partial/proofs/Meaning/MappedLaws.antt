@@ -86,7 +86,7 @@ whole-run (b ∷ bs) place end h =
     ]
 
 -- what may lie in a file lies in its data, or is whole boxes of a mixed one
-may-be : (h : Heading) (c : Chunk) → mayLie h (c .state) (c .place) (c .size) ≡ true → InData h c ⊎ Whole h c
+pub may-be : (h : Heading) (c : Chunk) → mayLie h (c .state) (c .place) (c .size) ≡ true → InData h c ⊎ Whole h c
 unfolding mayLie
 may-be h c may =
     elim (which (inData (h .boxes) (c .place) (c .size))) [

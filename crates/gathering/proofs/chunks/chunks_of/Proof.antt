@@ -16,16 +16,16 @@ use Rattle.gathering.proofs.chunks.chunks_of.Statement.{statement}
 use Rattle.gathering.proofs.chunks.chunks_of.Tie as tie
 
 abbrev Inv-loop : tie.InvT-loop
-Inv-loop file tops mixed pseg l before table₀ end cursor₀ i₀ table cursor i =
+Inv-loop file tops mixed pseg l before numbered table₀ end cursor₀ i₀ table cursor i =
     (i ≤ l .count)
     × (length table ≡ length table₀)
-    × ((h : Heading) → mixed ≡ h .mixed → Searched file (boxOf (cursor₀ .last)) (h .boxes) → Tops (h .boxes) tops → Midway file h (pseg .0) l cursor₀ before table₀ i cursor table)
+    × ((h : Heading) → mixed ≡ h .mixed → Searched file (boxOf (cursor₀ .last)) (h .boxes) → Tops (h .boxes) tops → Midway file h (pseg .0) l cursor₀ before numbered table₀ i cursor table)
 
 abbrev μ-loop : tie.MeasureT-loop
-μ-loop file tops mixed pseg l before table₀ end cursor₀ i₀ table cursor i = l .count - i
+μ-loop file tops mixed pseg l before numbered table₀ end cursor₀ i₀ table cursor i = l .count - i
 
 loop-holds : tie.Need-loop-holds Inv-loop μ-loop
-loop-holds c = (search needs, refl, λ h mix known listed. midway-none _ h _ _ _ _ _ known)
+loop-holds c = (search needs, refl, λ h mix known listed. midway-none _ h _ _ _ _ _ _ known)
 
 step-requires : tie.Need-step-requires Inv-loop μ-loop
 step-requires c κs = search needs
@@ -41,7 +41,7 @@ unfolding Chunked
 returns c = λ h mix known listed.
     let so-far = c .before .before .before .before .before .before .loop .inv .2 h mix known listed in
     let step = c .before .before .before .step .ensures .answer h mix (so-far .ran .known) listed in
-    midway-refused _ h _ _ _ _ _ so-far (omega arith) (chunk-refused step (c .before .n .given .1))
+    midway-refused _ h _ _ _ _ _ _ so-far (omega arith) (chunk-refused step (c .before .n .given .1))
 
 enum-known-chunk : tie.Need-enum-known-chunk Inv-loop μ-loop
 enum-known-chunk c = search needs
@@ -69,7 +69,7 @@ loop-again c =
           let so-far = inv .2 h mix known listed in
           let step = met .before .before .step .ensures in
           let e = met .chunk .given .1 in
-          midway-more _ h _ _ _ _ _ so-far (omega arith) _ (chunk-given (step .answer h mix (so-far .ran .known) listed) e) (step .onward h mix (so-far .ran .known) listed e .known) put,
+          midway-more _ h _ _ _ _ _ _ so-far (omega arith) _ (chunk-given (step .answer h mix (so-far .ran .known) listed) e) (step .onward h mix (so-far .ran .known) listed e .known) put,
     )
 
 same-length-2 : tie.Need-same-length-2 Inv-loop μ-loop
@@ -78,14 +78,14 @@ same-length-2 c = search needs
 returns-2 : tie.Need-returns-2 Inv-loop μ-loop
 unfolding Chunked
 returns-2 c = λ h mix known listed.
-    midway-left _ h _ _ _ _ _ (c .before .before .before .before .before .loop .inv .2 h mix known listed) (omega arith) (c .if2 .taken)
+    midway-left _ h _ _ _ _ _ _ (c .before .before .before .before .before .loop .inv .2 h mix known listed) (omega arith) (c .if2 .taken)
 
 same-length-3 : tie.Need-same-length-3 Inv-loop μ-loop
 same-length-3 c = search needs
 
 returns-3 : tie.Need-returns-3 Inv-loop μ-loop
 returns-3 c = λ h mix known listed.
-    midway-end _ h _ _ _ _ _ (c .before .before .before .before .before .loop .inv .2 h mix known listed) (omega arith) (omega arith) (c .if2 .left)
+    midway-end _ h _ _ _ _ _ _ (c .before .before .before .before .before .loop .inv .2 h mix known listed) (omega arith) (omega arith) (c .if2 .left)
 
 pub chunks-of-spec : {M : Type 1} → statement M
 chunks-of-spec =

@@ -23,15 +23,15 @@ use Rattle.gathering.proofs.pass.pass.Statement.{statement}
 use Rattle.gathering.proofs.pass.pass.Tie as tie
 
 abbrev Inv-loop : tie.InvT-loop
-Inv-loop file mixed segments₀ chunks₀ tops walk₀ gathered₀ last₀ segments chunks walk gathered last =
+Inv-loop file mixed numbered segments₀ chunks₀ tops walk₀ gathered₀ last₀ segments chunks walk gathered last =
     (gathered .segments + walk .left ≤ 512)
     × (gathered .chunks ≤ chunkLimit)
     × (length segments ≡ length segments₀)
     × (length chunks ≡ length chunks₀)
-    × ((h : Heading) → boxesIn File file 0 (length file) ≡ given (h .boxes) → mixed ≡ h .mixed → Midway file h segments₀ chunks₀ segments chunks walk gathered last)
+    × ((h : Heading) → boxesIn File file 0 (length file) ≡ given (h .boxes) → mixed ≡ h .mixed → Midway file h numbered segments₀ chunks₀ segments chunks walk gathered last)
 
 abbrev μ-loop : tie.MeasureT-loop
-μ-loop file mixed segments₀ chunks₀ tops walk₀ gathered₀ last₀ segments chunks walk gathered last = walk .left
+μ-loop file mixed numbered segments₀ chunks₀ tops walk₀ gathered₀ last₀ segments chunks walk gathered last = walk .left
 
 tops-of-requires : tie.Need-tops-of-requires Inv-loop μ-loop
 tops-of-requires c κs = tt
@@ -51,7 +51,7 @@ loop-holds c =
       omega (arith, gathered-chunks _ none),
       refl,
       refl,
-      λ h known mix. midway-none _ h _ _ (sym (walk-boxes _ new) ∙ known) none (searched-none _ refl known),
+      λ h known mix. midway-none _ h _ _ _ (sym (walk-boxes _ new) ∙ known) none (searched-none _ refl known),
     )
 
 step-requires : tie.Need-step-requires Inv-loop μ-loop
@@ -84,7 +84,7 @@ returns c = λ h known mix.
     let listed = at-loop .before .before .before .tops-of .ensures (h .boxes) tops-none known in
     let step = next-box (met .before .before .step .ensures) (met .b .given .1) in
     let told = c .before .before .before .before .before .before .before .segment-of .ensures .1 h (so-far .before) mix (so-far .known) listed (so-far .gathered) in
-    midway-refused _ h _ _ so-far step (is-kind pseg _ (c .before .before .before .before .before .before .before .before .before .before .before .if1 .taken)) (subst (Segmented _ h _ _ _ _ _ _) (c .before .n .given .1) told)
+    midway-refused _ h _ _ _ so-far step (is-kind pseg _ (c .before .before .before .before .before .before .before .before .before .before .before .if1 .taken)) (subst (Segmented _ h _ _ _ _ _ _ _) (c .before .n .given .1) told)
 
 enum-known-more : tie.Need-enum-known-more Inv-loop μ-loop
 enum-known-more c = search needs
@@ -106,13 +106,13 @@ loop-again c =
     let counted = subst (Counted _) (c .before .more .given .1) (read .0) in (
       omega (arith, inv .0, counted .0, fewer _ _ step),
       counted .1,
-      kept .1 .1 .1 .1 .1 .1 .0 ∙ inv .2,
-      kept .1 .1 .1 .1 .1 .1 .1 .0 ∙ inv .3,
+      kept .1 .1 .1 .1 .1 .1 .1 .0 ∙ inv .2,
+      kept .1 .1 .1 .1 .1 .1 .1 .1 .0 ∙ inv .3,
       λ h known mix.
           let so-far = inv .4 h known mix in
           let listed = at-loop .before .before .before .tops-of .ensures (h .boxes) tops-none known in
           let told = read .1 h (so-far .before) mix (so-far .known) listed (so-far .gathered) in
-          midway-more _ h _ _ so-far step (is-kind pseg _ (c .before .before .before .before .before .before .before .before .before .before .before .if1 .taken)) (subst (Segmented _ h _ _ _ _ _ _) (c .before .more .given .1) told),
+          midway-more _ h _ _ _ so-far step (is-kind pseg _ (c .before .before .before .before .before .before .before .before .before .before .before .if1 .taken)) (subst (Segmented _ h _ _ _ _ _ _ _) (c .before .more .given .1) told),
     )
 
 loop-less-2 : tie.Need-loop-less-2 Inv-loop μ-loop
@@ -129,7 +129,7 @@ loop-again-2 c =
       inv .1,
       inv .2,
       inv .3,
-      λ h known mix. midway-other _ h _ _ (inv .4 h known mix) step (is-other pseg _ (c .if1 .left)),
+      λ h known mix. midway-other _ h _ _ _ (inv .4 h known mix) step (is-other pseg _ (c .if1 .left)),
     )
 
 enum-told : tie.Need-enum-told Inv-loop μ-loop
@@ -143,7 +143,7 @@ same-length-4 c = search needs
 
 returns-2 : tie.Need-returns-2 Inv-loop μ-loop
 returns-2 c = λ h known mix.
-    midway-end _ h _ _ (c .before .before .before .loop .inv .4 h known mix) (no-more (c .before .before .step .ensures) (c .enum-told .given .1))
+    midway-end _ h _ _ _ (c .before .before .before .loop .inv .4 h known mix) (no-more (c .before .before .step .ensures) (c .enum-told .given .1))
 
 enum-known-n-2 : tie.Need-enum-known-n-2 Inv-loop μ-loop
 enum-known-n-2 c = search needs
@@ -156,7 +156,7 @@ same-length-6 c = search needs
 
 returns-3 : tie.Need-returns-3 Inv-loop μ-loop
 returns-3 c = λ h known mix.
-    absurd (midway-sound _ h _ _ (c .before .before .before .before .loop .inv .4 h known mix) (a-fault (c .before .before .before .step .ensures) (c .before .n2 .given .1)))
+    absurd (midway-sound _ h _ _ _ (c .before .before .before .before .loop .inv .4 h known mix) (a-fault (c .before .before .before .step .ensures) (c .before .n2 .given .1)))
 
 pub pass-spec : {M : Type 1} → statement M
 pass-spec =

@@ -82,7 +82,7 @@ returns-4 c =
     let met = near .before .before .before .before .before .before .before .before .before .before in
     let parts = sym (met .before .before .parts-of .ensures) ∙ ap partsAnswer (met .p .given .1) in
     let ran = c .before .before .before .before .before .chunks-of .ensures in
-    (tt, λ h ss mix known listed so-far. segment-cut _ h ss _ _ parts (omega (arith, few near, gathered-chunks ss so-far)) (omega arith) (near .before .before .before .before .before .before .before .before .before .before .before .before .before .before .before .before .before .args .last) (subst (Chunked _ h _ _ _ _ _ _) (c .before .n2 .given .1) (ran h mix known listed)))
+    (tt, λ h ss mix known listed so-far. segment-cut _ h ss _ _ parts (omega (arith, few near, gathered-chunks ss so-far)) (omega arith) (near .before .before .before .before .before .before .before .before .before .before .before .before .before .before .before .before .before .args .last) (subst (Chunked _ h _ _ _ _ _ _ _) (c .before .n2 .given .1) (ran h mix known listed)))
 
 same-length-2 : tie.Need-same-length-2
 same-length-2 c = search needs
@@ -102,7 +102,7 @@ returns-5 c =
     let more = c .with .ensures in (
       (more .0, subst (λ (n : ℕ). n ≤ chunkLimit) (sym (more .1)) (few near)),
       λ h ss mix known listed so-far.
-          let (cs, e, many, here) = subst (Chunked _ h _ _ _ _ _ _) (read .cursor .given .1) (ran h mix known listed) in
+          let (cs, e, many, here) = subst (Chunked _ h _ _ _ _ _ _ _) (read .cursor .given .1) (ran h mix known listed) in
           segment-told _ h ss _ _ parts (omega (arith, few near, gathered-chunks ss so-far)) (omega arith) (near .before .before .before .before .before .before .before .before .before .before .before .before .before .before .before .before .before .args .last) so-far e many here put (λ s. more .2 ss s so-far),
     )
 

@@ -1,17 +1,19 @@
--- `listing::calls::list` meets its contract: the judgement, then 26 of the tables and of the lists, then both are
+-- `listing::calls::list` meets its contract: the judgement, then 26 of the tables and of the lists, then all are
 -- filled.
 use Prim.Native.Nat.{_*_, _≤_}
+use mathlib.Core.Path.{refl, sym}
 use native.Mathlib.Omega.{arith}
 use lib.ListN.{length}
+use lib.Seq.{length-take-le}
 use Rattle.partial.specs.Ranges.{hadList, missingList}
-use Rattle.partial.specs.Segments.{chunksOf}
-use Rattle.partial.proofs.Reading.HeadingAppendLaws.{headed}
+use Rattle.partial.specs.Segments.{good, chunksOf}
 use Rattle.partial.specs.Tables.{segmentRowLength, chunkRowLength, rangeRowLength}
+use Rattle.filling.proofs.RowLaws.{put-stored, put-same}
 use Rattle.gathering.proofs.GatheredLaws.{gathered-segments, gathered-chunks, gathered-sizes}
-use Rattle.gathering.proofs.PassLaws.{rows-put}
-use Rattle.reading.proofs.JudgedLaws.{facts-mixed, accepted, read-refused, read-given, read-segments, judgement-refused, judgement-given}
-use Rattle.reading.proofs.TableLaws.{tabled-refused, segments-short, chunks-short, tabled-given, segments-filled, chunks-filled, all-filled}
-use Rattle.spans.proofs.FileLaws.{known-filled}
+use Rattle.reading.proofs.JudgedLaws.{accepted, read-refused, read-given, judgement-refused, judgement-given}
+use Rattle.reading.proofs.TableLaws.{tabled-refused, segments-short, chunks-short, tabled-given, segments-filled, chunks-filled, accepted-few, accepted-rows, accepted-kept}
+use Rattle.spans.proofs.ChunkLaws.{many-few}
+use Rattle.spans.proofs.FileLaws.{spanned-by}
 use Rattle.listing.proofs.CallsLaws.{of-file, listed-refused, had-short, missing-short, listed-given, lists-refused, lists-given}
 use borrow.Author.Needs.{needs}
 use Rattle.listing.proofs.calls.list.Statement.{statement}
@@ -19,6 +21,9 @@ use Rattle.listing.proofs.calls.list.Tie as tie
 
 slice-aggregate-judge-into : tie.Need-slice-aggregate-judge-into
 slice-aggregate-judge-into c = search needs
+
+slice-aggregate-judge-into-2 : tie.Need-slice-aggregate-judge-into-2
+slice-aggregate-judge-into-2 c = search needs
 
 judge-into-requires : tie.Need-judge-into-requires
 judge-into-requires c κs = search needs
@@ -46,38 +51,58 @@ counted-requires c κs = search needs
 
 returns : tie.Need-returns
 returns c =
-    let met = c .before .before .before .before .before .before .before .before .before .before .before in
-    let a = accepted _ (judgement-given (met .before .before .before .judge-into .ensures .0) (met .judged .given .1)) in
+    let met = c .before .before .before .before .before .before .before .before .before .before .before .before .before in
+    let a = accepted _ (judgement-given (met .before .before .before .before .judge-into .ensures .0) (met .judged .given .1)) in
     lists-refused _ _ _ _ _ (listed-refused _ _ _ _ _ (segments-short _ _ _ (a .ss) (read-given _ a) (omega (arith, gathered-segments (a .ss) (a .gathered)))))
 
 returns-2 : tie.Need-returns-2
 returns-2 c =
-    let met = c .before .before .before .before .before .before .before .before .before .before .before .before .before in
-    let a = accepted _ (judgement-given (met .before .before .before .judge-into .ensures .0) (met .judged .given .1)) in
+    let met = c .before .before .before .before .before .before .before .before .before .before .before .before .before .before .before in
+    let a = accepted _ (judgement-given (met .before .before .before .before .judge-into .ensures .0) (met .judged .given .1)) in
     lists-refused _ _ _ _ _ (listed-refused _ _ _ _ _ (chunks-short _ _ _ (a .ss) (read-given _ a) (omega (arith, gathered-chunks (a .ss) (a .gathered)))))
 
 returns-3 : tie.Need-returns-3
 returns-3 c =
-    let met = c .before .before .before .before .before .before .before .before .before .before .before .before .before .before .before in
-    let a = accepted _ (judgement-given (met .before .before .before .judge-into .ensures .0) (met .judged .given .1)) in
-    let (full, many) = all-filled a (met .before .before .before .judge-into .ensures .1) (omega arith) in
-    let known = known-filled (a .ss) full many (c .before .before .before .before .before .before .before .before .before .before .before .described .ensures (a .ss) (gathered-sizes (a .ss) (a .gathered))) in
-    let (ordered, spans) = c .before .before .before .before .before .before .before .before .before .file-spans .ensures in
-    let counts = c .before .before .before .before .before .before .counted .ensures ordered (a .ss) (spans (a .ss) known) in
+    let met = c .before .before .before .before .before .before .before .before .before .before .before .before .before .before .before .before .before in
+    let a = accepted _ (judgement-given (met .before .before .before .before .judge-into .ensures .0) (met .judged .given .1)) in
+    let kept = accepted-kept a (met .before .before .before .before .judge-into .ensures .1) (omega arith) (omega arith) in
+    let (ordered, all) = c .before .before .before .before .before .before .before .before .before .file-spans .ensures in
+    let long = c .before .before .before .before .before .before .before .before .before .before .before .before .before .described .ensures (a .ss) (gathered-sizes (a .ss) (a .gathered)) in
+    let spanned = spanned-by long (all (a .ss) kept (omega (arith, many-few good (chunksOf (a .ss)), kept .chunks))) in
+    let counts = c .before .before .before .before .before .before .counted .ensures ordered (a .ss) spanned in
     lists-refused _ _ _ _ _ (had-short _ _ _ _ _ (a .ss) (tabled-given _ _ _ (a .ss) (read-given _ a) (omega (arith, gathered-segments (a .ss) (a .gathered))) (omega (arith, gathered-chunks (a .ss) (a .gathered)))) (omega (arith, counts .hadMany)))
 
 returns-4 : tie.Need-returns-4
 returns-4 c =
-    let met = c .before .before .before .before .before .before .before .before .before .before .before .before .before .before .before .before .before in
-    let a = accepted _ (judgement-given (met .before .before .before .judge-into .ensures .0) (met .judged .given .1)) in
-    let (full, many) = all-filled a (met .before .before .before .judge-into .ensures .1) (omega arith) in
-    let known = known-filled (a .ss) full many (c .before .before .before .before .before .before .before .before .before .before .before .before .before .described .ensures (a .ss) (gathered-sizes (a .ss) (a .gathered))) in
-    let (ordered, spans) = c .before .before .before .before .before .before .before .before .before .before .before .file-spans .ensures in
-    let counts = c .before .before .before .before .before .before .before .before .counted .ensures ordered (a .ss) (spans (a .ss) known) in
+    let met = c .before .before .before .before .before .before .before .before .before .before .before .before .before .before .before .before .before .before .before in
+    let a = accepted _ (judgement-given (met .before .before .before .before .judge-into .ensures .0) (met .judged .given .1)) in
+    let kept = accepted-kept a (met .before .before .before .before .judge-into .ensures .1) (omega arith) (omega arith) in
+    let (ordered, all) = c .before .before .before .before .before .before .before .before .before .before .before .file-spans .ensures in
+    let long = c .before .before .before .before .before .before .before .before .before .before .before .before .before .before .before .described .ensures (a .ss) (gathered-sizes (a .ss) (a .gathered)) in
+    let spanned = spanned-by long (all (a .ss) kept (omega (arith, many-few good (chunksOf (a .ss)), kept .chunks))) in
+    let counts = c .before .before .before .before .before .before .before .before .counted .ensures ordered (a .ss) spanned in
     lists-refused _ _ _ _ _ (missing-short _ _ _ _ _ (a .ss) (tabled-given _ _ _ (a .ss) (read-given _ a) (omega (arith, gathered-segments (a .ss) (a .gathered))) (omega (arith, gathered-chunks (a .ss) (a .gathered)))) (omega (arith, counts .missingMany)))
 
-pass-requires : tie.Need-pass-requires
-pass-requires c κs = search needs
+mul-rows-end : tie.Need-mul-rows-end
+mul-rows-end c =
+    let met = c .before .before .before .before .before .before .before .before .before .before .before .before .before .before .before .before .before .before .before .before in
+    let a = accepted _ (judgement-given (met .before .before .before .before .judge-into .ensures .0) (met .judged .given .1)) in
+    omega (arith, accepted-few a (met .before .before .before .before .judge-into .ensures .1) (omega arith))
+
+array-share-prefix-rows : tie.Need-array-share-prefix-rows
+array-share-prefix-rows c =
+    let met = c .before .before .before .before .before .before .before .before .before .before .before .before .before .before .before .before .before .before .before .before .before in
+    let a = accepted _ (judgement-given (met .before .before .before .before .judge-into .ensures .0) (met .judged .given .1)) in
+    omega (arith, accepted-few a (met .before .before .before .before .judge-into .ensures .1) (omega arith))
+
+slice-aggregate-put-row : tie.Need-slice-aggregate-put-row
+slice-aggregate-put-row c = sym (length-take-le _ _ (array-share-prefix-rows (c .before)))
+
+put-row-requires : tie.Need-put-row-requires
+put-row-requires c κs = search needs
+
+fill-rows-requires : tie.Need-fill-rows-requires
+fill-rows-requires c κs = search needs
 
 slice-aggregate-put-lists : tie.Need-slice-aggregate-put-lists
 slice-aggregate-put-lists c = search needs
@@ -86,7 +111,7 @@ put-lists-requires : tie.Need-put-lists-requires
 put-lists-requires c κs = search needs
 
 returns-5 : tie.Need-returns-5
-returns-5 c = lists-refused _ _ _ _ _ (listed-refused _ _ _ _ _ (tabled-refused _ _ _ (read-refused _ (judgement-refused (c .before .before .before .before .judge-into .ensures .0) (c .before .n .given .1)))))
+returns-5 c = lists-refused _ _ _ _ _ (listed-refused _ _ _ _ _ (tabled-refused _ _ _ (read-refused _ (judgement-refused (c .before .before .before .before .before .judge-into .ensures .0) (c .before .n .given .1)))))
 
 same-length : tie.Need-same-length
 same-length c = search needs
@@ -102,20 +127,22 @@ same-length-4 c = search needs
 
 returns-6 : tie.Need-returns-6
 returns-6 c =
-    let met = c .before .before .before .before .before .before .before .before .before .before .before .before .before .before .before .before .before .before .before .before .before .before .before .before .before .before .before .before .before .before .before .before in
-    let a = accepted _ (judgement-given (met .before .before .before .judge-into .ensures .0) (met .judged .given .1)) in
-    let (full, many) = all-filled a (met .before .before .before .judge-into .ensures .1) (omega arith) in
-    let known = known-filled (a .ss) full many (c .before .before .before .before .before .before .before .before .before .before .before .before .before .before .before .before .before .before .before .before .before .before .before .before .before .before .before .before .described .ensures (a .ss) (gathered-sizes (a .ss) (a .gathered))) in
-    let (ordered, spans) = c .before .before .before .before .before .before .before .before .before .before .before .before .before .before .before .before .before .before .before .before .before .before .before .before .before .before .file-spans .ensures in
-    let spanned = spans (a .ss) known in
-    let counts = c .before .before .before .before .before .before .before .before .before .before .before .before .before .before .before .before .before .before .before .before .before .before .before .counted .ensures ordered (a .ss) spanned in
-    let args = c .before .before .before .before .before .before .before .before .before .before .before .before .before .before .before .before .before .before .before .before .before .before .before .before .before .before .before .before .before .before .before .before .before .before .before .before .before .before .before .before .before .before .args in
-    let segments : segmentRowLength * length (a .ss) ≤ length (args .segments .now) = omega (arith, gathered-segments (a .ss) (a .gathered), c .before .before .before .before .before .before .before .before .before .before .before .before .before .before .before .before .before .before .before .before .before .if1 .left) in
-    let chunks : chunkRowLength * length (chunksOf (a .ss)) ≤ length (args .chunks .now) = omega (arith, gathered-chunks (a .ss) (a .gathered), c .before .before .before .before .before .before .before .before .before .before .before .before .before .before .before .before .before .before .before .if2 .left) in
-    let had : rangeRowLength * length (hadList (a .ss)) ≤ length (args .had .now) = omega (arith, counts .hadMany, c .before .before .before .before .before .before .before .before .before .before .before .before .before .before .before .before .before .if3 .left) in
-    let missing : rangeRowLength * length (missingList (a .ss)) ≤ length (args .missing .now) = omega (arith, counts .missingMany, c .before .before .before .before .before .before .before .before .before .before .before .before .before .before .before .if4 .left) in
+    let met = c .before .before .before .before .before .before .before .before .before .before .before .before .before .before .before .before .before .before .before .before .before .before .before .before .before .before .before .before .before .before .before .before .before .before .before .before .before .before .before in
+    let a = accepted _ (judgement-given (met .before .before .before .before .judge-into .ensures .0) (met .judged .given .1)) in
+    let kept = accepted-kept a (met .before .before .before .before .judge-into .ensures .1) (omega arith) (omega arith) in
+    let (ordered, all) = c .before .before .before .before .before .before .before .before .before .before .before .before .before .before .before .before .before .before .before .before .before .before .before .before .before .before .before .before .before .before .before .file-spans .ensures in
+    let long = c .before .before .before .before .before .before .before .before .before .before .before .before .before .before .before .before .before .before .before .before .before .before .before .before .before .before .before .before .before .before .before .before .before .before .before .described .ensures (a .ss) (gathered-sizes (a .ss) (a .gathered)) in
+    let spanned = spanned-by long (all (a .ss) kept (omega (arith, many-few good (chunksOf (a .ss)), kept .chunks))) in
+    let counts = c .before .before .before .before .before .before .before .before .before .before .before .before .before .before .before .before .before .before .before .before .before .before .before .before .before .before .before .before .counted .ensures ordered (a .ss) spanned in
+    let args = c .before .before .before .before .before .before .before .before .before .before .before .before .before .before .before .before .before .before .before .before .before .before .before .before .before .before .before .before .before .before .before .before .before .before .before .before .before .before .before .before .before .before .before .before .before .before .before .before .before .before .before .args in
+    let segments : segmentRowLength * length (a .ss) ≤ length (args .segments .now) = omega (arith, gathered-segments (a .ss) (a .gathered), c .before .before .before .before .before .before .before .before .before .before .before .before .before .before .before .before .before .before .before .before .before .before .before .before .before .before .if1 .left) in
+    let chunks : chunkRowLength * length (chunksOf (a .ss)) ≤ length (args .chunks .now) = omega (arith, gathered-chunks (a .ss) (a .gathered), c .before .before .before .before .before .before .before .before .before .before .before .before .before .before .before .before .before .before .before .before .before .before .before .before .if2 .left) in
+    let had : rangeRowLength * length (hadList (a .ss)) ≤ length (args .had .now) = omega (arith, counts .hadMany, c .before .before .before .before .before .before .before .before .before .before .before .before .before .before .before .before .before .before .before .before .before .before .if3 .left) in
+    let missing : rangeRowLength * length (missingList (a .ss)) ≤ length (args .missing .now) = omega (arith, counts .missingMany, c .before .before .before .before .before .before .before .before .before .before .before .before .before .before .before .before .before .before .before .before .if4 .left) in
     let read = tabled-given _ _ _ (a .ss) (read-given _ a) segments chunks in
-    let (one, two) = rows-put _ (a .h) _ (c .before .before .before .before .before .before .before .before .before .before .before .before .pass .ensures (a .h) (headed _ (a .h) (a .head) .boxes) (facts-mixed _ (a .h) (a .facts))) (read-segments _ a) in
+    let own = accepted-rows a (met .before .before .before .before .judge-into .ensures .1) (omega arith) in
+    let one = put-same refl own (put-stored _ _ _ (c .before .before .before .before .before .before .before .before .before .before .before .before .before .before .before .before .put-row .ensures)) in
+    let two = c .before .before .before .before .before .before .before .before .before .before .fill-rows .ensures (a .ss) kept in
     let lists = of-file spanned (c .before .before .before .before .put-lists .ensures ordered) in
     lists-given _ _ _ _ _ (a .ss) (listed-given _ _ _ _ _ (a .ss) read had missing) counts (segments-filled (a .ss) one segments) (chunks-filled (a .ss) two chunks) (lists .had) (lists .missing) had missing
 
@@ -124,6 +151,7 @@ list-spec =
     tie.close
     (tie.spec
     slice-aggregate-judge-into
+    slice-aggregate-judge-into-2
     judge-into-requires
     enum-known-n
     enum-known-judged
@@ -136,7 +164,11 @@ list-spec =
     returns-2
     returns-3
     returns-4
-    pass-requires
+    mul-rows-end
+    array-share-prefix-rows
+    slice-aggregate-put-row
+    put-row-requires
+    fill-rows-requires
     slice-aggregate-put-lists
     put-lists-requires
     returns-5

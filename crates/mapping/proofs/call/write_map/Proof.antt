@@ -1,14 +1,14 @@
--- `mapping::call::write_map` meets its contract: 27, then the judgement, then the text by the rows of the file's
--- chunks.
-use mathlib.Core.Path.{sym}
+-- `mapping::call::write_map` meets its contract: 27, then the judgement, then the text by what is kept of the file.
+use mathlib.Core.Bool.{Bool}
+use mathlib.Core.Path.{sym, ap, _∙_}
 use native.Mathlib.Omega.{arith}
-use Rattle.gathering.proofs.GatheredLaws.{gathered-chunks, gathered-sizes}
+use Rattle.gathering.proofs.GatheredLaws.{gathered-sizes}
 use Rattle.partial.specs.Limits.{sourceLimit}
-use Rattle.partial.proofs.Reading.LimitLaws.{chunks-few, described-low}
+use Rattle.partial.proofs.Reading.LimitLaws.{described-low}
 use Rattle.partial.proofs.Reading.PrintedLaws.{printed}
 use Rattle.reading.proofs.JudgedLaws.{accepted, read-refused, read-given, judgement-refused, judgement-given}
-use Rattle.reading.proofs.TableLaws.{all-filled}
-use Rattle.spans.proofs.FileLaws.{known-filled}
+use Rattle.reading.proofs.TableLaws.{accepted-kept}
+use Rattle.mapping.specs.Outline.{textOf}
 use Rattle.mapping.proofs.OutlineLaws.{known-closed, writes-same}
 use borrow.Author.Needs.{needs}
 use Rattle.mapping.proofs.call.write_map.Statement.{statement}
@@ -26,6 +26,9 @@ returns c = writes-same (sym (printed _ sourceLimit _ _ .overLong (omega arith))
 slice-aggregate-judge-into : tie.Need-slice-aggregate-judge-into
 slice-aggregate-judge-into c = search needs
 
+slice-aggregate-judge-into-2 : tie.Need-slice-aggregate-judge-into-2
+slice-aggregate-judge-into-2 c = search needs
+
 judge-into-requires : tie.Need-judge-into-requires
 judge-into-requires c κs = search needs
 
@@ -41,24 +44,27 @@ enum-known-judged c = search needs
 described-requires : tie.Need-described-requires
 described-requires c κs = search needs
 
-slice-aggregate-write-rows : tie.Need-slice-aggregate-write-rows
-slice-aggregate-write-rows c = search needs
+slice-aggregate-outline-of : tie.Need-slice-aggregate-outline-of
+slice-aggregate-outline-of c = search needs
 
-write-rows-requires : tie.Need-write-rows-requires
-write-rows-requires c κs =
-    let met = c .before .before .before .before .before in
-    let a = accepted _ (judgement-given (met .before .before .before .judge-into .ensures .0) (met .judged .given .1)) in
-    let sizes = gathered-sizes (a .ss) (a .gathered) in (
-      omega (arith, chunks-few sourceLimit _ (a .h) (a .all), gathered-chunks (a .ss) (a .gathered)),
-      omega (arith, described-low sourceLimit _ (a .h) (a .all), c .before .before .described .ensures (a .ss) sizes),
-    )
+outline-of-requires : tie.Need-outline-of-requires
+outline-of-requires c κs =
+    let met = c .before .before .before .before .before .before .before in
+    let a = accepted _ (judgement-given (met .before .before .before .before .judge-into .ensures .0) (met .judged .given .1)) in
+    omega (arith, described-low sourceLimit _ (a .h) (a .all), c .before .before .before .described .ensures (a .ss) (gathered-sizes (a .ss) (a .gathered)))
+
+slice-aggregate-write-outline : tie.Need-slice-aggregate-write-outline
+slice-aggregate-write-outline c = search needs
+
+write-outline-requires : tie.Need-write-outline-requires
+write-outline-requires c κs = c .before .before .before .outline-of .ensures .0
 
 same-length-2 : tie.Need-same-length-2
 same-length-2 c = search needs
 
 returns-2 : tie.Need-returns-2
 returns-2 c =
-    let refusal = read-refused _ (judgement-refused (c .before .before .before .before .before .before .before .before .judge-into .ensures .0) (c .before .before .before .before .before .n .given .1)) in
+    let refusal = read-refused _ (judgement-refused (c .before .before .before .before .before .before .before .before .before .judge-into .ensures .0) (c .before .before .before .before .before .n .given .1)) in
     writes-same (sym (printed _ sourceLimit _ _ .refusal _ (omega arith) refusal)) (c .before .before .write-refused2 .ensures)
 
 same-length-3 : tie.Need-same-length-3
@@ -66,12 +72,13 @@ same-length-3 c = search needs
 
 returns-3 : tie.Need-returns-3
 returns-3 c =
-    let met = c .before .before .before .before .before .before .before .before .before in
-    let a = accepted _ (judgement-given (met .before .before .before .judge-into .ensures .0) (met .judged .given .1)) in
+    let met = c .before .before .before .before .before .before .before .before .before .before .before .before .before .before in
+    let a = accepted _ (judgement-given (met .before .before .before .before .judge-into .ensures .0) (met .judged .given .1)) in
     let sizes = gathered-sizes (a .ss) (a .gathered) in
-    let (full, many) = all-filled a (met .before .before .before .judge-into .ensures .1) (omega arith) in
-    let known = known-filled (a .ss) full many (c .before .before .before .before .before .before .described .ensures (a .ss) sizes) in
-    writes-same (sym (printed _ sourceLimit _ _ .lines (a .ss) (omega arith) (read-given _ a))) (c .before .before .before .write-rows .ensures (a .ss) known (known-closed (a .ss) sizes))
+    let kept = accepted-kept a (met .before .before .before .before .judge-into .ensures .1) (omega arith) (omega arith) in
+    let (_, named, outlined) = c .before .before .before .before .before .before .outline-of .ensures in
+    let written = c .before .before .write-outline .ensures (a .ss) (outlined (a .ss) (omega arith) kept (c .before .before .before .before .before .before .before .before .before .before .described .ensures (a .ss) sizes) (known-closed (a .ss) sizes)) in
+    writes-same (ap (λ (named : Bool). textOf named (a .ss)) named ∙ sym (printed _ sourceLimit _ _ .lines (a .ss) (omega arith) (read-given _ a))) written
 
 pub write-map-spec : {M : Type 1} → statement M
 write-map-spec =
@@ -81,13 +88,16 @@ write-map-spec =
     same-length
     returns
     slice-aggregate-judge-into
+    slice-aggregate-judge-into-2
     judge-into-requires
     enum-known-n
     write-refused-requires-2
     enum-known-judged
     described-requires
-    slice-aggregate-write-rows
-    write-rows-requires
+    slice-aggregate-outline-of
+    outline-of-requires
+    slice-aggregate-write-outline
+    write-outline-requires
     same-length-2
     returns-2
     same-length-3

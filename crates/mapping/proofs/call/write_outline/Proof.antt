@@ -11,6 +11,21 @@ use borrow.Author.Needs.{needs}
 use Rattle.mapping.proofs.call.write_outline.Statement.{statement}
 use Rattle.mapping.proofs.call.write_outline.Tie as tie
 
+mul-behind : tie.Need-mul-behind
+mul-behind c = search needs
+
+mul-damaged : tie.Need-mul-damaged
+mul-damaged c = search needs
+
+sub-damaged : tie.Need-sub-damaged
+sub-damaged c = search needs
+
+part-damaged-start : tie.Need-part-damaged-start
+part-damaged-start c = search needs
+
+part-damaged-end : tie.Need-part-damaged-end
+part-damaged-end c = search needs
+
 counted-requires : tie.Need-counted-requires
 counted-requires c κs = search needs
 
@@ -37,7 +52,7 @@ returns-2 : tie.Need-returns-2
 returns-2 c = λ ss outlined.
     let (put, few) = c .before .before .put-outline2 .ensures in
     let puts = put ss outlined in
-    let room : length (textOf (c .before .before .before .before .before .before .before .before .before .before .args .o .named) ss) ≤ length (c .before .before .before .before .before .before .before .before .before .before .args .buffer .now) =
+    let room : length (textOf (c .before .before .before .before .before .before .before .before .before .before .before .args .o .named) ss) ≤ length (c .before .before .before .before .before .before .before .before .before .before .before .args .buffer .now) =
     ⊎-elim
     (λ w. omega (arith, w .4 .left, w .2 .ensures .0 ss outlined .end))
     (λ w. omega (arith, puts .end, few, c .before .before .before .before .before .surely-fits .ensures (not-false _ (w .left))))
@@ -48,6 +63,11 @@ pub write-outline-spec : {M : Type 1} → statement M
 write-outline-spec =
     tie.close
     (tie.spec
+    mul-behind
+    mul-damaged
+    sub-damaged
+    part-damaged-start
+    part-damaged-end
     counted-requires
     surely-fits-requires
     slice-aggregate-put-outline

@@ -20,6 +20,9 @@ enum-known-head c = search needs
 slice-aggregate-segments-of : tie.Need-slice-aggregate-segments-of
 slice-aggregate-segments-of c = search needs
 
+slice-aggregate-segments-of-2 : tie.Need-slice-aggregate-segments-of-2
+slice-aggregate-segments-of-2 c = search needs
+
 segments-of-requires : tie.Need-segments-of-requires
 segments-of-requires c κs = search needs
 
@@ -36,17 +39,17 @@ returns c = sym (earlier-headless _ (heading-refused _ (c .before .before .befor
 returns-2 : tie.Need-returns-2
 unfolding judgedAnswer
 returns-2 c =
-    let met = c .before .before .before .before .before .before .before in
+    let met = c .before .before .before .before .before .before .before .before .before in
     let (h, known, same) = heading-found _ (met .before .before .heading-of .ensures) (met .head .given .1) in
-    let (answer, _) = c .before .before .before .before .segments-of .ensures h (headed _ h known .boxes) (facts-mixed _ h same) (facts-segments _ h _ same) in
+    let (answer, _) = c .before .before .before .before .before .segments-of .ensures h (headed _ h known .boxes) (facts-mixed _ h same) (facts-segments _ h _ same) in
     sym (earlier-by _ known ∙ judged-refused _ h (answer-refused answer (c .before .n2 .given .1)))
 
 returns-3 : tie.Need-returns-3
 unfolding judgedAnswer
 returns-3 c =
-    let met = c .before .before .before .before .before .before .before in
+    let met = c .before .before .before .before .before .before .before .before .before in
     let (h, known, same) = heading-found _ (met .before .before .heading-of .ensures) (met .head .given .1) in
-    let (answer, _) = c .before .before .before .before .segments-of .ensures h (headed _ h known .boxes) (facts-mixed _ h same) (facts-segments _ h _ same) in
+    let (answer, _) = c .before .before .before .before .before .segments-of .ensures h (headed _ h known .boxes) (facts-mixed _ h same) (facts-segments _ h _ same) in
     sym (earlier-by _ known ∙ judged-given _ h (answer-given answer (c .before .gathered .given .1)) same)
 
 pub earlier-of-spec : {M : Type 1} → statement M
@@ -57,6 +60,7 @@ earlier-of-spec =
     enum-known-n
     enum-known-head
     slice-aggregate-segments-of
+    slice-aggregate-segments-of-2
     segments-of-requires
     enum-known-n-2
     enum-known-gathered

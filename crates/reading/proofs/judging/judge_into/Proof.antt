@@ -7,7 +7,7 @@ use Rattle.boxes.proofs.KindLaws.{right-count}
 use Rattle.partial.proofs.Reading.HeadingAppendLaws.{headed}
 use Rattle.reading.specs.Judged.{judgedAnswer}
 use Rattle.reading.proofs.JudgedLaws.{heading-refused, heading-found, facts-segments, facts-mixed, answer-refused, answer-given}
-use Rattle.reading.proofs.JudgedLaws.{reading-headless, reading-none, reading-by, judged-refused, judged-given, read-refused, rows-refused, rows-read}
+use Rattle.reading.proofs.JudgedLaws.{reading-headless, reading-none, reading-by, judged-refused, judged-given, read-refused, kept-refused, kept-read}
 use borrow.Author.Needs.{needs}
 use Rattle.reading.proofs.judging.judge_into.Statement.{statement}
 use Rattle.reading.proofs.judging.judge_into.Tie as tie
@@ -31,7 +31,7 @@ returns c =
     let (h, known, same) = heading-found _ (met .before .before .heading-of .ensures) (met .head .given .1) in
     let rule = c .before .keeps .ensures ∙ ap (rightCount File pseg) (facts-segments _ h _ same) ∙ sym (right-count File pseg (h .boxes)) in
     let none = reading-none _ known (sym rule ∙ not-true _ (c .if1 .taken)) in
-    (sym none, rows-refused (read-refused _ none))
+    (sym none, kept-refused (read-refused _ none))
 
 segments-of-requires : tie.Need-segments-of-requires
 segments-of-requires c κs = search needs
@@ -46,35 +46,41 @@ returns-2 : tie.Need-returns-2
 unfolding judgedAnswer
 returns-2 c =
     let headless = reading-headless _ (heading-refused _ (c .before .before .before .heading-of .ensures) (c .before .n .given .1)) in
-    (sym headless, rows-refused (read-refused _ headless))
+    (sym headless, kept-refused (read-refused _ headless))
 
 same-length : tie.Need-same-length
 same-length c = search needs
 
+same-length-2 : tie.Need-same-length-2
+same-length-2 c = search needs
+
 returns-3 : tie.Need-returns-3
 unfolding judgedAnswer
 returns-3 c =
-    let kept = c .before .before .before .before .before .before .before in
+    let kept = c .before .before .before .before .before .before .before .before .before .before in
     let met = kept .before .before .before in
     let (h, known, same) = heading-found _ (met .before .before .heading-of .ensures) (met .head .given .1) in
     let rule = kept .before .keeps .ensures ∙ ap (rightCount File pseg) (facts-segments _ h _ same) ∙ sym (right-count File pseg (h .boxes)) in
-    let (answer, rows) = c .before .before .before .before .before .segments-of .ensures h (headed _ h known .boxes) (facts-mixed _ h same) (facts-segments _ h _ same) in
+    let (answer, rows) = c .before .before .before .before .before .before .before .segments-of .ensures h (headed _ h known .boxes) (facts-mixed _ h same) (facts-segments _ h _ same) in
     let by = reading-by _ known (sym rule ∙ not-false _ (kept .if1 .left)) in
-    (sym (by ∙ judged-refused _ h (answer-refused answer (c .before .n2 .given .1))), rows-read _ h known rows)
+    (sym (by ∙ judged-refused _ h (answer-refused answer (c .before .n2 .given .1))), kept-read _ h known rows)
 
-same-length-2 : tie.Need-same-length-2
-same-length-2 c = search needs
+same-length-3 : tie.Need-same-length-3
+same-length-3 c = search needs
+
+same-length-4 : tie.Need-same-length-4
+same-length-4 c = search needs
 
 returns-4 : tie.Need-returns-4
 unfolding judgedAnswer
 returns-4 c =
-    let kept = c .before .before .before .before .before .before .before in
+    let kept = c .before .before .before .before .before .before .before .before .before .before in
     let met = kept .before .before .before in
     let (h, known, same) = heading-found _ (met .before .before .heading-of .ensures) (met .head .given .1) in
     let rule = kept .before .keeps .ensures ∙ ap (rightCount File pseg) (facts-segments _ h _ same) ∙ sym (right-count File pseg (h .boxes)) in
-    let (answer, rows) = c .before .before .before .before .before .segments-of .ensures h (headed _ h known .boxes) (facts-mixed _ h same) (facts-segments _ h _ same) in
+    let (answer, rows) = c .before .before .before .before .before .before .before .segments-of .ensures h (headed _ h known .boxes) (facts-mixed _ h same) (facts-segments _ h _ same) in
     let by = reading-by _ known (sym rule ∙ not-false _ (kept .if1 .left)) in
-    (sym (by ∙ judged-given _ h (answer-given answer (c .before .gathered .given .1)) same), rows-read _ h known rows)
+    (sym (by ∙ judged-given _ h (answer-given answer (c .before .gathered .given .1)) same), kept-read _ h known rows)
 
 pub judge-into-spec : {M : Type 1} → statement M
 judge-into-spec =
@@ -90,6 +96,8 @@ judge-into-spec =
     enum-known-gathered
     returns-2
     same-length
-    returns-3
     same-length-2
+    returns-3
+    same-length-3
+    same-length-4
     returns-4)

@@ -5,8 +5,8 @@ use borrow.Author.Tests.{not-true, not-false}
 use Rattle.boxes.specs.Answer.{given}
 use Rattle.gathering.proofs.GatheredLaws.{gathered-sizes}
 use Rattle.reading.specs.Judged.{gatheredAnswer}
-use Rattle.reading.proofs.JudgedLaws.{gathered-crowded, gathered-refused, gathered-differ, gathered-given, rows-ungathered}
-use Rattle.reading.proofs.JudgedLaws.{passed-refused, passed-given, passed-rows}
+use Rattle.reading.proofs.JudgedLaws.{gathered-crowded, gathered-refused, gathered-differ, gathered-given, kept-ungathered}
+use Rattle.reading.proofs.JudgedLaws.{passed-refused, passed-given, passed-kept}
 use borrow.Author.Needs.{needs}
 use Rattle.reading.proofs.judging.segments_of.Statement.{statement}
 use Rattle.reading.proofs.judging.segments_of.Tie as tie
@@ -15,10 +15,7 @@ returns : tie.Need-returns
 unfolding gatheredAnswer
 returns c = λ h known mix count.
     let crowded = gathered-crowded _ h (omega (arith, count)) in
-    (sym crowded, rows-ungathered _ h crowded)
-
-slice-aggregate-pass : tie.Need-slice-aggregate-pass
-slice-aggregate-pass c = search needs
+    (sym crowded, kept-ungathered _ h crowded)
 
 pass-requires : tie.Need-pass-requires
 pass-requires c κs = search needs
@@ -35,49 +32,60 @@ agree-requires c κs = search needs
 same-length : tie.Need-same-length
 same-length c = search needs
 
+same-length-2 : tie.Need-same-length-2
+same-length-2 c = search needs
+
 returns-2 : tie.Need-returns-2
 unfolding gatheredAnswer
 returns-2 c = λ h known mix count.
     let met = c .before .before .before .before in
-    let gathers = met .before .before .before .before .before .pass .ensures h known mix in
+    let gathers = met .before .before .before .before .before .before .pass .ensures h known mix in
     let (ss, read, same) = passed-given _ h _ _ _ _ _ gathers (met .gathered .given .1) in
     let differ = sym (c .before .agree .ensures ss (gathered-sizes ss same)) ∙ not-true _ (c .if2 .taken) in
-    (sym (gathered-differ _ h (omega (arith, count)) read differ), passed-rows _ h _ _ _ _ _ gathers)
+    (sym (gathered-differ _ h (omega (arith, count)) read differ), passed-kept _ h _ _ _ _ _ gathers)
 
-same-length-2 : tie.Need-same-length-2
-same-length-2 c = search needs
+same-length-3 : tie.Need-same-length-3
+same-length-3 c = search needs
+
+same-length-4 : tie.Need-same-length-4
+same-length-4 c = search needs
 
 returns-3 : tie.Need-returns-3
 unfolding gatheredAnswer
 returns-3 c = λ h known mix count.
-    let gathers = c .before .before .before .before .before .before .pass .ensures h known mix in
-    (sym (gathered-refused _ h (omega (arith, count)) (passed-refused _ h _ _ _ _ _ gathers (c .before .n .given .1))), passed-rows _ h _ _ _ _ _ gathers)
+    let gathers = c .before .before .before .before .before .before .before .pass .ensures h known mix in
+    (sym (gathered-refused _ h (omega (arith, count)) (passed-refused _ h _ _ _ _ _ gathers (c .before .n .given .1))), passed-kept _ h _ _ _ _ _ gathers)
 
-same-length-3 : tie.Need-same-length-3
-same-length-3 c = search needs
+same-length-5 : tie.Need-same-length-5
+same-length-5 c = search needs
+
+same-length-6 : tie.Need-same-length-6
+same-length-6 c = search needs
 
 returns-4 : tie.Need-returns-4
 unfolding gatheredAnswer
 returns-4 c = λ h known mix count.
     let met = c .before .before .before .before in
-    let gathers = met .before .before .before .before .before .pass .ensures h known mix in
+    let gathers = met .before .before .before .before .before .before .pass .ensures h known mix in
     let (ss, read, same) = passed-given _ h _ _ _ _ _ gathers (met .gathered .given .1) in
     let agrees = sym (c .before .agree .ensures ss (gathered-sizes ss same)) ∙ not-false _ (c .if2 .left) in
-    (ap given same ∙ sym (gathered-given _ h (omega (arith, count)) read agrees), passed-rows _ h _ _ _ _ _ gathers)
+    (ap given same ∙ sym (gathered-given _ h (omega (arith, count)) read agrees), passed-kept _ h _ _ _ _ _ gathers)
 
 pub segments-of-spec : {M : Type 1} → statement M
 segments-of-spec =
     tie.close
     (tie.spec
     returns
-    slice-aggregate-pass
     pass-requires
     enum-known-n
     enum-known-gathered
     agree-requires
     same-length
-    returns-2
     same-length-2
-    returns-3
+    returns-2
     same-length-3
+    same-length-4
+    returns-3
+    same-length-5
+    same-length-6
     returns-4)

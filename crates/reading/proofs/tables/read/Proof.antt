@@ -5,6 +5,7 @@ use lib.ListN.{length}
 use Rattle.partial.specs.Segments.{chunksOf}
 use Rattle.partial.proofs.Reading.HeadingAppendLaws.{headed}
 use Rattle.partial.specs.Tables.{segmentRowLength, chunkRowLength}
+use Rattle.gathering.specs.Forms.{allPuts}
 use Rattle.gathering.proofs.GatheredLaws.{gathered-segments, gathered-chunks, gathered-sizes}
 use Rattle.gathering.proofs.PassLaws.{rows-put}
 use Rattle.reading.proofs.JudgedLaws.{facts-mixed, accepted, read-refused, read-given, read-segments, judgement-refused, judgement-given}
@@ -51,13 +52,14 @@ same-length-2 : tie.Need-same-length-2
 same-length-2 c = search needs
 
 returns-4 : tie.Need-returns-4
+unfolding allPuts
 returns-4 c =
     let met = c .before .before .before .before .before .before .before .before .before .before .before .before .before .before .before in
     let a = accepted _ (judgement-given (met .before .before .judge .ensures) (met .judged .given .1)) in
     let args = c .before .before .before .before .before .before .before .before .before .before .before .before .before .before .before .before .before .before .before .before .before .args in
     let segments : segmentRowLength * length (a .ss) ≤ length (args .segments .now) = omega (arith, gathered-segments (a .ss) (a .gathered)) in
     let chunks : chunkRowLength * length (chunksOf (a .ss)) ≤ length (args .chunks .now) = omega (arith, gathered-chunks (a .ss) (a .gathered)) in
-    let (one, two) = rows-put _ (a .h) _ (c .before .before .before .before .before .pass .ensures (a .h) (headed _ (a .h) (a .head) .boxes) (facts-mixed _ (a .h) (a .facts))) (read-segments _ a) in
+    let (one, two) = rows-put _ (a .h) _ _ (c .before .before .before .before .before .pass .ensures (a .h) (headed _ (a .h) (a .head) .boxes) (facts-mixed _ (a .h) (a .facts))) (read-segments _ a) in
     let answer = answered (a .ss) (a .gathered) _ (c .described .ensures (a .ss) (gathered-sizes (a .ss) (a .gathered))) in
     reads-given _ _ _ (a .ss) (tabled-given _ _ _ (a .ss) (read-given _ a) segments chunks) answer (segments-filled (a .ss) one segments) (chunks-filled (a .ss) two chunks)
 

@@ -1,31 +1,84 @@
--- `spans::chunks::spans_of` meets its contract. The loop's invariant: the rows so far have become spans, and the others
--- are as they were.
-use Prim.Native.Nat.{_-_, _≤_}
+-- `spans::chunks::spans_of` meets its contract. The loop's invariant: the segments so far have the spans of their
+-- chunks, and the others are kept ahead.
+use Prim.Native.Nat.{_+_, _-_, _*_, _<_, _≤_}
+use mathlib.Core.List.{List}
+use mathlib.Core.Path.{_≡_, refl, ap}
 use native.Mathlib.Omega.{arith}
-use mathlib.Core.Path.{_∙_, sym, ap}
-use Rattle.partial.specs.Segments.{Chunk, good}
-use Rattle.spans.specs.Chunks.{SpansOf}
-use Rattle.spans.proofs.ChunkLaws.{Left, left-all, left-row, left-more, row-long, spans-none, spans-more, spans-all}
+use lib.ListN.{length, take, drop}
+use lib.Seq.{take-all}
+use Rattle.partial.specs.Limits.{chunkLimit}
+use Rattle.partial.specs.Segments.{Segment, chunksOf}
+use Rattle.gathering.specs.Kept.{SegmentsKept, Kept}
+use Rattle.gathering.proofs.KeptLaws.{next-segment}
+use Rattle.spans.specs.Chunks.{manyOf, SpansOf}
+use Rattle.spans.specs.Spans.{Spans}
+use Rattle.spans.proofs.ChunkLaws.{spans-none, spans-same, spans-segment}
+use Rattle.spans.proofs.SpanLaws.{no-spans}
 use borrow.Author.Needs.{needs}
 use Rattle.spans.proofs.chunks.spans_of.Statement.{statement}
 use Rattle.spans.proofs.chunks.spans_of.Tie as tie
 
 abbrev Inv-loop : tie.InvT-loop
-Inv-loop table₀ count end n₀ k₀ table n k = (k ≤ count) × (n ≤ k) × Left table₀ k table × SpansOf good table₀ k (end .0) table n
+Inv-loop state segments many numbers end table₀ n₀ at₀ k₀ table n at k =
+    (k ≤ many)
+    × (at ≤ chunkLimit)
+    × (length table ≡ length table₀)
+    × Spans table n (end .0)
+    × ((ss : List Segment) → Kept segments many numbers ss → 2 * manyOf state (chunksOf ss) ≤ length table₀
+    → (at ≡ length (chunksOf (take k ss))) × SegmentsKept segments numbers k at (drop k ss) × SpansOf state (chunksOf (take k ss)) (end .0) table n)
 
 abbrev μ-loop : tie.MeasureT-loop
-μ-loop table₀ count end n₀ k₀ table n k = count - k
+μ-loop state segments many numbers end table₀ n₀ at₀ k₀ table n at k = many - k
+
+returns : tie.Need-returns Inv-loop μ-loop
+returns c = (no-spans _ _, λ ss kept. absurd (omega (arith, kept .count, kept .few)))
 
 loop-holds : tie.Need-loop-holds Inv-loop μ-loop
-loop-holds c = (omega arith, omega arith, left-all _, spans-none _ _ _ _)
+unfolding chunksOf
+loop-holds c = (omega arith, omega arith, refl, no-spans _ _, λ ss kept room. (refl, kept .segments, spans-none _ _ _))
 
-chunk-at-requires : tie.Need-chunk-at-requires Inv-loop μ-loop
-chunk-at-requires c κs = search needs
+mul-row : tie.Need-mul-row Inv-loop μ-loop
+mul-row c = search needs
 
-take-chunk-requires : tie.Need-take-chunk-requires Inv-loop μ-loop
-take-chunk-requires c κs = λ is.
-    let row = c .before .chunk-at .ensures in
-    omega (arith, row-long _ _ (ap (λ (x : Chunk). x .state) (sym row) ∙ is))
+add-first : tie.Need-add-first Inv-loop μ-loop
+add-first c = search needs
+
+mul-first : tie.Need-mul-first Inv-loop μ-loop
+mul-first c = search needs
+
+element-copy-out-first : tie.Need-element-copy-out-first Inv-loop μ-loop
+element-copy-out-first c = search needs
+
+add-count : tie.Need-add-count Inv-loop μ-loop
+add-count c = search needs
+
+mul-count : tie.Need-mul-count Inv-loop μ-loop
+mul-count c = search needs
+
+element-copy-out-count : tie.Need-element-copy-out-count Inv-loop μ-loop
+element-copy-out-count c = search needs
+
+sub-if2 : tie.Need-sub-if2 Inv-loop μ-loop
+sub-if2 c = search needs
+
+same-length : tie.Need-same-length Inv-loop μ-loop
+same-length c = search needs
+
+returns-2 : tie.Need-returns-2 Inv-loop μ-loop
+returns-2 c =
+    let (low, under, long, spans, so-far) = c .before .before .before .before .loop .inv in (
+      spans,
+      λ ss kept room.
+          let (here, ahead, _) = so-far ss kept room in
+          let some : c .before .before .before .before .loop .k < length ss = omega (arith, kept .count) in
+          absurd (omega (arith, next-segment _ _ ss _ _ some (kept .chunks) here ahead .fits)),
+    )
+
+take-segment-requires : tie.Need-take-segment-requires Inv-loop μ-loop
+take-segment-requires c κs = search needs
+
+add-at : tie.Need-add-at Inv-loop μ-loop
+add-at c = search needs
 
 add-k : tie.Need-add-k Inv-loop μ-loop
 add-k c = search needs
@@ -35,16 +88,26 @@ loop-less c = search needs
 
 loop-again : tie.Need-loop-again Inv-loop μ-loop
 loop-again c =
-    let (low, few, left, spans) = c .before .before .before .before .before .before .before .loop .inv in
-    let taken = c .before .before .take-chunk .ensures in
-    let row = c .before .before .before .before .chunk-at .ensures in
-    (omega arith, omega (arith, taken .many), left-more left few taken, spans-more _ _ _ spans _ (row ∙ left-row left) taken)
+    let (low, under, long, spans, so-far) = c .before .before .before .before .before .before .before .before .loop .inv in
+    let (still, more) = c .before .before .take-segment .ensures in (
+      omega arith,
+      omega arith,
+      search needs,
+      still spans,
+      λ ss kept room.
+          let (here, ahead, made) = so-far ss kept room in
+          let some : c .before .before .before .before .before .before .before .before .loop .k < length ss = omega (arith, kept .count) in
+          let n = next-segment _ _ ss _ _ some (kept .chunks) here ahead in
+          (n .behind, n .ahead, spans-segment _ _ ss _ some n (omega (arith, room, long)) made (more (chunksOf (take (c .before .before .before .before .before .before .before .before .loop .k) ss)) (n .s .chunks) (n .count) (n .kept))),
+    )
 
-same-length : tie.Need-same-length Inv-loop μ-loop
-same-length c = search needs
+same-length-2 : tie.Need-same-length-2 Inv-loop μ-loop
+same-length-2 c = search needs
 
-returns : tie.Need-returns Inv-loop μ-loop
-returns c = spans-all _ _ _ (c .before .loop .inv .3) (omega arith)
+returns-3 : tie.Need-returns-3 Inv-loop μ-loop
+returns-3 c =
+    let (low, under, long, spans, so-far) = c .before .loop .inv in
+    (spans, λ ss kept room. spans-same (ap chunksOf (take-all (c .before .loop .k) ss (omega (arith, kept .count)))) (so-far ss kept room .2))
 
 pub spans-of-spec : {M : Type 1} → statement M
 spans-of-spec =
@@ -52,11 +115,22 @@ spans-of-spec =
     (tie.spec
     Inv-loop
     μ-loop
+    returns
     loop-holds
-    chunk-at-requires
-    take-chunk-requires
+    mul-row
+    add-first
+    mul-first
+    element-copy-out-first
+    add-count
+    mul-count
+    element-copy-out-count
+    sub-if2
+    same-length
+    returns-2
+    take-segment-requires
+    add-at
     add-k
     loop-less
     loop-again
-    same-length
-    returns)
+    same-length-2
+    returns-3)

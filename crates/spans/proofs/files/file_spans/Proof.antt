@@ -1,6 +1,6 @@
 -- `spans::files::file_spans` meets its contract.
 use Rattle.spans.proofs.SpanLaws.{same-ordered}
-use Rattle.spans.proofs.FileLaws.{spanned-by}
+use Rattle.spans.proofs.FileLaws.{spans-ordered}
 use borrow.Author.Needs.{needs}
 use Rattle.spans.proofs.files.file_spans.Statement.{statement}
 use Rattle.spans.proofs.files.file_spans.Tie as tie
@@ -16,9 +16,9 @@ same-length c = search needs
 
 returns : tie.Need-returns
 returns c =
-    let spans = c .before .before .before .before .before .before .spans-of .ensures in
-    let (same, up) = c .before .before .order .ensures (spans .spans .room) in
-    (same-ordered same (spans .spans) up, λ ss known. spanned-by known spans same)
+    let (spans, all) = c .before .before .before .before .before .before .spans-of .ensures in
+    let (same, up) = c .before .before .order .ensures (spans .room) in
+    (same-ordered same spans up, λ ss kept room. spans-ordered (all ss kept room) same)
 
 pub file-spans-spec : {M : Type 1} → statement M
 file-spans-spec =
