@@ -44,7 +44,7 @@ const UUID: u32 = 0x7575_6964;
 const USER_SIZE: u64 = 16;
 
 // How many bytes the user type has of a box of a type.
-fn user_size(kind: u32) -> u64
+pub fn user_size(kind: u32) -> u64
     ensures { λ r. ⌜ r ≡ userSize kind ⌝ }
 {
     if kind == UUID { USER_SIZE } else { 0 }

@@ -10,3 +10,5 @@ pub const CHUNK_LIMIT: u64 = 1_024;
 pub const SOURCE_LIMIT: u64 = 1_099_511_627_775;
 // The most bytes that the map program takes.
 pub const PROGRAM_LIMIT: u64 = 65_536;
+// The most levels of indexed boxes.
+pub const LEVEL_LIMIT: u64 = 8;

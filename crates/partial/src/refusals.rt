@@ -54,3 +54,5 @@ pub const BUFFER_TOO_SHORT: u64 = 33;
 pub const ZERO_IN_TEXT: u64 = 34;
 // A good chunk to go outside is not whole allowed boxes, or its file is not mixed.
 pub const NOT_WHOLE_BOXES: u64 = 35;
+// An index list is wrong: its framing, a cut field, a size, a filling, a second `fidx` or front part, or an end.
+pub const INDEX_WRONG: u64 = 36;

@@ -1,0 +1,9 @@
+pub mod EndLaws
+pub mod FieldsLaws
+pub mod HeadLaws
+pub mod InnerLaws
+pub mod MarksLaws
+pub mod RowLaws
+pub mod BoxLaws
+pub mod ListLaws
+pub mod ReadyLaws

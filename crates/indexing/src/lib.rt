@@ -1,0 +1,7 @@
+// The box index: index lists and the indexed boxes in them, which may hold lists.
+pub mod end;
+mod fields;
+mod head;
+mod inner;
+mod lists;
+pub mod marks;
