@@ -31,13 +31,17 @@ deepIn is = not (allOf (λ i. leb (i .level) levelLimit) is)
 unfoldable pub unknownIn : List Indexed → Bool
 unknownIn is = not (allOf (λ i. isKnown (i .end)) is)
 
--- so many more rows, put behind those before, and whether an end is not known
-pub record Rowed (before : Marks) (t₀ : List ℕ) (is : List Indexed) (m : Marks) (t : List ℕ) : Type 0 where
-  pub unknown : m .unknown ≡ (before .unknown || unknownIn is)
-  pub count : m .count ≡ before .count + length is
-  pub rows : Put t₀ (indexRowLength * before .count) (plainRows is) t
+-- those that are looked into, whose rows are put
+unfoldable pub shown : List Indexed → List Indexed
+shown [] = []
+shown (i ∷ is) = elim (leb (i .level) levelLimit) [ true ↦ i ∷ shown is | false ↦ shown is ]
 
--- what is marked with more boxes: where one is of a ninth level nothing is said of rows
+-- what is marked with more boxes
+abbrev pub marksWith : Marks → List Indexed → Marks
+marksWith before is =
+    record { count = before .count + length (shown is); deep = before .deep || deepIn is; unknown = before .unknown || unknownIn (shown is) }
+
+-- that they are marked, and their rows are put behind those before
 pub record Marked (before : Marks) (t₀ : List ℕ) (is : List Indexed) (m : Marks) (t : List ℕ) : Type 0 where
-  pub deep : m .deep ≡ (before .deep || deepIn is)
-  pub rowed : m .deep ≡ false → Rowed before t₀ is m t
+  pub marks : m ≡ marksWith before is
+  pub rows : Put t₀ (indexRowLength * before .count) (plainRows (shown is)) t
