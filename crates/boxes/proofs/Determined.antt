@@ -5,9 +5,13 @@ use Rattle.numerals.proofs.Determined.{OneResult, OneLeft}
 use Rattle.boxes.proofs.ToldLaws.{header-told, step-told}
 use Rattle.boxes.proofs.framing.header_at.Reads as header-at
 use Rattle.boxes.proofs.framing.put_header.Reads as put-header
+use Rattle.boxes.proofs.framing.user_size.Reads as user-size
 use Rattle.boxes.proofs.kinds.table.Reads as table
 use Rattle.boxes.proofs.walk.Walk.new.Reads as new
 use Rattle.boxes.proofs.walk.Walk.step.Reads as step
+
+user-size-result : OneResult user-size.Post
+user-size-result κs args x y after after′ p q = p ∙ sym q
 
 header-at-result : OneResult header-at.Post
 header-at-result κs args x y after after′ p q = header-told x y (p ∙ sym q)

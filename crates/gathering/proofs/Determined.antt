@@ -12,7 +12,7 @@ use Rattle.boxes.specs.Answer.{given}
 use Rattle.boxes.specs.Framing.{boxesIn}
 use Rattle.boxes.specs.declared.kinds.Container.the-variants.{File}
 use Rattle.boxes.proofs.AnswerLaws.{not-both, refused-same, given-same}
-use Rattle.numerals.proofs.Determined.{OneResult, OneKnown}
+use Rattle.numerals.proofs.Determined.{OneResult, OneKnown, OneLeftKnown}
 use Rattle.partial.specs.Heading.{Heading}
 use Rattle.partial.specs.Segments.{Segment}
 use Rattle.partial.specs.Tables.{segmentRows, chunkRows}
@@ -28,15 +28,6 @@ use Rattle.gathering.proofs.PassLaws.{rows-put}
 use Rattle.gathering.proofs.kept.fill_rows.Reads as fill-rows
 use Rattle.gathering.proofs.numbers.chunk_by.Reads as chunk-by
 use Rattle.gathering.proofs.pass.pass.Reads as pass
-
--- where something is known of the arguments, a contract allows one value of something that the call leaves behind
-module _ {L : Type 0} {A R E : L → Type 0} (post : (κs : L) → A κs → R κs → E κs → Type 0) where
-  abbrev pub OneLeftKnown : {X Y : Type 0} → ((κs : L) → A κs → X → Type 0) → ((κs : L) → E κs → Y) → Type 0
-  OneLeftKnown {X} known of =
-      (κs : L) (args : A κs) (what : X) → known κs args what → (x y : R κs) (after after′ : E κs)
-      → post κs args x after
-      → post κs args y after′
-      → of κs after ≡ of κs after′
 
 -- the boxes of a file are those of a heading, and whether it is mixed is as the heading says
 abbrev Boxed : List ℕ → Bool → Heading → Type 0

@@ -7,3 +7,5 @@ pub mod RowLaws
 pub mod BoxLaws
 pub mod ListLaws
 pub mod ReadyLaws
+pub mod IndexLaws
+pub mod Determined

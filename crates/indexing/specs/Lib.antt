@@ -4,3 +4,4 @@ pub mod Head
 pub mod Inner
 pub mod Marks
 pub mod Lists
+pub mod Index

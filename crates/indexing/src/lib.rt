@@ -2,6 +2,7 @@
 pub mod end;
 mod fields;
 mod head;
+pub mod index;
 mod inner;
 mod lists;
 pub mod marks;

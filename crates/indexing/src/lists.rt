@@ -56,7 +56,7 @@ fn place_after(place: Position, end: End) -> Position
 }
 
 // The `bidx` boxes of a list on a level, so many, from a place of the source on, each where the one before it ends.
-fn index_list(
+pub(crate) fn index_list(
     file: &[u8],
     container: Container,
     start: Place,

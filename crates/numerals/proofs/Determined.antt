@@ -34,6 +34,14 @@ module _ {L : Type 0} {A R E : L → Type 0} (post : (κs : L) → A κs → R �
       → post κs args y after′
       → x ≡ y
 
+  -- where something is known of the arguments, a contract allows one value of something that the call leaves behind
+  abbrev pub OneLeftKnown : {X Y : Type 0} → ((κs : L) → A κs → X → Type 0) → ((κs : L) → E κs → Y) → Type 0
+  OneLeftKnown {X} known of =
+      (κs : L) (args : A κs) (what : X) → known κs args what → (x y : R κs) (after after′ : E κs)
+      → post κs args x after
+      → post κs args y after′
+      → of κs after ≡ of κs after′
+
 within-result : OneResult within.Post
 within-result κs args x y after after′ p q = p ∙ sym q
 
