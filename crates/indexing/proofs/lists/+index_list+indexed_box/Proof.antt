@@ -62,6 +62,35 @@ abbrev indexed-box-below : ℕ → In 2 indexed-box-kinds.ps
 indexed-box-below t =
     and 2 indexed-box-kinds.ps (falls 2 indexed-box-kinds.ps _<_ μ-indexed-box t) indexed-box.Pre
 
+-- what is known of the functions that each calls
+abbrev index-list-claims : ℕ → index-list-lts.Claims
+index-list-claims t = (
+  new-reads.Asked,
+  new-reads.Learnt,
+  step-reads.Asked,
+  step-reads.Learnt,
+  indexed-box-below t,
+  indexed-box.Post,
+  place-after-reads.Asked,
+  place-after-reads.Learnt,
+)
+
+abbrev indexed-box-claims : ℕ → indexed-box-lts.Claims
+indexed-box-claims t = (
+  head-of-reads.Asked,
+  head-of-reads.Learnt,
+  inner-of-reads.Asked,
+  inner-of-reads.Learnt,
+  put-box-reads.Asked,
+  put-box-reads.Learnt,
+  deepened-reads.Asked,
+  deepened-reads.Learnt,
+  index-list-below t,
+  index-list.Post,
+  fills-reads.Asked,
+  fills-reads.Learnt,
+)
+
 abbrev index-list-Inv-loop : index-list-lts.InvT-loop
 index-list-Inv-loop file many level enclosing table₀ walk₀ marks₀ place₀ filled₀ left₀ table walk marks place filled left =
     (length table ≡ length table₀) × Midway file level (endOf enclosing) table₀ walk₀ marks₀ (place₀ .0) table walk marks (place .0) filled left
@@ -70,66 +99,21 @@ abbrev index-list-μ-loop : index-list-lts.MeasureT-loop
 index-list-μ-loop file many level enclosing table₀ walk₀ marks₀ place₀ filled₀ left₀ table walk marks place filled left =
     walk .left
 
-index-list-new-requires : (t : ℕ) → index-list-lts.Need-new-requires (
-  new-reads.Asked,
-  new-reads.Learnt,
-  step-reads.Asked,
-  step-reads.Learnt,
-  indexed-box-below t,
-  indexed-box.Post,
-  place-after-reads.Asked,
-  place-after-reads.Learnt,
-) (index-list-at t) index-list.Post index-list-Inv-loop index-list-μ-loop
+index-list-new-requires : (t : ℕ) → index-list-lts.Need-new-requires (index-list-claims t) (index-list-at t) index-list.Post index-list-Inv-loop index-list-μ-loop
 index-list-new-requires t c κs = tt
 
-index-list-loop-holds : (t : ℕ) → index-list-lts.Need-loop-holds (
-  new-reads.Asked,
-  new-reads.Learnt,
-  step-reads.Asked,
-  step-reads.Learnt,
-  indexed-box-below t,
-  indexed-box.Post,
-  place-after-reads.Asked,
-  place-after-reads.Learnt,
-) (index-list-at t) index-list.Post index-list-Inv-loop index-list-μ-loop
+index-list-loop-holds : (t : ℕ) → index-list-lts.Need-loop-holds (index-list-claims t) (index-list-at t) index-list.Post index-list-Inv-loop index-list-μ-loop
 index-list-loop-holds t c =
     let args = c .before .before .before .args in
     (refl, midway-none (endOf (args .enclosing)) _ _ (c .new .ensures) (end-unknown _ refl) (c .before .before .before .pre .1))
 
-index-list-step-requires : (t : ℕ) → index-list-lts.Need-step-requires (
-  new-reads.Asked,
-  new-reads.Learnt,
-  step-reads.Asked,
-  step-reads.Learnt,
-  indexed-box-below t,
-  indexed-box.Post,
-  place-after-reads.Asked,
-  place-after-reads.Learnt,
-) (index-list-at t) index-list.Post index-list-Inv-loop index-list-μ-loop
+index-list-step-requires : (t : ℕ) → index-list-lts.Need-step-requires (index-list-claims t) (index-list-at t) index-list.Post index-list-Inv-loop index-list-μ-loop
 index-list-step-requires t c κs = tt
 
-index-list-enum-known-b : (t : ℕ) → index-list-lts.Need-enum-known-b (
-  new-reads.Asked,
-  new-reads.Learnt,
-  step-reads.Asked,
-  step-reads.Learnt,
-  indexed-box-below t,
-  indexed-box.Post,
-  place-after-reads.Asked,
-  place-after-reads.Learnt,
-) (index-list-at t) index-list.Post index-list-Inv-loop index-list-μ-loop
+index-list-enum-known-b : (t : ℕ) → index-list-lts.Need-enum-known-b (index-list-claims t) (index-list-at t) index-list.Post index-list-Inv-loop index-list-μ-loop
 index-list-enum-known-b t c = search needs
 
-index-list-sub-left : (t : ℕ) → index-list-lts.Need-sub-left (
-  new-reads.Asked,
-  new-reads.Learnt,
-  step-reads.Asked,
-  step-reads.Learnt,
-  indexed-box-below t,
-  indexed-box.Post,
-  place-after-reads.Asked,
-  place-after-reads.Learnt,
-) (index-list-at t) index-list.Post index-list-Inv-loop index-list-μ-loop
+index-list-sub-left : (t : ℕ) → index-list-lts.Need-sub-left (index-list-claims t) (index-list-at t) index-list.Post index-list-Inv-loop index-list-μ-loop
 index-list-sub-left t c =
     let so-far = c .before .before .before .before .before .before .before .loop .inv .1 in
     let b = c .before .before .before .before .b .given in
@@ -137,16 +121,7 @@ index-list-sub-left t c =
     let kind = is-kind bidx (b .0 .0) (c .if1 .taken) in
     one-left _ _ _ _ _ _ _ so-far (b .0 .0) step kind
 
-index-list-indexed-box-requires : (t : ℕ) → index-list-lts.Need-indexed-box-requires (
-  new-reads.Asked,
-  new-reads.Learnt,
-  step-reads.Asked,
-  step-reads.Learnt,
-  indexed-box-below t,
-  indexed-box.Post,
-  place-after-reads.Asked,
-  place-after-reads.Learnt,
-) (index-list-at t) index-list.Post index-list-Inv-loop index-list-μ-loop
+index-list-indexed-box-requires : (t : ℕ) → index-list-lts.Need-indexed-box-requires (index-list-claims t) (index-list-at t) index-list.Post index-list-Inv-loop index-list-μ-loop
 index-list-indexed-box-requires t c κs =
     let so-far = c .before .before .before .before .before .before .before .before .loop .inv .1 in
     let b = c .before .before .before .before .before .b .given in
@@ -154,40 +129,13 @@ index-list-indexed-box-requires t c κs =
     let kind = is-kind bidx (b .0 .0) (c .before .if1 .taken) in
     (box-below (c .before .before .before .before .before .before .before .before .before .before .before .before .args .level) (c .before .before .before .before .before .before .before .before .before .before .before .before .pre .1 .deepest) (c .before .before .before .before .before .before .before .before .before .before .before .before .pre .0), box-ready _ _ _ _ _ _ _ so-far (b .0 .0) step kind)
 
-index-list-enum-known-n : (t : ℕ) → index-list-lts.Need-enum-known-n (
-  new-reads.Asked,
-  new-reads.Learnt,
-  step-reads.Asked,
-  step-reads.Learnt,
-  indexed-box-below t,
-  indexed-box.Post,
-  place-after-reads.Asked,
-  place-after-reads.Learnt,
-) (index-list-at t) index-list.Post index-list-Inv-loop index-list-μ-loop
+index-list-enum-known-n : (t : ℕ) → index-list-lts.Need-enum-known-n (index-list-claims t) (index-list-at t) index-list.Post index-list-Inv-loop index-list-μ-loop
 index-list-enum-known-n t c = search needs
 
-index-list-same-length : (t : ℕ) → index-list-lts.Need-same-length (
-  new-reads.Asked,
-  new-reads.Learnt,
-  step-reads.Asked,
-  step-reads.Learnt,
-  indexed-box-below t,
-  indexed-box.Post,
-  place-after-reads.Asked,
-  place-after-reads.Learnt,
-) (index-list-at t) index-list.Post index-list-Inv-loop index-list-μ-loop
+index-list-same-length : (t : ℕ) → index-list-lts.Need-same-length (index-list-claims t) (index-list-at t) index-list.Post index-list-Inv-loop index-list-μ-loop
 index-list-same-length t c = search needs
 
-index-list-returns : (t : ℕ) → index-list-lts.Need-returns (
-  new-reads.Asked,
-  new-reads.Learnt,
-  step-reads.Asked,
-  step-reads.Learnt,
-  indexed-box-below t,
-  indexed-box.Post,
-  place-after-reads.Asked,
-  place-after-reads.Learnt,
-) (index-list-at t) index-list.Post index-list-Inv-loop index-list-μ-loop
+index-list-returns : (t : ℕ) → index-list-lts.Need-returns (index-list-claims t) (index-list-at t) index-list.Post index-list-Inv-loop index-list-μ-loop
 unfolding Counted Listed
 index-list-returns t c =
     let so-far = c .before .before .before .before .before .before .before .before .before .before .before .before .before .before .loop .inv .1 in
@@ -197,52 +145,16 @@ index-list-returns t c =
     let fault = subst (Listed _ _ _ _) (c .before .n .given .1) (c .before .before .before .before .before .indexed-box .ensures .1) in
     (tt, λ bs known. midway-refused _ _ _ _ _ _ _ so-far (b .0 .0) step kind fault bs (sym (walk-boxes _ (c .before .before .before .before .before .before .before .before .before .before .before .before .before .before .before .new .ensures)) ∙ known))
 
-index-list-enum-known-more : (t : ℕ) → index-list-lts.Need-enum-known-more (
-  new-reads.Asked,
-  new-reads.Learnt,
-  step-reads.Asked,
-  step-reads.Learnt,
-  indexed-box-below t,
-  indexed-box.Post,
-  place-after-reads.Asked,
-  place-after-reads.Learnt,
-) (index-list-at t) index-list.Post index-list-Inv-loop index-list-μ-loop
+index-list-enum-known-more : (t : ℕ) → index-list-lts.Need-enum-known-more (index-list-claims t) (index-list-at t) index-list.Post index-list-Inv-loop index-list-μ-loop
 index-list-enum-known-more t c = search needs
 
-index-list-place-after-requires : (t : ℕ) → index-list-lts.Need-place-after-requires (
-  new-reads.Asked,
-  new-reads.Learnt,
-  step-reads.Asked,
-  step-reads.Learnt,
-  indexed-box-below t,
-  indexed-box.Post,
-  place-after-reads.Asked,
-  place-after-reads.Learnt,
-) (index-list-at t) index-list.Post index-list-Inv-loop index-list-μ-loop
+index-list-place-after-requires : (t : ℕ) → index-list-lts.Need-place-after-requires (index-list-claims t) (index-list-at t) index-list.Post index-list-Inv-loop index-list-μ-loop
 index-list-place-after-requires t c κs = tt
 
-index-list-loop-less : (t : ℕ) → index-list-lts.Need-loop-less (
-  new-reads.Asked,
-  new-reads.Learnt,
-  step-reads.Asked,
-  step-reads.Learnt,
-  indexed-box-below t,
-  indexed-box.Post,
-  place-after-reads.Asked,
-  place-after-reads.Learnt,
-) (index-list-at t) index-list.Post index-list-Inv-loop index-list-μ-loop
+index-list-loop-less : (t : ℕ) → index-list-lts.Need-loop-less (index-list-claims t) (index-list-at t) index-list.Post index-list-Inv-loop index-list-μ-loop
 index-list-loop-less t c = fewer _ _ (next-box (c .before .before .before .before .before .before .before .before .before .before .before .before .before .before .step .ensures) (c .before .before .before .before .before .before .before .before .before .before .before .before .b .given .1))
 
-index-list-loop-again : (t : ℕ) → index-list-lts.Need-loop-again (
-  new-reads.Asked,
-  new-reads.Learnt,
-  step-reads.Asked,
-  step-reads.Learnt,
-  indexed-box-below t,
-  indexed-box.Post,
-  place-after-reads.Asked,
-  place-after-reads.Learnt,
-) (index-list-at t) index-list.Post index-list-Inv-loop index-list-μ-loop
+index-list-loop-again : (t : ℕ) → index-list-lts.Need-loop-again (index-list-claims t) (index-list-at t) index-list.Post index-list-Inv-loop index-list-μ-loop
 index-list-loop-again t c =
     let so-far = c .before .before .before .before .before .before .before .before .before .before .before .before .before .before .before .loop .inv .1 in
     let b = c .before .before .before .before .before .before .before .before .before .before .before .before .b .given in
@@ -254,67 +166,22 @@ index-list-loop-again t c =
       midway-more _ _ _ _ _ _ _ so-far (b .0 .0) step kind (subst (Listed _ _ _ _) given-as (read .1)) (subst (Counted _) given-as (read .0)) (c .place-after .ensures),
     )
 
-index-list-loop-less-2 : (t : ℕ) → index-list-lts.Need-loop-less-2 (
-  new-reads.Asked,
-  new-reads.Learnt,
-  step-reads.Asked,
-  step-reads.Learnt,
-  indexed-box-below t,
-  indexed-box.Post,
-  place-after-reads.Asked,
-  place-after-reads.Learnt,
-) (index-list-at t) index-list.Post index-list-Inv-loop index-list-μ-loop
+index-list-loop-less-2 : (t : ℕ) → index-list-lts.Need-loop-less-2 (index-list-claims t) (index-list-at t) index-list.Post index-list-Inv-loop index-list-μ-loop
 index-list-loop-less-2 t c = fewer _ _ (next-box (c .before .before .before .before .before .before .step .ensures) (c .before .before .before .before .b .given .1))
 
-index-list-loop-again-2 : (t : ℕ) → index-list-lts.Need-loop-again-2 (
-  new-reads.Asked,
-  new-reads.Learnt,
-  step-reads.Asked,
-  step-reads.Learnt,
-  indexed-box-below t,
-  indexed-box.Post,
-  place-after-reads.Asked,
-  place-after-reads.Learnt,
-) (index-list-at t) index-list.Post index-list-Inv-loop index-list-μ-loop
+index-list-loop-again-2 : (t : ℕ) → index-list-lts.Need-loop-again-2 (index-list-claims t) (index-list-at t) index-list.Post index-list-Inv-loop index-list-μ-loop
 index-list-loop-again-2 t c =
     let b = c .before .before .before .before .b .given in
     let step = next-box (c .before .before .before .before .before .before .step .ensures) (b .1) in
     (c .before .before .before .before .before .before .before .loop .inv .0, midway-other _ _ _ _ _ _ _ (c .before .before .before .before .before .before .before .loop .inv .1) (b .0 .0) step (is-other bidx (b .0 .0) (c .if1 .left)))
 
-index-list-enum-told : (t : ℕ) → index-list-lts.Need-enum-told (
-  new-reads.Asked,
-  new-reads.Learnt,
-  step-reads.Asked,
-  step-reads.Learnt,
-  indexed-box-below t,
-  indexed-box.Post,
-  place-after-reads.Asked,
-  place-after-reads.Learnt,
-) (index-list-at t) index-list.Post index-list-Inv-loop index-list-μ-loop
+index-list-enum-told : (t : ℕ) → index-list-lts.Need-enum-told (index-list-claims t) (index-list-at t) index-list.Post index-list-Inv-loop index-list-μ-loop
 index-list-enum-told t c = search needs
 
-index-list-same-length-2 : (t : ℕ) → index-list-lts.Need-same-length-2 (
-  new-reads.Asked,
-  new-reads.Learnt,
-  step-reads.Asked,
-  step-reads.Learnt,
-  indexed-box-below t,
-  indexed-box.Post,
-  place-after-reads.Asked,
-  place-after-reads.Learnt,
-) (index-list-at t) index-list.Post index-list-Inv-loop index-list-μ-loop
+index-list-same-length-2 : (t : ℕ) → index-list-lts.Need-same-length-2 (index-list-claims t) (index-list-at t) index-list.Post index-list-Inv-loop index-list-μ-loop
 index-list-same-length-2 t c = search needs
 
-index-list-returns-2 : (t : ℕ) → index-list-lts.Need-returns-2 (
-  new-reads.Asked,
-  new-reads.Learnt,
-  step-reads.Asked,
-  step-reads.Learnt,
-  indexed-box-below t,
-  indexed-box.Post,
-  place-after-reads.Asked,
-  place-after-reads.Learnt,
-) (index-list-at t) index-list.Post index-list-Inv-loop index-list-μ-loop
+index-list-returns-2 : (t : ℕ) → index-list-lts.Need-returns-2 (index-list-claims t) (index-list-at t) index-list.Post index-list-Inv-loop index-list-μ-loop
 unfolding Counted
 index-list-returns-2 t c =
     let so-far = c .before .before .before .loop .inv .1 in
@@ -322,154 +189,36 @@ index-list-returns-2 t c =
     let end = no-more (c .before .before .step .ensures) (c .enum-told .given .1) in
     (omega (arith, so-far .rows, so-far .within, so-far .same-end, ap (λ (w : Walk). w .end .0) new), λ bs known. midway-end _ _ _ _ _ _ _ so-far end bs (sym (walk-boxes _ new) ∙ known))
 
-index-list-enum-told-2 : (t : ℕ) → index-list-lts.Need-enum-told-2 (
-  new-reads.Asked,
-  new-reads.Learnt,
-  step-reads.Asked,
-  step-reads.Learnt,
-  indexed-box-below t,
-  indexed-box.Post,
-  place-after-reads.Asked,
-  place-after-reads.Learnt,
-) (index-list-at t) index-list.Post index-list-Inv-loop index-list-μ-loop
+index-list-enum-told-2 : (t : ℕ) → index-list-lts.Need-enum-told-2 (index-list-claims t) (index-list-at t) index-list.Post index-list-Inv-loop index-list-μ-loop
 index-list-enum-told-2 t c = search needs
 
-index-list-same-length-3 : (t : ℕ) → index-list-lts.Need-same-length-3 (
-  new-reads.Asked,
-  new-reads.Learnt,
-  step-reads.Asked,
-  step-reads.Learnt,
-  indexed-box-below t,
-  indexed-box.Post,
-  place-after-reads.Asked,
-  place-after-reads.Learnt,
-) (index-list-at t) index-list.Post index-list-Inv-loop index-list-μ-loop
+index-list-same-length-3 : (t : ℕ) → index-list-lts.Need-same-length-3 (index-list-claims t) (index-list-at t) index-list.Post index-list-Inv-loop index-list-μ-loop
 index-list-same-length-3 t c = search needs
 
-index-list-returns-3 : (t : ℕ) → index-list-lts.Need-returns-3 (
-  new-reads.Asked,
-  new-reads.Learnt,
-  step-reads.Asked,
-  step-reads.Learnt,
-  indexed-box-below t,
-  indexed-box.Post,
-  place-after-reads.Asked,
-  place-after-reads.Learnt,
-) (index-list-at t) index-list.Post index-list-Inv-loop index-list-μ-loop
+index-list-returns-3 : (t : ℕ) → index-list-lts.Need-returns-3 (index-list-claims t) (index-list-at t) index-list.Post index-list-Inv-loop index-list-μ-loop
 index-list-returns-3 t c =
     let fault = a-fault (c .before .before .step .ensures) (c .enum-told2 .given .1) in
     absurd (midway-sound _ _ _ _ _ _ _ (c .before .before .before .loop .inv .1) fault)
 
-indexed-box-head-of-requires : (t : ℕ) → indexed-box-lts.Need-head-of-requires (
-  head-of-reads.Asked,
-  head-of-reads.Learnt,
-  inner-of-reads.Asked,
-  inner-of-reads.Learnt,
-  put-box-reads.Asked,
-  put-box-reads.Learnt,
-  deepened-reads.Asked,
-  deepened-reads.Learnt,
-  index-list-below t,
-  index-list.Post,
-  fills-reads.Asked,
-  fills-reads.Learnt,
-) (indexed-box-at t) indexed-box.Post
+indexed-box-head-of-requires : (t : ℕ) → indexed-box-lts.Need-head-of-requires (indexed-box-claims t) (indexed-box-at t) indexed-box.Post
 indexed-box-head-of-requires t c κs = tt
 
-indexed-box-enum-known-n : (t : ℕ) → indexed-box-lts.Need-enum-known-n (
-  head-of-reads.Asked,
-  head-of-reads.Learnt,
-  inner-of-reads.Asked,
-  inner-of-reads.Learnt,
-  put-box-reads.Asked,
-  put-box-reads.Learnt,
-  deepened-reads.Asked,
-  deepened-reads.Learnt,
-  index-list-below t,
-  index-list.Post,
-  fills-reads.Asked,
-  fills-reads.Learnt,
-) (indexed-box-at t) indexed-box.Post
+indexed-box-enum-known-n : (t : ℕ) → indexed-box-lts.Need-enum-known-n (indexed-box-claims t) (indexed-box-at t) indexed-box.Post
 indexed-box-enum-known-n t c = search needs
 
-indexed-box-enum-known-x : (t : ℕ) → indexed-box-lts.Need-enum-known-x (
-  head-of-reads.Asked,
-  head-of-reads.Learnt,
-  inner-of-reads.Asked,
-  inner-of-reads.Learnt,
-  put-box-reads.Asked,
-  put-box-reads.Learnt,
-  deepened-reads.Asked,
-  deepened-reads.Learnt,
-  index-list-below t,
-  index-list.Post,
-  fills-reads.Asked,
-  fills-reads.Learnt,
-) (indexed-box-at t) indexed-box.Post
+indexed-box-enum-known-x : (t : ℕ) → indexed-box-lts.Need-enum-known-x (indexed-box-claims t) (indexed-box-at t) indexed-box.Post
 indexed-box-enum-known-x t c = search needs
 
-indexed-box-inner-of-requires : (t : ℕ) → indexed-box-lts.Need-inner-of-requires (
-  head-of-reads.Asked,
-  head-of-reads.Learnt,
-  inner-of-reads.Asked,
-  inner-of-reads.Learnt,
-  put-box-reads.Asked,
-  put-box-reads.Learnt,
-  deepened-reads.Asked,
-  deepened-reads.Learnt,
-  index-list-below t,
-  index-list.Post,
-  fills-reads.Asked,
-  fills-reads.Learnt,
-) (indexed-box-at t) indexed-box.Post
+indexed-box-inner-of-requires : (t : ℕ) → indexed-box-lts.Need-inner-of-requires (indexed-box-claims t) (indexed-box-at t) indexed-box.Post
 indexed-box-inner-of-requires t c κs = tt
 
-indexed-box-enum-known-n-2 : (t : ℕ) → indexed-box-lts.Need-enum-known-n-2 (
-  head-of-reads.Asked,
-  head-of-reads.Learnt,
-  inner-of-reads.Asked,
-  inner-of-reads.Learnt,
-  put-box-reads.Asked,
-  put-box-reads.Learnt,
-  deepened-reads.Asked,
-  deepened-reads.Learnt,
-  index-list-below t,
-  index-list.Post,
-  fills-reads.Asked,
-  fills-reads.Learnt,
-) (indexed-box-at t) indexed-box.Post
+indexed-box-enum-known-n-2 : (t : ℕ) → indexed-box-lts.Need-enum-known-n-2 (indexed-box-claims t) (indexed-box-at t) indexed-box.Post
 indexed-box-enum-known-n-2 t c = search needs
 
-indexed-box-enum-known-many : (t : ℕ) → indexed-box-lts.Need-enum-known-many (
-  head-of-reads.Asked,
-  head-of-reads.Learnt,
-  inner-of-reads.Asked,
-  inner-of-reads.Learnt,
-  put-box-reads.Asked,
-  put-box-reads.Learnt,
-  deepened-reads.Asked,
-  deepened-reads.Learnt,
-  index-list-below t,
-  index-list.Post,
-  fills-reads.Asked,
-  fills-reads.Learnt,
-) (indexed-box-at t) indexed-box.Post
+indexed-box-enum-known-many : (t : ℕ) → indexed-box-lts.Need-enum-known-many (indexed-box-claims t) (indexed-box-at t) indexed-box.Post
 indexed-box-enum-known-many t c = search needs
 
-indexed-box-put-box-requires : (t : ℕ) → indexed-box-lts.Need-put-box-requires (
-  head-of-reads.Asked,
-  head-of-reads.Learnt,
-  inner-of-reads.Asked,
-  inner-of-reads.Learnt,
-  put-box-reads.Asked,
-  put-box-reads.Learnt,
-  deepened-reads.Asked,
-  deepened-reads.Learnt,
-  index-list-below t,
-  index-list.Post,
-  fills-reads.Asked,
-  fills-reads.Learnt,
-) (indexed-box-at t) indexed-box.Post
+indexed-box-put-box-requires : (t : ℕ) → indexed-box-lts.Need-put-box-requires (indexed-box-claims t) (indexed-box-at t) indexed-box.Post
 indexed-box-put-box-requires t c κs =
     let args = c .before .before .before .before .before .before .before .before .before .before .before .args in
     let ready = c .before .before .before .before .before .before .before .before .before .before .before .pre .1 in
@@ -479,52 +228,13 @@ indexed-box-put-box-requires t c κs =
     let room = box-roomy _ (args .b) _ _ _ _ _ ready x e headed in
     (room .rows, ready .deepest)
 
-indexed-box-deepened-requires : (t : ℕ) → indexed-box-lts.Need-deepened-requires (
-  head-of-reads.Asked,
-  head-of-reads.Learnt,
-  inner-of-reads.Asked,
-  inner-of-reads.Learnt,
-  put-box-reads.Asked,
-  put-box-reads.Learnt,
-  deepened-reads.Asked,
-  deepened-reads.Learnt,
-  index-list-below t,
-  index-list.Post,
-  fills-reads.Asked,
-  fills-reads.Learnt,
-) (indexed-box-at t) indexed-box.Post
+indexed-box-deepened-requires : (t : ℕ) → indexed-box-lts.Need-deepened-requires (indexed-box-claims t) (indexed-box-at t) indexed-box.Post
 indexed-box-deepened-requires t c κs = tt
 
-indexed-box-same-length : (t : ℕ) → indexed-box-lts.Need-same-length (
-  head-of-reads.Asked,
-  head-of-reads.Learnt,
-  inner-of-reads.Asked,
-  inner-of-reads.Learnt,
-  put-box-reads.Asked,
-  put-box-reads.Learnt,
-  deepened-reads.Asked,
-  deepened-reads.Learnt,
-  index-list-below t,
-  index-list.Post,
-  fills-reads.Asked,
-  fills-reads.Learnt,
-) (indexed-box-at t) indexed-box.Post
+indexed-box-same-length : (t : ℕ) → indexed-box-lts.Need-same-length (indexed-box-claims t) (indexed-box-at t) indexed-box.Post
 indexed-box-same-length t c = search needs
 
-indexed-box-returns : (t : ℕ) → indexed-box-lts.Need-returns (
-  head-of-reads.Asked,
-  head-of-reads.Learnt,
-  inner-of-reads.Asked,
-  inner-of-reads.Learnt,
-  put-box-reads.Asked,
-  put-box-reads.Learnt,
-  deepened-reads.Asked,
-  deepened-reads.Learnt,
-  index-list-below t,
-  index-list.Post,
-  fills-reads.Asked,
-  fills-reads.Learnt,
-) (indexed-box-at t) indexed-box.Post
+indexed-box-returns : (t : ℕ) → indexed-box-lts.Need-returns (indexed-box-claims t) (indexed-box-at t) indexed-box.Post
 unfolding Counted
 indexed-box-returns t c =
     let args = c .before .before .before .before .before .before .before .before .before .before .before .before .before .before .before .before .args in
@@ -539,20 +249,7 @@ indexed-box-returns t c =
     let under = deep .1 (args .level + 1) (those bidx (inner .boxes)) _ (omega (arith, c .before .if1 .taken)) (inner .many-are) in
     (omega (arith, room .row, room .inside, put .0, deep .0), listed-last _ (args .b) _ _ _ _ _ ready x e headed inner (put .1) (c .before .if1 .taken) under)
 
-indexed-box-add-t28 : (t : ℕ) → indexed-box-lts.Need-add-t28 (
-  head-of-reads.Asked,
-  head-of-reads.Learnt,
-  inner-of-reads.Asked,
-  inner-of-reads.Learnt,
-  put-box-reads.Asked,
-  put-box-reads.Learnt,
-  deepened-reads.Asked,
-  deepened-reads.Learnt,
-  index-list-below t,
-  index-list.Post,
-  fills-reads.Asked,
-  fills-reads.Learnt,
-) (indexed-box-at t) indexed-box.Post
+indexed-box-add-t28 : (t : ℕ) → indexed-box-lts.Need-add-t28 (indexed-box-claims t) (indexed-box-at t) indexed-box.Post
 indexed-box-add-t28 t c =
     let args = c .before .before .before .before .before .before .before .before .before .before .before .before .before .before .before .before .before .args in
     let ready = c .before .before .before .before .before .before .before .before .before .before .before .before .before .before .before .before .before .pre .1 in
@@ -564,20 +261,7 @@ indexed-box-add-t28 t c =
     let short = part-short _ (args .b) _ _ _ _ _ ready x e headed inner in
     omega (arith, ready .placed, ready .deepest, room .high, short)
 
-indexed-box-add-t29 : (t : ℕ) → indexed-box-lts.Need-add-t29 (
-  head-of-reads.Asked,
-  head-of-reads.Learnt,
-  inner-of-reads.Asked,
-  inner-of-reads.Learnt,
-  put-box-reads.Asked,
-  put-box-reads.Learnt,
-  deepened-reads.Asked,
-  deepened-reads.Learnt,
-  index-list-below t,
-  index-list.Post,
-  fills-reads.Asked,
-  fills-reads.Learnt,
-) (indexed-box-at t) indexed-box.Post
+indexed-box-add-t29 : (t : ℕ) → indexed-box-lts.Need-add-t29 (indexed-box-claims t) (indexed-box-at t) indexed-box.Post
 indexed-box-add-t29 t c =
     let args = c .before .before .before .before .before .before .before .before .before .before .before .before .before .before .before .before .before .args in
     let ready = c .before .before .before .before .before .before .before .before .before .before .before .before .before .before .before .before .before .pre .1 in
@@ -589,36 +273,10 @@ indexed-box-add-t29 t c =
     let short = part-short _ (args .b) _ _ _ _ _ ready x e headed inner in
     omega (arith, ready .placed, ready .deepest, room .high, short)
 
-indexed-box-add-index-list : (t : ℕ) → indexed-box-lts.Need-add-index-list (
-  head-of-reads.Asked,
-  head-of-reads.Learnt,
-  inner-of-reads.Asked,
-  inner-of-reads.Learnt,
-  put-box-reads.Asked,
-  put-box-reads.Learnt,
-  deepened-reads.Asked,
-  deepened-reads.Learnt,
-  index-list-below t,
-  index-list.Post,
-  fills-reads.Asked,
-  fills-reads.Learnt,
-) (indexed-box-at t) indexed-box.Post
+indexed-box-add-index-list : (t : ℕ) → indexed-box-lts.Need-add-index-list (indexed-box-claims t) (indexed-box-at t) indexed-box.Post
 indexed-box-add-index-list t c = omega (arith, c .before .before .before .before .before .before .before .before .before .before .before .before .before .before .before .before .before .pre .1 .deepest)
 
-indexed-box-index-list-requires : (t : ℕ) → indexed-box-lts.Need-index-list-requires (
-  head-of-reads.Asked,
-  head-of-reads.Learnt,
-  inner-of-reads.Asked,
-  inner-of-reads.Learnt,
-  put-box-reads.Asked,
-  put-box-reads.Learnt,
-  deepened-reads.Asked,
-  deepened-reads.Learnt,
-  index-list-below t,
-  index-list.Post,
-  fills-reads.Asked,
-  fills-reads.Learnt,
-) (indexed-box-at t) indexed-box.Post
+indexed-box-index-list-requires : (t : ℕ) → indexed-box-lts.Need-index-list-requires (indexed-box-claims t) (indexed-box-at t) indexed-box.Post
 indexed-box-index-list-requires t c κs =
     let args = c .before .before .before .before .before .before .before .before .before .before .before .before .before .before .before .before .before .before .args in
     let ready = c .before .before .before .before .before .before .before .before .before .before .before .before .before .before .before .before .before .before .pre .1 in
@@ -628,87 +286,22 @@ indexed-box-index-list-requires t c κs =
     let inner = inner-counted _ _ _ (inner-given (c .before .before .before .before .before .before .before .before .before .before .before .inner-of .ensures) (c .before .before .before .before .before .before .before .before .before .many .given .1)) in
     (list-below (args .level) (ready .deepest) (c .before .before .before .before .before .before .before .before .before .before .before .before .before .before .before .before .before .before .pre .0), list-ready _ (args .b) _ _ _ _ _ ready x e headed inner (c .before .before .before .if1 .left) (c .before .before .before .before .before .before .put-box .ensures .0))
 
-indexed-box-enum-known-n-3 : (t : ℕ) → indexed-box-lts.Need-enum-known-n-3 (
-  head-of-reads.Asked,
-  head-of-reads.Learnt,
-  inner-of-reads.Asked,
-  inner-of-reads.Learnt,
-  put-box-reads.Asked,
-  put-box-reads.Learnt,
-  deepened-reads.Asked,
-  deepened-reads.Learnt,
-  index-list-below t,
-  index-list.Post,
-  fills-reads.Asked,
-  fills-reads.Learnt,
-) (indexed-box-at t) indexed-box.Post
+indexed-box-enum-known-n-3 : (t : ℕ) → indexed-box-lts.Need-enum-known-n-3 (indexed-box-claims t) (indexed-box-at t) indexed-box.Post
 indexed-box-enum-known-n-3 t c = search needs
 
-indexed-box-enum-known-more : (t : ℕ) → indexed-box-lts.Need-enum-known-more (
-  head-of-reads.Asked,
-  head-of-reads.Learnt,
-  inner-of-reads.Asked,
-  inner-of-reads.Learnt,
-  put-box-reads.Asked,
-  put-box-reads.Learnt,
-  deepened-reads.Asked,
-  deepened-reads.Learnt,
-  index-list-below t,
-  index-list.Post,
-  fills-reads.Asked,
-  fills-reads.Learnt,
-) (indexed-box-at t) indexed-box.Post
+indexed-box-enum-known-more : (t : ℕ) → indexed-box-lts.Need-enum-known-more (indexed-box-claims t) (indexed-box-at t) indexed-box.Post
 indexed-box-enum-known-more t c = search needs
 
-indexed-box-fills-requires : (t : ℕ) → indexed-box-lts.Need-fills-requires (
-  head-of-reads.Asked,
-  head-of-reads.Learnt,
-  inner-of-reads.Asked,
-  inner-of-reads.Learnt,
-  put-box-reads.Asked,
-  put-box-reads.Learnt,
-  deepened-reads.Asked,
-  deepened-reads.Learnt,
-  index-list-below t,
-  index-list.Post,
-  fills-reads.Asked,
-  fills-reads.Learnt,
-) (indexed-box-at t) indexed-box.Post
+indexed-box-fills-requires : (t : ℕ) → indexed-box-lts.Need-fills-requires (indexed-box-claims t) (indexed-box-at t) indexed-box.Post
 indexed-box-fills-requires t c κs = tt
 
-indexed-box-returns-2 : (t : ℕ) → indexed-box-lts.Need-returns-2 (
-  head-of-reads.Asked,
-  head-of-reads.Learnt,
-  inner-of-reads.Asked,
-  inner-of-reads.Learnt,
-  put-box-reads.Asked,
-  put-box-reads.Learnt,
-  deepened-reads.Asked,
-  deepened-reads.Learnt,
-  index-list-below t,
-  index-list.Post,
-  fills-reads.Asked,
-  fills-reads.Learnt,
-) (indexed-box-at t) indexed-box.Post
+indexed-box-returns-2 : (t : ℕ) → indexed-box-lts.Need-returns-2 (indexed-box-claims t) (indexed-box-at t) indexed-box.Post
 unfolding Counted Listed
 indexed-box-returns-2 t c =
     let ready = c .before .before .before .before .before .before .pre .1 in
     (tt, box-head _ _ (ready .deepest) _ _ _ _ (head-refused (c .before .before .before .head-of .ensures) (c .before .n .given .1)))
 
-indexed-box-returns-3 : (t : ℕ) → indexed-box-lts.Need-returns-3 (
-  head-of-reads.Asked,
-  head-of-reads.Learnt,
-  inner-of-reads.Asked,
-  inner-of-reads.Learnt,
-  put-box-reads.Asked,
-  put-box-reads.Learnt,
-  deepened-reads.Asked,
-  deepened-reads.Learnt,
-  index-list-below t,
-  index-list.Post,
-  fills-reads.Asked,
-  fills-reads.Learnt,
-) (indexed-box-at t) indexed-box.Post
+indexed-box-returns-3 : (t : ℕ) → indexed-box-lts.Need-returns-3 (indexed-box-claims t) (indexed-box-at t) indexed-box.Post
 unfolding Counted Listed boxOf
 indexed-box-returns-3 t c =
     let args = c .before .before .before .before .before .before .before .before .before .before .args in
@@ -718,36 +311,10 @@ indexed-box-returns-3 t c =
     let headed = head-given (c .before .before .before .before .before .before .before .head-of .ensures) (c .before .before .before .before .before .x .given .1) in
     (tt, box-unframed _ _ (ready .deepest) _ _ _ _ headed (inner-wrong _ _ _ (inner-refused (c .before .before .before .inner-of .ensures) (c .before .n2 .given .1))))
 
-indexed-box-same-length-2 : (t : ℕ) → indexed-box-lts.Need-same-length-2 (
-  head-of-reads.Asked,
-  head-of-reads.Learnt,
-  inner-of-reads.Asked,
-  inner-of-reads.Learnt,
-  put-box-reads.Asked,
-  put-box-reads.Learnt,
-  deepened-reads.Asked,
-  deepened-reads.Learnt,
-  index-list-below t,
-  index-list.Post,
-  fills-reads.Asked,
-  fills-reads.Learnt,
-) (indexed-box-at t) indexed-box.Post
+indexed-box-same-length-2 : (t : ℕ) → indexed-box-lts.Need-same-length-2 (indexed-box-claims t) (indexed-box-at t) indexed-box.Post
 indexed-box-same-length-2 t c = search needs
 
-indexed-box-returns-4 : (t : ℕ) → indexed-box-lts.Need-returns-4 (
-  head-of-reads.Asked,
-  head-of-reads.Learnt,
-  inner-of-reads.Asked,
-  inner-of-reads.Learnt,
-  put-box-reads.Asked,
-  put-box-reads.Learnt,
-  deepened-reads.Asked,
-  deepened-reads.Learnt,
-  index-list-below t,
-  index-list.Post,
-  fills-reads.Asked,
-  fills-reads.Learnt,
-) (indexed-box-at t) indexed-box.Post
+indexed-box-returns-4 : (t : ℕ) → indexed-box-lts.Need-returns-4 (indexed-box-claims t) (indexed-box-at t) indexed-box.Post
 unfolding Counted Listed
 indexed-box-returns-4 t c =
     let args = c .before .before .before .before .before .before .before .before .before .before .before .before .before .before .before .before .before .before .before .before .before .before .before .before .args in
@@ -760,36 +327,10 @@ indexed-box-returns-4 t c =
     let fault = subst (Listed _ _ _ _) (c .before .n3 .given .1) (c .before .before .before .before .before .index-list .ensures .1 (inner .boxes) known) in
     (tt, listed-wrong _ (args .b) _ _ _ _ _ ready x e headed inner fault)
 
-indexed-box-same-length-3 : (t : ℕ) → indexed-box-lts.Need-same-length-3 (
-  head-of-reads.Asked,
-  head-of-reads.Learnt,
-  inner-of-reads.Asked,
-  inner-of-reads.Learnt,
-  put-box-reads.Asked,
-  put-box-reads.Learnt,
-  deepened-reads.Asked,
-  deepened-reads.Learnt,
-  index-list-below t,
-  index-list.Post,
-  fills-reads.Asked,
-  fills-reads.Learnt,
-) (indexed-box-at t) indexed-box.Post
+indexed-box-same-length-3 : (t : ℕ) → indexed-box-lts.Need-same-length-3 (indexed-box-claims t) (indexed-box-at t) indexed-box.Post
 indexed-box-same-length-3 t c = search needs
 
-indexed-box-returns-5 : (t : ℕ) → indexed-box-lts.Need-returns-5 (
-  head-of-reads.Asked,
-  head-of-reads.Learnt,
-  inner-of-reads.Asked,
-  inner-of-reads.Learnt,
-  put-box-reads.Asked,
-  put-box-reads.Learnt,
-  deepened-reads.Asked,
-  deepened-reads.Learnt,
-  index-list-below t,
-  index-list.Post,
-  fills-reads.Asked,
-  fills-reads.Learnt,
-) (indexed-box-at t) indexed-box.Post
+indexed-box-returns-5 : (t : ℕ) → indexed-box-lts.Need-returns-5 (indexed-box-claims t) (indexed-box-at t) indexed-box.Post
 unfolding Counted Listed
 indexed-box-returns-5 t c =
     let args = c .before .before .before .before .before .before .before .before .before .before .before .before .before .before .before .before .before .before .before .before .before .before .before .before .before .before .args in
@@ -805,36 +346,10 @@ indexed-box-returns-5 t c =
     let counted = subst (Counted _) given-as (told .0) in
     (counted, listed-filled _ (args .b) _ _ _ _ _ ready x e headed inner (c .before .before .before .before .before .before .before .before .before .before .before .before .before .before .put-box .ensures .1) (c .before .before .before .more .given .0 .1 .0) listed ends under (sym (c .before .fills .ensures) ∙ c .if2 .taken))
 
-indexed-box-same-length-4 : (t : ℕ) → indexed-box-lts.Need-same-length-4 (
-  head-of-reads.Asked,
-  head-of-reads.Learnt,
-  inner-of-reads.Asked,
-  inner-of-reads.Learnt,
-  put-box-reads.Asked,
-  put-box-reads.Learnt,
-  deepened-reads.Asked,
-  deepened-reads.Learnt,
-  index-list-below t,
-  index-list.Post,
-  fills-reads.Asked,
-  fills-reads.Learnt,
-) (indexed-box-at t) indexed-box.Post
+indexed-box-same-length-4 : (t : ℕ) → indexed-box-lts.Need-same-length-4 (indexed-box-claims t) (indexed-box-at t) indexed-box.Post
 indexed-box-same-length-4 t c = search needs
 
-indexed-box-returns-6 : (t : ℕ) → indexed-box-lts.Need-returns-6 (
-  head-of-reads.Asked,
-  head-of-reads.Learnt,
-  inner-of-reads.Asked,
-  inner-of-reads.Learnt,
-  put-box-reads.Asked,
-  put-box-reads.Learnt,
-  deepened-reads.Asked,
-  deepened-reads.Learnt,
-  index-list-below t,
-  index-list.Post,
-  fills-reads.Asked,
-  fills-reads.Learnt,
-) (indexed-box-at t) indexed-box.Post
+indexed-box-returns-6 : (t : ℕ) → indexed-box-lts.Need-returns-6 (indexed-box-claims t) (indexed-box-at t) indexed-box.Post
 unfolding Counted Listed
 indexed-box-returns-6 t c =
     let args = c .before .before .before .before .before .before .before .before .before .before .before .before .before .before .before .before .before .before .before .before .before .before .before .before .before .before .args in
@@ -848,16 +363,7 @@ indexed-box-returns-6 t c =
     (tt, listed-unfilled _ (args .b) _ _ _ _ _ ready x e headed inner (c .before .before .before .more .given .0 .1 .0) listed ends (sym (c .before .fills .ensures) ∙ c .if2 .left))
 
 pub +index-list+indexed-box-spec : {M : Type 1} → statement M
-+index-list+indexed-box-spec = close μ-index-list μ-indexed-box (λ t. index-list-lts.spec (
-  new-reads.Asked,
-  new-reads.Learnt,
-  step-reads.Asked,
-  step-reads.Learnt,
-  indexed-box-below t,
-  indexed-box.Post,
-  place-after-reads.Asked,
-  place-after-reads.Learnt,
-)
++index-list+indexed-box-spec = close μ-index-list μ-indexed-box (λ t. index-list-lts.spec (index-list-claims t)
     (index-list-at t)
     index-list.Post
     index-list-Inv-loop
@@ -883,20 +389,7 @@ pub +index-list+indexed-box-spec : {M : Type 1} → statement M
     (index-list-enum-told-2 t)
     (index-list-same-length-3 t)
     (index-list-returns-3 t))
-    λ t. indexed-box-lts.spec (
-      head-of-reads.Asked,
-      head-of-reads.Learnt,
-      inner-of-reads.Asked,
-      inner-of-reads.Learnt,
-      put-box-reads.Asked,
-      put-box-reads.Learnt,
-      deepened-reads.Asked,
-      deepened-reads.Learnt,
-      index-list-below t,
-      index-list.Post,
-      fills-reads.Asked,
-      fills-reads.Learnt,
-    )
+    λ t. indexed-box-lts.spec (indexed-box-claims t)
     (indexed-box-at t)
     indexed-box.Post
     (indexed-box-head-of-requires t)
