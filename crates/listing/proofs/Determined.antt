@@ -6,14 +6,13 @@ use mathlib.Core.List.{List}
 use mathlib.Core.Path.{_≡_, sym, _∙_}
 use denote.Ref.{now}
 use lib.ListN.{length}
-use Rattle.numerals.proofs.Determined.{OneResult, OneLeft, OneKnown}
+use Rattle.numerals.proofs.Determined.{OneResult, OneLeft, OneKnown, OneLeftKnown}
 use Rattle.boxes.proofs.ToldLaws.{Tells}
 use Rattle.partial.specs.Answers.{listedAnswer}
 use Rattle.partial.specs.Ranges.{had, missing, ranges, ofClass}
 use Rattle.partial.specs.Tables.{Totals, rangeRows}
 use Rattle.partial.specs.declared.answers.Listed.the-variants as Listed
 use Rattle.filling.specs.Rows.{Put}
-use Rattle.gathering.proofs.Determined.{OneLeftKnown}
 use Rattle.gathering.proofs.RowLaws.{put-filled}
 use Rattle.spans.specs.Spans.{classBy, Ordered}
 use Rattle.listing.proofs.calls.list.Reads as list

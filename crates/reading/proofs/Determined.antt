@@ -6,11 +6,11 @@ use mathlib.Core.List.{List}
 use mathlib.Core.Path.{_≡_, sym, ap, _∙_}
 use denote.Ref.{now, ptr}
 use lib.ListN.{length}
-use Rattle.numerals.proofs.Determined.{OneResult, OneLeft}
+use Rattle.numerals.proofs.Determined.{OneResult, OneLeft, OneLeftKnown}
 use Rattle.boxes.specs.Answer.{given}
 use Rattle.boxes.proofs.ToldLaws.{Tells}
 use Rattle.gathering.specs.Numbers.{numbersOf}
-use Rattle.gathering.proofs.Determined.{OneLeftKnown, one-put}
+use Rattle.gathering.proofs.Determined.{one-put}
 use Rattle.heading.specs.Facts.{partOf, factsBy}
 use Rattle.heading.proofs.Determined.{head-told}
 use Rattle.partial.specs.Answers.{readAnswer}
