@@ -3,7 +3,6 @@ use Prim.Native.Nat.{ℕ, _+_}
 use mathlib.Core.List.{List, [], _∷_, _++_}
 use mathlib.Core.Path.{_≡_, refl, ap, _∙_}
 use native.Mathlib.Omega.{arith}
-use lib.ListN.{length, length-append}
 use Rattle.partial.specs.Naming.{held, lost}
 use Rattle.partial.specs.Ranges.{Range as Stretch, had, ofClass, total}
 use Rattle.partial.specs.Sequences.{sum}
@@ -11,9 +10,9 @@ use Rattle.partial.proofs.Meaning.RangeLaws.{last-in, last-out, total-last}
 use Rattle.mapping.specs.Totals.{Counts}
 use Rattle.mapping.specs.declared.totals.Totals.{Totals}
 
-pub counts-none : Counts [] (record { ranges = 0; received = 0; held = 0; lost = 0 })
+pub counts-none : Counts [] (record { received = 0; held = 0; lost = 0 })
 unfolding ofClass total sum
-counts-none = record { many = refl; received = refl; held = refl; lost = refl }
+counts-none = record { received = refl; held = refl; lost = refl }
 
 module _ (r : Stretch) (rs : List Stretch) where
   -- the total of its class, and that of another
@@ -24,28 +23,25 @@ module _ (r : Stretch) (rs : List Stretch) where
   total-out c other = ap total (last-out c r other rs)
 
   module _ {t : Totals} (s : Counts rs t) where
-    pub count-had : r .class ≡ had → Counts (rs ++ (r ∷ [])) (record { ranges = t .ranges + 1; received = t .received + r .length; held = t .held; lost = t .lost })
+    pub count-had : r .class ≡ had → Counts (rs ++ (r ∷ [])) (record { received = t .received + r .length; held = t .held; lost = t .lost })
     count-had kind =
         record {
-          many = omega (arith, s .many, length-append rs (r ∷ []));
           received = omega (arith, s .received, total-in had kind);
           held = omega (arith, s .held, total-out held (λ e. omega arith));
           lost = omega (arith, s .lost, total-out lost (λ e. omega arith));
         }
 
-    pub count-held : r .class ≡ held → Counts (rs ++ (r ∷ [])) (record { ranges = t .ranges + 1; received = t .received; held = t .held + r .length; lost = t .lost })
+    pub count-held : r .class ≡ held → Counts (rs ++ (r ∷ [])) (record { received = t .received; held = t .held + r .length; lost = t .lost })
     count-held kind =
         record {
-          many = omega (arith, s .many, length-append rs (r ∷ []));
           received = omega (arith, s .received, total-out had (λ e. omega arith));
           held = omega (arith, s .held, total-in held kind);
           lost = omega (arith, s .lost, total-out lost (λ e. omega arith));
         }
 
-    pub count-lost : r .class ≡ lost → Counts (rs ++ (r ∷ [])) (record { ranges = t .ranges + 1; received = t .received; held = t .held; lost = t .lost + r .length })
+    pub count-lost : r .class ≡ lost → Counts (rs ++ (r ∷ [])) (record { received = t .received; held = t .held; lost = t .lost + r .length })
     count-lost kind =
         record {
-          many = omega (arith, s .many, length-append rs (r ∷ []));
           received = omega (arith, s .received, total-out had (λ e. omega arith));
           held = omega (arith, s .held, total-out held (λ e. omega arith));
           lost = omega (arith, s .lost, total-in lost kind);

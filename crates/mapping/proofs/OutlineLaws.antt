@@ -1,5 +1,5 @@
 -- Laws of what is told of a file by two tables of spans: the ranges and the text are the file's.
-use Prim.Native.Nat.{ℕ, _-_, _*_, _<_, _≤_}
+use Prim.Native.Nat.{ℕ, suc, _+_, _-_, _*_, _<_, _≤_}
 use mathlib.Core.Bool.{Bool, true, false, _&&_}
 use mathlib.Core.List.{List, [], _∷_, _++_, map}
 use mathlib.Core.Path.{_≡_, refl, sym, ap, subst, _∙_}
@@ -19,6 +19,8 @@ use Rattle.partial.specs.Segments.{Segment, good, damaged, chunksOf}
 use Rattle.partial.specs.declared.position.Position.{Position}
 use Rattle.partial.specs.declared.answers.Written.{Written}
 use Rattle.partial.specs.declared.answers.Written.the-variants.{Refused}
+use Rattle.partial.proofs.Meaning.DescribedLaws.{InOrder}
+use Rattle.partial.proofs.Meaning.EdgeLaws.{listed-few, named-few}
 use Rattle.partial.proofs.Meaning.NamingLaws.{as-had}
 use Rattle.spans.specs.Chunks.{SpansOf}
 use Rattle.spans.specs.Files.{Spanned}
@@ -30,7 +32,7 @@ use Rattle.spans.proofs.SpanLaws.{front-same, front-ordered}
 use Rattle.texts.specs.Pieces.{PutsPiece}
 use Rattle.texts.specs.Writes.{Writes}
 use Rattle.texts.proofs.WritesLaws.{writes-short}
-use Rattle.mapping.specs.Outline.{textOf, classIn, wordOf, listsOf, behind, Damage, Drawn, rangesIn, Outlined}
+use Rattle.mapping.specs.Outline.{textOf, classIn, wordOf, listsOf, behind, Damage, Drawn, rangesIn, rangesFor, Outlined}
 use Rattle.mapping.specs.Totals.{Counts, toldOf}
 use Rattle.mapping.specs.declared.outline.Outline.{Outline}
 use Rattle.mapping.specs.declared.totals.Totals.{Totals}
@@ -67,13 +69,14 @@ class-by false ss t n u m q class covers =
     let same = same-had (coveredBy t n q) (supplied ss q) class in
     λ i. elim (same i) [ true ↦ had | false ↦ elim (covers i) [ true ↦ held | false ↦ lost ] ]
 
-pub outlined-by : {ss : List Segment} {t u : List ℕ} {n m : ℕ} {end : Position} {closed named : Bool} → Spanned ss t n (end .0) → Damage ss named u m (end .0) → closed ≡ isClosed ss
-    → Outlined ss t u (record { good = n; damaged = m; end = end; closed = closed; named = named })
+pub outlined-by : {ss : List Segment} {t u : List ℕ} {n m most : ℕ} {end : Position} {closed named : Bool} → length (rangesFor named ss) ≤ most → Spanned ss t n (end .0) → Damage ss named u m (end .0) → closed ≡ isClosed ss
+    → Outlined ss t u (record { good = n; damaged = m; most = most; end = end; closed = closed; named = named })
 unfolding classIn
-outlined-by {ss} {t} {u} {n} {m} {named = named} spanned damage known =
+outlined-by {ss} {t} {u} {n} {m} {named = named} few spanned damage known =
     record {
       long = spanned .long;
       closed = known;
+      few = few;
       class = λ q below. class-by named ss t n u m q (spanned .class q below) (damage .covers q below);
     }
 
@@ -95,20 +98,16 @@ module _ (t : List ℕ) (n : ℕ) (d : List ℕ) (room : 2 * n ≤ length t) (lo
       let size : length d ≡ length both - 2 * n = omega (arith, long, length-take-le (length t - 2 * n) (drop (2 * n) t) (omega (arith, length-drop (2 * n) t)), both-long) in
       ap (take (length both - 2 * n)) (drop-at (take (2 * n) t) _ (2 * n) (length-take-le (2 * n) t room)) ∙ take-at d _ (length both - 2 * n) size
 
-  pub drawn-both : {m : ℕ} {end : Position} {closed named : Bool} → end .0 ≤ sourceLimit → Ordered t n (end .0) → Ordered d m (end .0)
-      → Drawn both (behind both n) (record { good = n; damaged = m; end = end; closed = closed; named = named })
+  pub drawn-both : {m : ℕ} {most : ℕ} {end : Position} {closed named : Bool} → end .0 ≤ sourceLimit → Ordered t n (end .0) → Ordered d m (end .0)
+      → Drawn both (behind both n) (record { good = n; damaged = m; most = most; end = end; closed = closed; named = named })
   drawn-both low good others = record { low = low; ofGood = front-ordered both-long both-front good; ofDamaged = rw both-behind others }
 
   -- of a file
-  pub outlined-both : {ss : List Segment} {m : ℕ} {end : Position} {closed named : Bool} → end .0 ≡ describedLength ss → closed ≡ isClosed ss → SpansOf good (chunksOf ss) (end .0) t n
+  pub outlined-both : {ss : List Segment} {m most : ℕ} {end : Position} {closed named : Bool} → length (rangesFor named ss) ≤ most → end .0 ≡ describedLength ss → closed ≡ isClosed ss → SpansOf good (chunksOf ss) (end .0) t n
       → Damage ss named d m (end .0)
-      → Outlined ss both (behind both n) (record { good = n; damaged = m; end = end; closed = closed; named = named })
-  outlined-both ends is-closed spans damage =
-      outlined-by (spanned-by ends (spans-ordered spans (front-same both-long both-front))) (rw both-behind damage) is-closed
-
--- the ranges of a file, named or not
-abbrev rangesFor : Bool → List Segment → List Stretch
-rangesFor named ss = ranges (classIn named ss) (describedLength ss) 0
+      → Outlined ss both (behind both n) (record { good = n; damaged = m; most = most; end = end; closed = closed; named = named })
+  outlined-both few ends is-closed spans damage =
+      outlined-by few (spanned-by ends (spans-ordered spans (front-same both-long both-front))) (rw both-behind damage) is-closed
 
 -- what is counted of them are the totals of the file's lists
 total-for : (named : Bool) (ss : List Segment) {totals : Totals} → Counts (rangesFor named ss) totals → line (ascii "total") (map decimal (toldOf named totals)) ≡ totalLine (listsOf named ss)
@@ -124,6 +123,10 @@ module _ {ss : List Segment} {t u : List ℕ} {o : Outline} (outlined : Outlined
       ranges-same (nameBy t (o .good) u (o .damaged)) (classIn (o .named) ss) (o .end .0) 0 (λ q from below. outlined .class q (omega arith))
       ∙ ap (λ (end : ℕ). ranges (classIn (o .named) ss) end 0) (outlined .long)
 
+  -- no more than the outline says
+  pub ranges-most : length (rangesIn t u o) ≤ o .most
+  ranges-most = rw outlined-ranges (outlined .few)
+
   -- the lines of the ranges
   pub range-lines : rangeLines (wordOf (o .named)) (rangesIn t u o) ≡ rangeLines (wordOf (o .named)) (rangesFor (o .named) ss)
   range-lines = ap (rangeLines (wordOf (o .named))) outlined-ranges
@@ -131,6 +134,12 @@ module _ {ss : List Segment} {t u : List ℕ} {o : Outline} (outlined : Outlined
   -- the totals
   pub total-line : {totals : Totals} → Counts (rangesIn t u o) totals → line (ascii "total") (map decimal (toldOf (o .named) totals)) ≡ totalLine (listsOf (o .named) ss)
   total-line {totals} counts = total-for (o .named) ss (subst (λ (rs : List Stretch). Counts rs totals) outlined-ranges counts)
+
+-- the ranges of a file are no more than its segments and chunks allow
+pub ranges-few : (named : Bool) (ss : List Segment) → InOrder ss → length (rangesFor named ss) ≤ suc (length ss + length (chunksOf ss))
+unfolding classIn namedRanges rangesOf
+ranges-few true ss order = named-few ss order
+ranges-few false ss order = listed-few ss order
 
 -- the text of a file is its lines
 pub text-lines : (named : Bool) (ss : List Segment) → sourceLine ss ++ (rangeLines (wordOf named) (rangesFor named ss) ++ totalLine (listsOf named ss)) ≡ textOf named ss

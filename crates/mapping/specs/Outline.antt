@@ -47,8 +47,13 @@ pub record Drawn (good damaged : List ℕ) (o : Outline) : Type 0 where
 abbrev pub rangesIn : List ℕ → List ℕ → Outline → List Stretch
 rangesIn good damaged o = ranges (nameBy good (o .good) damaged (o .damaged)) (o .end .0) 0
 
+-- those of a file, named or not
+abbrev pub rangesFor : Bool → List Segment → List Stretch
+rangesFor named ss = ranges (classIn named ss) (describedLength ss) 0
+
 -- both tables and the outline are those of a file
 pub record Outlined (ss : List Segment) (good damaged : List ℕ) (o : Outline) : Type 0 where
   pub long : o .end .0 ≡ describedLength ss
   pub closed : o .closed ≡ isClosed ss
+  pub few : length (rangesFor (o .named) ss) ≤ o .most
   pub class : (q : ℕ) → q < o .end .0 → nameBy good (o .good) damaged (o .damaged) q ≡ classIn (o .named) ss q

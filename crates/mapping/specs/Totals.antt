@@ -1,23 +1,20 @@
--- What is counted of ranges: how many they are, and how many positions those of each class hold.
+-- What is counted of ranges: how many positions those of each class hold.
 use Prim.Native.Nat.{ℕ, _≤_}
 use mathlib.Core.Bool.{Bool, true, false}
 use mathlib.Core.List.{List, [], _∷_, _++_}
 use mathlib.Core.Path.{_≡_}
-use lib.ListN.{length}
 use Rattle.partial.specs.Naming.{held, lost}
 use Rattle.partial.specs.Ranges.{Range as Stretch, had, ofClass, total}
 use Rattle.sweeping.specs.declared.ranges.Range.{Range}
 use Rattle.mapping.specs.declared.totals.Totals.{Totals}
 
 pub record Counts (rs : List Stretch) (t : Totals) : Type 0 where
-  pub many : t .ranges ≡ length rs
   pub received : t .received ≡ total (ofClass had rs)
   pub held : t .held ≡ total (ofClass held rs)
   pub lost : t .lost ≡ total (ofClass lost rs)
 
 -- what is counted of the positions before one is no more than they are
 pub record Bounded (t : Totals) (p : ℕ) : Type 0 where
-  pub many : t .ranges ≤ p
   pub received : t .received ≤ p
   pub held : t .held ≤ p
   pub lost : t .lost ≤ p

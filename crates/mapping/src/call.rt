@@ -4,8 +4,6 @@ use crate::lines::put_total;
 use crate::outline::Outline;
 use crate::outline::outline_of;
 use crate::ranges::put_ranges;
-use crate::totals::Totals;
-use crate::totals::counted;
 use partial::answers::Written;
 use partial::refusals::BUFFER_TOO_SHORT;
 use partial::refusals::INPUT_TOO_LONG;
@@ -19,13 +17,13 @@ ghost use Prim.Native.Nat.{_+_, _*_, _≤_};
 ghost use mathlib.Core.Bool.{true};
 ghost use mathlib.Core.List.{List};
 ghost use mathlib.Core.Path.{_≡_};
+ghost use lib.ListN.{length};
 ghost use Rattle.filling.specs.Rows.{Puts};
 ghost use Rattle.partial.specs.Limits.{sourceLimit};
 ghost use Rattle.partial.specs.Map.{textFor, mapText, missmapText, refusedLine};
 ghost use Rattle.partial.specs.Segments.{Segment};
 ghost use Rattle.texts.specs.Writes.{Writes};
 ghost use Rattle.mapping.specs.Outline.{textOf, behind, Drawn, Outlined, rangesIn};
-ghost use Rattle.mapping.specs.Totals.{Counts};
 
 // The bytes of the line of a range are no more than this; those of the first line and the last together are no more
 // than three times as many.
@@ -39,16 +37,16 @@ fn surely_fits(room: u64, ranges: u64) -> bool
     2 < lines && ranges < lines - 2
 }
 
-// Puts the map of a file by the spans in both tables, and by what its ranges hold together.
-fn put_outline(buffer: &mut [u8], good: &[u64], damaged: &[u64], o: Outline, totals: Totals) -> u64
-    requires { ⌜ Drawn (now good) (now damaged) o × Counts (rangesIn (now good) (now damaged) o) totals ⌝ }
+// Puts the map of a file by the spans in both tables.
+fn put_outline(buffer: &mut [u8], good: &[u64], damaged: &[u64], o: Outline) -> u64
+    requires { ⌜ Drawn (now good) (now damaged) o ⌝ }
     ensures { λ r. ⌜ ((ss : List Segment) → Outlined ss (now (good .entry)) (now (damaged .entry)) o
         → Puts (now (buffer .entry)) 0 (textOf (o .named) ss) (now (buffer .exit)) r)
-        × (r ≤ 150 + 50 * totals .ranges) ⌝ }
+        × (r ≤ 150 + 50 * length (rangesIn (now (good .entry)) (now (damaged .entry)) o)) ⌝ }
 {
     let first = put_source(buffer, o.end, o.closed);
-    let last = put_ranges(buffer, first, good, damaged, o);
-    put_total(buffer, last, totals, o.named)
+    let ranges = put_ranges(buffer, first, good, damaged, o);
+    put_total(buffer, ranges.next, ranges.totals, o.named)
 }
 
 // Writes the map of a file by the spans in one table. Where it may not fit, it is first put where there is no room for
@@ -59,15 +57,14 @@ fn write_outline(buffer: &mut [u8], spans: &[u64], o: Outline) -> Written
 {
     let behind = 2 * o.good;
     let damaged = &spans[behind..];
-    let totals = counted(spans, damaged, o);
-    if !surely_fits(buffer.len() as u64, totals.ranges) {
+    if !surely_fits(buffer.len() as u64, o.most) {
         let mut no_room = [0; 1];
-        let size = put_outline(&mut no_room, spans, damaged, o, totals);
+        let size = put_outline(&mut no_room, spans, damaged, o);
         if (buffer.len() as u64) < size {
             return Written::Refused(BUFFER_TOO_SHORT);
         }
     }
-    Written::Length(put_outline(buffer, spans, damaged, o, totals))
+    Written::Length(put_outline(buffer, spans, damaged, o))
 }
 
 // Writes the line of a refusal. It is one piece, put whole or not at all, so that nothing has to be measured first.

@@ -21,14 +21,13 @@ same-length c = search needs
 
 returns : tie.Need-returns
 returns c =
-    let (_, counts) = c .before .before .before .before .before .before .before .before .before .before .before .before .before .before .before .pre in
     let (source, _) = c .before .before .before .before .before .before .before .before .before .before .put-source .ensures in
-    let (ranges, _, few) = c .before .before .before .before .before .before .put-ranges .ensures in
+    let (ranges, _, few, counts) = c .before .before .before .before .before .before .put-ranges .ensures in
     let (total, low) = c .before .before .put-total .ensures in (
       λ ss outlined.
           puts-same (text-lines _ ss)
           (puts-more (source ss (outlined .long) (outlined .closed)) (puts-more (puts-same (range-lines outlined) ranges) (puts-same (total-line outlined counts) total))),
-      omega (arith, counts .many),
+      omega arith,
     )
 
 pub put-outline-spec : {M : Type 1} → statement M

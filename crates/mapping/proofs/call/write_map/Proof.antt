@@ -2,14 +2,15 @@
 use mathlib.Core.Bool.{Bool}
 use mathlib.Core.Path.{sym, ap, _∙_}
 use native.Mathlib.Omega.{arith}
-use Rattle.gathering.proofs.GatheredLaws.{gathered-sizes}
+use Rattle.gathering.proofs.GatheredLaws.{gathered-segments, gathered-chunks, gathered-sizes}
 use Rattle.partial.specs.Limits.{sourceLimit}
-use Rattle.partial.proofs.Reading.LimitLaws.{described-low}
+use Rattle.partial.proofs.Reading.LimitLaws.{segments-limited, chunks-few, described-low}
 use Rattle.partial.proofs.Reading.PrintedLaws.{printed}
+use Rattle.partial.proofs.Reading.ReadingLaws.{accepted as in-order}
 use Rattle.reading.proofs.JudgedLaws.{accepted, read-refused, read-given, judgement-refused, judgement-given}
 use Rattle.reading.proofs.TableLaws.{accepted-kept}
 use Rattle.mapping.specs.Outline.{textOf}
-use Rattle.mapping.proofs.OutlineLaws.{known-closed, writes-same}
+use Rattle.mapping.proofs.OutlineLaws.{ranges-few, known-closed, writes-same}
 use borrow.Author.Needs.{needs}
 use Rattle.mapping.proofs.call.write_map.Statement.{statement}
 use Rattle.mapping.proofs.call.write_map.Tie as tie
@@ -50,8 +51,11 @@ slice-aggregate-outline-of c = search needs
 outline-of-requires : tie.Need-outline-of-requires
 outline-of-requires c κs =
     let met = c .before .before .before .before .before .before .before in
-    let a = accepted _ (judgement-given (met .before .before .before .before .judge-into .ensures .0) (met .judged .given .1)) in
-    omega (arith, described-low sourceLimit _ (a .h) (a .all), c .before .before .before .described .ensures (a .ss) (gathered-sizes (a .ss) (a .gathered)))
+    let a = accepted _ (judgement-given (met .before .before .before .before .judge-into .ensures .0) (met .judged .given .1)) in (
+      omega (arith, described-low sourceLimit _ (a .h) (a .all), c .before .before .before .described .ensures (a .ss) (gathered-sizes (a .ss) (a .gathered))),
+      omega (arith, segments-limited sourceLimit _ (a .h) (a .all), gathered-segments (a .ss) (a .gathered)),
+      omega (arith, chunks-few sourceLimit _ (a .h) (a .all), gathered-chunks (a .ss) (a .gathered)),
+    )
 
 slice-aggregate-write-outline : tie.Need-slice-aggregate-write-outline
 slice-aggregate-write-outline c = search needs
@@ -76,8 +80,9 @@ returns-3 c =
     let a = accepted _ (judgement-given (met .before .before .before .before .judge-into .ensures .0) (met .judged .given .1)) in
     let sizes = gathered-sizes (a .ss) (a .gathered) in
     let kept = accepted-kept a (met .before .before .before .before .judge-into .ensures .1) (omega arith) (omega arith) in
+    let few = ranges-few (c .before .before .before .before .before .before .before .before .before .before .before .before .before .before .before .before .before .before .before .before .before .before .before .before .args .named) (a .ss) (in-order sourceLimit _ (a .h) (a .head) (a .all) .order) in
     let (_, named, outlined) = c .before .before .before .before .before .before .outline-of .ensures in
-    let written = c .before .before .write-outline .ensures (a .ss) (outlined (a .ss) (omega arith) kept (c .before .before .before .before .before .before .before .before .before .before .described .ensures (a .ss) sizes) (known-closed (a .ss) sizes)) in
+    let written = c .before .before .write-outline .ensures (a .ss) (outlined (a .ss) (omega arith) kept (omega (arith, few, gathered-segments (a .ss) (a .gathered), gathered-chunks (a .ss) (a .gathered))) (c .before .before .before .before .before .before .before .before .before .before .described .ensures (a .ss) sizes) (known-closed (a .ss) sizes)) in
     writes-same (ap (λ (named : Bool). textOf named (a .ss)) named ∙ sym (printed _ sourceLimit _ _ .lines (a .ss) (omega arith) (read-given _ a))) written
 
 pub write-map-spec : {M : Type 1} → statement M

@@ -7,6 +7,7 @@ use borrow.Author.Tests.{not-false}
 use lib.ListN.{length}
 use Rattle.texts.proofs.WritesLaws.{writes-short, writes-given}
 use Rattle.mapping.specs.Outline.{textOf}
+use Rattle.mapping.proofs.OutlineLaws.{ranges-most}
 use borrow.Author.Needs.{needs}
 use Rattle.mapping.proofs.call.write_outline.Statement.{statement}
 use Rattle.mapping.proofs.call.write_outline.Tie as tie
@@ -25,9 +26,6 @@ part-damaged-start c = search needs
 
 part-damaged-end : tie.Need-part-damaged-end
 part-damaged-end c = search needs
-
-counted-requires : tie.Need-counted-requires
-counted-requires c κs = search needs
 
 surely-fits-requires : tie.Need-surely-fits-requires
 surely-fits-requires c κs = search needs
@@ -52,10 +50,10 @@ returns-2 : tie.Need-returns-2
 returns-2 c = λ ss outlined.
     let (put, few) = c .before .before .put-outline2 .ensures in
     let puts = put ss outlined in
-    let room : length (textOf (c .before .before .before .before .before .before .before .before .before .before .before .args .o .named) ss) ≤ length (c .before .before .before .before .before .before .before .before .before .before .before .args .buffer .now) =
+    let room : length (textOf (c .before .before .before .before .before .before .before .before .before .before .args .o .named) ss) ≤ length (c .before .before .before .before .before .before .before .before .before .before .args .buffer .now) =
     ⊎-elim
     (λ w. omega (arith, w .4 .left, w .2 .ensures .0 ss outlined .end))
-    (λ w. omega (arith, puts .end, few, c .before .before .before .before .before .surely-fits .ensures (not-false _ (w .left))))
+    (λ w. omega (arith, puts .end, few, ranges-most outlined, c .before .before .before .before .before .surely-fits .ensures (not-false _ (w .left))))
     (c .before .before .before .before .if1 .came) in
     writes-given _ _ (omega (arith, puts .end)) room puts
 
@@ -68,7 +66,6 @@ write-outline-spec =
     sub-damaged
     part-damaged-start
     part-damaged-end
-    counted-requires
     surely-fits-requires
     slice-aggregate-put-outline
     put-outline-requires

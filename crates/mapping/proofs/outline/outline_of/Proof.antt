@@ -8,6 +8,12 @@ use borrow.Author.Needs.{needs}
 use Rattle.mapping.proofs.outline.outline_of.Statement.{statement}
 use Rattle.mapping.proofs.outline.outline_of.Tie as tie
 
+add-most : tie.Need-add-most
+add-most c = search needs
+
+add-most-2 : tie.Need-add-most-2
+add-most-2 c = search needs
+
 file-spans-requires : tie.Need-file-spans-requires
 file-spans-requires c κs = search needs
 
@@ -37,11 +43,11 @@ returns c =
     let (ordered, all) = c .before .before .before .before .before .before .before .file-spans .ensures in
     let (others, damage) = c .before .before .before .file-damage .ensures in
     let long = c .before .before .before .file-damage .kept .1 .1 .1 .1 .1 .0 in (
-      drawn-both _ _ _ (ordered .spans .room) long (c .before .before .before .before .before .before .before .before .before .before .pre) ordered others,
+      drawn-both _ _ _ (ordered .spans .room) long (c .before .before .before .before .before .before .before .before .before .before .before .pre .0) ordered others,
       refl,
-      λ ss room kept ends closed.
+      λ ss room kept few ends closed.
           let spans = all ss kept (omega (arith, room, many-few good (chunksOf ss), kept .chunks)) in
-          outlined-both _ _ _ (ordered .spans .room) long ends closed spans
+          outlined-both _ _ _ (ordered .spans .room) long few ends closed spans
           (damage ss kept (omega (arith, room, many-apart (chunksOf ss), spans .few, kept .chunks, long))),
     )
 
@@ -49,6 +55,8 @@ pub outline-of-spec : {M : Type 1} → statement M
 outline-of-spec =
     tie.close
     (tie.spec
+    add-most
+    add-most-2
     file-spans-requires
     mul-behind
     mul-file-damage
