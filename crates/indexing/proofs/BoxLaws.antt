@@ -1,8 +1,8 @@
 -- Laws of one indexed box: its head, its list, and whether that fills it; and of a list by its boxes.
-use Prim.Native.Nat.{ℕ, zero, suc, _+_, _-_, _*_, _≤_, _<_}
+use Prim.Native.Nat.{ℕ, suc, _+_, _-_, _*_, _≤_}
 use mathlib.Core.Bool.{Bool, true, false, _&&_}
-use mathlib.Core.List.{List, [], _∷_, _++_, map}
-use mathlib.Core.Option.{Option, none, some}
+use mathlib.Core.List.{List, [], _∷_, map}
+use mathlib.Core.Option.{Option, some}
 use mathlib.Core.Path.{_≡_, refl, sym, ap, subst, _∙_}
 use native.Mathlib.Decide.{decLe}
 use native.Mathlib.Omega.{arith}
@@ -20,7 +20,7 @@ use Rattle.boxes.proofs.KindLaws.{firstOf-those, those-nth}
 use Rattle.partial.specs.Index.{IndexFields, Told, frontBy, indexFields, endFrom, wherever, endRight, lastOrSized, frontPart, listFramed, inARow, untold, indexList, indexedBox, levelLimit}
 use Rattle.partial.specs.Limits.{sourceLimit}
 use Rattle.indexing.specs.Head.{judgedEnd, headIn}
-use Rattle.indexing.specs.Inner.{innerIn, innerCounts}
+use Rattle.indexing.specs.Inner.{innerIn}
 use Rattle.indexing.specs.Lists.{listOn, boxOn}
 use Rattle.indexing.specs.Marks.{indexedOf}
 use Rattle.indexing.proofs.FieldsLaws.{front-sized}

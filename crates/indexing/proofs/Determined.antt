@@ -49,10 +49,10 @@ Fits f c size place before table (bs, is) =
 
 index-in-result : OneKnown index-in.Post (λ κs args (bs : List Box).
     Contained (now (args .0)) (args .1 .0) (args .1 .1 .0 .0) (args .1 .1 .1 .0 .0) (args .1 .1 .1 .1 .1 .0 .0) (args .1 .1 .1 .1 .1 .1 .0 .count) bs)
-index-in-result κs args bs known x y after after′ p q = one-index _ _ bs _ _ _ _ _ _ x y (p bs known) (q bs known)
+index-in-result κs args bs known x y after after′ p q = one-index _ _ bs _ _ _ _ _ _ x y (p bs known .0) (q bs known .0)
 
 index-in-rows : OneLeftKnown index-in.Post (λ κs args (what : List Box × List Indexed).
     Contained (now (args .0)) (args .1 .0) (args .1 .1 .0 .0) (args .1 .1 .1 .0 .0) (args .1 .1 .1 .1 .1 .0 .0) (args .1 .1 .1 .1 .1 .1 .0 .count) (what .0)
     × Fits (now (args .0)) (args .1 .0) (endOf (args .1 .1 .1 .1 .0)) (args .1 .1 .1 .1 .1 .0 .0) (args .1 .1 .1 .1 .1 .1 .0) (now (args .1 .1 .1 .1 .1 .1 .1 .0)) what) (λ κs after. now (after .1 .1 .1 .1 .1 .1 .1 .0))
 index-in-rows κs args (bs, is) (known, (read, room)) x y after after′ p q =
-    rows-put _ _ bs _ _ _ _ _ x (p bs known) read .held room ∙ sym (rows-put _ _ bs _ _ _ _ _ y (q bs known) read .held room)
+    rows-put _ _ bs _ _ _ _ _ x (p bs known .0) read .held room ∙ sym (rows-put _ _ bs _ _ _ _ _ y (q bs known .0) read .held room)

@@ -1,6 +1,6 @@
 -- Laws of an end that may not be known.
 use mathlib.Core.Bool.{Bool, true, false}
-use mathlib.Core.Option.{Option, none, some}
+use mathlib.Core.Option.{none, some}
 use mathlib.Core.Path.{_≡_, refl}
 use Rattle.partial.specs.Index.{isKnown}
 use Rattle.indexing.specs.Ends.{endOf}

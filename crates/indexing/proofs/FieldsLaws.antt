@@ -5,12 +5,11 @@ use mathlib.Core.List.{List}
 use mathlib.Core.Option.{Option, none, some}
 use mathlib.Core.Path.{_≡_, refl, sym, ap, _∙_}
 use native.Mathlib.Omega.{arith}
-use borrow.Author.Tests.{leb-true, eq-eqb, ne-eqb}
+use borrow.Author.Tests.{eq-eqb, ne-eqb}
 use lib.Dec.{leb, eqb}
 use Rattle.numerals.specs.Numbers.{number}
 use Rattle.boxes.specs.Answer.{Answer, refused, given}
 use Rattle.boxes.specs.Framing.{Box, userSize}
-use Rattle.boxes.proofs.AnswerLaws.{held, given-same}
 use Rattle.boxes.proofs.HeaderLaws.{user-most}
 use Rattle.partial.specs.Index.{IndexFields, sizeBy, frontBy, indexFields}
 use Rattle.indexing.specs.Fields.{wholeSize, sizeWhere, fieldsOf, fieldsAnswer}

@@ -1,10 +1,11 @@
 -- Laws of the index in a container: which `fidx` it is, where its list lies, and what is told of it.
-use Prim.Native.Nat.{ℕ, _+_, _*_, _≤_, _<_}
+use Prim.Native.Nat.{ℕ, _≤_, _<_}
 use mathlib.Core.Bool.{true, false}
 use mathlib.Core.List.{List, [], _∷_}
 use mathlib.Core.Option.{Option}
 use mathlib.Core.Path.{_≡_, refl, sym, ap, subst, _∙_}
 use native.Mathlib.Omega.{arith}
+use borrow.Author.Tests.{lt-ltb}
 use lib.ListN.{length}
 use Rattle.boxes.specs.Answer.{Answer, refused, given, _>>=_}
 use Rattle.boxes.specs.Framing.{Box, boxesIn, boxOf}
@@ -16,12 +17,10 @@ use Rattle.boxes.proofs.AnswerLaws.{then-then}
 use Rattle.boxes.proofs.ContainerLaws.{Standing, boxes-standing}
 use Rattle.boxes.proofs.KindLaws.{firstOf-those, those-nth}
 use Rattle.partial.specs.Index.{Indexed, Told, listFramed, indexIn, hasIndex}
-use Rattle.partial.specs.Limits.{fileLimit, sourceLimit}
-use Rattle.indexing.specs.Ends.{endOf}
+use Rattle.partial.specs.Limits.{sourceLimit}
 use Rattle.indexing.specs.Index.{listIn, Bounded, Contained, Indexes}
 use Rattle.indexing.specs.Lists.{listOn, ListReady, Listed}
 use Rattle.indexing.specs.Marks.{Marked}
-use Rattle.indexing.specs.declared.end.End.{End}
 use Rattle.indexing.specs.declared.index.IndexRead.the-variants as IndexRead
 use Rattle.indexing.specs.declared.lists.ListRead.{ListRead}
 use Rattle.indexing.specs.declared.marks.Marks.{Marks}
@@ -85,7 +84,7 @@ module _ (f : List ℕ) (c : Container) (bs : List Box) (size : Option ℕ) (pla
     indexes-none before t none-there = go (those fidx bs) refl none-there
       where
         go : (ts : List Box) → those fidx bs ≡ ts → length ts ≡ 0 → (is : List Indexed) × (indexIn sourceLimit f c bs size place ≡ given is) × (false ≡ hasIndex bs) × Marked before t is before t
-        go [] e h = ([], index-none e, rw (hasIndex, e), marked-none before t)
+        go [] e h = ([], index-none e, rw e, marked-none before t)
         go (b ∷ more) e h = absurd (omega arith)
 
     module _ (there : 0 < length (those fidx bs)) {b : Box} (first : b ≡ firstOf fidx bs) where
@@ -97,25 +96,23 @@ module _ (f : List ℕ) (c : Container) (bs : List Box) (size : Option ℕ) (pla
 
       pub indexes-told : {told : Told} {before m : Marks} {t₀ t : List ℕ} → listIn f b size place ≡ given told → Marked before t₀ (told .boxes) m t → Indexes f c bs size place before t₀ t (IndexRead.Given true m)
       unfolding Indexes hasIndex
-      indexes-told {told} h marked = (told .boxes, index-first there ∙ rw (listed ∙ h), go (those fidx bs) refl there, marked)
-        where
-          go : (ts : List Box) → those fidx bs ≡ ts → 0 < length ts → true ≡ hasIndex bs
-          go [] e h = absurd (omega arith)
-          go (b ∷ more) e h = rw (hasIndex, e)
+      indexes-told {told} h marked = (told .boxes, index-first there ∙ rw (listed ∙ h), sym (lt-ltb 0 (length (those fidx bs)) there), marked)
 
 -- a container's `fidx` lies in it
 pub first-bounded : {f : List ℕ} {c : Container} {start end place count : ℕ} {bs : List Box} (b : Framed) → Contained f c start end place count bs → 0 < length (those fidx bs)
     → boxOf b ≡ firstOf fidx bs
-    → Bounded b place count
+    → Bounded b place count × (b .end .0 ≤ end)
 unfolding boxOf
 first-bounded {f} {c} {start} {end} {bs = bs} b contained there first =
     let (m, nth) = those-nth fidx bs 0 there in
     let same : boxAt m bs ≡ boxOf b = sym (first ∙ firstOf-those fidx bs ∙ nth .same) in
     let stands = subst (Standing c f start end) same (boxes-standing c f start end (contained .framed) m (nth .there)) in
-    let inside = stands .inside in
-    record {
-      ordered = inside .whole;
-      short = omega (arith, inside .ends, contained .short);
-      placed = contained .placed;
-      rows = omega (arith, contained .rows, stands .low, inside .front, inside .typed);
-    }
+    let inside = stands .inside in (
+      record {
+        ordered = inside .whole;
+        short = omega (arith, inside .ends, contained .short);
+        placed = contained .placed;
+        rows = omega (arith, contained .rows, stands .low, inside .front, inside .typed);
+      },
+      inside .ends,
+    )

@@ -1,19 +1,16 @@
 -- Laws of the list inside an indexed box: what the tests decide, and how long its front part is.
-use Prim.Native.Nat.{ℕ, _-_, _≤_}
+use Prim.Native.Nat.{ℕ, _-_}
 use mathlib.Core.Bool.{true, false}
-use mathlib.Core.List.{List, [], _∷_}
-use mathlib.Core.Path.{_≡_, refl, sym, ap, _∙_}
+use mathlib.Core.List.{List}
+use mathlib.Core.Path.{_≡_, ap}
 use lib.ListN.{length}
-use Rattle.boxes.specs.Answer.{Answer, refused, given}
+use Rattle.boxes.specs.Answer.{refused, given}
 use Rattle.boxes.specs.Framing.{Box, boxesIn, boxOf}
 use Rattle.boxes.specs.Kinds.{bidx, frpa, right, those, firstOf}
 use Rattle.boxes.specs.declared.framing.Framed.{Framed}
 use Rattle.boxes.specs.declared.kinds.Container.the-variants.{Bidx}
-use Rattle.boxes.proofs.ToldLaws.{box-fields}
 use Rattle.partial.specs.Index.{frontPart, listFramed}
-use Rattle.indexing.specs.Inner.{innerIn, innerCounts, innerAnswer}
-use Rattle.indexing.specs.declared.inner.InnerRead.{InnerRead}
-use Rattle.indexing.specs.declared.inner.InnerRead.the-variants.{Refused, Given}
+use Rattle.indexing.specs.Inner.{innerIn, innerCounts}
 
 pub part-of : (b : Framed) (inner : List Box) → boxOf b ≡ firstOf frpa inner → b .end .0 - b .body .0 ≡ frontPart inner
 unfolding frontPart boxOf

@@ -1,7 +1,7 @@
 -- Laws of an index list that is read box by box: the boxes so far were told, and those that are left decide.
-use Prim.Native.Nat.{ℕ, _+_, _-_, _*_, _≤_, _<_}
+use Prim.Native.Nat.{ℕ, _+_, _-_, _*_, _≤_}
 use mathlib.Core.Bool.{Bool, true, false}
-use mathlib.Core.List.{List, [], _∷_, _++_}
+use mathlib.Core.List.{List, [], _∷_}
 use mathlib.Core.Option.{Option, none, some}
 use mathlib.Core.Path.{_≡_, refl, sym, ap, subst, _∙_}
 use native.Mathlib.Omega.{arith}
@@ -9,7 +9,7 @@ use lib.Dec.{eqb}
 use lib.ListN.{length}
 use Rattle.numerals.specs.declared.place.Place.{Place}
 use Rattle.boxes.specs.Answer.{Answer, refused, given}
-use Rattle.boxes.specs.Framing.{Box, boxesIn, boxOf}
+use Rattle.boxes.specs.Framing.{Box, boxOf}
 use Rattle.boxes.specs.Kinds.{bidx, is, those}
 use Rattle.boxes.specs.Walk.{walkOver, stepped}
 use Rattle.boxes.specs.declared.framing.Framed.{Framed}
@@ -17,7 +17,6 @@ use Rattle.boxes.specs.declared.kinds.Container.{Container}
 use Rattle.boxes.specs.declared.walk.Walk.{Walk}
 use Rattle.boxes.proofs.AnswerLaws.{given-same}
 use Rattle.boxes.proofs.KindLaws.{those-nil, those-one, those-other}
-use Rattle.boxes.proofs.ToldLaws.{box-fields}
 use Rattle.boxes.proofs.WalkLaws.{ahead, met, walk-boxes, known-next, known-end, known-sound}
 use Rattle.partial.specs.Index.{Told, nothingTold, noneFollows, levelLimit}
 use Rattle.partial.specs.Limits.{fileLimit, sourceLimit}
@@ -25,7 +24,7 @@ use Rattle.indexing.specs.Ends.{endOf}
 use Rattle.indexing.specs.Lists.{listOn, boxOn, placeAfter, Placed, ListReady, BoxReady, Counted, Listed}
 use Rattle.indexing.specs.Marks.{Marked}
 use Rattle.indexing.specs.declared.end.End.{End}
-use Rattle.indexing.specs.declared.lists.ListRead.the-variants.{Refused, Given}
+use Rattle.indexing.specs.declared.lists.ListRead.the-variants.{Given}
 use Rattle.indexing.specs.declared.marks.Marks.{Marks}
 use Rattle.indexing.proofs.BoxLaws.{list-opens, box-near}
 use Rattle.indexing.proofs.MarksLaws.{marked-none, marked-more}

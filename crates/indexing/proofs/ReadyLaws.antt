@@ -8,18 +8,18 @@ use native.Mathlib.Omega.{arith}
 use lib.Dec.{eqb}
 use lib.ListN.{length}
 use Rattle.boxes.specs.Answer.{Answer, refused, given, _>>=_}
-use Rattle.boxes.specs.Framing.{Box, boxesIn, boxOf}
+use Rattle.boxes.specs.Framing.{Box, boxOf}
 use Rattle.boxes.specs.Kinds.{bidx, those}
 use Rattle.boxes.specs.declared.framing.Framed.{Framed}
 use Rattle.boxes.specs.declared.kinds.Container.the-variants.{Bidx}
 use Rattle.boxes.proofs.AnswerLaws.{not-both, given-same, both-given}
 use Rattle.partial.specs.Index.{Told, wherever, frontPart, untold, levelLimit}
-use Rattle.partial.specs.Limits.{fileLimit, sourceLimit}
+use Rattle.partial.specs.Limits.{fileLimit}
 use Rattle.indexing.specs.Ends.{endOf}
 use Rattle.indexing.specs.Fields.{fieldsOf}
 use Rattle.indexing.specs.Head.{headIn}
 use Rattle.indexing.specs.Inner.{innerIn, innerCounts, innerAnswer}
-use Rattle.indexing.specs.Lists.{listOn, boxOn, Placed, ListReady, BoxReady, Counted, Listed}
+use Rattle.indexing.specs.Lists.{listOn, boxOn, ListReady, BoxReady, Listed}
 use Rattle.indexing.specs.Marks.{indexedOf, Marked}
 use Rattle.indexing.specs.declared.end.End.{End}
 use Rattle.indexing.specs.declared.fields.IndexFields.{IndexFields as CodeFields}

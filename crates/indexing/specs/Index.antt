@@ -1,6 +1,5 @@
 -- Document 02, [7], "Read it from `pfil` or from segments": what is told of the index in a container.
 use Prim.Native.Nat.{ℕ, _*_, _≤_}
-use mathlib.Core.Bool.{Bool}
 use mathlib.Core.List.{List}
 use mathlib.Core.Option.{Option}
 use mathlib.Core.Path.{_≡_}
@@ -34,6 +33,7 @@ pub record Bounded (b : Framed) (place count : ℕ) : Type 0 where
 -- the boxes of a container, which lies in a file whose rows before it take sixteen bytes each
 pub record Contained (f : List ℕ) (c : Container) (start end place count : ℕ) (bs : List Box) : Type 0 where
   pub framed : boxesIn c f start end ≡ given bs
+  pub ordered : start ≤ end
   pub short : end ≤ fileLimit
   pub placed : place ≤ sourceLimit
   pub rows : 16 * count ≤ start
@@ -43,3 +43,8 @@ unfoldable pub Indexes : List ℕ → Container → List Box → Option ℕ → 
 Indexes f c bs size place before t₀ t (Refused n) = indexIn sourceLimit f c bs size place ≡ refused n
 Indexes f c bs size place before t₀ t (Given there m) =
     (is : List Indexed) × (indexIn sourceLimit f c bs size place ≡ given is) × (there ≡ hasIndex bs) × Marked before t₀ is m t
+
+-- a row takes sixteen bytes of what was read
+unfoldable pub CountedIn : ℕ → IndexRead → Type 0
+CountedIn end (Refused n) = Unit {0}
+CountedIn end (Given there m) = 16 * m .count ≤ end

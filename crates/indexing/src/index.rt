@@ -20,8 +20,8 @@ ghost use mathlib.Core.List.{List};
 ghost use mathlib.Core.Path.{_≡_};
 ghost use Rattle.boxes.specs.Framing.{Box, boxOf};
 ghost use Rattle.indexing.specs.Ends.{endOf};
-ghost use Rattle.indexing.specs.Index.{listIn, Bounded, Contained, Indexes};
-ghost use Rattle.indexing.specs.Lists.{Listed};
+ghost use Rattle.indexing.specs.Index.{listIn, Bounded, Contained, Indexes, CountedIn};
+ghost use Rattle.indexing.specs.Lists.{Counted, Listed};
 
 // Whether there is an index, and what is marked with its boxes; or the number of a refusal.
 pub enum IndexRead {
@@ -57,7 +57,7 @@ fn list_of(
     before: Marks,
     table: &mut [u64],
 ) -> ListRead
-    ensures { λ r. ⌜ (Bounded b (from .0) (before .count)
+    ensures { λ r. ⌜ Counted (b .end .0) r × (Bounded b (from .0) (before .count)
         → Listed (listIn (now (file .entry)) (boxOf b) (endOf size) (from .0)) before (now (table .entry)) (now (table .exit)) r) ⌝ }
 {
     if !bounded(b, from, before) {
@@ -96,7 +96,7 @@ pub fn index_in(
     table: &mut [u64],
 ) -> IndexRead
     ensures { λ r. ⌜ ((bs : List Box) → Contained (now (file .entry)) container (start .0) (end .0) (from .0) (before .count) bs
-        → Indexes (now (file .entry)) container bs (endOf size) (from .0) before (now (table .entry)) (now (table .exit)) r) ⌝ }
+        → Indexes (now (file .entry)) container bs (endOf size) (from .0) before (now (table .entry)) (now (table .exit)) r × CountedIn (end .0) r) ⌝ }
 {
     let counts = tally(file, container, start, end);
     let many = counts.of(FIDX);

@@ -1,8 +1,4 @@
 -- `indexing::head::last_or_sized` meets its contract: the one test is the definition's.
-use mathlib.Core.Bool.{Bool, true, false}
-use mathlib.Core.Option.{none, some}
-use mathlib.Core.Path.{_≡_, refl}
-use borrow.Author.Needs.{needs}
 use Rattle.partial.specs.Index.{lastOrSized}
 use Rattle.indexing.proofs.HeadLaws.{sized-last}
 use Rattle.indexing.proofs.head.last_or_sized.Statement.{statement}

@@ -7,7 +7,7 @@ use Rattle.boxes.specs.Framing.{boxOf}
 use Rattle.boxes.specs.Kinds.{bidx}
 use Rattle.boxes.specs.declared.kinds.Container.the-variants.{Fidx}
 use Rattle.tallying.proofs.RuleLaws.{tally-fault, tally-sound}
-use Rattle.indexing.specs.Lists.{Listed}
+use Rattle.indexing.specs.Lists.{Counted, Listed}
 use Rattle.indexing.proofs.IndexLaws.{list-fault, listed-first, first-ready}
 use Rattle.indexing.proofs.index.list_of.Statement.{statement}
 use Rattle.indexing.proofs.index.list_of.Tie as tie
@@ -16,14 +16,15 @@ bounded-requires : tie.Need-bounded-requires
 bounded-requires c κs = search needs
 
 returns : tie.Need-returns
-returns c = λ within. absurd (false≢true (sym (not-true _ (c .if1 .taken)) ∙ c .before .bounded .ensures .1 within))
+unfolding Counted
+returns c = (tt, λ within. absurd (false≢true (sym (not-true _ (c .if1 .taken)) ∙ c .before .bounded .ensures .1 within)))
 
 tally-requires : tie.Need-tally-requires
 tally-requires c κs = search needs
 
 returns-2 : tie.Need-returns-2
-unfolding Listed boxOf
-returns-2 c = λ within. list-fault _ (boxOf (c .before .before .before .before .before .before .before .before .before .args .b)) _ _ (tally-fault Fidx _ _ _ (c .before .before .tally .ensures) (c .if2 .taken))
+unfolding Counted Listed boxOf
+returns-2 c = (tt, λ within. list-fault _ (boxOf (c .before .before .before .before .before .before .before .before .before .args .b)) _ _ (tally-fault Fidx _ _ _ (c .before .before .tally .ensures) (c .if2 .taken)))
 
 of-requires : tie.Need-of-requires
 of-requires c κs = search needs
@@ -39,9 +40,10 @@ same-length c = search needs
 
 returns-3 : tie.Need-returns-3
 unfolding boxOf
-returns-3 c = λ within.
+returns-3 c =
     let (bs, known, counts) = tally-sound Fidx _ _ _ (c .before .before .before .before .before .before .before .tally .ensures) (c .before .before .before .before .before .if2 .left) in
-    listed-first _ (boxOf (c .before .before .before .before .before .before .before .before .before .before .before .before .before .before .args .b)) _ _ known _ _ _ _ (c .before .before .index-list .ensures .1 bs known)
+    let told = c .before .before .index-list .ensures in
+    (told .0, λ within. listed-first _ (boxOf (c .before .before .before .before .before .before .before .before .before .before .before .before .before .before .args .b)) _ _ known _ _ _ _ (told .1 bs known))
 
 pub list-of-spec : {M : Type 1} → statement M
 list-of-spec =

@@ -2,7 +2,6 @@
 use mathlib.Core.Path.{refl, sym, ap, _∙_}
 use borrow.Author.Needs.{needs}
 use borrow.Author.Tests.{not-true, not-false}
-use Rattle.boxes.specs.Answer.{given}
 use Rattle.boxes.specs.Kinds.{bidx, frpa}
 use Rattle.boxes.specs.declared.kinds.Container.the-variants.{Bidx}
 use Rattle.tallying.specs.Rules.{tallyOf}

@@ -1,9 +1,7 @@
 -- The proof of the cycle of calls {index_list, indexed_box}. A list on a level calls its boxes, and a box the list on the
 -- level below: 2 * (9 - level) for the list, one less for its boxes. The loop's invariant: the boxes so far were told, and
 -- those that are left decide.
-use Prim.Native.Nat.{ℕ, _+_, _-_, _*_, _≤_, _<_}
-use mathlib.Core.Bool.{true, false}
-use mathlib.Core.List.{List}
+use Prim.Native.Nat.{ℕ, _+_, _-_, _*_, _<_}
 use mathlib.Core.Path.{_≡_, refl, sym, ap, subst, _∙_}
 use native.Mathlib.Omega.{arith}
 use borrow.Author.Needs.{needs}
@@ -13,7 +11,6 @@ use Rattle.boxes.specs.Kinds.{bidx, those}
 use Rattle.boxes.specs.declared.walk.Walk.{Walk}
 use Rattle.boxes.proofs.WalkLaws.{fewer, next-box, no-more, a-fault, walk-boxes}
 use Rattle.tallying.proofs.FoundLaws.{is-kind, is-other}
-use Rattle.partial.specs.Index.{levelLimit}
 use Rattle.indexing.specs.Ends.{endOf}
 use Rattle.indexing.specs.Lists.{Counted, Listed}
 use Rattle.indexing.proofs.BoxLaws.{box-head, box-unframed, inner-known}

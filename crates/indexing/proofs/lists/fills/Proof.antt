@@ -1,6 +1,4 @@
 -- `indexing::lists::fills` meets its contract: each test is one of the definition's.
-use mathlib.Core.Path.{sym}
-use borrow.Author.Needs.{needs}
 use borrow.Author.Tests.{not-true, not-false}
 use Rattle.partial.specs.Index.{wherever}
 use Rattle.indexing.proofs.EndLaws.{end-known, end-unknown}

@@ -1,5 +1,4 @@
 -- `indexing::lists::place_after` meets its contract: the one test is the definition's.
-use borrow.Author.Needs.{needs}
 use Rattle.indexing.specs.Lists.{placeAfter}
 use Rattle.indexing.proofs.EndLaws.{end-known, end-unknown}
 use Rattle.indexing.proofs.lists.place_after.Statement.{statement}

@@ -3,7 +3,6 @@ use mathlib.Core.Bool.{Bool, not, _||_}
 use mathlib.Core.Path.{refl, sym, ap, _∙_}
 use lib.Dec.{eqb}
 use lib.ListN.{length}
-use borrow.Author.Needs.{needs}
 use Rattle.indexing.proofs.MarksLaws.{marked-deep}
 use Rattle.indexing.proofs.marks.deepened.Statement.{statement}
 use Rattle.indexing.proofs.marks.deepened.Tie as tie
