@@ -96,7 +96,8 @@ pub fn index_in(
     table: &mut [u64],
 ) -> IndexRead
     ensures { λ r. ⌜ ((bs : List Box) → Contained (now (file .entry)) container (start .0) (end .0) (from .0) (before .count) bs
-        → Indexes (now (file .entry)) container bs (endOf size) (from .0) before (now (table .entry)) (now (table .exit)) r × CountedIn (end .0) r) ⌝ }
+        → Indexes (now (file .entry)) container bs (endOf size) (from .0) before (now (table .entry)) (now (table .exit)) r
+        × CountedIn (end .0) r) ⌝ }
 {
     let counts = tally(file, container, start, end);
     let many = counts.of(FIDX);

@@ -70,7 +70,8 @@ pub(crate) fn index_list(
 ) -> ListRead
     requires { ⌜ ListReady (now file) container (start .0) (end .0) many level (from .0) (before .count) ⌝ }
     ensures { λ r. ⌜ Counted (end .0) r × ((bs : List Box) → boxesIn container (now (file .entry)) (start .0) (end .0) ≡ given bs
-        → Listed (listOn (now (file .entry)) level (endOf enclosing) (from .0) (those bidx bs)) before (now (table .entry)) (now (table .exit)) r) ⌝ }
+        → Listed (listOn (now (file .entry)) level (endOf enclosing) (from .0) (those bidx bs)) before
+        (now (table .entry)) (now (table .exit)) r) ⌝ }
 {
     let mut walk = Walk::new(container, start, end);
     let mut marks = before;
@@ -112,7 +113,9 @@ fn indexed_box(
     table: &mut [u64],
 ) -> ListRead
     requires { ⌜ BoxReady b level (place .0) (before .count) ⌝ }
-    ensures { λ r. ⌜ Counted (b .end .0) r × Listed (boxOn (now (file .entry)) level (endOf enclosing) last (place .0) (boxOf b)) before (now (table .entry)) (now (table .exit)) r ⌝ }
+    ensures { λ r. ⌜ Counted (b .end .0) r
+        × Listed (boxOn (now (file .entry)) level (endOf enclosing) last (place .0) (boxOf b)) before
+        (now (table .entry)) (now (table .exit)) r ⌝ }
 {
     match head_of(file, b, enclosing, last, place) {
         HeadRead::Refused(n) => ListRead::Refused(n),

@@ -32,7 +32,8 @@ fn size_from(place: Position, end: End) -> u64
 
 // The marks with so many boxes of a ninth level, which are not looked into.
 pub(crate) fn deepened(marks: Marks, many: u64) -> Marks
-    ensures { λ r. ⌜ (r .count ≡ marks .count) × ((level : ℕ) (bs : List Box) (t : List ℕ) → levelLimit < level → many ≡ length bs → Marked marks t (map (untold level) bs) r t) ⌝ }
+    ensures { λ r. ⌜ (r .count ≡ marks .count) × ((level : ℕ) (bs : List Box) (t : List ℕ) → levelLimit < level
+        → many ≡ length bs → Marked marks t (map (untold level) bs) r t) ⌝ }
 {
     Marks {
         count: marks.count,
@@ -52,7 +53,8 @@ pub(crate) fn put_box(
     kind: u32,
 ) -> Marks
     requires { ⌜ (16 * before .count ≤ fileLimit) × (level ≤ levelLimit) ⌝ }
-    ensures { λ r. ⌜ (r .count ≡ before .count + 1) × Marked before (now (table .entry)) (indexedOf level (place .0) (endOf end) kind ∷ []) r (now (table .exit)) ⌝ }
+    ensures { λ r. ⌜ (r .count ≡ before .count + 1)
+        × Marked before (now (table .entry)) (indexedOf level (place .0) (endOf end) kind ∷ []) r (now (table .exit)) ⌝ }
 {
     let size = size_from(place, end);
     let row = [level, place.0, size, kind as u64, 0];

@@ -1,6 +1,6 @@
--- The proof of the cycle of calls {index_list, indexed_box}. A list on a level calls its boxes, and a box the list on the
--- level below: 2 * (9 - level) for the list, one less for its boxes. The loop's invariant: the boxes so far were told, and
--- those that are left decide.
+-- The proof of the cycle of calls {index_list, indexed_box}. A list on a level calls its boxes, and a box the list on
+-- the next level: the measure is 2 * (9 - level) for a list, and one less for its boxes. The loop's invariant: the
+-- boxes so far were told, and those that are left decide.
 use Prim.Native.Nat.{ℕ, _+_, _-_, _*_, _<_}
 use mathlib.Core.Path.{_≡_, refl, sym, ap, subst, _∙_}
 use native.Mathlib.Omega.{arith}
