@@ -30,8 +30,7 @@ def plocs_and_pshds(file):
         large = file[row[0]:row[0] + 4] == bytes([0, 0, 0, 1])
         size_place, size_width = (row[0] + 8, 8) if large else (row[0], 4)
         end = row[0] + int.from_bytes(file[size_place:size_place + size_width], "big")
-        parts = boxes_in(file, row[0] + (16 if large else 8), end)
-        places = {file[place + 4:place + 8]: place + header for place, _, header in parts}
+        places = {part.kind: part.body for part in model.frame(file, row[0] + (16 if large else 8), end)}
         yield file[places[b"ploc"] + 4], file[row[5]]
 
 
