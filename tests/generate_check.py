@@ -343,7 +343,7 @@ def check_additions(rng, files):
                 expect(f"append refuses with {number}", answer, ("refused", number))
             elif own[0] == "read" or own == ("refused", 12):
                 expect("append takes a file that the spoiling left acceptable",
-                       answer[0] == "length" or answer[1] in (35, 6, 13, 22, 23, 25))
+                       answer[0] == "length" or answer[1] in (35, 6, 13, 22, 23, 25, 36, 37, 39))
             else:
                 expect("append refuses the file", answer, own)
             if answer[0] == "refused":
@@ -354,7 +354,7 @@ def check_all_additions(rng, files):
     answers = [model.append(**generate.addition(rng, file))[0] for file in files]
     taken = sum(answer[0] == "length" for answer in answers) / len(answers)
     expect("more than half of the additions taken", 0.5 < taken < 0.9)
-    for number in [30, 31, 32, 35, 6, 13, 22, 23, 25, 33]:
+    for number in [30, 31, 32, 35, 6, 13, 22, 23, 25, 36, 37, 39, 33]:
         expect(f"append meets {number}", ("refused", number) in answers)
     print(f"additions taken: {100 * taken:.1f} %")
 
