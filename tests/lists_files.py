@@ -131,7 +131,7 @@ def with_index():
     """An index in pfil or in a segment changes neither list."""
     data = Data(bytes(range(10, 40)))
     entries = [Entry(GOOD, 12, data, 0), Entry(LOST, 8), Entry(DAMAGED, 4, data, 12), Entry(GOOD, 6, data, 20)]
-    index = fidx(bidx(8), bidx(16, b"moov", bidx(8)), bidx(0))
+    index = fidx(bidx(16, b"moov", bidx(8)), bidx(0))
     for where in ("pfil", "a segment", "an open segment"):
         film, later = Segment(0, entries, LAST), Segment(20, [])
         plan = Plan(ftyp(), [pfhd(), surl()], [data, film, later])
