@@ -114,6 +114,7 @@ test-command-sanitized: $(OUT)/paff-sanitized
 test-films: $(OUT)/paff
 	sh tests/evening.sh $(EMULATOR) $(OUT)/paff
 	sh tests/film.sh $(EMULATOR) $(OUT)/paff
+	python3 tests/film_index.py $(EMULATOR) $(OUT)/paff
 
 test-readme: $(OUT)/paff
 	python3 tests/readme.py
