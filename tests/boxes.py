@@ -68,6 +68,16 @@ def entry(flag_byte, length_size, size, offset_size=0, offset=None):
     return bytes([flag_byte]) + size.to_bytes(length_size, "big") + field
 
 
+def bidx(size, kind=b"moov", *parts, large=False):
+    """The index of a box; a large size stands in 64 bits, and the user type of a uuid opens the parts."""
+    stated = sized_large(size, kind) if large else sized(size, kind)
+    return box(b"bidx", stated, *parts)
+
+
+def fidx(*parts):
+    return box(b"fidx", *parts)
+
+
 def lost_segment(offset, sizes, flags=0, version=None, width=None, flag_byte=0x80):
     """A pseg of chunks that are not present: lost, or by another flag byte held elsewhere. Their sizes have four bytes,
     or more where they need them."""

@@ -30,8 +30,7 @@ def plocs_and_pshds(file):
         large = file[row[0]:row[0] + 4] == bytes([0, 0, 0, 1])
         size_place, size_width = (row[0] + 8, 8) if large else (row[0], 4)
         end = row[0] + int.from_bytes(file[size_place:size_place + size_width], "big")
-        parts = boxes_in(file, row[0] + (16 if large else 8), end)
-        places = {file[place + 4:place + 8]: place + header for place, _, header in parts}
+        places = {part.kind: part.body for part in model.frame(file, row[0] + (16 if large else 8), end)}
         yield file[places[b"ploc"] + 4], file[row[5]]
 
 
@@ -344,7 +343,7 @@ def check_additions(rng, files):
                 expect(f"append refuses with {number}", answer, ("refused", number))
             elif own[0] == "read" or own == ("refused", 12):
                 expect("append takes a file that the spoiling left acceptable",
-                       answer[0] == "length" or answer[1] in (35, 6, 13, 22, 23, 25))
+                       answer[0] == "length" or answer[1] in (35, 6, 13, 22, 23, 25, 36, 37, 39))
             else:
                 expect("append refuses the file", answer, own)
             if answer[0] == "refused":
@@ -355,7 +354,7 @@ def check_all_additions(rng, files):
     answers = [model.append(**generate.addition(rng, file))[0] for file in files]
     taken = sum(answer[0] == "length" for answer in answers) / len(answers)
     expect("more than half of the additions taken", 0.5 < taken < 0.9)
-    for number in [30, 31, 32, 35, 6, 13, 22, 23, 25, 33]:
+    for number in [30, 31, 32, 35, 6, 13, 22, 23, 25, 36, 37, 39, 33]:
         expect(f"append meets {number}", ("refused", number) in answers)
     print(f"additions taken: {100 * taken:.1f} %")
 

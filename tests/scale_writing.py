@@ -117,9 +117,11 @@ def large_append(rng, file):
 
 
 def first_file(stream, rng):
-    """What a run appends to: a file that is begun, or any other."""
-    if rng.random() < 0.65:
+    """What a run appends to: a file that is begun, by another writer with an index, or any other."""
+    if rng.random() < 0.55:
         return begin_cases(stream, rng, Begin(rng.choice(additions.BRANDS), *additions.texts(rng)))
+    if rng.random() < 0.35:
+        return additions.begun_with_index(rng, rng.choice([None, None, 36, 37, 39, 39]))
     file = generate.foreign_file(rng)
     return generate.spoil(rng, file) if rng.random() < 0.3 else file
 
