@@ -4,10 +4,11 @@ chance, and what their refusals do to every subcommand."""
 import os
 import random
 
+import generate
 import sample_index
-from boxes import box
+from boxes import bidx, box, fidx
 from command_large import SEGMENT, SIZE, claim_measure, make_film, measured
-from command_run import Chunk, claim, claim_each_refused, claim_held, claim_refused, damaged, elsewhere, ended, good, lost
+from command_run import claim, claim_each_refused, claim_held, claim_refused, damaged, elsewhere, ended, good, lost
 from command_wanted import appended, begun, claim_get, claim_index, claim_map, claim_rows, film_of, number_of
 from corpus import ROOT
 from expecting import expect
@@ -15,7 +16,7 @@ from film_boxes import with_index
 from foreign import LIMIT
 
 SEED = 23_001_144
-BY_CHANCE, SPOILED = 60, 80
+BY_CHANCE = 80
 
 # The sample, of which README.md prints the tree: fifteen boxes of a film, whose bytes from 400 on are lost.
 ROWS = (b"1\t0\t16\tftyp\tall\n1\t16\t76\tmoov\tall\n2\t24\t20\tmvhd\tall\n2\t44\t48\ttrak\tall\n3\t52\t16\ttkhd\tall\n3\t68\t24\tmdia\tall\n1\t92\t24\tmoof\tall\n"
@@ -40,16 +41,6 @@ TREE = b"""\
 - mdat        500   168  none
 15 boxes: 11 whole, 1 in part, 3 missing
 """
-
-
-def bidx(size, kind, *inner, large=False, user_type=b""):
-    """A box of an index by its fields; a size of 0 runs to the end."""
-    field = b"\0\0\0\1" + kind + size.to_bytes(8, "big") if large else size.to_bytes(4, "big") + kind
-    return box(b"bidx", field, user_type, *inner)
-
-
-def fidx(*inner):
-    return box(b"fidx", *inner)
 
 
 def in_pfil(file, index):
@@ -96,7 +87,7 @@ def states(command):
 def types(command):
     """By hand: each byte of a type that does not print in two digits, a backslash as it is, and the tree as wide as the
     widest; both forms of a size, and a user type, which is not shown."""
-    command.put("film", indexed(fidx(bidx(60, b"\xa9nam", bidx(52, b"\0\t\n\x7f", bidx(44, b"\\x41"))), bidx(24, b"uuid", user_type=bytes(16)),
+    command.put("film", indexed(fidx(bidx(60, b"\xa9nam", bidx(52, b"\0\t\n\x7f", bidx(44, b"\\x41"))), bidx(24, b"uuid", bytes(16)),
                                      bidx(2 ** 32 + 16, b" ~\x80\xff", large=True), bidx(1_000, b"\x1b[2J")), (0, [good(bytes(70))]), (2 ** 32 + 100, [good(bytes(1_000))])))
     claim("types that do not print", command.run("index", "film"), 0,
           b"1\t0\t60\t\\xa9nam\tall\n2\t8\t52\t\\x00\\x09\\x0a\\x7f\tall\n3\t16\t44\t\\x41\tall\n1\t60\t24\tuuid\tsome\n1\t84\t4294967312\t ~\\x80\\xff\tnone\n1\t4294967396\t1000\t\\x1b[2J\tall\n")
@@ -182,62 +173,16 @@ def additions(command):
 
 # By the model.
 
-def kind_of(rng):
-    return rng.choice([b"moov", b"mdat", b"uuid", rng.randbytes(4)])
-
-
-def one_box(rng, level, last):
-    """A box of an index with what it says it is, and its size."""
-    kind, large, front = kind_of(rng), rng.random() < 0.1, rng.choice([b"", b"", rng.randbytes(rng.randint(0, 9))])
-    inner, filled = some_boxes(rng, level + 1) if level < 8 and rng.random() < 0.4 else ([], rng.randint(0, 30))
-    size = 8 + 8 * large + 16 * (kind == b"uuid") + filled + (len(front) if inner else 0)
-    parts = inner + [box(b"frpa", front)] * bool(front and inner) + [box(b"dint", b"sum")] * (rng.random() < 0.1)
-    to_the_end = last and not large and rng.random() < 0.2
-    return bidx(0 if to_the_end else size, kind, *parts, large=large, user_type=rng.randbytes(16) if kind == b"uuid" else b""), size
-
-
-def some_boxes(rng, level, closed=True):
-    """A list of an index, and how many bytes of the film it tells of; where its end is known the last may run to it."""
-    count = rng.randint(1, 4)
-    made = [one_box(rng, level, closed and number == count - 1) for number in range(count)]
-    return [index for index, _ in made], sum(size for _, size in made)
-
-
-def chunks_of(rng, length):
-    """Chunks that cover so many positions."""
-    chunks = []
-    while length:
-        size, kind = min(length, rng.choice([1, 3, 9, 40, length])), rng.choice(["good", "good", "damaged", "lost", "elsewhere"])
-        chunks.append(Chunk(kind, rng.randbytes(size) if kind in ("good", "damaged") else size))
-        length -= size
-    return chunks
-
-
-def by_chance(rng):
-    """An accepted file with an index in `pfil`, or in each of its segments."""
-    inside, file, place = rng.random() < 0.5, begun(b"u"), 0
-    for left in range(rng.randint(0, 2) if inside else 0, -1, -1):
-        boxes, length = some_boxes(rng, 1, left == 0)
-        file = file if inside else in_pfil(file, fidx(*boxes))
-        number, file = appended(file, place, chunks_of(rng, length), left == 0)
-        file, place = with_index(file, b"pseg", fidx(*boxes)) if inside else file, place + length
-    assert number == number_of(file) == 0
-    return file
-
-
 def generated(command):
     rng = random.Random(SEED)
     for number in range(BY_CHANCE):
-        file = by_chance(rng)
+        file = generate.indexed_file(rng)
         command.put("film", file)
         claim_index(f"an index by chance, {number}", command, "film", file)
-    for number in range(SPOILED):
-        file = bytearray(by_chance(rng))
-        at = rng.randrange(len(file))
-        file[at] = rng.choice([0, 1, file[at] ^ 1, 255, rng.randrange(256)])
-        command.put("film", bytes(file))
-        claim_index(f"an index spoiled, {number}", command, "film", bytes(file))
-        claim_map(f"an index spoiled, {number}", command, "film", bytes(file))
+        spoiled = generate.spoil(rng, file)
+        command.put("film", spoiled)
+        claim_index(f"an index spoiled, {number}", command, "film", spoiled)
+        claim_map(f"an index spoiled, {number}", command, "film", spoiled)
 
 
 # Long ones.

@@ -3,7 +3,7 @@
 
 from collections import namedtuple
 
-from boxes import box
+from boxes import box, fidx
 
 # A box of a film: its level from 1, its place, its size, its type, how long its header is and the fields behind that
 # and before its inner boxes, and those, none where they are not looked at.
@@ -45,15 +45,15 @@ def flat(boxes):
 
 # The index.
 
-def bidx(film, walked):
+def index_of_box(film, walked):
     """The header of a box as the film has it, the fields behind it where boxes follow them, and the inner boxes."""
     body = walked.place + walked.header
     front = [box(b"frpa", film[body:body + walked.front])] if walked.front and walked.inner else []
-    return box(b"bidx", film[walked.place:body], *front, *[bidx(film, one) for one in walked.inner])
+    return box(b"bidx", film[walked.place:body], *front, *[index_of_box(film, one) for one in walked.inner])
 
 
-def fidx(film, boxes):
-    return box(b"fidx", *[bidx(film, walked) for walked in boxes])
+def index_of(film, boxes):
+    return fidx(*[index_of_box(film, walked) for walked in boxes])
 
 
 def with_index(file, kind, index):

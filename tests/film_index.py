@@ -14,7 +14,7 @@ import tempfile
 import expecting
 from command_run import Command, claim, claim_refused
 from expecting import expect
-from film_boxes import fidx, flat, lines, walk, with_index, word_of
+from film_boxes import flat, index_of, lines, walk, with_index, word_of
 
 LEVELS = (1, 3, 8)
 MAKE = ("ffmpeg -nostdin -v error -f lavfi -i testsrc=size=64x48:rate=10:duration=4 -f lavfi -i sine=frequency=440:duration=4 -threads 1 -c:v mpeg4 -g 10 -c:a aac -b:a 32k "
@@ -58,7 +58,7 @@ def append(command, film, first, end, lost):
 
 def index_in_pfil(command, film, boxes, lost):
     """The index is sent first, and the film comes in one segment."""
-    command.put("film.paff", with_index(command.held("begun"), b"pfil", fidx(film, boxes)))
+    command.put("film.paff", with_index(command.held("begun"), b"pfil", index_of(film, boxes)))
     claim_refused("an index and no segment", command.run("index", "film.paff"), 12, "film.paff")
     append(command, film, 0, len(film), lost)
 
@@ -68,7 +68,7 @@ def index_in_segments(command, film, boxes, lost):
     command.put("film.paff", command.held("begun"))
     for walked in boxes:
         append(command, film, walked.place, walked.place + walked.size, lost)
-        command.put("film.paff", with_index(command.held("film.paff"), b"pseg", fidx(film, [walked])))
+        command.put("film.paff", with_index(command.held("film.paff"), b"pseg", index_of(film, [walked])))
 
 
 def claim_told(name, command, boxes, lost):

@@ -10,7 +10,7 @@ from boxes import box
 from command_run import good, lost
 from command_wanted import appended, begun
 from corpus import ROOT
-from film_boxes import fidx, walk, with_index
+from film_boxes import index_of, walk, with_index
 
 PATH = os.path.join(ROOT, "samples", "index.paff")
 
@@ -23,7 +23,7 @@ LEVELS = 3
 
 
 def sample():
-    file = with_index(begun(b"http://films.example/lesson.mp4", b"video/mp4"), b"pfil", fidx(FILM, walk(FILM, LEVELS)))
+    file = with_index(begun(b"http://films.example/lesson.mp4", b"video/mp4"), b"pfil", index_of(FILM, walk(FILM, LEVELS)))
     number, file = appended(file, 0, [good(FILM[:CAME]), lost(len(FILM) - CAME)], last=True)
     assert number == 0
     return file
