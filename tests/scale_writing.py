@@ -5,6 +5,7 @@ import additions
 import generate
 import model
 import writes_elsewhere
+import writes_index
 import writes_limits
 import writes_mixed
 import writes_random
@@ -152,7 +153,7 @@ def run_of_corpus(stream, run):
 
 
 def corpus_runs(stream):
-    for run in [*writes_limits.runs(), *writes_refusals.runs(), *writes_mixed.runs(), *writes_elsewhere.runs()]:
+    for run in [*writes_limits.runs(), *writes_refusals.runs(), *writes_mixed.runs(), *writes_elsewhere.runs(), *writes_index.runs()]:
         run_of_corpus(stream, run)
 
 
