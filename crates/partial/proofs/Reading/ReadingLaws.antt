@@ -1,5 +1,5 @@
--- What reading is made of, stage by stage, and what it gives of an accepted file: its chunks follow each other and lie in
--- data boxes, and its sizes agree.
+-- What reading is made of, stage by stage, and what it gives of an accepted file: its chunks follow each other and lie
+-- in data boxes, and its sizes agree.
 use Prim.Native.Nat.{ℕ, zero, suc, _+_, _≤_, _<_}
 use mathlib.Core.Bool.{true, false, not, _||_}
 use mathlib.Core.List.{List, [], _∷_, _++_, append-nil}
