@@ -127,6 +127,10 @@ abbrev pub laterStages : ℕ → List ℕ → Heading → Answer (List Segment)
 laterStages limit f h = segments limit f h >>= λ ss. indexed limit f h ss >>= λ _. given ss
 
 module _ (limit : ℕ) (f : List ℕ) where
+  pub reading-headless : {n : ℕ} → heading f ≡ refused n → reading limit f ≡ refused n
+  unfolding reading
+  reading-headless e = rw (reading, e)
+
   pub reading-none : {h : Heading} → heading f ≡ given h → right File pseg (h .boxes) ≡ false → reading limit f ≡ refused 12
   unfolding reading
   reading-none head lacks = rw (reading, head, lacks)
