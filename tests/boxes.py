@@ -36,9 +36,9 @@ def surl(url=b"u", mime=b"", large=False):
     return box(b"surl", full(), url, b"\0", mime, b"\0", large=large)
 
 
-def head(url=b"u", mime=b"", brand=b"paff"):
-    """The ftyp and pfil that every file begins with, in their plainest form."""
-    return ftyp([brand], brand) + box(b"pfil", pfhd(), surl(url, mime))
+def head(url=b"u", mime=b"", brand=b"paff", parts=b""):
+    """The ftyp and pfil that every file begins with, in their plainest form; other boxes of pfil stand at its end."""
+    return ftyp([brand], brand) + box(b"pfil", pfhd(), surl(url, mime), parts)
 
 
 def version_for(offset):

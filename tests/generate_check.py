@@ -8,6 +8,7 @@ from itertools import groupby
 
 import generate
 import model
+import model_index
 from additions import top_level_count
 from boxes import head
 from expecting import close, expect
@@ -57,6 +58,7 @@ def check_foreign(files):
     check_far(files)
     check_elsewhere(files)
     check_mixed(files)
+    check_indexes(files)
 
 
 def check_size_forms(files):
@@ -207,6 +209,44 @@ def check_mixed(files):
     expect("no chunk outside in the others", not any(list(outside_runs(file)) for file, head in heads if not head.mixed))
 
 
+def forms_of_index(file):
+    """What stands in the indexes of an accepted file: forms of sizes, front parts, boxes that are skipped, and where."""
+    for name, place, end in containers(file):
+        for index in model.of_kind(model.frame(file, place, end), b"fidx") if name != "file" else []:
+            yield f"in {name}"
+            yield from forms_in_list(file, model.frame(file, index.body, index.end), 1)
+
+
+def forms_in_list(file, boxes, level):
+    yield from ["empty"] if not boxes else []
+    for at, one in enumerate(boxes):
+        if one.kind != b"bidx":
+            yield "a front part" if one.kind == b"frpa" else "an integrity box" if one.kind == b"dint" else "another box"
+            continue
+        size, kind, header, place = model_index.stated_header(file, one)
+        inner = model.frame(file, place, one.end)
+        yield from ["large"] * (file[one.body:one.body + 4] == bytes([0, 0, 0, 1])) + ["a vendor's"] * (kind == b"uuid") + ["a large bidx"] * (one.body - one.place == 16)
+        yield from ["a front part longer than its box"] * any(part.end - part.body > size > 0 for part in model.of_kind(inner, b"frpa"))
+        yield from [f"to the end, {'inside' if level > 1 else 'of the source'}", "something behind it"][:1 + (at + 1 < len(boxes))] if size == 0 else []
+        yield from forms_in_list(file, inner, level + 1)
+
+
+def check_indexes(files):
+    """Indexes in pfil and in segments, in every form, and of rows each level with none, some and all."""
+    met = Counter(form for file in files for form in set(forms_of_index(file)))
+    for form in ("in pfil", "in pseg", "empty", "a front part", "an integrity box", "another box", "large", "a vendor's", "a large bidx", "a front part longer than its box",
+                 "to the end, inside", "to the end, of the source", "something behind it"):
+        expect(f"an index, {form}", met[form] >= 5)
+    found = [(file, row) for file in files for row in model.index(file)[1]]
+    levels = Counter((row[0], row[4]) for file, row in found)
+    for level in range(1, 9):
+        expect(f"rows of level {level}", sum(levels[level, served] for served in (0, 1, 2)) >= 10)
+        expect(f"none, some and all of level {level}", level > 3 or all(levels[level, served] >= 3 for served in (0, 1, 2)))
+    expect("a third of the files has rows", len({file for file, row in found}) / len(files) > 0.3)
+    expect("rows past what is described", any(row[1] >= model.length(file)[1] for file, row in found))
+    expect("a row to the limit", any(row[1] + row[2] == LIMIT for file, row in found))
+
+
 # The meaning, position by position.
 
 def position_by_position(chunks, described):
@@ -249,6 +289,7 @@ def check_meaning(file):
         expect("list never empty", all(run > 0 for first, run in found))
     expect("totals", answer[3:], (len(had), len(missing)))
     check_maps(file, chunks, suppliers)
+    check_rows(file, set(had))
 
 
 def text_by_position(file, names, totals):
@@ -271,6 +312,13 @@ def check_maps(file, chunks, suppliers):
     expect("map without names", model.missmap_text(file), text_by_position(file, names, ["have", "miss"]))
 
 
+def check_rows(file, had):
+    """Of each indexed box whether none, some or all of its positions are had."""
+    for level, place, size, kind, served in model.index(file)[1]:
+        inside = len([p for p in had if place <= p < place + size])
+        expect("how many of a box are served", served, 0 if inside == 0 else 2 if inside == size else 1)
+
+
 # Faulty and spoiled files.
 
 def check_faulty(rng, runs):
@@ -280,6 +328,7 @@ def check_faulty(rng, runs):
             expect(f"faulty file for {number}", model.read(file), ("refused", number))
             expect(f"maps of a file for {number}", [model.map_text(file), model.missmap_text(file)],
                    2 * [b"refused\t%d\n" % number])
+            expect(f"index of a file for {number}", model.index(file), ("refused", number))
             expect(f"parts of a file for {number}",
                    [model.url(file), model.mime(file), model.serve(file, 0)], 3 * [(0, 0)])
 
@@ -326,6 +375,7 @@ def check_spoiled(rng, files):
             ends = [row[5] + row[3] for row in answer[2] if row[5] > 0]
             expect("places in the spoiled file", all(end <= len(spoiled) for end in ends))
     expect("spoiled files meet many numbers", len(numbers) >= 15)
+    expect("spoiled files meet that of a wrong index", 36 in numbers)
     expect("spoiled files have a uuid that is too short", too_short >= 20)
 
 

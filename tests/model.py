@@ -363,7 +363,11 @@ def known_size(segments):
 
 def accept(file):
     """Stages 1 to 25 and 36 to 39: what an acceptable file says."""
-    head = read_head(file)
+    return accept_behind(file, read_head(file))
+
+
+def accept_behind(file, head):
+    """The stages from 12 on."""
     segments, chunks = read_segments(file, head)
     size = known_size(segments)
     indexed = indexed_boxes(file, head.boxes, [segment.offset for segment in segments], size)
@@ -685,7 +689,7 @@ def read_earlier(file):
     head = read_head(file)
     if not of_kind(head.boxes, b"pseg"):
         return head, [], []
-    reading = accept(file)
+    reading = accept_behind(file, head)
     return head, reading.segments, reading.chunks
 
 
