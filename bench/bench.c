@@ -89,7 +89,8 @@ static const struct named {
     const char *name;
     void (*call)(const struct calls *program, const struct asking *asked);
 } named[] = {
-    {"read", read_film}, {"serve", serve_position}, {"ask", ask_position}, {"list", list_film}, {"map", map_film}, {"missmap", missmap_film}, {"index", index_film},
+    {"read", read_film}, {"serve", serve_position}, {"ask", ask_position}, {"list", list_film},
+    {"map", map_film}, {"missmap", missmap_film}, {"index", index_film},
 };
 
 static struct asking asking_of(const char *folder, const char *film, const char *what, uint64_t position)

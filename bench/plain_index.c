@@ -1,5 +1,5 @@
-/* Judges the box indexes of a file, and tells of each box that they index where it lies in the source and how many of its
-   bytes are served. */
+/* Judges the box indexes of a file, and tells of each box that they index where it lies in the source and how many of
+   its bytes are served. */
 #include "plain.h"
 
 enum { LEVELS = 8 };

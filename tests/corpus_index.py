@@ -221,7 +221,8 @@ WRONG = fidx(bidx(7))
 
 def ninths():
     for name, ninth in [("right", bidx(8)), ("that does not fill", bidx(2 ** 31)), ("with a size under its header", bidx(7)), ("without fields", box(b"bidx")),
-                        ("with a list that is cut", bidx(8, b"moov", b"abc")), ("of size 0 before another", bidx(0) + bidx(8)), ("of size 0", bidx(0)), ("over the limit", bidx(2 ** 64 - 1, large=True)),
+                        ("with a list that is cut", bidx(8, b"moov", b"abc")), ("of size 0 before another", bidx(0) + bidx(8)), ("of size 0", bidx(0)),
+                        ("over the limit", bidx(2 ** 64 - 1, large=True)),
                         ("with two frpa", bidx(8, b"moov", box(b"frpa"), box(b"frpa"))), ("behind others", FREE + box(b"dint") + bidx(8))]:
         yield refused(37, f"a ninth level, {name}", in_pfil(fidx(chain(8, 16, ninth))))
     yield refused(37, "a ninth level in a segment", in_segment(fidx(bidx(8), chain(8, 16, bidx(8)))))

@@ -194,12 +194,13 @@ def foreign_plan(rng, huge=False, mixed=None):
 def indexed_plan(rng):
     """The plan of a file that has most of its source, of which an index tells the boxes."""
     data, at, segments = Data(rng.randbytes(rng.randint(40, 150)), seldom(rng)), 0, []
+    sizes = rng.choice([[8], [8, 16], [8, 16, rng.randint(1, 60), 60]])
     while at < len(data.body):
         segment = Segment(at, [])
         for _ in range(rng.randint(1, 3)):
-            size = min(len(data.body) - segment.end(), rng.choice([8, 16, rng.randint(1, 60), 60]))
-            good = rng.random() < 0.8
-            segment.entries.append(Entry(GOOD if good else absent(rng), size, data if good else None, segment.end()))
+            size = min(len(data.body) - segment.end(), rng.choice(sizes))
+            flag_byte = GOOD if rng.random() < 0.7 else rng.choice([DAMAGED, LOST, ELSEWHERE])
+            segment.entries.append(Entry(flag_byte, size, data if flag_byte in (GOOD, DAMAGED) else None, segment.end()))
         dress(rng, segment)
         segments.append(segment)
         at = segment.end()

@@ -226,8 +226,8 @@ def forms_in_list(file, boxes, level):
         size, kind, header, place = model_index.stated_header(file, one)
         inner = model.frame(file, place, one.end)
         yield from ["large"] * (file[one.body:one.body + 4] == bytes([0, 0, 0, 1])) + ["a vendor's"] * (kind == b"uuid") + ["a large bidx"] * (one.body - one.place == 16)
-        yield from ["a front part longer than its box"] * any(part.end - part.body > size > 0 for part in model.of_kind(inner, b"frpa"))
-        yield from [f"to the end, {'inside' if level > 1 else 'of the source'}", "something behind it"][:1 + (at + 1 < len(boxes))] if size == 0 else []
+        yield from ["a front part longer than its box"] * any(size is not None and part.end - part.body > size for part in model.of_kind(inner, b"frpa"))
+        yield from [f"to the end, {'inside' if level > 1 else 'of the source'}", "something behind it"][:1 + (at + 1 < len(boxes))] if size is None else []
         yield from forms_in_list(file, inner, level + 1)
 
 

@@ -75,7 +75,7 @@ def split(rng, total):
     for _ in range(rng.choice([0, 0, 1, 1, 2])):
         if total >= 2 * LEAST:
             most = total - LEAST
-            sizes.append(min(most, rng.choice([8, 9, rng.randint(8, 30), rng.randint(8, most)])))
+            sizes.append(min(most, rng.choice([8, 16, 9, rng.randint(8, 30), rng.randint(8, most)])))
             total -= sizes[-1]
     return sizes + [total]
 

@@ -30,8 +30,8 @@ from model_boxes import (
 
 LEVELS = 8
 
-# A box as an index states it: size 0 where it runs to the end, its type, the length of its header and front part, the
-# boxes inside it, and whether those are of a ninth level, of which none is looked into.
+# A box as an index states it: its size, None where it runs to the end, its type, the length of its header and front
+# part, the boxes inside it, and whether those are of a ninth level, of which none is looked into.
 Stated = namedtuple("Stated", "size kind header front inner ninth")
 # The same with its place; its size is None where its end is not known.
 Indexed = namedtuple("Indexed", "level place size kind")
@@ -52,7 +52,8 @@ def stated_header(file, bidx):
     refuse_if(bidx.end - bidx.body < 8 or bidx.end - bidx.body < header, INDEX_FAULT)
     if large:
         size = unsigned(file, bidx.body + 8, 8)
-    refuse_if((large or size > 0) and size < header, INDEX_FAULT)
+    elif size == 0:
+        size = None
     return size, kind, header, bidx.body + header
 
 
@@ -71,7 +72,7 @@ def read_bidx(file, bidx, level):
 def read_list(file, boxes, level):
     """The boxes that a list indexes."""
     found = [read_bidx(file, bidx, level) for bidx in of_kind(boxes, b"bidx")]
-    refuse_if(any(stated.size == 0 for stated in found[:-1]), INDEX_FAULT)
+    refuse_if(any(stated.size is None for stated in found[:-1]), INDEX_FAULT)
     return found
 
 
@@ -81,8 +82,8 @@ def placed(found, level, place, end):
     rows = []
     for stated in found:
         size = stated.size
-        if size == 0:
-            size = None if end is None else end - place
+        if size is None and end is not None:
+            size = end - place
         box_end = None if size is None else place + size
         refuse_if(size is not None and size < stated.header, INDEX_FAULT)
         refuse_if(box_end is not None and box_end > LIMITS["source"], INDEX_FAULT)

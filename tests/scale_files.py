@@ -2,6 +2,7 @@
 file may be or a little larger."""
 
 import corpus
+import corpus_index
 import generate
 import lists
 import maps
@@ -140,6 +141,10 @@ def twice_faulty_file(rng):
     return plan.assemble()
 
 
+def faulty_index(rng):
+    return generate.faulty_file(rng, rng.choice([36, 36, 36, 37, 38, 39]))
+
+
 def spoiled_index(rng):
     return generate.spoil(rng, generate.indexed_file(rng))
 
@@ -149,9 +154,10 @@ def noise(rng):
 
 
 def of_corpora():
-    """Every file that the corpora of reading and listing have, once, and those on damage that the corpus of the maps
-    has."""
-    return sorted({record.file for record in [*corpus.records(), *lists.records()]} | {file.content for file in maps.of_damage()})
+    """Every file that the corpora of reading and listing have, once, with all that were worked out by hand on indexes,
+    and those on damage that the corpus of the maps has."""
+    records = [*corpus.records(), *corpus_index.claims(), *lists.records()]
+    return sorted({record.file for record in records} | {file.content for file in maps.of_damage()})
 
 
 def chooser(listed):
@@ -164,7 +170,7 @@ def chooser(listed):
         return generate.spoil(rng, listed_file(rng) if rng.random() < 0.2 else generate.foreign_file(rng))
 
     shares = [(generate.foreign_file, 320), (spoiled_file, 280), (cut_file, 120), (faulty_file, 70), (twice_faulty_file, 120), (listed_file, 80), (noise, 4),
-              (large_file, 6), (generate.indexed_file, 60), (spoiled_index, 60)]
+              (large_file, 6), (generate.indexed_file, 60), (spoiled_index, 60), (faulty_index, 40)]
     makers, weights = zip(*shares)
     first = [lambda rng, number=number: generate.faulty_file(rng, number) for number in sorted(FAULTS)] + LARGE
 
