@@ -1,7 +1,7 @@
 -- Laws of the index of a file beside a new segment, which has none: that of a file with a segment is told again, that of
 -- one without goes by its stages.
 use Prim.Native.Nat.{ℕ}
-use mathlib.Core.Bool.{Bool, true, false, _&&_}
+use mathlib.Core.Bool.{Bool, false, _&&_}
 use mathlib.Core.List.{List, [], _∷_, _++_}
 use mathlib.Core.Logic.{inl, inr}
 use mathlib.Core.Path.{_≡_, refl, sym, ap, ap₂, subst, _∙_}
@@ -11,7 +11,7 @@ use Rattle.boxes.specs.Answer.{Answer, given, _>>=_}
 use Rattle.boxes.specs.Kinds.{pseg, fidx, right, those}
 use Rattle.boxes.specs.declared.kinds.Container.the-variants.{File}
 use Rattle.boxes.proofs.AnswerLaws.{given-same, then-then}
-use Rattle.partial.specs.Heading.{Heading, heading}
+use Rattle.partial.specs.Heading.{Heading}
 use Rattle.partial.specs.Index.{indexed}
 use Rattle.partial.specs.Limits.{sourceLimit}
 use Rattle.partial.specs.Meaning.{givesSize, knownSize}

@@ -13,7 +13,7 @@ use Rattle.boxes.specs.Kinds.{pseg, those}
 use Rattle.boxes.proofs.ToldLaws.{Tells}
 use Rattle.gathering.specs.Numbers.{numbersOf}
 use Rattle.gathering.proofs.Determined.{one-put}
-use Rattle.heading.specs.Facts.{partOf, factsBy}
+use Rattle.heading.specs.Facts.{partOf}
 use Rattle.heading.proofs.Determined.{head-told}
 use Rattle.partial.specs.Answers.{readAnswer, countedAnswer}
 use Rattle.partial.specs.Heading.{Part, Heading, heading}

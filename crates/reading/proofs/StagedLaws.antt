@@ -1,6 +1,6 @@
 -- Laws of stages 36 to 39: what the marks of an index decide, what is told where there is none, and that the stages are
 -- those of the definition.
-use Prim.Native.Nat.{ℕ, _≤_}
+use Prim.Native.Nat.{ℕ}
 use mathlib.Core.Bool.{Bool, true, false, not, _&&_, _||_, false≢true}
 use mathlib.Core.List.{List, [], _∷_}
 use mathlib.Core.Option.{Option, none, some, Option·getD}
@@ -30,7 +30,6 @@ use Rattle.ends.specs.Sizes.{sizesOf}
 use Rattle.ends.specs.declared.sizes.Sizes.{Sizes}
 use Rattle.indexing.specs.Ends.{endOf}
 use Rattle.indexing.specs.Marks.{deepIn, unknownIn, shown, marksWith}
-use Rattle.indexing.specs.declared.end.End.{End}
 use Rattle.indexing.specs.declared.marks.Marks.{Marks}
 use Rattle.indexing.proofs.MarksLaws.{shown-all}
 use Rattle.fileindex.specs.File.{indexBy, noMarks, Tells}
