@@ -25,8 +25,6 @@ use Rattle.partial.proofs.Reading.RefusalLaws.{earlier-some, earlier-none, earl
 use Rattle.indexing.specs.Ends.{endOf as endBy}
 use Rattle.indexing.specs.declared.end.End.{End}
 use Rattle.fileindex.specs.File.{indexBy}
-use Rattle.fileindex.specs.Parts.{SegmentsOf}
-use Rattle.fileindex.proofs.SegmentLaws.{segments-known}
 use Rattle.reading.specs.Judged.{indexedTold}
 use Rattle.reading.specs.Staged.{staged, HasIndexes}
 use Rattle.reading.proofs.StagedLaws.{begun-told}
@@ -53,9 +51,9 @@ module _ {f : List ℕ} {h : Heading} (ss : List Segment) {inPfil : Bool} (file 
     nothing : ss ≡ []
     nothing = drop-of-length-le ss {i = 0} (omega arith)
 
-    -- one without has no segment in its boxes, and none that has an index
-    pub begun-known : SegmentsOf f (those pseg (h .boxes)) []
-    begun-known = segments-known f h (subst (λ (ss : List Segment). segments sourceLimit f h ≡ given ss) nothing (earlier-read sourceLimit f (file .head) (file .read)))
+    -- one without has none that has an index
+    pub begun-known : segments sourceLimit f h ≡ given []
+    begun-known = subst (λ (ss : List Segment). segments sourceLimit f h ≡ given ss) nothing (earlier-read sourceLimit f (file .head) (file .read))
 
     pub begun-has : HasIndexes h [] inPfil false
     unfolding someOf
