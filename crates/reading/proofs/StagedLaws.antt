@@ -1,18 +1,18 @@
 -- Laws of stages 36 to 39: what the marks of an index decide, what is told where there is none, and that the stages are
 -- those of the definition.
-use Prim.Native.Nat.{ℕ, _≤_}
+use Prim.Native.Nat.{ℕ}
 use mathlib.Core.Bool.{Bool, true, false, not, _&&_, _||_, false≢true}
 use mathlib.Core.List.{List, [], _∷_}
 use mathlib.Core.Option.{Option, none, some, Option·getD}
 use mathlib.Core.Path.{_≡_, refl, sym, ap, subst, _∙_}
 use native.Mathlib.Nat.{zero-add}
 use native.Mathlib.Omega.{arith}
-use borrow.Author.Tests.{lt-ltb}
+use borrow.Author.Tests.{lt-ltb, not-true, not-false}
 use lib.Dec.{leb, ltb}
 use lib.ListN.{length}
 use Rattle.boxes.specs.Answer.{Answer, refused, given, _>>=_, hold}
 use Rattle.boxes.specs.Framing.{Box}
-use Rattle.boxes.specs.Kinds.{pseg, fidx, rules, those, ruleIn}
+use Rattle.boxes.specs.Kinds.{fidx, rules, those, ruleIn}
 use Rattle.boxes.specs.declared.kinds.Container.{Container}
 use Rattle.boxes.specs.declared.kinds.Container.the-variants.{Pfil, Pseg}
 use Rattle.boxes.specs.declared.kinds.Count.the-variants.{AtMostOne}
@@ -30,14 +30,12 @@ use Rattle.ends.specs.Sizes.{sizesOf}
 use Rattle.ends.specs.declared.sizes.Sizes.{Sizes}
 use Rattle.indexing.specs.Ends.{endOf}
 use Rattle.indexing.specs.Marks.{deepIn, unknownIn, shown, marksWith}
-use Rattle.indexing.specs.declared.end.End.{End}
 use Rattle.indexing.specs.declared.marks.Marks.{Marks}
 use Rattle.indexing.proofs.MarksLaws.{shown-all}
 use Rattle.fileindex.specs.File.{indexBy, noMarks, Tells}
-use Rattle.fileindex.specs.Parts.{SegmentsOf}
 use Rattle.fileindex.specs.declared.file.FileIndex.{FileIndex}
 use Rattle.fileindex.specs.declared.file.FileIndex.the-variants.{Refused, Given}
-use Rattle.fileindex.proofs.SegmentLaws.{segments-known}
+use Rattle.fileindex.proofs.FileLaws.{by-first}
 use Rattle.heading.specs.Facts.{factsOf, factsBy}
 use Rattle.heading.specs.declared.answers.Head.{Head}
 use Rattle.gathering.specs.Gathered.{gatheredOf}
@@ -49,10 +47,6 @@ use Rattle.reading.proofs.JudgedLaws.{facts-indexed}
 
 -- ---- what the marks decide
 
-not-back : (b : Bool) {t : Bool} → not b ≡ t → b ≡ not t
-not-back true e = ap not e
-not-back false e = ap not e
-
 module _ (is : List Indexed) {m : Marks} (marked : m ≡ marksWith noMarks is) (both : Bool) where
   depth : not (allOf (λ i. leb (i .level) levelLimit) is) ≡ m .deep
   unfolding deepIn
@@ -61,12 +55,12 @@ module _ (is : List Indexed) {m : Marks} (marked : m ≡ marksWith noMarks is) (
   pub marked-deep : m .deep ≡ true → staged both (given is) ≡ refused 37
   unfolding staged
   marked-deep deep =
-      let over : allOf (λ i. leb (i .level) levelLimit) is ≡ false = not-back _ (depth ∙ deep) in
+      let over : allOf (λ i. leb (i .level) levelLimit) is ≡ false = not-true _ (depth ∙ deep) in
       rw over
 
   module _ (flat : m .deep ≡ false) where
     shallow : allOf (λ i. leb (i .level) levelLimit) is ≡ true
-    shallow = not-back _ (depth ∙ flat)
+    shallow = not-false _ (depth ∙ flat)
 
     all-shown : shown is ≡ is
     unfolding deepIn
@@ -83,14 +77,14 @@ module _ (is : List Indexed) {m : Marks} (marked : m ≡ marksWith noMarks is) (
     pub marked-unknown : both ≡ false → m .unknown ≡ true → staged both (given is) ≡ refused 39
     unfolding staged
     marked-unknown e unknown =
-        let lacks : allOf (λ i. isKnown (i .end)) is ≡ false = not-back _ (ends ∙ unknown) in
+        let lacks : allOf (λ i. isKnown (i .end)) is ≡ false = not-true _ (ends ∙ unknown) in
         rw (shallow, e, lacks)
 
     pub marked-told : both ≡ false → m .unknown ≡ false → staged both (given is) ≡ given (m .count)
     unfolding staged
     marked-told e known =
         let count : m .count ≡ length is = ap (λ (m : Marks). m .count) marked ∙ zero-add _ ∙ ap length all-shown in
-        let ended : allOf (λ i. isKnown (i .end)) is ≡ true = not-back _ (ends ∙ known) in
+        let ended : allOf (λ i. isKnown (i .end)) is ≡ true = not-false _ (ends ∙ known) in
         rw (shallow, e, ended, count)
 
 -- ---- a file without an index
@@ -158,11 +152,10 @@ stages-told f h ss has = rw (has .pfil, has .segments) (go (indexOf sourceLimit 
 -- those of a file without a segment, beside one that has no index
 pub begun-told : (f : List ℕ) (h : Heading) (s : Segment) {inPfil : Bool} → inPfil ≡ hasIndex (h .inner) → those fidx (s .inner) ≡ []
     → staged (inPfil && false) (indexBy f h (knownSize (s ∷ [])) []) ≡ indexedTold f h (s ∷ [])
-unfolding indexBy indexOfSegments someOf
+unfolding someOf
 begun-told f h s {inPfil} index lacks =
     let none : someOf (λ s. hasIndex (s .inner)) (s ∷ []) ≡ false = rw (has-none sourceLimit f (s .inner) lacks) in
-    let same : indexBy f h (knownSize (s ∷ [])) (s ∷ []) ≡ indexBy f h (knownSize (s ∷ [])) [] = rw (segments-unindexed f (knownSize (s ∷ [])) (s ∷ []) none) in
-    ap (staged (inPfil && false)) (sym same) ∙ stages-told f h (s ∷ []) (record { pfil = index; segments = sym none })
+    ap (staged (inPfil && false)) (by-first f h (knownSize (s ∷ [])) s lacks) ∙ stages-told f h (s ∷ []) (record { pfil = index; segments = sym none })
 
 -- ---- what the calls told
 
@@ -182,9 +175,9 @@ module _ (f : List ℕ) (h : Heading) (size : Option ℕ) (ss : List Segment) (t
 pub stages-given : (f : List ℕ) (h : Heading) (ss : List Segment) {head : Head} {g : Gathered} {x : Answer ℕ} → heading f ≡ given h → factsOf f h ≡ factsBy head
     → segments sourceLimit f h ≡ given ss
     → g ≡ gatheredOf ss
-    → ((h : Heading) (ss : List Segment) → heading f ≡ given h → SegmentsOf f (those pseg (h .boxes)) ss → HasIndexes h ss (head .indexed) (g .indexed)
+    → ((h : Heading) (ss : List Segment) → heading f ≡ given h → segments sourceLimit f h ≡ given ss → HasIndexes h ss (head .indexed) (g .indexed)
     → x ≡ staged (head .indexed && g .indexed) (indexBy f h (endOf (record { known = g .sizes .known; at = g .sizes .size })) ss))
     → x ≡ indexedTold f h ss
 stages-given f h ss {head} {g} headed facts all same answer =
     let has : HasIndexes h ss (head .indexed) (g .indexed) = record { pfil = facts-indexed f h head facts; segments = gathered-indexed ss same } in
-    answer h ss headed (segments-known f h all) has ∙ rw (known-end ss (gathered-sizes ss same)) (stages-told f h ss has)
+    answer h ss headed all has ∙ rw (known-end ss (gathered-sizes ss same)) (stages-told f h ss has)
