@@ -1,0 +1,2 @@
+pub mod ServingLaws
+pub mod MarkingLaws
