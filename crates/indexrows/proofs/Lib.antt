@@ -1,2 +1,3 @@
 pub mod ServingLaws
 pub mod MarkingLaws
+pub mod HadLaws
