@@ -16,7 +16,7 @@ unfolding table computing
 as-the-paper-says = refl
 
 index-as-the-paper-says : IndexAsThePaperSays
-unfolding indexTable computing
+unfolding computing
 index-as-the-paper-says = refl
 
 refused-27 : refusedLine 27 ≡ ascii "refused\t27\n"

@@ -1,0 +1,5 @@
+pub mod SegmentLaws
+pub mod PartLaws
+pub mod HeadingLaws
+pub mod PassLaws
+pub mod FileLaws
