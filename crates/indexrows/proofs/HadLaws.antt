@@ -1,15 +1,26 @@
 -- Laws of the list had of a file whose segments are kept: it is the file's, and has room where it is put.
 use Prim.Native.Nat.{ℕ, _*_, _≤_}
-use mathlib.Core.List.{List, _++_}
+use mathlib.Core.List.{List, [], _∷_, _++_}
+use mathlib.Core.Logic.{inl, inr}
 use mathlib.Core.Path.{_≡_, sym, ap, _∙_}
 use native.Mathlib.Omega.{arith}
+use lib.Dec.{eqb}
 use lib.ListN.{length, drop, length-append}
 use lib.Seq.{drop-append-seam}
-use Rattle.partial.specs.Limits.{chunkLimit}
+use Rattle.boxes.specs.Answer.{given}
+use Rattle.partial.specs.Heading.{Heading, heading}
+use Rattle.partial.specs.Limits.{chunkLimit, sourceLimit}
+use Rattle.partial.specs.Meaning.{describedLength}
 use Rattle.partial.specs.Memory.{filled}
-use Rattle.partial.specs.Ranges.{hadList}
+use Rattle.partial.specs.Ranges.{Range, had, rangesOf, ofClass, hadList}
+use Rattle.partial.specs.Reading.{segments}
 use Rattle.partial.specs.Segments.{Segment, good, chunksOf}
 use Rattle.partial.specs.Tables.{rangeRowLength, hadRows}
+use Rattle.partial.proofs.Meaning.EdgeLaws.{listed-few}
+use Rattle.partial.proofs.Meaning.ListingLaws.{listing}
+use Rattle.partial.proofs.Meaning.SequenceLaws.{which}
+use Rattle.partial.proofs.Reading.ReadingLaws.{accepted}
+use Rattle.gathering.specs.Kept.{Kept}
 use Rattle.gathering.proofs.RowLaws.{put-filled}
 use Rattle.spans.specs.Chunks.{manyOf, SpansOf}
 use Rattle.spans.specs.Spans.{classBy}
@@ -23,10 +34,35 @@ use Rattle.indexrows.specs.Marking.{rangeLimit, AcceptedIn}
 use Rattle.indexrows.specs.Serving.{HadIn}
 
 -- a table that rows filled starts with them
-starts-filled : (rows t₀ : List ℕ) {t : List ℕ} → t ≡ filled rows t₀ → t ≡ filled rows t
+pub starts-filled : (rows t₀ : List ℕ) {t : List ℕ} → t ≡ filled rows t₀ → t ≡ filled rows t
 unfolding filled
 starts-filled rows t₀ e =
     e ∙ ap (λ (rest : List ℕ). rows ++ rest) (sym (ap (drop (length rows)) e ∙ drop-append-seam rows (drop (length rows) t₀)))
+
+-- ---- an accepted file
+
+class-few : (c : ℕ) (rs : List Range) → length (ofClass c rs) ≤ length rs
+unfolding ofClass
+class-few c [] = omega arith
+class-few c (r ∷ rs) =
+    elim (which (eqb (r .class) c)) [
+      | inl here ↦ rw (ofClass, here) (omega (arith, class-few c rs))
+      | inr other ↦ rw (ofClass, other) (omega (arith, class-few c rs))
+    ]
+
+-- its lists are as they should be, and it has no more ranges than it may
+pub accepted-in : (f : List ℕ) (h : Heading) {rows : List ℕ} {many : ℕ} {numbers : List ℕ} {end : ℕ} {ss : List Segment} → heading f ≡ given h → segments sourceLimit f h ≡ given ss
+    → Kept rows many numbers ss → end ≡ describedLength ss
+    → AcceptedIn rows many numbers end ss
+unfolding hadList
+accepted-in f h {ss = ss} head all kept described =
+    let ok = accepted sourceLimit f h head all in
+    record {
+      kept = kept;
+      described = described;
+      lists = listing ss (ok .agreed) (ok .order);
+      few = omega (arith, class-few had (rangesOf ss), listed-few ss (ok .order), kept .few, kept .chunks);
+    }
 
 module _ {rows : List ℕ} {many : ℕ} {numbers : List ℕ} {end : ℕ} {ss : List Segment} (a : AcceptedIn rows many numbers end ss) where
   -- no more of its chunks are good than a file may have

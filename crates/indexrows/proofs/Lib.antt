@@ -1,3 +1,4 @@
 pub mod ServingLaws
 pub mod MarkingLaws
 pub mod HadLaws
+pub mod CallsLaws

@@ -10,7 +10,7 @@ use Rattle.partial.specs.Memory.{filled}
 use Rattle.partial.specs.Segments.{Segment}
 use Rattle.indexing.specs.Marks.{plainRow, plainRows}
 
-plain-long : (is : List Indexed) → length (plainRows is) ≡ indexRowLength * length is
+pub plain-long : (is : List Indexed) → length (plainRows is) ≡ indexRowLength * length is
 unfolding plainRows plainRow
 plain-long [] = refl
 plain-long (i ∷ is) = omega (arith, length-append (plainRow i) (plainRows is), plain-long is)
