@@ -291,8 +291,8 @@ pub record BoxesPrinted (most : ℕ) (input : List ℕ) : Type 0 where
 pub record Demand2 (limit : ℕ) : Type 0 where
   pub mapped : (f : List ℕ) (h : Heading) (ss : List Segment) → heading f ≡ given h → reading limit f ≡ given ss → Mapped f h ss
   -- a file that reaches 25 is accepted exactly if its sizes agree and its index is told, and no other is; it is 25
-  -- exactly if they do not. Its segments, over which serving, lists and maps are, are those that it reaches 25 with: the
-  -- index never changes what is served
+  -- exactly if they do not. Its segments, over which serving, lists and maps are, are those that it reaches 25 with:
+  -- the index never changes what is served
   pub agrees :
       (f : List ℕ) (ss : List Segment)
       → (reading limit f ≡ given ss)

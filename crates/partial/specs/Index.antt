@@ -27,7 +27,8 @@ pub record IndexFields : Type 0 where
   pub kind : ℕ
   pub list : ℕ
 
--- the size by `indexed_box_size` and the 64 bits that may follow the type: 0 runs to the end, 1 means that they do follow
+-- the size by `indexed_box_size` and the 64 bits that may follow the type: 0 runs to the end, 1 means that they do
+-- follow
 unfoldable pub sizeBy : ℕ → ℕ → Option ℕ
 sizeBy size large = elim (eqb size 0) [ true ↦ none | false ↦ some (elim (eqb size 1) [ true ↦ large | false ↦ size ]) ]
 
@@ -79,7 +80,8 @@ pub record Indexed : Type 0 where
   pub end : Option ℕ
   pub kind : ℕ
 
--- boxes of the index, one before those of its list, and where the last of one list ends, if it has one and that is known
+-- boxes of the index, one before those of its list, and where the last of one list ends, if it has one and that is
+-- known
 pub record Told : Type 0 where
   pub boxes : List Indexed
   pub end : Option ℕ

@@ -1,5 +1,5 @@
--- Document 01, "Rows", "Serving", "Lists" and refusal 26, and document 02, [7], "give a table of each indexed box": what
--- the reading calls answer, hand back and leave in the lent tables.
+-- Document 01, "Rows", "Serving", "Lists" and refusal 26, and document 02, [7], "give a table of each indexed box":
+-- what the reading calls answer, hand back and leave in the lent tables.
 use Prim.Native.Nat.{ℕ, suc}
 use mathlib.Core.Bool.{Bool, true, false, _&&_}
 use mathlib.Core.List.{List, [], _∷_, _++_}
@@ -61,8 +61,8 @@ hadRows ss = rangeRows (hadList ss)
 unfoldable pub missingRows : List Segment → List ℕ
 missingRows ss = rangeRows (missingList ss)
 
--- reading, serving and asking with the two lent tables: all stages of the file, then 26. A table is left as `after` says, by
--- its rows: `segmentRows`, `chunkRows`, `hadRows` or `missingRows`
+-- reading, serving and asking with the two lent tables: all stages of the file, then 26. A table is left as `after`
+-- says, by its rows: `segmentRows`, `chunkRows`, `hadRows` or `missingRows`
 unfoldable pub tabled : ℕ → List ℕ → List ℕ → List ℕ → Answer (List Segment)
 tabled limit f segmentTable chunkTable = do
   ss ← reading limit f

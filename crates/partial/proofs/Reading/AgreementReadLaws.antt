@@ -1,5 +1,5 @@
--- A file that reaches 25 is accepted exactly if its sizes agree and its index is told, and no other is; it is 25 exactly
--- if they do not agree, and 36 to 39 exactly if they do and its index has that number.
+-- A file that reaches 25 is accepted exactly if its sizes agree and its index is told, and no other is; it is 25
+-- exactly if they do not agree, and 36 to 39 exactly if they do and its index has that number.
 use Prim.Native.Nat.{ℕ, _≤_, _<_}
 use mathlib.Core.Bool.{Bool, true, false}
 use mathlib.Core.List.{List, []}

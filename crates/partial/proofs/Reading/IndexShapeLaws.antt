@@ -22,7 +22,7 @@ use Rattle.partial.specs.Heading.{Heading}
 use Rattle.partial.specs.Meaning.{knownSize}
 use Rattle.partial.specs.IndexShape.{Inside, Under, Nested, Stepwise, InOrder}
 use Rattle.partial.proofs.Meaning.SequenceLaws.{both, all-append, Each, each-append}
-use Rattle.partial.proofs.Reading.IndexGivenLaws.{known, Boxed, boxTold, told-boxed}
+use Rattle.partial.proofs.Reading.IndexGivenLaws.{known, boxTold, told-boxed}
 use Rattle.partial.proofs.Reading.IndexedLaws.{indexed-whole}
 
 -- ---- boxes behind others

@@ -1,7 +1,7 @@
 -- The index of a file with one more segment that has none, and with more behind it: what was told of it is told again.
-use Prim.Native.Nat.{ℕ, zero, suc, _+_, _≤_}
+use Prim.Native.Nat.{ℕ, _+_}
 use mathlib.Core.Bool.{Bool, true, false, not, _&&_, _||_, and-false}
-use mathlib.Core.List.{List, [], _∷_, _++_, append-nil}
+use mathlib.Core.List.{List, [], _∷_, _++_}
 use mathlib.Core.Option.{Option, none, some}
 use mathlib.Core.Path.{_≡_, refl, sym, ap, subst, _∙_}
 use native.Mathlib.Decide.{decLe}
@@ -9,7 +9,7 @@ use native.Mathlib.Omega.{arith}
 use borrow.Author.Tests.{eq-eqb, ne-eqb, lt-ltb, le-ltb}
 use lib.Dec.{leb, eqb}
 use lib.ListN.{length}
-use Rattle.boxes.specs.Answer.{Answer, refused, given, _>>=_, hold}
+use Rattle.boxes.specs.Answer.{Answer, given, _>>=_}
 use Rattle.boxes.specs.Framing.{Box, boxesIn}
 use Rattle.boxes.specs.Kinds.{fidx, bidx, right, those}
 use Rattle.boxes.specs.declared.kinds.Container.{Container}
@@ -19,14 +19,14 @@ use Rattle.boxes.proofs.KindLaws.{few-right}
 use Rattle.partial.specs.Sequences.{someOf, allOf}
 use Rattle.partial.specs.Segments.{Segment}
 use Rattle.partial.specs.Heading.{Heading}
-use Rattle.partial.specs.Meaning.{givesSize, knownSize}
+use Rattle.partial.specs.Meaning.{knownSize}
 use Rattle.partial.specs.Carried.{orElse}
-use Rattle.partial.specs.Index.{isKnown, listFramed, Indexed, Told, indexList, levelLimit, callLimit, indexIn, indexOfSegments, indexOf, hasIndex, indexed}
+use Rattle.partial.specs.Index.{listFramed, Indexed, indexList, levelLimit, callLimit, indexIn, indexOfSegments, indexOf, hasIndex, indexed}
 use Rattle.partial.proofs.Meaning.SequenceLaws.{both, all-append}
 use Rattle.partial.proofs.Meaning.DescribedLaws.{known-append}
 use Rattle.partial.proofs.Reading.HeadingAppendLaws.{lies}
 use Rattle.partial.proofs.Reading.IndexGivenLaws.{index-only, list-sized, known}
-use Rattle.partial.proofs.Reading.IndexKeptLaws.{then-known, index-in-kept}
+use Rattle.partial.proofs.Reading.IndexKeptLaws.{index-in-kept}
 
 -- ---- a container without an index
 

@@ -1,5 +1,5 @@
--- What reading is made of, stage by stage, and what it gives of an accepted file: its chunks follow each other and lie in
--- data boxes, and its sizes agree.
+-- What reading is made of, stage by stage, and what it gives of an accepted file: its chunks follow each other and lie
+-- in data boxes, and its sizes agree.
 use Prim.Native.Nat.{ℕ, zero, suc, _+_, _≤_, _<_}
 use mathlib.Core.Bool.{true, false, not, _||_}
 use mathlib.Core.List.{List, [], _∷_, _++_, append-nil}
@@ -127,6 +127,10 @@ abbrev pub laterStages : ℕ → List ℕ → Heading → Answer (List Segment)
 laterStages limit f h = segments limit f h >>= λ ss. indexed limit f h ss >>= λ _. given ss
 
 module _ (limit : ℕ) (f : List ℕ) where
+  pub reading-headless : {n : ℕ} → heading f ≡ refused n → reading limit f ≡ refused n
+  unfolding reading
+  reading-headless e = rw (reading, e)
+
   pub reading-none : {h : Heading} → heading f ≡ given h → right File pseg (h .boxes) ≡ false → reading limit f ≡ refused 12
   unfolding reading
   reading-none head lacks = rw (reading, head, lacks)

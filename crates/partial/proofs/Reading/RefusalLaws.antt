@@ -37,7 +37,7 @@ use Rattle.partial.specs.Append.{addedBoxes, newSegment, added, appended
 use Rattle.partial.specs.Runs.{lent, sizeAfter, append}
 use Rattle.partial.specs.Demands.{beforeAgreement, ofIndex, ofStages, Never, Demand1, Takes}
 use Rattle.partial.proofs.Meaning.SequenceLaws.{inside, which}
-use Rattle.partial.proofs.Reading.ReadingLaws.{laterStages, reading-none, reading-some, reading-segments}
+use Rattle.partial.proofs.Reading.ReadingLaws.{laterStages, reading-headless, reading-none, reading-some, reading-segments}
 use Rattle.partial.proofs.Reading.IndexGivenLaws.{indexed-only}
 
 -- stages 1 to 11 and 13 to 24, by a kind that has their numbers, then 25 and 36 to 39
@@ -148,14 +148,14 @@ module _ (P : ℕ → Type 0) (known : (n : ℕ) → T (beforeAgreement n) → P
 
   -- and those of the index
   module _ (rest : (n : ℕ) → T (eqb n 25 || ofIndex n) → P n) where
-    pub index-only : (limit : ℕ) (f : List ℕ) (h : Heading) (ss : List Segment) → Only P (indexed limit f h ss)
+    told-only : (limit : ℕ) (f : List ℕ) (h : Heading) (ss : List Segment) → Only P (indexed limit f h ss)
     unfolding within
-    index-only limit f h ss = indexed-only P (rest 36 tt) limit f (rest 37 tt) (rest 38 tt) (rest 39 tt) h ss
+    told-only limit f h ss = indexed-only P (rest 36 tt) limit f (rest 37 tt) (rest 38 tt) (rest 39 tt) h ss
 
-    pub later-only : (limit : ℕ) (f : List ℕ) (h : Heading) → Only P (laterStages limit f h)
+    later-only : (limit : ℕ) (f : List ℕ) (h : Heading) → Only P (laterStages limit f h)
     later-only limit f h =
         only-then P (segments limit f h) _ (segments-only (rest 25 tt) limit f h)
-        (λ ss. only-then P (indexed limit f h ss) _ (index-only limit f h ss) (λ _. only-given P ss))
+        (λ ss. only-then P (indexed limit f h ss) _ (told-only limit f h ss) (λ _. only-given P ss))
 
 -- a test that passes beside another
 beside : (b c : Bool) → T b → T (b || c)
@@ -206,14 +206,17 @@ module _ (limit : ℕ) (f : List ℕ) where
           | inr lacks ↦ no-segments h lacks ∙ sym (earlier-none lacks) ∙ e
         ]
 
+  pub earlier-headless : {n : ℕ} → heading f ≡ refused n → earlierSegments limit f ≡ refused n
+  unfolding earlierSegments
+  earlier-headless e = rw (earlierSegments, e)
+
   -- reading differs from what append goes by only in 12
   pub twelve-apart : (reading limit f ≡ earlierSegments limit f) ⊎ ((reading limit f ≡ refused 12) × (earlierSegments limit f ≡ given []))
-  unfolding reading earlierSegments
   twelve-apart = go (heading f) refl
     where
       go : (x : Answer Heading) → heading f ≡ x
           → (reading limit f ≡ earlierSegments limit f) ⊎ ((reading limit f ≡ refused 12) × (earlierSegments limit f ≡ given []))
-      go (refused n) e = inl (rw e)
+      go (refused n) e = inl (reading-headless limit f e ∙ sym (earlier-headless e))
       go (given h) e =
           elim (which (right File pseg (h .boxes))) [
             | inl there ↦ inl (sym (earlier-some e there))
@@ -226,10 +229,6 @@ module _ (limit : ℕ) (f : List ℕ) where
   earlier-headed e =
       let (h, head, _) = both-given (heading f) _ e in
       (h, head)
-
-  pub earlier-headless : {n : ℕ} → heading f ≡ refused n → earlierSegments limit f ≡ refused n
-  unfolding earlierSegments
-  earlier-headless e = rw (earlierSegments, e)
 
   module _ (P : ℕ → Type 0) (known : (n : ℕ) → T (beforeAgreement n) → P n) (rest : (n : ℕ) → T (eqb n 25 || ofIndex n) → P n) where
     earlier-only : Only P (earlierSegments limit f)
@@ -288,7 +287,7 @@ module _ (limit : ℕ) where
       (λ ss.
       only-then OfReading (heading f) _ (heading-only OfReading known-read f)
       (λ h.
-      only-then OfReading (indexed limit f h ss) _ (index-only OfReading known-read rest-read limit f h ss)
+      only-then OfReading (indexed limit f h ss) _ (told-only OfReading known-read rest-read limit f h ss)
       (λ is. only-held OfReading 26 (fits (indexRows ss is) t) _ tt (only-given OfReading (ss, is)))))
 
   abbrev OfAddition : ℕ → Type 0
@@ -315,7 +314,7 @@ module _ (limit : ℕ) where
       (only-held OfAddition 35 (outsideRight h a) _ tt
       (only-then OfAddition (admission limit h ss n a) _ (admission-only OfAddition known-added (rest-added 25 tt) limit h ss n a)
       (λ ts.
-      only-then OfAddition (indexed limit f h ts) _ (index-only OfAddition known-added rest-added limit f h ts)
+      only-then OfAddition (indexed limit f h ts) _ (told-only OfAddition known-added rest-added limit f h ts)
       (λ _. only-held OfAddition 33 (leb size (length buffer)) _ tt (only-given OfAddition size)))))))))
 
 abbrev OfBegin : ℕ → Type 0

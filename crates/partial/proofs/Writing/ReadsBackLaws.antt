@@ -34,7 +34,7 @@ use Rattle.partial.proofs.Reading.HeadingAppendLaws.{headed, heading-of
 use Rattle.partial.proofs.Reading.KeptLaws.{segments-kept, segments-inside}
 use Rattle.partial.proofs.Reading.IndexKeptLaws.{then-known}
 use Rattle.partial.proofs.Reading.IndexedLaws.{indexed-kept}
-use Rattle.partial.proofs.Reading.ReadingLaws.{reading-some}
+use Rattle.partial.proofs.Reading.ReadingLaws.{reading-headless, reading-some}
 use Rattle.partial.proofs.Reading.LimitLaws.{segments-many}
 use Rattle.partial.proofs.Reading.RefusalLaws.{earlier-read}
 use Rattle.partial.proofs.Writing.FieldsBackLaws.{sizes-eight}
@@ -263,15 +263,17 @@ module _ (limit : ℕ) (f : List ℕ) (h : Heading) (ss : List Segment) (a : Add
 
     -- reading the longer file: the refusals that the result would have, in their order, or its segments
     pub reading-result : Sayable a → reading limit (f ++ added a) ≡ (admission limit h ss (length f) a >>= λ ts. indexed limit f h ts >>= λ _. given ts)
-    unfolding reading admission
+    unfolding admission
     reading-result says =
         let size : ℕ = length f + length (added a) in
         let many : ℕ = length (h .boxes) + addedBoxes a in
         elim (decLe size fileLimit) [
-          | no over ↦ rw (heading-large (omega arith), lt-leb size fileLimit (omega arith))
+          | no over ↦ reading-headless limit (f ++ added a) (heading-large (omega arith)) ∙ rw (lt-leb size fileLimit (omega arith))
           | yes small ↦
               elim (decLe many boxLimit) [
-                | no over ↦ rw (heading-crowded small (omega arith), le-leb size fileLimit small, lt-leb many boxLimit (omega arith))
+                | no over ↦
+                    reading-headless limit (f ++ added a) (heading-crowded small (omega arith))
+                    ∙ rw (le-leb size fileLimit small, lt-leb many boxLimit (omega arith))
                 | yes room ↦
                     reading-some limit (f ++ added a) (heading-added small room) pseg-there
                     ∙ rw (segments-added small says, le-leb size fileLimit small, le-leb many boxLimit room)

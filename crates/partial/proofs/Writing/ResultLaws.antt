@@ -1,5 +1,5 @@
--- Demand 3, the reasons for which an addition is refused by its result: what the result would have, 1, 6, 13, 22, 23, 25,
--- 36, 37 or 39, and then 33.
+-- Demand 3, the reasons for which an addition is refused by its result: what the result would have, 1, 6, 13, 22, 23,
+-- 25, 36, 37 or 39, and then 33.
 use Prim.Native.Nat.{ℕ, _+_, _^_, _≤_}
 use mathlib.Core.Bool.{Bool, true, false, _&&_}
 use mathlib.Core.List.{List, [], _∷_, _++_}
