@@ -20,6 +20,11 @@ pub both : (a b : Bool) → (a && b) ≡ true → (a ≡ true) × (b ≡ true)
 both true b h = (refl, h)
 both false b h = (h, absurd (false≢true h))
 
+-- and neither passes where not even one does
+pub neither : (a b : Bool) → (a || b) ≡ false → (a ≡ false) × (b ≡ false)
+neither false b h = (refl, h)
+neither true b h = (h, absurd (false≢true (sym h)))
+
 -- a test as a type
 pub passes : (b : Bool) → T b → b ≡ true
 passes true h = refl
