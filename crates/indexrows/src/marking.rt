@@ -21,7 +21,7 @@ ghost use Rattle.indexrows.specs.Marking.{AcceptedIn};
 ghost use Rattle.indexrows.specs.Serving.{HadIn};
 
 // The numbers of as many ranges as a file may have: one, and one more for each segment and each chunk.
-pub const ALL_RANGES: usize = 2_178;
+const ALL_RANGES: usize = 2_178;
 
 // Puts what is served of it behind the level, place, size and type of each of so many boxes, by so many ranges had.
 fn mark(table: &mut [u64], count: u64, had: &[u64], many: usize)

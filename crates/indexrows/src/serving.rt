@@ -11,11 +11,11 @@ ghost use Rattle.partial.specs.Tables.{rangeRowLength};
 ghost use Rattle.indexrows.specs.Serving.{HadIn, Ended};
 
 // None of its positions are served.
-pub const NONE_SERVED: u64 = 0;
+const NONE_SERVED: u64 = 0;
 // Some are.
-pub const SOME_SERVED: u64 = 1;
+const SOME_SERVED: u64 = 1;
 // All are.
-pub const ALL_SERVED: u64 = 2;
+const ALL_SERVED: u64 = 2;
 
 // How many of the first so many ranges end by a place, by halves.
 fn ended_by(had: &[u64], many: usize, place: Position) -> usize
