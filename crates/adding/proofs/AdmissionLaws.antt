@@ -16,7 +16,7 @@ use Rattle.boxes.specs.Framing.{boxLimit}
 use Rattle.partial.specs.Addition.{Addition, items, flagsFor}
 use Rattle.partial.specs.Append.{added, addedBoxes, newSegment, psegPlace, admission}
 use Rattle.partial.specs.Heading.{Heading}
-use Rattle.partial.specs.Index.{hasIndex, indexed}
+use Rattle.partial.specs.Index.{indexed}
 use Rattle.partial.specs.Limits.{fileLimit, segmentLimit, chunkLimit, sourceLimit}
 use Rattle.partial.specs.Meaning.{agree}
 use Rattle.partial.specs.Reading.{admitted}
@@ -29,7 +29,7 @@ use Rattle.gathering.specs.declared.gathered.Gathered.{Gathered}
 use Rattle.gathering.proofs.GatheredLaws.{gathered-segments, gathered-chunks}
 use Rattle.outside.specs.declared.chunks.Outside.{Outside}
 use Rattle.reading.specs.declared.judging.Judged.{Judged}
-use Rattle.adding.specs.Admission.{Tells, Known, indexedBeside, admittedBeside, Beside, Asked, admittedLength}
+use Rattle.adding.specs.Admission.{Tells, indexedBeside, admittedBeside, Beside, Asked, admittedLength}
 use Rattle.adding.specs.Counts.{capped}
 use Rattle.adding.specs.declared.counts.Counts.{Counts}
 use Rattle.adding.specs.declared.layout.Layout.{Layout}

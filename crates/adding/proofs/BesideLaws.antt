@@ -1,7 +1,7 @@
 -- Laws of the index of a file beside a new segment, which has none: that of a file with a segment is told again, that of
 -- one without goes by its stages.
 use Prim.Native.Nat.{ℕ}
-use mathlib.Core.Bool.{Bool, true, false, _&&_}
+use mathlib.Core.Bool.{Bool, false, _&&_}
 use mathlib.Core.List.{List, [], _∷_, _++_}
 use mathlib.Core.Logic.{inl, inr}
 use mathlib.Core.Path.{_≡_, refl, sym, ap, ap₂, subst, _∙_}
@@ -11,7 +11,7 @@ use Rattle.boxes.specs.Answer.{Answer, given, _>>=_}
 use Rattle.boxes.specs.Kinds.{pseg, fidx, right, those}
 use Rattle.boxes.specs.declared.kinds.Container.the-variants.{File}
 use Rattle.boxes.proofs.AnswerLaws.{given-same, then-then}
-use Rattle.partial.specs.Heading.{Heading, heading}
+use Rattle.partial.specs.Heading.{Heading}
 use Rattle.partial.specs.Index.{indexed}
 use Rattle.partial.specs.Limits.{sourceLimit}
 use Rattle.partial.specs.Meaning.{givesSize, knownSize}
@@ -25,8 +25,6 @@ use Rattle.partial.proofs.Reading.RefusalLaws.{earlier-some, earlier-none, earl
 use Rattle.indexing.specs.Ends.{endOf as endBy}
 use Rattle.indexing.specs.declared.end.End.{End}
 use Rattle.fileindex.specs.File.{indexBy}
-use Rattle.fileindex.specs.Parts.{SegmentsOf}
-use Rattle.fileindex.proofs.SegmentLaws.{segments-known}
 use Rattle.reading.specs.Judged.{indexedTold}
 use Rattle.reading.specs.Staged.{staged, HasIndexes}
 use Rattle.reading.proofs.StagedLaws.{begun-told}
@@ -53,9 +51,9 @@ module _ {f : List ℕ} {h : Heading} (ss : List Segment) {inPfil : Bool} (file 
     nothing : ss ≡ []
     nothing = drop-of-length-le ss {i = 0} (omega arith)
 
-    -- one without has no segment in its boxes, and none that has an index
-    pub begun-known : SegmentsOf f (those pseg (h .boxes)) []
-    begun-known = segments-known f h (subst (λ (ss : List Segment). segments sourceLimit f h ≡ given ss) nothing (earlier-read sourceLimit f (file .head) (file .read)))
+    -- one without has none that has an index
+    pub begun-known : segments sourceLimit f h ≡ given []
+    begun-known = subst (λ (ss : List Segment). segments sourceLimit f h ≡ given ss) nothing (earlier-read sourceLimit f (file .head) (file .read))
 
     pub begun-has : HasIndexes h [] inPfil false
     unfolding someOf

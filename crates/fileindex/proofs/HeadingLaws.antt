@@ -16,10 +16,14 @@ use Rattle.boxes.specs.declared.kinds.Container.the-variants.{File, Pfil}
 use Rattle.boxes.specs.declared.kinds.Kind.{Kind}
 use Rattle.boxes.proofs.KindLaws.{is-eqb, is-there, right-one, those-one, those-other}
 use Rattle.partial.specs.Heading.{ftypRight, pfilRight, Heading}
+use Rattle.partial.specs.Limits.{sourceLimit}
+use Rattle.partial.specs.Reading.{segments}
 use Rattle.partial.specs.Segments.{Segment}
 use Rattle.partial.proofs.Meaning.SequenceLaws.{both, which}
 use Rattle.partial.proofs.Reading.HeadingAppendLaws.{Headed}
-use Rattle.fileindex.specs.Parts.{SegmentOf, SegmentsOf, Part, partIn, segmentPart, partsOf, file, segment, other, HoldAll}
+use Rattle.fileindex.specs.Parts.{Part, partIn, segmentPart, file, segment, other}
+use Rattle.fileindex.proofs.PartLaws.{partsOf, HoldAll}
+use Rattle.fileindex.proofs.SegmentLaws.{SegmentsOf, segments-known}
 
 -- a box of one kind is of no other
 other-kind : (k j : Kind) (b : Box) → is k b ≡ true → (k .code ≡ j .code → ⊥) → is j b ≡ false
@@ -66,13 +70,13 @@ module _ (f : List ℕ) where
       let filed : Part = partIn Pfil inner 0 in
       ([], filed ∷ map segmentPart ss, refl, other no-pfil no-pseg, (filed ∷ [], map segmentPart ss, refl, file second framed, rest))
 
-  pub heading-holds : (h : Heading) (ss : List Segment) → Headed f h → SegmentsOf f (those pseg (h .boxes)) ss → HoldAll f (h .boxes) (partsOf h ss)
+  pub heading-holds : (h : Heading) (ss : List Segment) → Headed f h → segments sourceLimit f h ≡ given ss → HoldAll f (h .boxes) (partsOf h ss)
   unfolding ftypRight pfilRight
-  heading-holds h ss t known =
+  heading-holds h ss t read =
       let bs = h .boxes in
       let a = boxAt 0 bs in
       let (three, _) = both (is ftyp a && leb (a .body + 8) (a .end) && eqb ((a .end - a .body) % 4) 0) (right File ftyp bs) (t .ftyp) in
       let (two, _) = both (is ftyp a && leb (a .body + 8) (a .end)) (eqb ((a .end - a .body) % 4) 0) three in
       let (first, _) = both (is ftyp a) (leb (a .body + 8) (a .end)) two in
       let (second, single) = both (is pfil (boxAt 1 bs)) (right File pfil bs) (t .pfil) in
-      boxes-hold ss bs first second (right-one File pfil bs refl single) (t .inner) known
+      boxes-hold ss bs first second (right-one File pfil bs refl single) (t .inner) (segments-known f h read)

@@ -3,3 +3,4 @@ pub mod PartLaws
 pub mod HeadingLaws
 pub mod PassLaws
 pub mod FileLaws
+pub mod Determined

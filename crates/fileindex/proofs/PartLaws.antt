@@ -1,5 +1,5 @@
 -- Laws of the containers that may hold an index: which one a box of the file is, and what is told of it.
-use Prim.Native.Nat.{ℕ, _+_, _*_, _≤_}
+use Prim.Native.Nat.{ℕ, _≤_}
 use mathlib.Core.Bool.{true, false, false≢true}
 use mathlib.Core.List.{List, [], _∷_, _++_, map, append-assoc, append-nil}
 use mathlib.Core.Option.{Option}
@@ -10,7 +10,8 @@ use Rattle.boxes.specs.Framing.{Box, boxesIn, boxOf}
 use Rattle.boxes.specs.Kinds.{pfil, pseg, is}
 use Rattle.boxes.specs.declared.framing.Framed.{Framed}
 use Rattle.boxes.specs.declared.kinds.Container.{Container}
-use Rattle.boxes.specs.declared.kinds.Container.the-variants.{Pfil, Pseg}
+use Rattle.boxes.specs.declared.kinds.Container.the-variants.{Pfil}
+use Rattle.partial.specs.Heading.{Heading}
 use Rattle.partial.specs.Index.{Indexed, indexIn, indexOfSegments}
 use Rattle.partial.specs.Limits.{sourceLimit}
 use Rattle.partial.specs.Segments.{Segment}
@@ -22,7 +23,16 @@ use Rattle.indexing.specs.declared.marks.Marks.{Marks}
 use Rattle.indexing.proofs.MarksLaws.{marked-none}
 use Rattle.fileindex.specs.Parts.{SegmentOf, Part, partIn, segmentPart, indexOfParts, Holds, file, segment, other, InFile, Adds}
 
+-- the containers of a file, in file order
+abbrev pub partsOf : Heading → List Segment → List Part
+partsOf h ss = partIn Pfil (h .inner) 0 ∷ map segmentPart ss
+
 -- ---- which container a box is
+
+-- which containers these boxes are, in their order
+abbrev pub HoldAll : List ℕ → List Box → List Part → Type 0
+HoldAll f [] all = all ≡ []
+HoldAll f (b ∷ bs) all = (ps : List Part) × (qs : List Part) × (all ≡ ps ++ qs) × Holds f b ps × HoldAll f bs qs
 
 module _ {f : List ℕ} {b : Box} where
   pub holds-file : {ps : List Part} → Holds f b ps → is pfil b ≡ true → (inner : List Box) × (boxesIn Pfil f (b .body) (b .end) ≡ given inner) × (partIn Pfil inner 0 ∷ [] ≡ ps)

@@ -1,34 +1,28 @@
 -- Laws of the pass over a file's boxes: the indexes that were marked, and the boxes that are left, which decide.
 use Prim.Native.Nat.{ℕ, _*_, _≤_}
 use mathlib.Core.Bool.{Bool}
-use mathlib.Core.List.{List, [], _∷_, _++_, append-assoc, append-nil}
+use mathlib.Core.List.{List, [], _++_, append-assoc, append-nil}
 use mathlib.Core.Option.{Option, none, some}
 use mathlib.Core.Path.{_≡_, refl, sym, ap, subst, _∙_}
 use native.Mathlib.Omega.{arith}
-use borrow.Author.Tests.{leb-true}
-use lib.ListN.{length}
 use Rattle.boxes.specs.Answer.{Answer, refused, given, _>>=_}
 use Rattle.boxes.specs.Framing.{Box}
 use Rattle.boxes.specs.Walk.{walkOver, stepped}
 use Rattle.boxes.specs.declared.kinds.Container.the-variants.{File}
 use Rattle.boxes.specs.declared.walk.Walk.{Walk}
 use Rattle.boxes.proofs.AnswerLaws.{then-given}
-use Rattle.boxes.proofs.WalkLaws.{ahead, met, walk-boxes, known-next, known-end, known-sound}
+use Rattle.boxes.proofs.WalkLaws.{ahead, met, known-next, known-end, known-sound}
 use Rattle.numerals.specs.declared.place.Place.{Place}
-use Rattle.partial.specs.Heading.{Heading}
 use Rattle.partial.specs.Index.{Indexed}
 use Rattle.partial.specs.Limits.{fileLimit}
-use Rattle.partial.specs.Segments.{Segment}
-use Rattle.partial.proofs.Reading.HeadingAppendLaws.{Headed}
-use Rattle.indexing.specs.Index.{CountedIn}
 use Rattle.indexing.specs.Marks.{Marked}
 use Rattle.indexing.specs.declared.index.IndexRead.the-variants as IndexRead
 use Rattle.indexing.specs.declared.marks.Marks.{Marks}
 use Rattle.indexing.proofs.MarksLaws.{marked-none, marked-more}
 use Rattle.fileindex.specs.File.{noMarks, Tells}
-use Rattle.fileindex.specs.Parts.{Part, indexOfParts, Holds, HoldAll, InFile, Adds}
+use Rattle.fileindex.specs.Parts.{Part, indexOfParts, Holds, InFile, Adds}
 use Rattle.fileindex.specs.declared.file.FileIndex.the-variants.{Given}
-use Rattle.fileindex.proofs.PartLaws.{parts-append}
+use Rattle.fileindex.proofs.PartLaws.{HoldAll, parts-append}
 
 -- the indexes before were marked, and those in the boxes that are left decide
 pub record Midway (f : List ℕ) (size : Option ℕ) (all : List Part) (t₀ t : List ℕ) (w : Walk) (m : Marks) : Type 0 where

@@ -1,5 +1,5 @@
--- Laws of the segments of `pseg` boxes: those that reading gives go with the boxes, and the fields of the `pshd` say where
--- each starts.
+-- Laws of the segments of `pseg` boxes: those that reading gives go with the boxes, and the fields of the `pshd` say
+-- where each starts.
 use Prim.Native.Nat.{ℕ}
 use mathlib.Core.Bool.{true, _&&_}
 use mathlib.Core.List.{List, [], _∷_, _++_, append-assoc, append-nil}
@@ -22,7 +22,14 @@ use Rattle.partial.proofs.Meaning.SequenceLaws.{both}
 use Rattle.partial.proofs.Reading.KeptLaws.{stepped}
 use Rattle.fields.specs.Fields.{valuesOf, fieldsOf}
 use Rattle.fields.specs.declared.fields.Fields.{Fields}
-use Rattle.fileindex.specs.Parts.{SegmentOf, SegmentsOf}
+use Rattle.fileindex.specs.Parts.{SegmentOf}
+
+-- these are the segments of these `pseg` boxes
+abbrev pub SegmentsOf : List ℕ → List Box → List Segment → Type 0
+SegmentsOf f [] [] = Unit {0}
+SegmentsOf f [] (s ∷ ss) = ⊥
+SegmentsOf f (b ∷ bs) [] = ⊥
+SegmentsOf f (b ∷ bs) (s ∷ ss) = SegmentOf f b s × SegmentsOf f bs ss
 
 module _ (f : List ℕ) where
   -- a `pshd` that is as 5.1.4.2 is the first of its kind, and its fields end where it ends
@@ -58,10 +65,6 @@ module _ (f : List ℕ) where
         let (_, same) = held 25 (agree ss) _ e2 in
         let (new, all, known) = from-known (those pseg (h .boxes)) [] read in
         subst (SegmentsOf f (those pseg (h .boxes))) (all ∙ given-same same) known
-
-  -- a file without a `pseg` has no segment
-  pub none-known : {bs : List Box} → bs ≡ [] → SegmentsOf f bs []
-  none-known e = subst (λ (bs : List Box). SegmentsOf f bs []) (sym e) tt
 
   -- the fields of its `pshd` say where a segment starts
   module _ {b header : Box} {s : Segment} (known : SegmentOf f b s) (first : header ≡ firstOf pshd (s .inner)) where

@@ -15,8 +15,7 @@ use Rattle.indexing.specs.declared.marks.Marks.{Marks}
 use Rattle.fileindex.specs.declared.file.FileIndex.{FileIndex}
 use Rattle.fileindex.specs.declared.file.FileIndex.the-variants.{Refused, Given}
 
--- the index of a file of a source that ends there, wherever that is known from: the definition of `partial`, which takes
--- the end from the segments
+-- the index of a file by where its source ends; `indexOf` of `partial` takes that end from the segments
 unfoldable pub indexBy : List ℕ → Heading → Option ℕ → List Segment → Answer (List Indexed)
 indexBy f h size ss = do
   first ← indexIn sourceLimit f Pfil (h .inner) size 0

@@ -1,8 +1,8 @@
--- Document 02, [7], "Read it from `pfil` or from segments": the containers of a file that may hold an index, as they
--- stand among its boxes, so that one pass tells all of it.
+-- Document 02, [7], "Read it from `pfil` or from segments": the containers of a file that may hold an index, told in
+-- one way, so that one pass over the file's boxes tells all of it.
 use Prim.Native.Nat.{ℕ, _*_, _≤_}
 use mathlib.Core.Bool.{true, false}
-use mathlib.Core.List.{List, [], _∷_, _++_, map}
+use mathlib.Core.List.{List, [], _∷_, _++_}
 use mathlib.Core.Option.{Option}
 use mathlib.Core.Path.{_≡_}
 use Rattle.boxes.specs.Answer.{Answer, refused, given, _>>=_}
@@ -10,7 +10,6 @@ use Rattle.boxes.specs.Framing.{Box, boxesIn}
 use Rattle.boxes.specs.Kinds.{pfil, pseg, pshd, is, firstOf}
 use Rattle.boxes.specs.declared.kinds.Container.{Container}
 use Rattle.boxes.specs.declared.kinds.Container.the-variants.{Pfil, Pseg}
-use Rattle.partial.specs.Heading.{Heading}
 use Rattle.partial.specs.Index.{Indexed, indexIn}
 use Rattle.partial.specs.Limits.{fileLimit, sourceLimit}
 use Rattle.partial.specs.Reading.{pshdFields}
@@ -27,14 +26,7 @@ pub record SegmentOf (f : List ℕ) (b : Box) (s : Segment) : Type 0 where
   pub offset : pshdFields f (firstOf pshd (s .inner)) .sourceOffset ≡ s .sourceOffset
   pub placed : s .sourceOffset ≤ sourceLimit
 
--- these are the segments of these `pseg` boxes
-abbrev pub SegmentsOf : List ℕ → List Box → List Segment → Type 0
-SegmentsOf f [] [] = Unit {0}
-SegmentsOf f [] (s ∷ ss) = ⊥
-SegmentsOf f (b ∷ bs) [] = ⊥
-SegmentsOf f (b ∷ bs) (s ∷ ss) = SegmentOf f b s × SegmentsOf f bs ss
-
--- a container with its boxes, and where the boxes of its index start in the source
+-- a container with its boxes, and where the boxes of its index start in the source; that of a segment
 pub record Part : Type 0 where
   pub container : Container
   pub inner : List Box
@@ -46,10 +38,6 @@ partIn c bs place = record { container = c; inner = bs; from = place }
 abbrev pub segmentPart : Segment → Part
 segmentPart s = partIn Pseg (s .inner) (s .sourceOffset)
 
--- those of a file, in file order
-abbrev pub partsOf : Heading → List Segment → List Part
-partsOf h ss = partIn Pfil (h .inner) 0 ∷ map segmentPart ss
-
 -- the indexes in containers, of a source that ends there
 unfoldable pub indexOfParts : List ℕ → Option ℕ → List Part → Answer (List Indexed)
 indexOfParts f size [] = given []
@@ -58,16 +46,11 @@ indexOfParts f size (p ∷ ps) = do
   later ← indexOfParts f size ps
   given (first ++ later)
 
--- which of them a box of the file is
+-- which container a box of the file is, if it is one
 pub data Holds (f : List ℕ) (b : Box) : List Part → Type 0 where
   file : {inner : List Box} → is pfil b ≡ true → boxesIn Pfil f (b .body) (b .end) ≡ given inner → Holds f b (partIn Pfil inner 0 ∷ [])
   segment : {s : Segment} → is pfil b ≡ false → is pseg b ≡ true → SegmentOf f b s → Holds f b (segmentPart s ∷ [])
   other : is pfil b ≡ false → is pseg b ≡ false → Holds f b []
-
--- which of them these boxes are, in their order
-abbrev pub HoldAll : List ℕ → List Box → List Part → Type 0
-HoldAll f [] all = all ≡ []
-HoldAll f (b ∷ bs) all = (ps : List Part) × (qs : List Part) × (all ≡ ps ++ qs) × Holds f b ps × HoldAll f bs qs
 
 -- where a box may be read: it lies in a file, and a row takes sixteen bytes of the file before it
 pub record InFile (b : Box) (count : ℕ) : Type 0 where

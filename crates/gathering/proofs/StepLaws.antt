@@ -12,7 +12,7 @@ use Rattle.boxes.specs.Framing.{Box, boxesIn, boxOf}
 use Rattle.boxes.specs.Kinds.{pshd, ploc, surl, is, right, those, boxAt, firstOf}
 use Rattle.boxes.specs.declared.framing.Framed.{Framed}
 use Rattle.boxes.specs.declared.kinds.Container.the-variants.{Pseg}
-use Rattle.boxes.proofs.AnswerLaws.{refused-same, both-given, held, given-same, then-then}
+use Rattle.boxes.proofs.AnswerLaws.{refused-same, both-given, held, given-same}
 use Rattle.boxes.proofs.KindLaws.{first-is}
 use Rattle.boxes.proofs.ToldLaws.{box-fields}
 use Rattle.partial.specs.Entries.{Ploc, plocHead, chunksFrom}

@@ -9,21 +9,19 @@ use denote.Ref.{now, ptr}
 use lib.ListN.{length}
 use Rattle.numerals.proofs.Determined.{OneResult, OneKnown, OneLeft, OneLeftKnown}
 use Rattle.boxes.specs.Answer.{given}
-use Rattle.boxes.specs.Kinds.{pseg, those}
 use Rattle.boxes.proofs.ToldLaws.{Tells}
 use Rattle.gathering.specs.Numbers.{numbersOf}
 use Rattle.gathering.proofs.Determined.{one-put}
-use Rattle.heading.specs.Facts.{partOf, factsBy}
+use Rattle.heading.specs.Facts.{partOf}
 use Rattle.heading.proofs.Determined.{head-told}
 use Rattle.partial.specs.Answers.{readAnswer, countedAnswer}
 use Rattle.partial.specs.Heading.{Part, Heading, heading}
 use Rattle.partial.specs.Limits.{sourceLimit}
-use Rattle.partial.specs.Reading.{reading}
+use Rattle.partial.specs.Reading.{segments, reading}
 use Rattle.partial.specs.Segments.{Segment}
 use Rattle.partial.specs.Tables.{Summary, segmentRows}
 use Rattle.partial.specs.declared.answers.Counted.the-variants as Counted
 use Rattle.partial.specs.declared.answers.Read.the-variants as Read
-use Rattle.fileindex.specs.Parts.{SegmentsOf}
 use Rattle.reading.specs.Judged.{Judged, judgedBy, judgedAnswer}
 use Rattle.reading.specs.Parts.{HandedBack, locatedAnswer}
 use Rattle.reading.specs.Staged.{HasIndexes}
@@ -90,7 +88,7 @@ one-part p q =
     λ i. ((memory i, place i), holds i)
 
 index-stages-result : OneKnown index-stages.Post
-    (λ κs args ((h, ss) : Heading × List Segment). (heading (now (args .0)) ≡ given h) × SegmentsOf (now (args .0)) (those pseg (h .boxes)) ss × HasIndexes h ss (args .1 .0) (args .1 .1 .0))
+    (λ κs args ((h, ss) : Heading × List Segment). (heading (now (args .0)) ≡ given h) × (segments sourceLimit (now (args .0)) h ≡ given ss) × HasIndexes h ss (args .1 .0) (args .1 .1 .0))
 index-stages-result κs args (h, ss) (head, known, has) x y after after′ p q = counted-told x y (p h ss head known has ∙ sym (q h ss head known has))
 
 earlier-of-result : OneResult earlier-of.Post

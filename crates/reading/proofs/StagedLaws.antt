@@ -1,6 +1,6 @@
 -- Laws of stages 36 to 39: what the marks of an index decide, what is told where there is none, and that the stages are
 -- those of the definition.
-use Prim.Native.Nat.{ℕ, _≤_}
+use Prim.Native.Nat.{ℕ}
 use mathlib.Core.Bool.{Bool, true, false, not, _&&_, _||_, false≢true}
 use mathlib.Core.List.{List, [], _∷_}
 use mathlib.Core.Option.{Option, none, some, Option·getD}
@@ -12,7 +12,7 @@ use lib.Dec.{leb, ltb}
 use lib.ListN.{length}
 use Rattle.boxes.specs.Answer.{Answer, refused, given, _>>=_, hold}
 use Rattle.boxes.specs.Framing.{Box}
-use Rattle.boxes.specs.Kinds.{pseg, fidx, rules, those, ruleIn}
+use Rattle.boxes.specs.Kinds.{fidx, rules, those, ruleIn}
 use Rattle.boxes.specs.declared.kinds.Container.{Container}
 use Rattle.boxes.specs.declared.kinds.Container.the-variants.{Pfil, Pseg}
 use Rattle.boxes.specs.declared.kinds.Count.the-variants.{AtMostOne}
@@ -30,14 +30,12 @@ use Rattle.ends.specs.Sizes.{sizesOf}
 use Rattle.ends.specs.declared.sizes.Sizes.{Sizes}
 use Rattle.indexing.specs.Ends.{endOf}
 use Rattle.indexing.specs.Marks.{deepIn, unknownIn, shown, marksWith}
-use Rattle.indexing.specs.declared.end.End.{End}
 use Rattle.indexing.specs.declared.marks.Marks.{Marks}
 use Rattle.indexing.proofs.MarksLaws.{shown-all}
 use Rattle.fileindex.specs.File.{indexBy, noMarks, Tells}
-use Rattle.fileindex.specs.Parts.{SegmentsOf}
 use Rattle.fileindex.specs.declared.file.FileIndex.{FileIndex}
 use Rattle.fileindex.specs.declared.file.FileIndex.the-variants.{Refused, Given}
-use Rattle.fileindex.proofs.SegmentLaws.{segments-known}
+use Rattle.fileindex.proofs.FileLaws.{by-first}
 use Rattle.heading.specs.Facts.{factsOf, factsBy}
 use Rattle.heading.specs.declared.answers.Head.{Head}
 use Rattle.gathering.specs.Gathered.{gatheredOf}
@@ -158,11 +156,10 @@ stages-told f h ss has = rw (has .pfil, has .segments) (go (indexOf sourceLimit 
 -- those of a file without a segment, beside one that has no index
 pub begun-told : (f : List ℕ) (h : Heading) (s : Segment) {inPfil : Bool} → inPfil ≡ hasIndex (h .inner) → those fidx (s .inner) ≡ []
     → staged (inPfil && false) (indexBy f h (knownSize (s ∷ [])) []) ≡ indexedTold f h (s ∷ [])
-unfolding indexBy indexOfSegments someOf
+unfolding someOf
 begun-told f h s {inPfil} index lacks =
     let none : someOf (λ s. hasIndex (s .inner)) (s ∷ []) ≡ false = rw (has-none sourceLimit f (s .inner) lacks) in
-    let same : indexBy f h (knownSize (s ∷ [])) (s ∷ []) ≡ indexBy f h (knownSize (s ∷ [])) [] = rw (segments-unindexed f (knownSize (s ∷ [])) (s ∷ []) none) in
-    ap (staged (inPfil && false)) (sym same) ∙ stages-told f h (s ∷ []) (record { pfil = index; segments = sym none })
+    ap (staged (inPfil && false)) (by-first f h (knownSize (s ∷ [])) s lacks) ∙ stages-told f h (s ∷ []) (record { pfil = index; segments = sym none })
 
 -- ---- what the calls told
 
@@ -182,9 +179,9 @@ module _ (f : List ℕ) (h : Heading) (size : Option ℕ) (ss : List Segment) (t
 pub stages-given : (f : List ℕ) (h : Heading) (ss : List Segment) {head : Head} {g : Gathered} {x : Answer ℕ} → heading f ≡ given h → factsOf f h ≡ factsBy head
     → segments sourceLimit f h ≡ given ss
     → g ≡ gatheredOf ss
-    → ((h : Heading) (ss : List Segment) → heading f ≡ given h → SegmentsOf f (those pseg (h .boxes)) ss → HasIndexes h ss (head .indexed) (g .indexed)
+    → ((h : Heading) (ss : List Segment) → heading f ≡ given h → segments sourceLimit f h ≡ given ss → HasIndexes h ss (head .indexed) (g .indexed)
     → x ≡ staged (head .indexed && g .indexed) (indexBy f h (endOf (record { known = g .sizes .known; at = g .sizes .size })) ss))
     → x ≡ indexedTold f h ss
 stages-given f h ss {head} {g} headed facts all same answer =
     let has : HasIndexes h ss (head .indexed) (g .indexed) = record { pfil = facts-indexed f h head facts; segments = gathered-indexed ss same } in
-    answer h ss headed (segments-known f h all) has ∙ rw (known-end ss (gathered-sizes ss same)) (stages-told f h ss has)
+    answer h ss headed all has ∙ rw (known-end ss (gathered-sizes ss same)) (stages-told f h ss has)

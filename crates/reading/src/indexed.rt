@@ -11,15 +11,15 @@ ghost use mathlib.Core.Bool.{_&&_};
 ghost use mathlib.Core.List.{List};
 ghost use mathlib.Core.Path.{_≡_};
 ghost use Rattle.boxes.specs.Answer.{given};
-ghost use Rattle.boxes.specs.Kinds.{pseg, those};
 ghost use Rattle.partial.specs.Answers.{countedAnswer};
 ghost use Rattle.partial.specs.Heading.{Heading, heading};
 ghost use Rattle.partial.specs.Index.{Indexed};
+ghost use Rattle.partial.specs.Limits.{sourceLimit};
+ghost use Rattle.partial.specs.Reading.{segments};
 ghost use Rattle.partial.specs.Segments.{Segment};
 ghost use Rattle.indexing.specs.Ends.{endOf};
 ghost use Rattle.indexing.specs.Marks.{marksWith};
 ghost use Rattle.fileindex.specs.File.{indexBy, noMarks};
-ghost use Rattle.fileindex.specs.Parts.{SegmentsOf};
 ghost use Rattle.reading.specs.Staged.{staged, HasIndexes};
 
 // 37, 38 and 39 of an index, by what is marked with its boxes and by whether both `pfil` and a segment have one.
@@ -42,7 +42,7 @@ fn past_36(marks: Marks, both: bool) -> Counted
 // that a file without one is not read again.
 pub fn index_stages(file: &[u8], in_pfil: bool, in_segments: bool, size: End) -> Counted
     ensures { λ r. ⌜ ((h : Heading) (ss : List Segment) → heading (now (file .entry)) ≡ given h
-        → SegmentsOf (now (file .entry)) (those pseg (h .boxes)) ss → HasIndexes h ss in_pfil in_segments
+        → segments sourceLimit (now (file .entry)) h ≡ given ss → HasIndexes h ss in_pfil in_segments
         → countedAnswer r ≡ staged (in_pfil && in_segments) (indexBy (now (file .entry)) h (endOf size) ss)) ⌝ }
 {
     if !(in_pfil | in_segments) {

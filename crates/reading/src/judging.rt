@@ -15,12 +15,13 @@ use partial::refusals::NO_SEGMENT;
 use partial::refusals::SIZES_DIFFER;
 use partial::refusals::TOO_MANY_SEGMENTS;
 use tallying::rules::keeps;
+ghost use Prim.Native.Nat.{ℕ};
 ghost use mathlib.Core.List.{List};
 ghost use mathlib.Core.Path.{_≡_};
 ghost use lib.ListN.{length};
 ghost use Rattle.boxes.specs.Answer.{given};
 ghost use Rattle.boxes.specs.Framing.{boxesIn};
-ghost use Rattle.boxes.specs.Kinds.{pseg, those};
+ghost use Rattle.boxes.specs.Kinds.{pseg, right, those};
 ghost use Rattle.boxes.specs.declared.kinds.Container.the-variants.{File};
 ghost use Rattle.partial.specs.Heading.{Heading, heading};
 ghost use Rattle.partial.specs.Limits.{sourceLimit};
@@ -41,6 +42,13 @@ pub struct Judged {
 pub enum Judgement {
     Refused(u64),
     Given(Judged),
+}
+
+// 12: whether a file of that heading has a segment.
+fn has_segment(head: Head) -> bool
+    ensures { λ r. ⌜ ((f : List ℕ) (h : Heading) → factsOf f h ≡ factsBy head → r ≡ right File pseg (h .boxes)) ⌝ }
+{
+    keeps(Container::File, PSEG, head.segments)
 }
 
 // Stages 13 to 25 of a file, mixed or not, whose framing is right and that has so many `pseg` boxes; their rows and
@@ -111,7 +119,7 @@ pub fn earlier_of(file: &[u8]) -> Judgement
         ) {
             Passed::Refused(n) => Judgement::Refused(n),
             Passed::Given(gathered) => {
-                if !keeps(Container::File, PSEG, head.segments) {
+                if !has_segment(head) {
                     return Judgement::Given(Judged {
                         head,
                         gathered,
@@ -133,7 +141,7 @@ pub fn judge_into(file: &[u8], rows: &mut [u64], numbers: &mut [u64]) -> Judgeme
     match heading_of(file) {
         Headed::Refused(n) => Judgement::Refused(n),
         Headed::Found(head) => {
-            if !keeps(Container::File, PSEG, head.segments) {
+            if !has_segment(head) {
                 return Judgement::Refused(NO_SEGMENT);
             }
             match segments_of(file, head.mixed, head.segments, rows, numbers) {

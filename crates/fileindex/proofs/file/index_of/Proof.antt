@@ -1,24 +1,25 @@
--- `fileindex::file::index_of` meets its contract. The loop's invariant: the indexes so far are marked, and the boxes that
--- are left decide.
+-- `fileindex::file::index_of` meets its contract. The loop's invariant: the indexes so far are marked, and the boxes
+-- that are left decide.
 use mathlib.Core.List.{List}
 use mathlib.Core.Path.{_≡_, refl, sym, subst, _∙_}
-use native.Mathlib.Omega.{arith}
 use borrow.Author.Needs.{needs}
 use borrow.Author.Tests.{leb-true}
 use lib.ListN.{length}
 use Rattle.boxes.specs.Answer.{given}
 use Rattle.boxes.specs.Framing.{boxOf}
-use Rattle.boxes.specs.Kinds.{pseg, those}
 use Rattle.boxes.proofs.WalkLaws.{fewer, next-box, no-more, a-fault, walk-boxes}
 use Rattle.partial.specs.Heading.{Heading, heading}
+use Rattle.partial.specs.Limits.{sourceLimit}
+use Rattle.partial.specs.Reading.{segments}
 use Rattle.partial.specs.Segments.{Segment}
 use Rattle.partial.proofs.Reading.HeadingAppendLaws.{headed}
 use Rattle.indexing.specs.Ends.{endOf}
 use Rattle.indexing.specs.Index.{CountedIn}
 use Rattle.fileindex.specs.File.{Tells}
-use Rattle.fileindex.specs.Parts.{SegmentsOf, partsOf, Adds}
+use Rattle.fileindex.specs.Parts.{Adds}
 use Rattle.fileindex.proofs.FileLaws.{by-parts, tells-file}
 use Rattle.fileindex.proofs.HeadingLaws.{heading-holds}
+use Rattle.fileindex.proofs.PartLaws.{partsOf}
 use Rattle.fileindex.proofs.PassLaws.{Midway, midway-none, next, next-inside, midway-refused, midway-more, midway-end, midway-sound}
 use Rattle.fileindex.proofs.file.index_of.Statement.{statement}
 use Rattle.fileindex.proofs.file.index_of.Tie as tie
@@ -26,7 +27,7 @@ use Rattle.fileindex.proofs.file.index_of.Tie as tie
 abbrev Inv-loop : tie.InvT-loop
 Inv-loop file size table₀ walk₀ marks₀ table walk marks =
     (length table ≡ length table₀)
-    × ((h : Heading) (ss : List Segment) → heading file ≡ given h → SegmentsOf file (those pseg (h .boxes)) ss → Midway file (endOf size) (partsOf h ss) table₀ table walk marks)
+    × ((h : Heading) (ss : List Segment) → heading file ≡ given h → segments sourceLimit file h ≡ given ss → Midway file (endOf size) (partsOf h ss) table₀ table walk marks)
 
 abbrev μ-loop : tie.MeasureT-loop
 μ-loop file size table₀ walk₀ marks₀ table walk marks = walk .left

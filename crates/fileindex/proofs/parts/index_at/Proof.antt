@@ -1,7 +1,7 @@
 -- `fileindex::parts::index_at` meets its contract: the index in `pfil`, in a `pseg`, or none.
 use Prim.Native.Nat.{ℕ}
 use mathlib.Core.List.{_∷_, []}
-use mathlib.Core.Path.{_≡_, ap, _∙_}
+use mathlib.Core.Path.{ap, _∙_}
 use native.Mathlib.Omega.{arith}
 use borrow.Author.Needs.{needs}
 use Rattle.boxes.specs.Kinds.{pfil, pseg}

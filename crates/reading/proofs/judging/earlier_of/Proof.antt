@@ -1,9 +1,6 @@
 -- `reading::judging::earlier_of` meets its contract: the heading, then its segments, then the index of a file that has one.
-use mathlib.Core.Path.{sym, ap, _∙_}
+use mathlib.Core.Path.{sym, _∙_}
 use borrow.Author.Tests.{not-true, not-false}
-use Rattle.boxes.specs.Kinds.{pseg, rightCount}
-use Rattle.boxes.specs.declared.kinds.Container.the-variants.{File}
-use Rattle.boxes.proofs.KindLaws.{right-count}
 use Rattle.partial.proofs.Reading.HeadingAppendLaws.{headed}
 use Rattle.reading.specs.Judged.{judgedAnswer}
 use Rattle.reading.proofs.JudgedLaws.{heading-refused, heading-found, facts-segments, facts-mixed, answer-refused, answer-given}
@@ -36,8 +33,8 @@ enum-known-n-2 c = search needs
 enum-known-gathered : tie.Need-enum-known-gathered
 enum-known-gathered c = search needs
 
-keeps-requires : tie.Need-keeps-requires
-keeps-requires c κs = search needs
+has-segment-requires : tie.Need-has-segment-requires
+has-segment-requires c κs = search needs
 
 returns : tie.Need-returns
 unfolding judgedAnswer
@@ -45,7 +42,7 @@ returns c =
     let read = c .before .before in
     let met = read .before .before .before .before .before .before .before .before .before in
     let (h, known, same) = heading-found _ (met .before .before .heading-of .ensures) (met .head .given .1) in
-    let rule = c .before .keeps .ensures ∙ ap (rightCount File pseg) (facts-segments _ h _ same) ∙ sym (right-count File pseg (h .boxes)) in
+    let rule = c .before .has-segment .ensures _ h same in
     let (answer, _) = read .before .before .before .before .before .segments-of .ensures h (headed _ h known .boxes) (facts-mixed _ h same) (facts-segments _ h _ same) in
     sym (earlier-begun _ known (sym rule ∙ not-true _ (c .if1 .taken)) (answer-given answer (read .before .gathered .given .1)) same)
 
@@ -70,7 +67,7 @@ returns-4 c =
     let read = left .before .before in
     let met = read .before .before .before .before .before .before .before .before .before in
     let (h, known, same) = heading-found _ (met .before .before .heading-of .ensures) (met .head .given .1) in
-    let rule = left .before .keeps .ensures ∙ ap (rightCount File pseg) (facts-segments _ h _ same) ∙ sym (right-count File pseg (h .boxes)) in
+    let rule = left .before .has-segment .ensures _ h same in
     let (answer, _) = read .before .before .before .before .before .segments-of .ensures h (headed _ h known .boxes) (facts-mixed _ h same) (facts-segments _ h _ same) in
     let (ss, all, of) = gathered-known _ h (answer-given answer (read .before .gathered .given .1)) in
     c .with-index .ensures h ss known same all of ∙ sym (earlier-by _ known (sym rule ∙ not-false _ (left .if1 .left)))
@@ -87,7 +84,7 @@ earlier-of-spec =
     segments-of-requires
     enum-known-n-2
     enum-known-gathered
-    keeps-requires
+    has-segment-requires
     returns
     with-index-requires
     returns-2

@@ -1,6 +1,5 @@
 -- `reading::judging::with_index` meets its contract: the stages of the index, and what is told with them.
-use mathlib.Core.List.{List}
-use mathlib.Core.Path.{_≡_, sym, ap, _∙_}
+use mathlib.Core.Path.{sym, ap, _∙_}
 use borrow.Author.Needs.{needs}
 use Rattle.partial.specs.Answers.{countedAnswer}
 use Rattle.reading.specs.Judged.{judgedAnswer}

@@ -1,6 +1,6 @@
 -- `writing::append::append_right` meets its contract: what admission refuses and 33 in their order, then the boxes.
 use Prim.Native.Nat.{_+_, _≤_}
-use mathlib.Core.Path.{_≡_, refl, sym}
+use mathlib.Core.Path.{refl, sym}
 use native.Mathlib.Omega.{arith}
 use borrow.Author.Needs.{needs}
 use lib.ListN.{length}
