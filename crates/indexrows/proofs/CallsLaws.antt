@@ -25,12 +25,12 @@ use Rattle.partial.proofs.Reading.IndexedLaws.{indexed-whole}
 use Rattle.filling.proofs.RowLaws.{put-same}
 use Rattle.gathering.proofs.RowLaws.{put-filled}
 use Rattle.indexing.specs.Marks.{plainRows, deepIn, shown}
-use Rattle.indexing.proofs.MarksLaws.{shown-all}
+use Rattle.indexing.proofs.MarksLaws.{rows-long as plain-long, shown-all}
 use Rattle.fileindex.specs.File.{indexBy, Tells}
 use Rattle.fileindex.specs.declared.file.FileIndex.{FileIndex}
 use Rattle.fileindex.specs.declared.file.FileIndex.the-variants as FileIndex
 use Rattle.indexrows.specs.Calls.{Indexes}
-use Rattle.indexrows.proofs.MarkingLaws.{plain-long, rows-long}
+use Rattle.indexrows.proofs.MarkingLaws.{rows-long}
 
 -- ---- what each test decides
 

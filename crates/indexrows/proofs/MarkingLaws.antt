@@ -9,11 +9,7 @@ use Rattle.partial.specs.Index.{Indexed, indexedSize, servedOf, indexRow, index
 use Rattle.partial.specs.Memory.{filled}
 use Rattle.partial.specs.Segments.{Segment}
 use Rattle.indexing.specs.Marks.{plainRow, plainRows}
-
-pub plain-long : (is : List Indexed) → length (plainRows is) ≡ indexRowLength * length is
-unfolding plainRows plainRow
-plain-long [] = refl
-plain-long (i ∷ is) = omega (arith, length-append (plainRow i) (plainRows is), plain-long is)
+use Rattle.indexing.proofs.MarksLaws.{rows-long as plain-long}
 
 module _ (ss : List Segment) where
   pub rows-long : (is : List Indexed) → length (indexRows ss is) ≡ indexRowLength * length is

@@ -5,7 +5,6 @@ use native.Mathlib.Omega.{arith}
 use lib.ListN.{length}
 use Rattle.partial.specs.Index.{indexRowLength}
 use Rattle.gathering.proofs.GatheredLaws.{gathered-sizes}
-use Rattle.fileindex.proofs.SegmentLaws.{segments-known}
 use Rattle.reading.proofs.JudgedLaws.{accepted, read-refused, read-given, judgement-refused, judgement-given}
 use Rattle.reading.proofs.StagedLaws.{known-end}
 use Rattle.reading.proofs.TableLaws.{accepted-kept}
@@ -84,7 +83,7 @@ returns-4 c =
     let table = c .before .before .before .before .before .before .before .before .before .before .before .before .before .before .before .before .before .before .before .before .before .before .before .before .before .before .args .table .now in
     let room : indexRowLength * length (a .boxes) ≤ length table = omega (arith, a .counted, c .before .before .before .before .before .before .before .before .before .before .before .before .before .before .before .if1 .left) in
     let (told, all) = index-told _ (a .h) (a .ss) (known-end (a .ss) sizes) (a .index) in
-    let tells = c .before .before .before .before .before .before .before .before .before .index-of .ensures (a .h) (a .ss) (a .head) (segments-known _ (a .h) (a .all)) in
+    let tells = c .before .before .before .before .before .before .before .before .before .index-of .ensures (a .h) (a .ss) (a .head) (a .all) in
     let plain = told-filled table _ (a .boxes) tells told all room in
     let marked = c .before .before .mark-by .ensures (a .ss) (a .boxes) (accepted-in _ (a .h) (a .head) (a .all) kept end) (a .counted) (starts-filled _ table plain) in
     indexes-given _ _ (a .ss) (a .boxes) (index-given _ _ (read-given _ a) (a .head) (a .index) room) (a .counted) (marked ∙ filled-over (a .ss) (a .boxes) table plain)
