@@ -7,7 +7,7 @@ use mathlib.Core.Option.{Option, none, some, Option·getD}
 use mathlib.Core.Path.{_≡_, refl, sym, ap, subst, _∙_}
 use native.Mathlib.Nat.{zero-add}
 use native.Mathlib.Omega.{arith}
-use borrow.Author.Tests.{lt-ltb}
+use borrow.Author.Tests.{lt-ltb, not-true, not-false}
 use lib.Dec.{leb, ltb}
 use lib.ListN.{length}
 use Rattle.boxes.specs.Answer.{Answer, refused, given, _>>=_, hold}
@@ -47,10 +47,6 @@ use Rattle.reading.proofs.JudgedLaws.{facts-indexed}
 
 -- ---- what the marks decide
 
-not-back : (b : Bool) {t : Bool} → not b ≡ t → b ≡ not t
-not-back true e = ap not e
-not-back false e = ap not e
-
 module _ (is : List Indexed) {m : Marks} (marked : m ≡ marksWith noMarks is) (both : Bool) where
   depth : not (allOf (λ i. leb (i .level) levelLimit) is) ≡ m .deep
   unfolding deepIn
@@ -59,12 +55,12 @@ module _ (is : List Indexed) {m : Marks} (marked : m ≡ marksWith noMarks is) (
   pub marked-deep : m .deep ≡ true → staged both (given is) ≡ refused 37
   unfolding staged
   marked-deep deep =
-      let over : allOf (λ i. leb (i .level) levelLimit) is ≡ false = not-back _ (depth ∙ deep) in
+      let over : allOf (λ i. leb (i .level) levelLimit) is ≡ false = not-true _ (depth ∙ deep) in
       rw over
 
   module _ (flat : m .deep ≡ false) where
     shallow : allOf (λ i. leb (i .level) levelLimit) is ≡ true
-    shallow = not-back _ (depth ∙ flat)
+    shallow = not-false _ (depth ∙ flat)
 
     all-shown : shown is ≡ is
     unfolding deepIn
@@ -81,14 +77,14 @@ module _ (is : List Indexed) {m : Marks} (marked : m ≡ marksWith noMarks is) (
     pub marked-unknown : both ≡ false → m .unknown ≡ true → staged both (given is) ≡ refused 39
     unfolding staged
     marked-unknown e unknown =
-        let lacks : allOf (λ i. isKnown (i .end)) is ≡ false = not-back _ (ends ∙ unknown) in
+        let lacks : allOf (λ i. isKnown (i .end)) is ≡ false = not-true _ (ends ∙ unknown) in
         rw (shallow, e, lacks)
 
     pub marked-told : both ≡ false → m .unknown ≡ false → staged both (given is) ≡ given (m .count)
     unfolding staged
     marked-told e known =
         let count : m .count ≡ length is = ap (λ (m : Marks). m .count) marked ∙ zero-add _ ∙ ap length all-shown in
-        let ended : allOf (λ i. isKnown (i .end)) is ≡ true = not-back _ (ends ∙ known) in
+        let ended : allOf (λ i. isKnown (i .end)) is ≡ true = not-false _ (ends ∙ known) in
         rw (shallow, e, ended, count)
 
 -- ---- a file without an index
