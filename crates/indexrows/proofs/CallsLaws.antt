@@ -1,5 +1,5 @@
--- Laws of the index of a file: what each test decides, what the pass over the file puts into the table, and what is left
--- in it.
+-- Laws of the index of a file: what each test decides, what the pass over the file puts into the table, and what is
+-- left in it.
 use Prim.Native.Nat.{ℕ, _*_, _≤_, _<_}
 use mathlib.Core.Bool.{not}
 use mathlib.Core.List.{List, [], _∷_, _++_}

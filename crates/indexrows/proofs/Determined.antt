@@ -1,5 +1,5 @@
--- The public call's contract determines its answer, and what it leaves in the lent table: two that it allows of the same
--- arguments are equal.
+-- The public call's contract determines its answer, and what it leaves in the lent table: two that it allows of the
+-- same arguments are equal.
 use mathlib.Core.Path.{sym, _∙_}
 use denote.Ref.{now}
 use Rattle.numerals.proofs.Determined.{OneResult, OneLeft}

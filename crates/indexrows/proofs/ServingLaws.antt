@@ -1,7 +1,7 @@
 -- Laws of the ranges had: which positions they hold, by their numbers in a table, and what the first that ends behind a
 -- place decides.
 use Prim.Native.Nat.{ℕ, zero, suc, _+_, _-_, _*_, _≤_, _<_}
-use mathlib.Core.Bool.{Bool, true, false, _&&_, true≢false}
+use mathlib.Core.Bool.{true, false, _&&_, true≢false}
 use mathlib.Core.List.{List, [], _∷_, _++_}
 use mathlib.Core.Logic.{inl, inr}
 use mathlib.Core.Path.{_≡_, refl, sym, ap, _∙_}
@@ -16,7 +16,6 @@ use Rattle.partial.specs.Meaning.{supplied, describedLength}
 use Rattle.partial.specs.Memory.{filled}
 use Rattle.partial.specs.Ranges.{Range, had, classOf, rangesOf, hadList, among, apart}
 use Rattle.partial.specs.Segments.{Segment}
-use Rattle.partial.specs.Sequences.{within}
 use Rattle.partial.specs.Tables.{rangeRowLength, rangeRows, hadRows}
 use Rattle.partial.proofs.Meaning.RangeLaws.{among-ranges}
 use Rattle.partial.proofs.Meaning.SequenceLaws.{which, both, passes, inside, past, within-true, some-at, some-by}

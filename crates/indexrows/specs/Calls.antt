@@ -1,5 +1,5 @@
--- Document 02, [7], "give a table of each indexed box", and refusal 26: what the index answers, and what it leaves in the
--- lent table.
+-- Document 02, [7], "give a table of each indexed box", and refusal 26: what the index answers, and what it leaves in
+-- the lent table.
 use Prim.Native.Nat.{ℕ}
 use mathlib.Core.List.{List}
 use mathlib.Core.Path.{_≡_}

@@ -1,4 +1,5 @@
--- Document 02, [7], "whether none, some or all of its bytes are served": what is known of the file whose index is marked.
+-- Document 02, [7], "whether none, some or all of its bytes are served": what is known of the file whose index is
+-- marked.
 use Prim.Native.Nat.{ℕ, _+_, _≤_}
 use mathlib.Core.List.{List}
 use mathlib.Core.Path.{_≡_}

@@ -13,12 +13,6 @@ use Rattle.indexrows.proofs.CallsLaws.{index-refused, index-short, inde
 use borrow.Author.Needs.{needs}
 use Rattle.indexrows.proofs.calls.index.Statement.{statement}
 use Rattle.indexrows.proofs.calls.index.Tie as tie
-use Rattle.indexrows.proofs.calls.index.Reads as reads
-use Rattle.indexrows.proofs.calls.index.Lts as lts
-use Rattle.ends.proofs.sizes.Sizes.described.Reads as described-reads
-use Rattle.fileindex.proofs.file.index_of.Reads as index-of-reads
-use Rattle.indexrows.proofs.marking.mark_by.Reads as mark-by-reads
-use Rattle.reading.proofs.judging.judge_into.Reads as judge-into-reads
 
 slice-aggregate-judge-into : tie.Need-slice-aggregate-judge-into
 slice-aggregate-judge-into c = search needs

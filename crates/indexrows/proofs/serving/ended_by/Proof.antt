@@ -1,12 +1,11 @@
 -- `indexrows::serving::ended_by` meets its contract. The loop's invariant: the range before the lower bound ends by the
 -- place, and that at the upper one does not.
-use Prim.Native.Nat.{_+_, _-_, _*_, _≤_, _<_}
+use Prim.Native.Nat.{_-_, _≤_, _<_}
 use mathlib.Core.Path.{_≡_, sym, _∙_}
 use native.Mathlib.Nat.{add-sub-cancel}
 use native.Mathlib.Omega.{arith}
 use borrow.Author.Needs.{needs}
 use borrow.Author.Tests.{leb-true, leb-false}
-use lib.ListN.{getD}
 use Rattle.indexrows.specs.Serving.{rowEnd}
 use Rattle.indexrows.proofs.serving.ended_by.Statement.{statement}
 use Rattle.indexrows.proofs.serving.ended_by.Tie as tie
