@@ -49,6 +49,8 @@ def functions(archive):
             target = TARGET.search(line)
             if waiting and target:
                 calls[name].add(target[1])
+            elif waiting and waiting.endswith(f"<{name}>"):
+                calls[name].add(name)
             elif waiting and CALLS.search(waiting):
                 sys.exit(f"a call without a name in {name}: {waiting}")
             waiting = line if CALLS.search(line) or LEAPS.search(line) else None
