@@ -18,7 +18,7 @@ use Rattle.partial.specs.Reading.{reading}
 use Rattle.partial.specs.Tables.{indexTabled, indexTable}
 use Rattle.partial.specs.Append.{added, appended}
 use Rattle.partial.specs.Lesson.{begunBytes}
-use Rattle.partial.specs.Examples.{Example, says, segmentAt, answerTo}
+use Rattle.partial.specs.Examples.{Example, says, segmentAt, answerTo, version0, foreignWith}
 
 -- the types of the boxes that are indexed, and that of an integrity box
 abbrev moov : ℕ
@@ -33,13 +33,20 @@ mdat = 0x6d646174
 abbrev dint : ℕ
 dint = 0x64696e74
 
--- a `bidx` of a size and a type with what follows these, its list or first its other fields; and a front part of so
--- many bytes
-abbrev indexedAs : ℕ → ℕ → List ℕ → List ℕ
-indexedAs size kind list = boxed (bidx .code) (bytesOf 4 size ++ (bytesOf 4 kind ++ list))
+-- a box in the form that has a 64-bit size, which no place in the source counts
+abbrev boxedLarge : ℕ → List ℕ → List ℕ
+boxedLarge kind body = bytesOf 4 1 ++ (bytesOf 4 kind ++ (bytesOf 8 (16 + length body) ++ body))
 
+-- the body of a `bidx`: a size and a type with what follows these, its list or first its other fields
+abbrev fieldsOf : ℕ → ℕ → List ℕ → List ℕ
+fieldsOf size kind list = bytesOf 4 size ++ (bytesOf 4 kind ++ list)
+
+abbrev indexedAs : ℕ → ℕ → List ℕ → List ℕ
+indexedAs size kind list = boxed (bidx .code) (fieldsOf size kind list)
+
+-- a front part of so many bytes
 abbrev frontPartOf : ℕ → List ℕ
-frontPartOf n = boxed (frpa .code) (replicate n 0)
+frontPartOf n = boxedLarge (frpa .code) (replicate n 0)
 
 -- the sixteen bytes of a user type
 abbrev user : List ℕ
@@ -47,7 +54,7 @@ user = replicate 16 7
 
 -- an index of these boxes
 abbrev index : List ℕ → List ℕ
-index = boxed (fidx .code)
+index = boxedLarge (fidx .code)
 
 -- what is told of an index: each box as its level, place, end and type; an end that is not known is 0
 abbrev numbersOf : List Indexed → List ℤ
@@ -75,7 +82,7 @@ twoLevels =
           indexOver (some 100) 0
           (frontPartOf 1
           ++ (frontPartOf 1
-          ++ (indexedAs 40 moov (indexedAs 20 trak [] ++ (other ++ (indexedAs 8 trak [] ++ frontPartOf 4)))
+          ++ (indexedAs 40 moov (boxedLarge (bidx .code) (fieldsOf 20 trak []) ++ (other ++ (indexedAs 8 trak [] ++ frontPartOf 4)))
           ++ (indexedAs 0 mdat (index [] ++ index []) ++ other))));
       paper =
           map pos (1 ∷ 0 ∷ 40 ∷ moov ∷ 2 ∷ 12 ∷ 32 ∷ trak ∷ 2 ∷ 32 ∷ 40 ∷ trak ∷ 1 ∷ 40 ∷ 100 ∷ mdat ∷ []);
@@ -268,7 +275,15 @@ begunWith boxes = take 20 begunBytes ++ boxed (pfil .code) (drop 28 begunBytes +
 abbrev rowsOf : ℕ → List ℕ → List ℤ
 rowsOf many f = says (indexTabled sourceLimit f (replicate many 0) >>= λ told. given (map pos (indexTable told)))
 
--- a file just begun of 111 bytes answers 12. An addition of 77 that is not last leaves its index without an end, also
+-- a file whose index is in its segment, of 8 lost bytes at 8
+abbrev inItsSegment : Example
+inItsSegment =
+    record {
+      defined = rowsOf 5 (begunBytes ++ foreignWith toTheEnd (version0 1 8) 0x80 8 []);
+      paper = map pos (1 ∷ 8 ∷ 8 ∷ mdat ∷ 0 ∷ []);
+    }
+
+-- a file just begun of 119 bytes answers 12. An addition of 77 that is not last leaves its index without an end, also
 -- where the buffer is too short for it, and every call answers 39 to the result. One that is last gives it one: of a
 -- source of 24 bytes the first 15 are served, so that all, some and none of the three boxes are. 26 for one number less
 abbrev begunToTheEnd : Example
@@ -285,7 +300,7 @@ begunToTheEnd =
           ++ (answerTo f b ++ (rowsOf 15 (f ++ added b) ++ rowsOf 14 (f ++ added b))))));
       paper =
           map pos
-          (12 ∷ 39 ∷ 39 ∷ 39 ∷ 188 ∷ 1 ∷ 0 ∷ 8 ∷ moov ∷ 2 ∷ 1 ∷ 8 ∷ 8 ∷ trak ∷ 1 ∷ 1 ∷ 16 ∷ 8 ∷ mdat ∷ 0 ∷ 26 ∷ []);
+          (12 ∷ 39 ∷ 39 ∷ 39 ∷ 196 ∷ 1 ∷ 0 ∷ 8 ∷ moov ∷ 2 ∷ 1 ∷ 8 ∷ 8 ∷ trak ∷ 1 ∷ 1 ∷ 16 ∷ 8 ∷ mdat ∷ 0 ∷ 26 ∷ []);
     }
 
 -- one with a wrong index answers 12, too, and 36 to an addition, after 31, 32 and what the result would have before it
@@ -304,7 +319,7 @@ begunWrong =
 abbrev pub indexExamples : List Example
 indexExamples =
     twoLevels ∷ headers ∷ fromOffset ∷ rightIndexes ∷ wrongIndexes ∷ wrongInside ∷
-    inSegments ∷ faultsFirst ∷ depths ∷ inBoth ∷ unknownEnd ∷ begunToTheEnd ∷ begunWrong ∷ []
+    inSegments ∷ faultsFirst ∷ depths ∷ inBoth ∷ unknownEnd ∷ inItsSegment ∷ begunToTheEnd ∷ begunWrong ∷ []
 
 -- the definitions say what the paper says
 abbrev pub IndexAsThePaperSays : Type 0
