@@ -32,7 +32,7 @@ pub record IndexFields : Type 0 where
 unfoldable pub sizeBy : ℕ → ℕ → Option ℕ
 sizeBy size large = elim (eqb size 0) [ true ↦ none | false ↦ some (elim (eqb size 1) [ true ↦ large | false ↦ size ]) ]
 
--- the bytes of a header: size and type, the 64-bit size where there is one, the user type of a `uuid`
+-- how many bytes a header has: size and type, the 64-bit size where there is one, the user type of a `uuid`
 unfoldable pub frontBy : ℕ → ℕ → ℕ
 frontBy size kind = (elim (eqb size 1) [ true ↦ 16 | false ↦ 8 ]) + userSize kind
 
@@ -120,8 +120,8 @@ untold level b = record { level = level; place = 0; end = none; kind = 0 }
 
 module _ (limit : ℕ) (f : List ℕ) where
   unfoldable mutual
-    -- the `bidx` boxes of a list on a level, which what encloses them ends there: from a place on, each where the one
-    -- before it ends
+    -- the `bidx` boxes of a list on a level, inside what has that end: the first at a place, each other where the one
+    -- before it ends. No box of a ninth level is looked into
     pub indexList : ℕ → ℕ → Option ℕ → ℕ → List Box → Answer Told
     indexList zero level enclosing place bs = given (record { boxes = map (untold level) bs; end = none })
     indexList (suc calls) level enclosing place bs = inARow (λ last at b. indexedBox calls level enclosing last at b) place bs
