@@ -135,8 +135,8 @@ eachOver size [] = []
 eachOver size (list ∷ lists) = indexOver size 0 list ++ eachOver size lists
 
 -- 36: a framing fault in the index and in the list of a box; each field that is cut; a size under each header, 0 of 64
--- bits too, and a size of 0 that has no room for its header; a size of 0 that is not last; inner boxes that leave a byte
--- or have one too many, of a box of a stated size or not; a second front part, on either level
+-- bits too, and a size of 0 that has no room for its header; a size of 0 that is not last; inner boxes that leave a
+-- byte or have one too many, of a box of a stated size or not; a second front part, on either level
 abbrev wrongIndexes : Example
 wrongIndexes =
     record {
@@ -227,8 +227,8 @@ inSegments =
       paper = map pos (1 ∷ 4 ∷ 96 ∷ mdat ∷ 1 ∷ 8 ∷ 96 ∷ mdat ∷ []);
     }
 
--- 36: a second `fidx` in `pfil` and in a segment; a fault anywhere before the depth of an index in `pfil`, and of one in
--- a segment
+-- 36: a second `fidx` in `pfil` and in a segment; a fault anywhere before the depth of an index in `pfil`, and of one
+-- in a segment
 abbrev faultsFirst : Example
 faultsFirst =
     record {
