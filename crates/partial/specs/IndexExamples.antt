@@ -1,6 +1,6 @@
 -- Document 02, [7]: worked examples of the index, computed over the definitions, as one table with one statement.
 use Prim.Native.Nat.{ℕ, zero, suc, _+_, _-_}
-use mathlib.Core.Bool.{true, false}
+use mathlib.Core.Bool.{Bool, true, false}
 use mathlib.Core.List.{List, [], _∷_, _++_, map}
 use mathlib.Core.Option.{Option, none, some, Option·getD}
 use mathlib.Core.Path.{_≡_}
@@ -16,6 +16,7 @@ use Rattle.partial.specs.Segments.{Segment, lost}
 use Rattle.partial.specs.Index.{Indexed, indexIn, indexed}
 use Rattle.partial.specs.Reading.{reading}
 use Rattle.partial.specs.Tables.{indexTabled, indexTable}
+use Rattle.partial.specs.Addition.{Addition}
 use Rattle.partial.specs.Append.{added, appended}
 use Rattle.partial.specs.Lesson.{begunBytes}
 use Rattle.partial.specs.Examples.{Example, says, segmentAt, answerTo, version0, foreignWith}
@@ -134,8 +135,8 @@ eachOver size [] = []
 eachOver size (list ∷ lists) = indexOver size 0 list ++ eachOver size lists
 
 -- 36: a framing fault in the index and in the list of a box; each field that is cut; a size under each header, 0 of 64
--- bits too, and a size of 0 that has no room for its header; a size of 0 that is not last; inner boxes that leave a byte
--- or have one too many, of a box of a stated size or not; a second front part, on either level
+-- bits too, and a size of 0 that has no room for its header; a size of 0 that is not last; inner boxes that leave a
+-- byte or have one too many, of a box of a stated size or not; a second front part, on either level
 abbrev wrongIndexes : Example
 wrongIndexes =
     record {
@@ -226,8 +227,8 @@ inSegments =
       paper = map pos (1 ∷ 4 ∷ 96 ∷ mdat ∷ 1 ∷ 8 ∷ 96 ∷ mdat ∷ []);
     }
 
--- 36: a second `fidx` in `pfil` and in a segment; a fault anywhere before the depth of an index in `pfil`, and of one in
--- a segment
+-- 36: a second `fidx` in `pfil` and in a segment; a fault anywhere before the depth of an index in `pfil`, and of one
+-- in a segment
 abbrev faultsFirst : Example
 faultsFirst =
     record {
@@ -275,32 +276,31 @@ begunWith boxes = take 20 begunBytes ++ boxed (pfil .code) (drop 28 begunBytes +
 abbrev rowsOf : ℕ → List ℕ → List ℤ
 rowsOf many f = says (indexTabled sourceLimit f (replicate many 0) >>= λ told. given (map pos (indexTable told)))
 
--- a file whose index is in its segment, of 8 lost bytes at 8
+-- a file whose index is in its segment, of 8 lost bytes at 8: a row where that is last, and 26 for one number less;
+-- else every call answers 39
 abbrev inItsSegment : Example
 inItsSegment =
+    let with : ℕ → List ℕ = λ flags. begunBytes ++ foreignWith toTheEnd (version0 flags 8) 0x80 8 [] in
     record {
-      defined = rowsOf 5 (begunBytes ++ foreignWith toTheEnd (version0 1 8) 0x80 8 []);
-      paper = map pos (1 ∷ 8 ∷ 8 ∷ mdat ∷ 0 ∷ []);
+      defined = rowsOf 5 (with 1) ++ (rowsOf 4 (with 1) ++ says (reading sourceLimit (with 0) >>= λ _. given []));
+      paper = map pos (1 ∷ 8 ∷ 8 ∷ mdat ∷ 0 ∷ 26 ∷ 39 ∷ []);
     }
 
 -- a file just begun of 119 bytes answers 12. An addition of 77 that is not last leaves its index without an end, also
--- where the buffer is too short for it, and every call answers 39 to the result. One that is last gives it one: of a
--- source of 24 bytes the first 15 are served, so that all, some and none of the three boxes are. 26 for one number less
+-- where the buffer is too short for it. One that is last gives it one: of a source of 24 bytes the first 15 are served,
+-- so that all, some and none of the three boxes are
 abbrev begunToTheEnd : Example
 begunToTheEnd =
     let f = begunWith (index (indexedAs 8 moov [] ++ (indexedAs 8 trak [] ++ indexedAs 0 mdat []))) in
-    let a = segmentAt 0 false (15 ∷ 2 ∷ 9 ∷ 0 ∷ []) (replicate 15 7) in
-    let b = segmentAt 0 true (15 ∷ 2 ∷ 9 ∷ 0 ∷ []) (replicate 15 7) in
+    let a : Bool → Addition = λ last. segmentAt 0 last (15 ∷ 2 ∷ 9 ∷ 0 ∷ []) (replicate 15 7) in
     record {
       defined =
           rowsOf 15 f
-          ++ (answerTo f a
-          ++ (says (appended sourceLimit f (length f) a >>= λ _. given [])
-          ++ (says (reading sourceLimit (f ++ added a) >>= λ _. given [])
-          ++ (answerTo f b ++ (rowsOf 15 (f ++ added b) ++ rowsOf 14 (f ++ added b))))));
+          ++ (answerTo f (a false)
+          ++ (says (appended sourceLimit f (length f) (a false) >>= λ _. given [])
+          ++ (answerTo f (a true) ++ rowsOf 15 (f ++ added (a true)))));
       paper =
-          map pos
-          (12 ∷ 39 ∷ 39 ∷ 39 ∷ 196 ∷ 1 ∷ 0 ∷ 8 ∷ moov ∷ 2 ∷ 1 ∷ 8 ∷ 8 ∷ trak ∷ 1 ∷ 1 ∷ 16 ∷ 8 ∷ mdat ∷ 0 ∷ 26 ∷ []);
+          map pos (12 ∷ 39 ∷ 39 ∷ 196 ∷ 1 ∷ 0 ∷ 8 ∷ moov ∷ 2 ∷ 1 ∷ 8 ∷ 8 ∷ trak ∷ 1 ∷ 1 ∷ 16 ∷ 8 ∷ mdat ∷ 0 ∷ []);
     }
 
 -- one with a wrong index answers 12, too, and 36 to an addition, after 31, 32 and what the result would have before it
