@@ -1,5 +1,5 @@
--- Laws of the index of a file beside a new segment, which has none: that of a file with a segment is told again, that of
--- one without goes by its stages.
+-- Laws of the index of a file beside a new segment, which has none: that of a file with a segment is told again, that
+-- of one without goes by its stages.
 use Prim.Native.Nat.{ℕ}
 use mathlib.Core.Bool.{Bool, false, _&&_}
 use mathlib.Core.List.{List, [], _∷_, _++_}

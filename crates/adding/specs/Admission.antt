@@ -1,5 +1,5 @@
--- Document 01, "Append": "1, 6, 13, 22, 23 or 25 if the result would have it", and document 02, [7]: "36, 37 or 39 if its
--- result would", by what was read of the file and counted of the addition.
+-- Document 01, "Append": "1, 6, 13, 22, 23 or 25 if the result would have it", and document 02, [7]: "36, 37 or 39 if
+-- its result would", by what was read of the file and counted of the addition.
 use Prim.Native.Nat.{ℕ, _+_, _%_}
 use mathlib.Core.Bool.{Bool, true}
 use mathlib.Core.List.{List, [], _∷_, _++_, map}

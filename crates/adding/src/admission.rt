@@ -67,8 +67,8 @@ pub enum Verdict {
     Taken,
 }
 
-// 36, 37 and 39 of the file's own index beside a new segment, which has none, of a source that ends there. The index of a
-// file that has a segment was told when it was read, and is told again.
+// 36, 37 and 39 of the file's own index beside a new segment, which has none, of a source that ends there. The index of
+// a file that has a segment was told when it was read, and is told again.
 fn index_beside(file: &[u8], indexed: bool, segments: u64, size: End) -> Verdict
     ensures { λ r. ⌜ ((h : Heading) (ss : List Segment) (s : Segment) → Known (now (file .entry)) h ss indexed
         → segments ≡ length ss → those fidx (s .inner) ≡ [] → endOf size ≡ knownSize (s ∷ [])

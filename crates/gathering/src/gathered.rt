@@ -12,8 +12,8 @@ ghost use Rattle.partial.specs.Limits.{chunkLimit};
 ghost use Rattle.partial.specs.Segments.{Segment, endOf};
 ghost use Rattle.gathering.specs.Gathered.{gatheredOf};
 
-// How many segments there are, how many chunks they have, what their ends say of the size of the source, and whether some
-// segment has an index.
+// How many segments there are, how many chunks they have, what their ends say of the size of the source, and whether
+// some segment has an index.
 pub struct Gathered {
     pub segments: u64,
     pub chunks: u64,

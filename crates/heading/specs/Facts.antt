@@ -12,8 +12,8 @@ use Rattle.heading.specs.declared.answers.Head.{Head}
 use Rattle.heading.specs.declared.answers.Headed.{Headed}
 use Rattle.heading.specs.declared.answers.Headed.the-variants.{Refused, Found}
 
--- how many boxes the file has, how many of them are `pseg`, whether it is mixed, whether its `pfil` has an index, and the
--- URL and the MIME text of the first `surl`
+-- how many boxes the file has, how many of them are `pseg`, whether it is mixed, whether its `pfil` has an index, and
+-- the URL and the MIME text of the first `surl`
 pub record Facts : Type 0 where
   pub boxes : ℕ
   pub segments : ℕ

@@ -57,8 +57,8 @@ readingTold f = do
   _ ← hold 12 (right File pseg (h .boxes))
   judgedIn f h
 
--- of a file that append takes: the same, but of one without a segment, whose only refusal is 12, that it has none, whatever
--- its index
+-- of a file that append takes: the same, but of one without a segment, whose only refusal is 12, that it has none,
+-- whatever its index
 unfoldable pub earlierTold : List ℕ → Answer Judged
 earlierTold f = do
   h ← heading f

@@ -1,4 +1,5 @@
--- `adding::admission::index_beside` meets its contract: an index that was told is told again, and else its stages decide.
+-- `adding::admission::index_beside` meets its contract: an index that was told is told again, and else its stages
+-- decide.
 use mathlib.Core.List.{[]}
 use mathlib.Core.Path.{sym, ap, _∙_}
 use borrow.Author.Needs.{needs}

@@ -1,4 +1,5 @@
--- `reading::indexed::index_stages` meets its contract: nothing where there is no index, else 36 and then what is marked.
+-- `reading::indexed::index_stages` meets its contract: nothing where there is no index, else 36 and then what is
+-- marked.
 use mathlib.Core.Path.{sym, ap, _∙_}
 use borrow.Author.Needs.{needs}
 use borrow.Author.Tests.{not-true}

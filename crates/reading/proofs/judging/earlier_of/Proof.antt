@@ -1,4 +1,5 @@
--- `reading::judging::earlier_of` meets its contract: the heading, then its segments, then the index of a file that has one.
+-- `reading::judging::earlier_of` meets its contract: the heading, then its segments, then the index of a file that has
+-- one.
 use mathlib.Core.Path.{sym, _∙_}
 use borrow.Author.Tests.{not-true, not-false}
 use Rattle.partial.proofs.Reading.HeadingAppendLaws.{headed}
