@@ -5,6 +5,7 @@ import os
 import random
 
 import generate
+import model
 import sample_index
 from boxes import bidx, box, fidx
 from command_large import SEGMENT, SIZE, claim_measure, make_film, measured
@@ -185,6 +186,38 @@ def generated(command):
         claim_map(f"an index spoiled, {number}", command, "film", spoiled)
 
 
+# An index that is none.
+
+def unindexed(file):
+    """The file with each index of its `pfil` and its segments called `free`, so that it has none; all places stay."""
+    renamed = bytearray(file)
+    for container in model.frame(file, 0, len(file)):
+        if container.kind in (b"pfil", b"pseg"):
+            for index in model.of_kind(model.frame(file, container.body, container.end), b"fidx"):
+                renamed[index.place + 4:index.place + 8] = b"free"
+    return bytes(renamed)
+
+
+def told_of(command, file):
+    """What is told of a file: its rows, both maps, and the bytes of its first ranges."""
+    command.put("film", file)
+    ranges = [tuple(map(str, first_and_length)) for first_and_length in model.lists(file)[1][:3]]
+    return [command.run(*words) for words in [("rows", "film"), ("map", "film"), ("map", "--missing", "film"), *[("get", "film", *one) for one in ranges]]]
+
+
+def served_alike(command):
+    """The index never changes what is served: what is told of a file is told of it without its indexes."""
+    rng = random.Random(SEED + 1)
+    for number in range(BY_CHANCE):
+        file = generate.indexed_file(rng)
+        while model.index(file)[0] == "refused":
+            file = generate.indexed_file(rng)
+        told = told_of(command, file)
+        expect(f"what is told with an index and without, {number}", told, told_of(command, unindexed(file)))
+        expect(f"it is told, {number}", {answer.status for answer in told}, {0})
+        claim(f"no index is left, {number}", command.run("index", "film"), 0)
+
+
 # Long ones.
 
 def long_index(command):
@@ -221,5 +254,5 @@ def long_file(command):
 
 
 def check(command):
-    for part in (sample, states, types, without, levels, refusals, additions, generated, long_index, long_file):
+    for part in (sample, states, types, without, levels, refusals, additions, generated, served_alike, long_index, long_file):
         part(command)
