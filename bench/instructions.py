@@ -32,6 +32,12 @@ def emulator():
     return found
 
 
+def one_at_a_time(program):
+    """The option by which the emulator takes one instruction at a time, which has another name in older ones."""
+    said = subprocess.run([program, "-help"], capture_output=True, text=True, check=False).stdout
+    return "-one-insn-per-tb" if "-one-insn-per-tb" in said else "-singlestep"
+
+
 def stretches(bench):
     """Where the code of each program stands: first address and end of each of its parts."""
     found = {"proved": [], "plain": []}
@@ -62,9 +68,9 @@ def counted(words, within):
 def one_call(bench, folder, program, case, within):
     """What one call takes: its own instructions, and those of the C library."""
     call, film, position = case
-    found = []
+    found, program_for = [], emulator()
     for times in (1, 2):
-        words = [emulator(), "-one-insn-per-tb", "-d", "exec,nochain", bench, folder, program, call, film, str(position), str(times)]
+        words = [program_for, one_at_a_time(program_for), "-d", "exec,nochain", bench, folder, program, call, film, str(position), str(times)]
         found.append(counted(words, within))
     return found[1][0] - found[0][0], found[1][1] - found[0][1]
 
