@@ -1,8 +1,8 @@
 # Builds the library's archive, which is proved first, and the command `paff` over it. `make test` holds the archive and
 # the plain C program against the model, runs the command as a person would and a build of it over the plain C program
-# under both sanitizers, passes the clerk's evening, types the lines of README.md, keeps a real film in a mixed file, and
-# builds a program over what `make install` installs. `make bench` measures the library beside the plain C program, and
-# `make instructions` counts what both take (docs/PERFORMANCE.md).
+# under both sanitizers, passes the clerk's evening, types the lines of README.md, keeps a real film in a mixed file and
+# with an index, and builds a program over what `make install` installs. `make bench` measures the library beside the
+# plain C program, and `make instructions` counts what both take (docs/PERFORMANCE.md).
 
 # Debian has this name for its own compiler on x86-64 and for its cross compiler elsewhere (gcc-x86-64-linux-gnu).
 CC := x86_64-linux-gnu-gcc
@@ -114,6 +114,7 @@ test-command-sanitized: $(OUT)/paff-sanitized
 test-films: $(OUT)/paff
 	sh tests/evening.sh $(EMULATOR) $(OUT)/paff
 	sh tests/film.sh $(EMULATOR) $(OUT)/paff
+	python3 tests/film_index.py $(EMULATOR) $(OUT)/paff
 
 test-readme: $(OUT)/paff
 	python3 tests/readme.py

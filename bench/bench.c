@@ -8,7 +8,7 @@
 #include <stdlib.h>
 #include <string.h>
 
-enum { ROUNDS = 31, FEW_ROUNDS = 11, LONGEST_FILM = 2 << 20, MIB = 1 << 20, HEAD = 256, MAP_ROOM = 1 << 18 };
+enum { ROUNDS = 31, FEW_ROUNDS = 11, LONGEST_FILM = 2 << 20, MIB = 1 << 20, HEAD = 256, MAP_ROOM = 1 << 18, INDEXED = 512 };
 
 /* One call of a program on a film. */
 struct asking {
@@ -30,6 +30,7 @@ struct adding {
 static const struct calls *const programs[] = {&proved, &plain};
 static uint64_t segments[VRAZHUPA_SEGMENTS * VRAZHUPA_SEGMENT_ROW], chunks[VRAZHUPA_CHUNKS * VRAZHUPA_CHUNK_ROW];
 static uint64_t had[VRAZHUPA_RANGES * VRAZHUPA_RANGE_ROW], missing[VRAZHUPA_RANGES * VRAZHUPA_RANGE_ROW];
+static uint64_t indexed[INDEXED * VRAZHUPA_INDEX_ROW];
 
 #define ALL(table) table, sizeof table / sizeof table[0]
 
@@ -57,6 +58,12 @@ static void list_film(const struct calls *program, const struct asking *a)
     program->list(a->film, a->length, ALL(segments), ALL(chunks), ALL(had), ALL(missing), told);
 }
 
+static void index_film(const struct calls *program, const struct asking *a)
+{
+    uint64_t told[1];
+    program->index(a->film, a->length, ALL(indexed), told);
+}
+
 static uint8_t text[MAP_ROOM];
 
 static void map_film(const struct calls *program, const struct asking *a)
@@ -82,7 +89,8 @@ static const struct named {
     const char *name;
     void (*call)(const struct calls *program, const struct asking *asked);
 } named[] = {
-    {"read", read_film}, {"serve", serve_position}, {"ask", ask_position}, {"list", list_film}, {"map", map_film}, {"missmap", missmap_film},
+    {"read", read_film}, {"serve", serve_position}, {"ask", ask_position}, {"list", list_film},
+    {"map", map_film}, {"missmap", missmap_film}, {"index", index_film},
 };
 
 static struct asking asking_of(const char *folder, const char *film, const char *what, uint64_t position)
@@ -170,6 +178,9 @@ static void compare_calls(const char *folder)
     compare_on(folder, "in_order", "list", 0);
     compare_on(folder, "in_order", "map", 0);
     compare_on(folder, "in_order", "missmap", 0);
+    compare_on(folder, "in_order", "index", 0);
+    compare_on(folder, "indexed", "read", 0);
+    compare_on(folder, "indexed", "index", 0);
     compare_on(folder, "damaged", "map", 0);
 }
 

@@ -9,6 +9,7 @@ struct calls {
     __typeof__(&vrazhupa_serve) serve;
     __typeof__(&vrazhupa_ask) ask;
     __typeof__(&vrazhupa_list) list;
+    __typeof__(&vrazhupa_index) index;
     __typeof__(&vrazhupa_map) map;
     __typeof__(&vrazhupa_missmap) missmap;
     __typeof__(&vrazhupa_begin) begin;

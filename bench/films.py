@@ -5,7 +5,7 @@ import sys
 
 sys.path.insert(0, os.path.join(os.path.dirname(os.path.abspath(__file__)), os.pardir, "tests"))
 
-from boxes import box, entry, head, ploc, pshd  # noqa: E402
+from boxes import bidx, box, entry, fidx, head, ploc, pshd  # noqa: E402
 
 GOOD, DAMAGED, LOST = 0x40, 0xC0, 0x80
 
@@ -29,10 +29,10 @@ def as_written(segments, size):
     return file
 
 
-def data_first(bodies, size, segments, widths=(8, 8), last=True, damaged=()):
+def data_first(bodies, size, segments, widths=(8, 8), last=True, damaged=(), index=b""):
     """So many data boxes, then the segments; a segment is its source offset and, for each of its chunks of a size, the
-    number of its data box, None where it is lost. The chunks of damaged boxes are."""
-    file = head(b"http://films.example/lesson", b"video/mp4")
+    number of its data box, None where it is lost. The chunks of damaged boxes are. The index stands in pfil."""
+    file = head(b"http://films.example/lesson", b"video/mp4", parts=index)
     places = []
     for _ in range(bodies):
         places.append(len(file) + 8)
@@ -43,10 +43,18 @@ def data_first(bodies, size, segments, widths=(8, 8), last=True, damaged=()):
     return file
 
 
-def sixteens(bodies, body_of, size=64, damaged=()):
+def sixteens(bodies, body_of, size=64, damaged=(), index=b""):
     """64 segments of 16 chunks in order in the source."""
     numbers = [[body_of(16 * s + i) for i in range(16)] for s in range(64)]
-    return data_first(bodies, size, [(16 * s * size, among) for s, among in enumerate(numbers)], damaged=damaged)
+    return data_first(bodies, size, [(16 * s * size, among) for s, among in enumerate(numbers)], damaged=damaged, index=index)
+
+
+def three_levels(size):
+    """The index of a source of that size: 8 boxes of 4 boxes of 8 boxes, 296 in all, the last of each list up to the
+    end."""
+    runs = 7 * bidx(size // 256 - 16, b"trun") + bidx(0, b"trun")
+    tracks = 3 * bidx(size // 32 - 8, b"traf", runs) + bidx(0, b"traf", runs)
+    return fidx(7 * bidx(size // 8, b"moof", tracks) + bidx(0, b"moof", tracks))
 
 
 def films():
@@ -59,6 +67,7 @@ def films():
     yield "refused", far[:-8] + (1 << 40).to_bytes(8, "big")
     yield "overlapping", as_written([(37 * s, 16) for s in range(64)], 100)
     yield "in_order", sixteens(1, lambda i: None if i % 2 else 0)
+    yield "indexed", sixteens(1, lambda i: None if i // 8 % 2 else 0, index=three_levels(64 * 1024))
     yield "damaged", sixteens(2, lambda i: (0, 1, None, 1)[i % 4], damaged={1})
     for chunks in (16, 64, 256, 1024):
         yield "chunks_%d" % chunks, data_first(1, 64, [(0, [None if i % 2 else 0 for i in range(chunks)])])

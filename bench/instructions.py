@@ -19,7 +19,8 @@ TOP = os.path.dirname(os.path.dirname(os.path.abspath(__file__)))
 CASES = [("read", "ordinary", 0), ("read", "largest", 0), ("read", "far", 0), ("read", "refused", 0), ("read", "chunks_16", 0),
          ("serve", "ordinary", 1048575), ("ask", "ordinary", 1048575), ("ask", "in_order", 65535),
          ("list", "ordinary", 0), ("list", "overlapping", 0), ("list", "in_order", 0), ("list", "largest", 0), ("list", "chunks_16", 0),
-         ("map", "ordinary", 0), ("map", "in_order", 0), ("map", "damaged", 0), ("map", "chunks_16", 0), ("missmap", "in_order", 0)]
+         ("map", "ordinary", 0), ("map", "in_order", 0), ("map", "damaged", 0), ("map", "chunks_16", 0), ("missmap", "in_order", 0),
+         ("index", "in_order", 0), ("read", "indexed", 0), ("index", "indexed", 0)]
 
 
 def emulator():
@@ -29,6 +30,12 @@ def emulator():
     if not found:
         sys.exit("no emulator: install Debian's qemu-user")
     return found
+
+
+def one_at_a_time(program):
+    """The option by which the emulator takes one instruction at a time, which has another name in older ones."""
+    said = subprocess.run([program, "-help"], capture_output=True, text=True, check=False).stdout
+    return "-one-insn-per-tb" if "-one-insn-per-tb" in said else "-singlestep"
 
 
 def stretches(bench):
@@ -61,9 +68,9 @@ def counted(words, within):
 def one_call(bench, folder, program, case, within):
     """What one call takes: its own instructions, and those of the C library."""
     call, film, position = case
-    found = []
+    found, program_for = [], emulator()
     for times in (1, 2):
-        words = [emulator(), "-one-insn-per-tb", "-d", "exec,nochain", bench, folder, program, call, film, str(position), str(times)]
+        words = [program_for, one_at_a_time(program_for), "-d", "exec,nochain", bench, folder, program, call, film, str(position), str(times)]
         found.append(counted(words, within))
     return found[1][0] - found[0][0], found[1][1] - found[0][1]
 

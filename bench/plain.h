@@ -38,7 +38,11 @@ enum refusal {
     DATA_NOT_EQUAL = 32,
     BUFFER_TOO_SHORT = 33,
     ZERO_BYTE_IN_TEXT = 34,
-    NOT_TO_GO_OUTSIDE = 35
+    NOT_TO_GO_OUTSIDE = 35,
+    BAD_INDEX = 36,
+    NINTH_LEVEL = 37,
+    INDEXES_IN_BOTH = 38,
+    END_UNKNOWN = 39
 };
 
 enum { MOST_BOXES = 512 };
@@ -56,6 +60,11 @@ enum { MOST_BOXES = 512 };
 #define PSHD FOUR('p', 's', 'h', 'd')
 #define PLOC FOUR('p', 'l', 'o', 'c')
 #define PDAT FOUR('p', 'd', 'a', 't')
+
+/* The box types of an index. */
+#define FIDX FOUR('f', 'i', 'd', 'x')
+#define BIDX FOUR('b', 'i', 'd', 'x')
+#define FRPA FOUR('f', 'r', 'p', 'a')
 
 /* The brands of a partial file and of a mixed one. */
 #define PAFF FOUR('p', 'a', 'f', 'f')
@@ -81,8 +90,15 @@ struct part {
     uint32_t length;
 };
 
+/* The `fidx` boxes of a `pfil` or a `pseg`: how many, and the body of the last one. */
+struct index {
+    uint32_t count;
+    struct part body;
+};
+
 struct segment {
     file_place place, body, end; /* of the `pseg` box: its first byte, its body, the byte after it */
+    struct index index;
     struct part header;          /* the body of its `pshd` */
     uint32_t flags;
     uint32_t chunk_count;
@@ -110,6 +126,9 @@ struct partial {
     uint64_t size;      /* the least size known of the source, or SIZE_UNKNOWN */
     uint64_t described; /* the largest segment end or open offset: the described length once the file is accepted */
     struct part url, mime;
+    struct index index;  /* of `pfil` */
+    uint32_t indexes;    /* in `pfil` and in the segments */
+    uint64_t index_rows; /* of an accepted file */
     struct part pdat[MOST_BOXES]; /* bodies, ascending */
     file_place end[MOST_BOXES];   /* of each box of the file, the byte after it */
     uint16_t barred[MOST_BOXES];  /* how many boxes up to it, itself counted, no chunk may be made of */
@@ -137,8 +156,11 @@ static inline void close_ranges(struct ranges *ranges, uint32_t count)
 /* Reads a file up to its segments, which are counted; ACCEPTED or its refusal, 1 to 11. */
 enum refusal plain_heading(const uint8_t *file, size_t file_length, struct partial *partial);
 
-/* Reads a file; ACCEPTED or its refusal, 1 to 25. */
+/* Reads a file; ACCEPTED or its refusal, 1 to 25 and 36 to 39. */
 enum refusal plain_read(const uint8_t *file, size_t file_length, struct partial *partial);
+
+/* Judges the indexes of a file, where the source has this size, and counts their rows; ACCEPTED or 36 to 39. */
+enum refusal plain_judge_indexes(const struct partial *partial, uint64_t size, uint64_t *rows);
 
 /* Whether the lent tables hold the rows of an accepted file, and the filling of them. */
 bool plain_tables_hold(const struct partial *partial, size_t segments_length, size_t chunks_length);

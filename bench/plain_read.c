@@ -1,5 +1,5 @@
 /* Reads a partial file in one pass over its boxes: framing, refusals 1 to 25, segments, chunks and the described
-   length. */
+   length, and where its indexes stand. */
 #include "plain.h"
 
 #include <string.h>
@@ -112,6 +112,14 @@ static bool read_surl(const uint8_t *file, const struct box *surl, struct part *
     return true;
 }
 
+/* Notes a `fidx` among the boxes of its container. */
+static void note_index(struct partial *partial, struct index *index, const struct box *fidx)
+{
+    index->count++;
+    index->body = (struct part){fidx->body, fidx->end - fidx->body};
+    partial->indexes++;
+}
+
 static enum refusal read_pfil(struct partial *partial, const struct box *pfil)
 {
     const uint8_t *file = partial->file;
@@ -136,6 +144,8 @@ static enum refusal read_pfil(struct partial *partial, const struct box *pfil)
                 partial->url = url;
                 partial->mime = mime;
             }
+        } else if (box.type == FIDX) {
+            note_index(partial, &partial->index, &box);
         }
     }
     if (pfhds != 1 || !pfhd_formed)
@@ -164,13 +174,15 @@ static bool read_pshd(const uint8_t *file, const struct box *pshd, struct segmen
     return true;
 }
 
-/* Frames the boxes of a `pseg`, reads its `pshd` and finds its `ploc`. */
-static enum refusal read_pseg_boxes(const uint8_t *file, struct segment *segment, struct box *ploc)
+/* Frames the boxes of a `pseg`, reads its `pshd` and finds its `ploc` and its index. */
+static enum refusal read_pseg_boxes(struct partial *partial, struct segment *segment, struct box *ploc)
 {
+    const uint8_t *file = partial->file;
     struct container in = {segment->body, segment->end, 0};
     struct box first = {0, 0, 0, 0};
     uint32_t pshds = 0, plocs = 0, surls = 0;
 
+    segment->index.count = 0;
     while (in.place < in.end) {
         struct box box;
         enum refusal refusal = next_box(file, &in, &box);
@@ -185,6 +197,8 @@ static enum refusal read_pseg_boxes(const uint8_t *file, struct segment *segment
             *ploc = box;
         } else if (box.type == SURL) {
             surls++;
+        } else if (box.type == FIDX) {
+            note_index(partial, &segment->index, &box);
         }
     }
     if (first.type != PSHD || pshds != 1 || !read_pshd(file, &first, segment))
@@ -369,7 +383,7 @@ static enum refusal read_segments(struct partial *partial)
 {
     for (uint32_t number = 0; number < partial->segment_count; number++) {
         struct box ploc = {0, 0, 0, 0};
-        enum refusal refusal = read_pseg_boxes(partial->file, &partial->segment[number], &ploc);
+        enum refusal refusal = read_pseg_boxes(partial, &partial->segment[number], &ploc);
         if (refusal != ACCEPTED)
             return refusal;
         refusal = read_ploc(partial, number, &ploc);
@@ -390,6 +404,8 @@ enum refusal plain_heading(const uint8_t *file, size_t file_length, struct parti
     partial->file = file;
     partial->length = (uint32_t)file_length;
     partial->pdat_count = partial->segment_count = partial->chunk_count = 0;
+    partial->index.count = partial->indexes = 0;
+    partial->index_rows = 0;
     partial->nearest = 0;
     partial->size = SIZE_UNKNOWN;
     partial->described = 0;
@@ -412,5 +428,8 @@ enum refusal plain_read(const uint8_t *file, size_t file_length, struct partial 
         return NO_PSEG;
     if (partial->segment_count > VRAZHUPA_SEGMENTS)
         return TOO_MANY_SEGMENTS;
-    return read_segments(partial);
+    refusal = read_segments(partial);
+    if (refusal != ACCEPTED || partial->indexes == 0)
+        return refusal;
+    return plain_judge_indexes(partial, partial->size, &partial->index_rows);
 }

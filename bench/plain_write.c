@@ -182,7 +182,16 @@ static bool measure(struct addition *add, uint64_t file_length)
     return file_length + add->pdat + add->out + add->pseg <= VRAZHUPA_FILE;
 }
 
-/* Checks what the file would be with the segment: 1, 6, 13, 22, 23 and 25. */
+/* Judges the index that the file would have with the segment, where the source would have this size. One that was
+   accepted stays as it was. */
+static enum refusal check_index(const struct partial *partial, uint64_t size)
+{
+    uint64_t rows;
+
+    return partial->segment_count > 0 || partial->indexes == 0 ? ACCEPTED : plain_judge_indexes(partial, size, &rows);
+}
+
+/* Checks what the file would be with the segment: 1, 6, 13, 22, 23, 25, 36, 37 and 39. */
 static enum refusal check_result(const struct partial *partial, struct addition *add)
 {
     uint64_t end, described = partial->described, size = partial->size;
@@ -202,7 +211,7 @@ static enum refusal check_result(const struct partial *partial, struct addition 
         described = end;
     if (add->last && add->count > 0 && end < size)
         size = end;
-    return described > size ? SIZES_DISAGREE : ACCEPTED;
+    return described > size ? SIZES_DISAGREE : check_index(partial, size);
 }
 
 static uint8_t *put_ploc(uint8_t *at, const struct addition *add)

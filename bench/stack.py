@@ -1,8 +1,9 @@
 """The largest stack of each exported call, read from the machine code of the archive: python3 bench/stack.py ARCHIVE
 
 A function's frame is what it pushes and takes off the stack pointer, and the return address; a call's stack is the
-largest sum along the calls that its function makes. The archive has no recursion and no call through a pointer, or this
-ends with an error. The C library's memcpy and memset count as a return address alone.
+largest sum along the calls that its function makes. An index list and its boxes call each other, eight levels deep; the
+archive has no other recursion and no call through a pointer, or this ends with an error. The C library's memcpy and
+memset count as a return address alone.
 """
 
 import re
@@ -19,6 +20,8 @@ TARGET = re.compile(r"R_X86_64_(?:PLT32|PC32)\t(?:\.text\.)?(.+?)-0x4")
 EXPORTED = "vrazhupa_"
 WORD = 8
 FROM_C = {"memcpy", "memset"}
+LEVELS = 8
+ON_A_LEVEL = re.compile("index_list|indexed_box")
 
 
 def taken_by(line):
@@ -46,6 +49,8 @@ def functions(archive):
             target = TARGET.search(line)
             if waiting and target:
                 calls[name].add(target[1])
+            elif waiting and waiting.endswith(f"<{name}>"):
+                calls[name].add(name)
             elif waiting and CALLS.search(waiting):
                 sys.exit(f"a call without a name in {name}: {waiting}")
             waiting = line if CALLS.search(line) or LEAPS.search(line) else None
@@ -55,8 +60,10 @@ def functions(archive):
 def deepest(name, frames, calls, above=()):
     if name in FROM_C:
         return WORD
-    if name in above:
+    if name in above and not ON_A_LEVEL.search(name):
         sys.exit(f"{name} calls itself")
+    if above.count(name) == LEVELS:
+        return 0
     return frames[name] + max((deepest(called, frames, calls, (*above, name)) for called in calls[name]), default=0)
 
 

@@ -31,6 +31,15 @@ static void gather_ranges(struct facts *facts)
     }
 }
 
+/* How many boxes the index tells of, and how many of these are whole. */
+static void gather_index(struct facts *facts)
+{
+    facts->indexed = read_index(facts->held.bytes) == 0 ? indexed.count : 0;
+    for (uint64_t i = 0; i < facts->indexed; i++) {
+        facts->whole += indexed.rows[i * VRAZHUPA_INDEX_ROW + INDEX_SERVED] == VRAZHUPA_ALL;
+    }
+}
+
 void gather(struct facts *facts, const char *name)
 {
     *facts = (struct facts){.name = name, .held = hold(name)};
@@ -50,5 +59,6 @@ void gather(struct facts *facts, const char *name)
         facts->described = tables.described;
         facts->closed = tables.closed;
         gather_ranges(facts);
+        gather_index(facts);
     }
 }

@@ -21,6 +21,7 @@ struct facts {
     uint64_t segments, chunks, described;
     bool closed;
     uint64_t received, kept, lost;
+    uint64_t indexed, whole; /* boxes of the film in its index, and those of them that are served whole */
     struct range ranges[RANGES];
     size_t count;
 };

@@ -44,11 +44,23 @@ static void put_heading(const struct facts *facts)
     printf("\n");
 }
 
+static void put_index(const struct facts *facts)
+{
+    printf("index     ");
+    put_grouped(facts->indexed);
+    printf(" boxes, ");
+    put_grouped(facts->whole);
+    printf(" whole\n");
+}
+
 static void put_film(const struct facts *facts)
 {
     printf("film      ");
     put_grouped(facts->described);
     printf(" bytes, %s\n", facts->closed ? "closed" : "open: its end is not known yet");
+    if (facts->indexed > 0) {
+        put_index(facts);
+    }
     if (facts->count == 0) {
         return;
     }
@@ -108,6 +120,8 @@ static void put_json_facts(const struct facts *facts)
     put_json_number("lost", facts->lost);
     put_json_number("segments", facts->segments);
     put_json_number("chunks", facts->chunks);
+    put_json_number("indexed", facts->indexed);
+    put_json_number("whole", facts->whole);
 }
 
 /* One line: the file, its state, and what is told of a file in that state. */

@@ -2,6 +2,7 @@
 #include "append.h"
 #include "begin.h"
 #include "get.h"
+#include "index.h"
 #include "info.h"
 #include "refusals.h"
 #include "say.h"
@@ -50,6 +51,12 @@ static void run_rows(struct words *words)
 {
     bool percent = flag_in(words, "--percent", 1);
     show_rows(words->operands[0], percent);
+}
+
+static void run_index(struct words *words)
+{
+    bool tree = flag_in(words, "--tree", 1);
+    show_index(words->operands[0], tree);
 }
 
 static void run_info(struct words *words)
@@ -135,6 +142,7 @@ static const struct subcommand {
     {"info", run_info, "paff info [--json] [--no-wait] FILE...\n"},
     {"boxes", run_boxes, "paff boxes [--no-wait] FILE\n"},
     {"rows", run_rows, "paff rows [--percent] [--no-wait] FILE\n"},
+    {"index", run_index, "paff index [--tree] [--no-wait] FILE\n"},
     {"get", run_get, "paff get [--output NEW] [--no-wait] FILE [FIRST LENGTH]\n"},
     {"begin", run_begin, "paff begin [--brand paff|pmff] FILE URL [MIME]\n"},
     {"append", run_append,

@@ -38,6 +38,10 @@ static const char *const sentences[] = {
     [VRAZHUPA_BUFFER_TOO_SHORT] = "the buffer is too short for the result",
     [VRAZHUPA_ZERO_IN_TEXT] = "a URL or MIME text has a zero byte",
     [VRAZHUPA_NOT_TO_GO_OUTSIDE] = "a good chunk to go outside is not whole allowed boxes, or its file is not mixed",
+    [VRAZHUPA_INDEX_WRONG] = "an index is wrong: its framing, a cut field, a size, what fills a box, a second `fidx` or front part, or an end",
+    [VRAZHUPA_NINTH_LEVEL] = "an index has a ninth level",
+    [VRAZHUPA_INDEXES_IN_BOTH] = "there are indexes both in `pfil` and in a `pseg`",
+    [VRAZHUPA_END_UNKNOWN] = "an indexed size of 0 runs to an end that is not known",
 };
 
 const char *sentence_of(uint64_t number)

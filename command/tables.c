@@ -1,7 +1,15 @@
 /* The memory that the command lends to the library, and what the library leaves there. */
 #include "tables.h"
 
+#include "say.h"
+
+#include <stdlib.h>
+
 struct tables tables;
+struct indexed indexed;
+
+/* How many rows a table for an index has at first, and how many times as many where they are too few. */
+enum { FIRST_ROWS = 1024, MORE_ROWS = 4 };
 
 uint64_t read_tables(struct bytes file)
 {
@@ -13,6 +21,27 @@ uint64_t read_tables(struct bytes file)
         tables.chunk_count = told[1];
         tables.described = told[2];
         tables.closed = told[3] == 1;
+    }
+    return number;
+}
+
+/* The table grows until it is long enough, from nothing, which is enough for a file without an index: a table for the
+   longest index that a file might have would take more room than the file. */
+uint64_t read_index(struct bytes file)
+{
+    static uint64_t *table;
+    static size_t room;
+    uint64_t told[1], number;
+    while ((number = vrazhupa_index(file.at, file.length, table, room * VRAZHUPA_INDEX_ROW, told)) == VRAZHUPA_TABLE_TOO_SHORT) {
+        room = room == 0 ? FIRST_ROWS : room * MORE_ROWS;
+        free(table);
+        table = malloc(room * VRAZHUPA_INDEX_ROW * sizeof *table);
+        if (table == NULL) {
+            failed("memory");
+        }
+    }
+    if (number == 0) {
+        indexed = (struct indexed){table, told[0]};
     }
     return number;
 }

@@ -1,5 +1,5 @@
-/* The memory that the command lends to the library, and what the library leaves there of a file: its tables, and the
-   texts of its maps and boxes. */
+/* The memory that the command lends to the library, and what the library leaves there of a file: its tables, its index,
+   and the texts of its maps and boxes. */
 #ifndef TABLES_H
 #define TABLES_H
 
@@ -22,6 +22,19 @@ extern struct tables tables;
 
 /* Reads a file into the tables; 0, or the number of its refusal. */
 uint64_t read_tables(struct bytes file);
+
+/* The numbers of a row of an index. */
+enum { INDEX_LEVEL, INDEX_PLACE, INDEX_SIZE, INDEX_TYPE, INDEX_SERVED };
+
+/* The index of the file whose index was read last, VRAZHUPA_INDEX_ROW numbers a row. */
+struct indexed {
+    const uint64_t *rows;
+    uint64_t count;
+};
+extern struct indexed indexed;
+
+/* Reads the index of a file; 0, or the number of its refusal. */
+uint64_t read_index(struct bytes file);
 
 /* A text that a call wrote of a file, good until the next one is written; the fault is the number that its last line
    has where the file was refused, or its framing broke off, and else 0. */

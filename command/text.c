@@ -67,3 +67,22 @@ void put_grouped(uint64_t number)
         printf("%" PRIu64, number);
     }
 }
+
+int grouped_width(uint64_t number)
+{
+    int digits = 1;
+    for (; number >= 10; number /= 10) {
+        digits++;
+    }
+    return digits + (digits - 1) / 3;
+}
+
+int put_type(char text[TYPE_TEXT], uint64_t type)
+{
+    int length = 0;
+    for (int shift = 24; shift >= 0; shift -= 8) {
+        unsigned byte = type >> shift & 0xff;
+        length += snprintf(text + length, (size_t)(TYPE_TEXT - length), byte < ' ' || byte > '~' ? "\\x%02x" : "%c", byte);
+    }
+    return length;
+}

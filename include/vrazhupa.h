@@ -9,8 +9,9 @@
    pointer may be anything where its length is 0; numbers of 64 bits are aligned as such; `told` is no null pointer
    and has room for as many numbers as its array has; a length in bytes is below 2^63. Memory that a call writes to
    may not overlap other memory that it is given. Nothing is kept between calls, and two threads may call at once,
-   each with memory of its own to write to. No call allocates, blocks or fails in another way. `vrazhupa_list`,
-   `vrazhupa_map` and `vrazhupa_missmap` need about 33 KiB of stack, the others under 6 KiB. */
+   each with memory of its own to write to. No call allocates, blocks or fails in another way. `vrazhupa_index` needs
+   about 50 KiB of stack, `vrazhupa_list`, `vrazhupa_map` and `vrazhupa_missmap` about 33 KiB, the others under 6 KiB.
+   */
 #ifndef VRAZHUPA_H
 #define VRAZHUPA_H
 
@@ -19,20 +20,22 @@
 #include <stdint.h>
 
 /* The version: its second number says how many change requests are in it. */
-#define VRAZHUPA_VERSION "1.6"
+#define VRAZHUPA_VERSION "1.7"
 
 #ifdef __cplusplus
 extern "C" {
 #endif
 
 /* The numbers of a row: of a segment (place of the box, source offset, flags, repair time, chunk count, place and
-   length of the `pshd` body), of a chunk (segment number from 0, index, source start, size, state, file place) and
-   of a range (first position, length); the most rows that a file fills, the most boxes of a container, and the most
-   bytes of a file. */
+   length of the `pshd` body), of a chunk (segment number from 0, index, source start, size, state, file place), of a
+   range (first position, length) and of an indexed box (level from 1, source place, size, type as the number of its
+   four bytes, whether none, some or all of its bytes are served); the most rows that a file fills, the most boxes of a
+   container, and the most bytes of a file. */
 enum {
     VRAZHUPA_SEGMENT_ROW = 7,
     VRAZHUPA_CHUNK_ROW = 6,
     VRAZHUPA_RANGE_ROW = 2,
+    VRAZHUPA_INDEX_ROW = 5,
     VRAZHUPA_SEGMENTS = 64,
     VRAZHUPA_CHUNKS = 1024,
     VRAZHUPA_RANGES = 1025,
@@ -45,6 +48,9 @@ enum { VRAZHUPA_LOST = 0, VRAZHUPA_DAMAGED = 1, VRAZHUPA_GOOD = 2, VRAZHUPA_ELSE
 
 /* The flag of a segment row that makes the end of the segment the end of the source, where the segment is not open. */
 enum { VRAZHUPA_LAST_SEGMENT = 1 };
+
+/* How many of the bytes of an indexed box are served. */
+enum { VRAZHUPA_NONE = 0, VRAZHUPA_SOME = 1, VRAZHUPA_ALL = 2 };
 
 /* The longest text of either map and of the list of boxes; what a new file has beside both texts; and what an
    addition that is taken adds at most beside its data. A buffer of so many bytes is never too short. */
@@ -83,7 +89,11 @@ enum {
     VRAZHUPA_DATA_NOT_AS_SIZES = 32,
     VRAZHUPA_BUFFER_TOO_SHORT = 33,
     VRAZHUPA_ZERO_IN_TEXT = 34,
-    VRAZHUPA_NOT_TO_GO_OUTSIDE = 35
+    VRAZHUPA_NOT_TO_GO_OUTSIDE = 35,
+    VRAZHUPA_INDEX_WRONG = 36,
+    VRAZHUPA_NINTH_LEVEL = 37,
+    VRAZHUPA_INDEXES_IN_BOTH = 38,
+    VRAZHUPA_END_UNKNOWN = 39
 };
 
 /* The kinds of answers about a position. */
@@ -96,32 +106,37 @@ uint64_t vrazhupa_heading(const uint8_t *file, size_t file_length, uint64_t told
 
 /* Reads a file into both tables, from the front; the rest of a table keeps its contents. Lengths of tables and lists
    are in numbers, not rows. told: rows of segments, rows of chunks, the described length, 1 where the size of the
-   source is known and else 0. Refuses with 1 to 20 or 22 to 26. */
+   source is known and else 0. Refuses with 1 to 20, 22 to 25, 36 to 39 or 26. */
 uint64_t vrazhupa_read(const uint8_t *file, size_t file_length, uint64_t *segments, size_t segments_length, uint64_t *chunks, size_t chunks_length,
                        uint64_t told[4]);
 
-/* The URL and the MIME text of a file. told: the place of the text in the file, and its length. Refuse with 1 to 20 or
-   22 to 25. */
+/* The URL and the MIME text of a file. told: the place of the text in the file, and its length. Refuse with 1 to 20, 22
+   to 25 or 36 to 39. */
 uint64_t vrazhupa_url(const uint8_t *file, size_t file_length, uint64_t told[2]);
 uint64_t vrazhupa_mime(const uint8_t *file, size_t file_length, uint64_t told[2]);
 
 /* Reads the file into both tables, and tells where in it the bytes stand that serve position p and those after it, as
    long as the same chunk supplies them. told: the place of that part, and its length; 0 and 0 where p is not supplied.
-   Refuses with 1 to 20 or 22 to 26. */
+   Refuses with 1 to 20, 22 to 25, 36 to 39 or 26. */
 uint64_t vrazhupa_serve(const uint8_t *file, size_t file_length, uint64_t *segments, size_t segments_length, uint64_t *chunks, size_t chunks_length,
                         uint64_t p, uint64_t told[2]);
 
 /* Reads the file into both tables, and tells whether position p is served or missing. told: the kind, and how many
    positions from p on are served by the same chunk or missing; 0 where p is not below the described length. Refuses
-   with 1 to 20 or 22 to 26. */
+   with 1 to 20, 22 to 25, 36 to 39 or 26. */
 uint64_t vrazhupa_ask(const uint8_t *file, size_t file_length, uint64_t *segments, size_t segments_length, uint64_t *chunks, size_t chunks_length, uint64_t p,
                       uint64_t told[2]);
 
 /* Reads the file into both tables, and fills two lists with the ranges of positions that it has and of those that are
-   missing. told: ranges had, ranges missing, positions received, positions missing. Refuses with 1 to 20 or 22 to 26.
-   */
+   missing. told: ranges had, ranges missing, positions received, positions missing. Refuses with 1 to 20, 22 to 25, 36
+   to 39 or 26. */
 uint64_t vrazhupa_list(const uint8_t *file, size_t file_length, uint64_t *segments, size_t segments_length, uint64_t *chunks, size_t chunks_length,
                        uint64_t *had, size_t had_length, uint64_t *missing, size_t missing_length, uint64_t told[4]);
+
+/* Reads the file, and fills the table with a row for each box of its index, each before those inside it. A row takes at
+   least 16 bytes of the file, so a table for a file of n bytes needs no more than n / 16 rows. told: how many rows.
+   Refuses with 1 to 20, 22 to 25, 36 to 39 or 26. */
+uint64_t vrazhupa_index(const uint8_t *file, size_t file_length, uint64_t *table, size_t table_length, uint64_t told[1]);
 
 /* Write the map of a file into the buffer as the programs `map` and `missmap` print it, the line of a refusal too: that
    of 27 where the file has more than `most` bytes, which are 65,536 for the programs. The first names what is missing:
@@ -147,8 +162,8 @@ uint64_t vrazhupa_begin(uint8_t *buffer, size_t buffer_length, bool mixed, const
    and of the good chunks, in order. With `outside` the good chunks are stored as boxes of the file, behind the `pdat`
    of the damaged ones: the file has to be mixed and each good chunk whole boxes, none of type `ftyp`, `pfil`, `pseg` or
    `pdat`; without it all data goes into one `pdat`. Bytes before `length` and behind the new end keep their values.
-   told: the new length. Refuses with 30, the file's own refusal, 31, 32, 35, 1, 6, 13, 22, 23, 25 or 33, in this order.
-   */
+   told: the new length. Refuses with 30, the file's own refusal, 31, 32, 35, 1, 6, 13, 22, 23, 25, 36, 37, 39 or 33,
+   in this order. */
 uint64_t vrazhupa_append(uint8_t *buffer, size_t buffer_length, uint64_t length, uint64_t offset, uint64_t repair_time, bool last, bool outside,
                          const uint64_t *list, size_t list_length, const uint8_t *data, size_t data_length, uint64_t told[1]);
 

@@ -1,9 +1,12 @@
 """Makes arguments of begin and append, acceptable ones and faulty ones."""
 
 import model
-from boxes import box, entry, open_segment, ploc, pshd
-from faults import faulty_file
+from boxes import box, entry, ftyp, open_segment, pfhd, ploc, pshd, surl
+from faults import FAULTS, faulty_file
+from faults_index import to_the_end
 from foreign import LIMIT, WIDE
+from indexes import Index, Indexed, add_indexes, put_index
+from plan import Plan
 from spoiling import spoil
 
 FREE = box(b"free")
@@ -13,7 +16,7 @@ CHUNKS = 1_024
 LOST, DAMAGED, GOOD, ELSEWHERE = 0, 1, 2, 3
 OUTSIDE = [b"moof", b"mdat", b"free", b"surl", b"ploc", b"moov"]
 NEVER_OUTSIDE = [b"ftyp", b"pfil", b"pseg", b"pdat"]
-FAULTS_OF_APPEND = [30, "own", 31, 32, 35, 6, 13, 22, 23, 25, 33]
+FAULTS_OF_APPEND = [30, "own", 31, 32, 35, 6, 13, 22, 23, 25, 36, 37, 39, 33]
 FAULTS_OF_BEGIN = [33, 34]
 BRANDS = [b"paff", b"pmff"]
 
@@ -288,6 +291,48 @@ def overstep_size(rng, given):
         given["source_offset"] = 0
 
 
+# A file without a segment, whose index is judged with the first.
+
+def begun_plan(rng, mixed):
+    brand = BRANDS[1 if mixed else 0]
+    return Plan(ftyp([brand], brand), [pfhd(), surl(*texts(rng))], [], mixed=mixed)
+
+
+def begun_with_index(rng, number=None, mixed=None):
+    """A file that reading refuses with 12, with a right index, or one that a number is given for after an addition that
+    does not tell the size of the source."""
+    plan = begun_plan(rng, rng.random() < 0.3 if mixed is None else mixed)
+    if number is None:
+        add_indexes(rng, plan)
+    else:
+        FAULTS[number](rng, plan)
+    return plan.assemble()
+
+
+def spoil_index(number):
+    def step(rng, given):
+        set_file(given, begun_with_index(rng, number, is_mixed(given["buffer"])))
+        given["last"] = given["last"] and number != 39
+        if number == 36 and given["last"] and given["chunk_list"]:
+            set_file(given, too_near_the_end(rng, given))
+    return step
+
+
+def too_near_the_end(rng, given):
+    """A file begun whose index ends in a box that runs to the end of the source, where the addition leaves nothing or
+    too little for it."""
+    left = given["source_offset"] + sizes(given["chunk_list"]) - rng.choice([0, 1, 7, -1, -8])
+    plan = begun_plan(rng, is_mixed(given["buffer"]))
+    before = [Indexed(left, b"moov")] if left >= 8 else []
+    for part in before:
+        part.large = left >= 2 ** 32
+    if before or left < 0:
+        put_index(rng, plan, Index([*before, to_the_end(b"mdat", [])]))
+    else:
+        FAULTS[36](rng, plan)
+    return plan.assemble()
+
+
 def faulty_addition(rng, file, number):
     """Arguments on an acceptable file that append must refuse with a number.
 
@@ -298,7 +343,7 @@ def faulty_addition(rng, file, number):
         faulty = faulty_file(rng, rng.choice([2, 5, 8, 14, 24]))
         set_file(given, rng.choice([spoil(rng, file), faulty]))
     steps = {31: spoil_chunk_list, 32: spoil_data, 35: spoil_outside, 6: fill_with_boxes, 13: fill_with_segments,
-             22: fill_with_chunks, 23: overstep_limit, 25: overstep_size}
+             22: fill_with_chunks, 23: overstep_limit, 25: overstep_size, 36: spoil_index(36), 37: spoil_index(37), 39: spoil_index(39)}
     if number in steps:
         steps[number](rng, given)
     lend_buffer(rng, given)
@@ -308,6 +353,8 @@ def faulty_addition(rng, file, number):
     if number == 33:
         short = rng.choice([1, 1, rng.randint(1, end_of(given) - len(file))])
         given["buffer"] = given["buffer"][:end_of(given) - short]
+    if number in (36, 37, 39) and rng.random() < 0.2:
+        given["buffer"] = given["buffer"][:rng.randint(given["stated_length"], end_of(given))]
     return given
 
 

@@ -91,6 +91,14 @@ def lists_numbers(file, had_list, missing_list):
     return head + table_after(flat[0], had_list) + table_after(flat[1], missing_list)
 
 
+def index_numbers(file, table):
+    """The answer and the table at exit."""
+    answer = model.index(file, len(table))
+    if answer[0] == "refused":
+        return [0, answer[1]] + table
+    return [1, len(answer[1])] + table_after([number for row in answer[1] for number in row], table)
+
+
 def written_numbers(answer, buffer):
     return answer_numbers(answer, lambda value: [value[1]]) + list(buffer)
 
@@ -148,6 +156,19 @@ def lists_case(rng, name, file, source):
     return Case(name, term, lists_numbers(file, a, b), refusal, source)
 
 
+def index_case(rng, name, file, source):
+    answer = model.index(file)
+    table = room(rng, 5 * (0 if answer[0] == "refused" else len(answer[1])))
+    term = "indexRowsOf %s (%s)" % (octets(file), listing(table))
+    return Case(name, term, index_numbers(file, table), number_of(model.index(file, len(table))), source)
+
+
+def short_boxes(file):
+    """Whether each indexed box of a file is short enough that its positions can be computed one after the other."""
+    answer = model.index(file)
+    return answer[0] == "refused" or all(row[2] <= LISTED for row in answer[1])
+
+
 def map_case(name, file, source):
     return Case(name, "mapOfInput %s" % octets(file), list(model.map_text(file)), number_of(model.read(file)), source)
 
@@ -169,6 +190,8 @@ def file_cases(rng, name, file):
     cases = [read_case(rng, name, file, source), boxes_case(name + "-boxes", file, source)]
     if rng.random() < 0.3:
         cases.append(tables_case(rng, name + "-tables", file, source))
+    if short_boxes(file):
+        cases.append(index_case(rng, name + "-index", file, source))
     if answer[0] == "refused" or answer[1] <= LISTED:
         cases.append(map_case(name + "-map", file, source))
         cases.append(missmap_case(name + "-missmap", file, source))

@@ -32,6 +32,7 @@ use Rattle.partial.specs.Ranges.{among, apart, inRow, rangesOf}
 use Rattle.partial.specs.Naming.{namedRanges, heldList, lostList}
 use Rattle.partial.specs.Memory.{after, written}
 use Rattle.partial.specs.Tables.{segmentRows, chunkRows, hadRows, missingRows, tabled, listed, summary, totals, bytesIn, servedPart, asked, textOf}
+use Rattle.partial.specs.Tables.{indexTabled, indexTable, indexCount}
 use Rattle.partial.specs.Map.{mapText, missmapText}
 use Rattle.partial.specs.BoxList.{boxesText}
 use Rattle.partial.specs.declared.brand.Brand.{Brand}
@@ -94,6 +95,12 @@ unfolding answered totalsOf ample computing
 listsOf f h m =
     let r = listed sourceLimit f ample ample h m in
     answered totalsOf r ++ (after hadRows r h ++ after missingRows r m)
+
+unfoldable pub indexRowsOf : List ℕ → List ℕ → List ℕ
+unfolding answered computing
+indexRowsOf f table =
+    let r = indexTabled sourceLimit f table in
+    answered (λ told. indexCount told ∷ []) r ++ after indexTable r table
 
 unfoldable pub begunOf : List ℕ → Brand → List ℕ → List ℕ → List ℕ
 unfolding answered computing
@@ -203,7 +210,7 @@ boxesOfInput input = boxesText programLimit input
 
 BATCH_USES = """use Rattle.numerals.specs.Numbers.{bytesOf}
 use Rattle.partial.specs.declared.brand.Brand.the-variants.{Paff, Pmff}
-use Rattle.computed.specs.Computed.{readOf, tablesOf, listsOf, begunOf, appendedOf, demandsOf, mappedOf, againOf, mapOfInput, missmapOfInput, boxesOfInput}
+use Rattle.computed.specs.Computed.{readOf, tablesOf, listsOf, indexRowsOf, begunOf, appendedOf, demandsOf, mappedOf, againOf, mapOfInput, missmapOfInput, boxesOfInput}
 """
 
 # A file of more than 1,073,741,824 bytes and an input of more than 65,536 are not written out: only their length is

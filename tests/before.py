@@ -14,6 +14,8 @@ STATE_OF = model.state_of
 NEITHER_BIT = 21
 # The highest source position or end before request 5.
 HIGHEST_BEFORE = 4_294_967_295
+# The refusals of an index.
+OF_AN_INDEX = range(36, 40)
 
 
 def number_of(file):
@@ -85,7 +87,24 @@ def by_names(call, old):
     return call.name == "map" and old == 0 and len(call.file) <= call.numbers[0] and model.attempt(model.accept, call.file)[0] == 0
 
 
+def no_index(file, boxes, offsets, size):
+    return []
+
+
+def by_index(call, old):
+    """Request 7: a file that is refused with 36 to 39 and was not refused before, or an append whose result would be. A
+    map tells its number in its text, which is written unless there is no room for the old text nor for the new one."""
+    with patch.object(model, "indexed_boxes", no_index):
+        before = number_of(call.file)
+    if before != 0:
+        return False
+    if call.name in ("map", "missmap"):
+        number = model.attempt(model.accept, call.file)[0]
+        return number in OF_AN_INDEX and len(call.file) <= call.numbers[0] and 0 in (old, call.answer)
+    return call.answer in OF_AN_INDEX
+
+
 # Of each request that changes answers, whether it may change that of a call from the old one; and those that change it
 # exactly then.
-CHANGES = {1: by_vendors, 2: by_mixed_files, 4: by_elsewhere, 5: by_longer_recordings, 6: by_names}
-EXACT = {6}
+CHANGES = {1: by_vendors, 2: by_mixed_files, 4: by_elsewhere, 5: by_longer_recordings, 6: by_names, 7: by_index}
+EXACT = {6, 7}

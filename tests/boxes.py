@@ -36,9 +36,9 @@ def surl(url=b"u", mime=b"", large=False):
     return box(b"surl", full(), url, b"\0", mime, b"\0", large=large)
 
 
-def head(url=b"u", mime=b"", brand=b"paff"):
-    """The ftyp and pfil that every file begins with, in their plainest form."""
-    return ftyp([brand], brand) + box(b"pfil", pfhd(), surl(url, mime))
+def head(url=b"u", mime=b"", brand=b"paff", parts=b""):
+    """The ftyp and pfil that every file begins with, in their plainest form; other boxes of pfil stand at its end."""
+    return ftyp([brand], brand) + box(b"pfil", pfhd(), surl(url, mime), parts)
 
 
 def version_for(offset):
@@ -66,6 +66,16 @@ def entry(flag_byte, length_size, size, offset_size=0, offset=None):
     """One entry; a chunk that is not present has no offset field, so its offset is None."""
     field = b"" if offset is None else offset.to_bytes(offset_size, "big", signed=True)
     return bytes([flag_byte]) + size.to_bytes(length_size, "big") + field
+
+
+def bidx(size, kind=b"moov", *parts, large=False):
+    """The index of a box; a large size stands in 64 bits, and the user type of a uuid opens the parts."""
+    stated = sized_large(size, kind) if large else sized(size, kind)
+    return box(b"bidx", stated, *parts)
+
+
+def fidx(*parts):
+    return box(b"fidx", *parts)
 
 
 def lost_segment(offset, sizes, flags=0, version=None, width=None, flag_byte=0x80):

@@ -13,6 +13,7 @@ import time
 
 import command_failing
 import command_help
+import command_index
 import command_info
 import command_killed
 import command_large
@@ -25,7 +26,7 @@ import expecting
 from command_run import Command
 
 GROUPS = {
-    "usage": command_usage, "help": command_help, "info": command_info, "write": command_write, "failing": command_failing, "traced": command_traced, "killed": command_killed,
+    "usage": command_usage, "help": command_help, "index": command_index, "info": command_info, "write": command_write, "failing": command_failing, "traced": command_traced, "killed": command_killed,
     "together": command_together, "large": command_large, "show": command_show}
 
 

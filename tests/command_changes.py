@@ -27,8 +27,8 @@ LONGEST = 600
 # The groups of tests/command.py that see most changes of a file, which are tried first.
 NEAREST = {
     "addition.c": "usage,write", "append.c": "traced,large,write,killed", "bar.c": "info", "begin.c": "write", "facts.c": "info", "files.c": "usage,together,write", "get.c": "show,failing",
-    "heading.c": "info", "info.c": "info", "paff.c": "usage,help", "pieces.c": "usage,write", "refusals.c": "help", "say.c": "usage,failing", "show.c": "show", "tables.c": "info,write",
-    "text.c": "info,show", "times.c": "write", "words.c": "usage", "writes.c": "traced,killed,failing"}
+    "heading.c": "info", "index.c": "index", "info.c": "info", "paff.c": "usage,help", "pieces.c": "usage,write", "refusals.c": "help", "say.c": "usage,failing", "show.c": "show", "tables.c": "info,index,write",
+    "text.c": "info,index,show", "times.c": "write", "words.c": "usage", "writes.c": "traced,killed,failing"}
 
 Change = namedtuple("Change", "file line old new text")
 

@@ -4,6 +4,7 @@ was."""
 import os
 import resource
 
+import sample_index
 from boxes import box
 from command_run import claim, claim_held, ended, good, lost, told
 from command_wanted import appended, begun, film_of
@@ -12,10 +13,10 @@ from model import PMFF
 
 DATA = bytes(at % 251 for at in range(300_000))
 FILM = film_of((0, [good(DATA), lost(6)], True))
-PRINTING = [("map", "film"), ("map", "--missing", "film"), ("boxes", "film"), ("rows", "film"), ("get", "film", "0", "1"), ("get", "film", "0", "300000"), ("get", "film", "5", "70000")]
-REFUSED = [("map", "spoiled"), ("map", "--missing", "spoiled"), ("boxes", "spoiled"), ("rows", "spoiled"), ("append", "spoiled", "--offset", "0", "--lost", "1"),
+PRINTING = [("map", "film"), ("map", "--missing", "film"), ("boxes", "film"), ("rows", "film"), ("index", "indexed"), ("index", "--tree", "indexed"), ("get", "film", "0", "1"), ("get", "film", "0", "300000"), ("get", "film", "5", "70000")]
+REFUSED = [("map", "spoiled"), ("map", "--missing", "spoiled"), ("boxes", "spoiled"), ("rows", "spoiled"), ("index", "spoiled"), ("index", "--tree", "spoiled"), ("append", "spoiled", "--offset", "0", "--lost", "1"),
            ("append", "film", "--offset", "0", "--lost", "0")]
-SILENT = [("get", "film", "9", "0")]
+SILENT = [("get", "film", "9", "0"), ("index", "film")]
 ASIDE = [("get", "spoiled", "0", "1"), ("get", "spoiled"), ("get", "film"), ("get", "film", "0", "300001")]
 
 
@@ -153,5 +154,6 @@ def check(command):
     command.put("film", FILM)
     command.put("spoiled", FILM[:-1])
     command.put("piece", b"xyz")
+    command.put("indexed", sample_index.sample())
     for part in (full_output, closed_pipe, slow_pipe, closed_streams, written_with_closed_streams, full_begin, full_append):
         part(command)

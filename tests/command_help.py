@@ -9,8 +9,8 @@ from command_wanted import begun
 from corpus import ROOT
 from expecting import expect
 
-SUBCOMMANDS = ["map", "info", "boxes", "rows", "get", "begin", "append", "why"]
-NUMBERS = [*range(1, 21), *range(22, 28), *range(30, 36)]
+SUBCOMMANDS = ["map", "info", "boxes", "rows", "index", "get", "begin", "append", "why"]
+NUMBERS = [*range(1, 21), *range(22, 28), *range(30, 40)]
 LAST = b"The manual page, `man paff`, says all of it.\n"
 
 

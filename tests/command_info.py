@@ -41,6 +41,19 @@ def samples(command):
     claim("info of one twice", run(command, "lesson.paff", "lesson.paff"), 0, lesson + b"\n" + lesson)
 
 
+def indexes(command):
+    """By hand: the sample with an index, in a line of its own, and one without."""
+    put_sample(command, "index.paff")
+    out = run(command, "index.paff").out
+    expect("info of an index", b"film      668 bytes, closed\nindex     15 boxes, 11 whole\nreceived  400 bytes, 59.8 %\n" in out or out)
+    found = json.loads(run(command, "--json", "index.paff").out)
+    expect("JSON of an index", (found["indexed"], found["whole"]), (15, 11))
+    put_sample(command, "lesson.paff")
+    answer = run(command, "--json", "index.paff", "lesson.paff", "index.paff")
+    expect("JSON of a file without one between two", [json.loads(line)["indexed"] for line in answer.out.splitlines()], [15, 0, 15])
+    expect("no line where there is none", b"index  " not in run(command, "lesson.paff").out)
+
+
 def begun_only(command):
     """By hand: what can be said of a file that was only begun, of either brand."""
     for brand, shown in [(b"paff", b"paff"), (b"pmff", b"pmff (mixed)")]:
@@ -131,14 +144,17 @@ def facts(name, file):
     ranges = [line.split(b"\t") for line in model.map_text(file, most=len(file)).splitlines()]
     sums = {word: sum(int(fields[2]) for fields in ranges if fields[0] == word) for word in SIGNS}
     segments, chunks = model.read(file)[1:3]
+    served = [row[4] for row in model.index(file)[1]]
     brand = "pmff" if model.read_head(file).mixed else "paff"
     return found | {"state": "closed" if known else "open", "brand": brand, "url": decoded(part(file, model.url(file))), "mime": decoded(part(file, model.mime(file))), "described": described,
-                    "received": sums[b"have"], "held": sums[b"held"], "lost": sums[b"lost"], "segments": len(segments), "chunks": len(chunks)}
+                    "received": sums[b"have"], "held": sums[b"held"], "lost": sums[b"lost"], "segments": len(segments), "chunks": len(chunks),
+                    "indexed": len(served), "whole": served.count(model.ALL)}
 
 
 def generated(command):
     rng = random.Random(SEED)
     files = {f"film{index}": generate.foreign_file(rng) if index % 3 else generate.spoil(rng, generate.foreign_file(rng)) for index in range(FILES)}
+    files |= {f"indexed{index}": generate.indexed_file(rng) for index in range(FILES // 2)}
     files |= {"mixed": film_of((0, [good(box(b"free"))]), brand=PMFF), "many": head() + lost_segment(0, [1] * 1_000), "empty": b"", "short": b"\0"}
     for name, file in files.items():
         command.put(name, file)
@@ -151,5 +167,5 @@ def generated(command):
 
 
 def check(command):
-    for part_of in (samples, begun_only, refusals, shares, widths, strings, generated):
+    for part_of in (samples, indexes, begun_only, refusals, shares, widths, strings, generated):
         part_of(command)

@@ -1,4 +1,4 @@
-"""Claims every byte that map, boxes, rows and get print, of files made by hand and generated, spoiled and cut, against
+"""Claims every byte that map, boxes, rows, index and get print, of files made by hand and generated, spoiled and cut, against
 the manual page and the model."""
 
 import os
@@ -8,7 +8,7 @@ import generate
 import model
 from boxes import box, head, lost_segment, open_segment, sized, sized_large
 from command_run import claim, claim_held, claim_missing, claim_not_got, damaged, elsewhere, ended, good, lost
-from command_wanted import appended, claim_boxes, claim_get, claim_map, claim_rows, film_of, number_of
+from command_wanted import appended, claim_boxes, claim_get, claim_index, claim_map, claim_rows, film_of, number_of
 from corpus import ROOT
 from expecting import expect
 from foreign import LIMIT, WIDE
@@ -243,6 +243,7 @@ def claim_all(name, command, file, ranges=()):
     claim_map(name, command, "film", file)
     claim_boxes(name, command, "film", file)
     claim_rows(name, command, "film", file)
+    claim_index(name, command, "film", file)
     for first, length in ranges:
         claim_get(name, command, "film", file, first, length)
 

@@ -214,7 +214,7 @@ def reading_only(command):
     """A film that is read is mapped to be read alone, and a line on standard error is written at once."""
     command.put("film", INSIDE.film)
     command.put("spoiled", INSIDE.film[:-1])
-    for words in [("map", "film"), ("boxes", "film"), ("rows", "film"), ("get", "film", "0", "4"), ("map", "spoiled")]:
+    for words in [("map", "film"), ("boxes", "film"), ("rows", "film"), ("index", "film"), ("get", "film", "0", "4"), ("map", "spoiled")]:
         answer = command.run(*words, before=["strace", "-f", "-y", "-o", "log", "-e", "trace=mmap,write"])
         lines = command.held("log").decode("ascii", "replace").splitlines()
         mapped = [line for line in lines if "mmap(" in line and os.path.realpath(command.path(words[1])) + ">" in line]

@@ -12,7 +12,8 @@ FILM = film_of((0, [good(b"abcd"), lost(6)], True))
 NO_NUMBERS = ["", "-1", "+1", " 1", "1 ", "1\n", "0x1", "1e3", "1.0", "1,000", "one", "--last", "\u0661", "18446744073709551616",
               "18446744073709551617", "36893488147419103232", "99999999999999999999", "184467440737095516150", "1" + 60 * "0"]
 FEW_OR_MANY_WORDS = ["", "map", "map film other", "map --missing film other", "map --missing --missing film", "map --miss film", "boxes", "boxes film other",
-                     "boxes --missing film", "rows", "rows film other", "rows --missing film", "get", "get film 0", "get film 0 1 2", "begin", "begin new", "begin new u m x", "begin --brand", "begin --brand pmff", "begin --brand pmff new", "begin --brand pmff new u m x", "append", "append film"]
+                     "boxes --missing film", "rows", "rows film other", "rows --missing film", "index", "index --tree", "index film other",
+                     "index --tree film other", "index --tree --tree film", "index --missing film", "index --tre film", "get", "get film 0", "get film 0 1 2", "begin", "begin new", "begin new u m x", "begin --brand", "begin --brand pmff", "begin --brand pmff new", "begin --brand pmff new u m x", "append", "append film"]
 NO_COMMANDS = ["show film", "Map film", "maps film", "ma film", "box film", "boxlist film", "film", "film map", "-map film", "--map film", "append-film"]
 OPTIONS = [
     "--offset", "--offset 0", "--lost 1", "--good piece", "--last --lost 1", "--offset 0 --last", "--offset 0 --time 4", "--time 4 --lost 1",
@@ -30,7 +31,7 @@ OPTIONS = [
 SAID = {
     "": "no subcommand is given", "film": "not a subcommand: film", "help film": "not a subcommand: film", "help map film": "a word too many: film", "--version film": "not a subcommand: --version",
     "map": "a word is missing", "map film other": "a word too many: other", "map --json film": "not an option: --json", "map --missing=1 film": "takes no value: --missing",
-    "get film 0": "a word is missing", "get film x 1": "not a number: x", "get film 1 x": "not a number: x", "get film --output": "no value is given: --output", "why 21": "not the number of a refusal: 21",
+    "index --tree": "a word is missing", "index --missing film": "not an option: --missing", "index --tree --tree film": "given twice: --tree", "get film 0": "a word is missing", "get film x 1": "not a number: x", "get film 1 x": "not a number: x", "get film --output": "no value is given: --output", "why 21": "not the number of a refusal: 21",
     "begin --brand isom new u": "not a brand: isom", "begin --lost new u": "not an option: --lost", "append film --offset": "no value is given: --offset", "append film --lost 1": "no --offset is given",
     "append film --offset 0": "no chunk is given", "append film --offset 0 --last --last --lost 1": "given twice: --last", "append film --offset 0 --lost 1 --time x": "not a time: x",
     "append film --at 4": "no chunk follows: --at", "append film --offset 4 --size 6": "no chunk follows: --size", "append film --offset 4 --open --lost 1": "--open is for a segment without chunks",
@@ -49,12 +50,12 @@ def words(command):
     for text in FEW_OR_MANY_WORDS + NO_COMMANDS:
         claim_usage(command, *text.split())
     claim_usage(command, "")
-    for name in ("map", "info", "boxes", "rows", "get", "begin", "append", "why"):
+    for name in ("map", "info", "boxes", "rows", "index", "get", "begin", "append", "why"):
         answer = command.run(name)
         lines = [line for line in answer.err.splitlines() if b"paff " in line]
         expect(f"the usage of {name} alone", all(b"paff " + name.encode() + b" " in line for line in lines) and len(lines) > 0 or answer.err)
     answer = command.run()
-    named = all(word in answer.err for word in (b"usage: ", b"map", b"--missing", b"boxes", b"rows", b"get", b"begin", b"append"))
+    named = all(word in answer.err for word in (b"usage: ", b"map", b"--missing", b"boxes", b"rows", b"index", b"--tree", b"get", b"begin", b"append"))
     expect("usage names each subcommand", named and in_form(answer.err) or answer.err)
     named = all(word in answer.err for word in (b"--good DATA", b"--damaged DATA", b"--lost SIZE", b"--elsewhere SIZE"))
     expect("usage names each chunk", named or answer.err)
@@ -63,8 +64,8 @@ def words(command):
 # Words that begin with a dash: none is a name unless `--` stands before it, and none makes a file.
 DASHED = ["begin --brand=isom new u", "begin --brand= new u", "begin -- new", "begin --unknown=pmff new u", "begin --help= new u", "begin -new u", "begin - u", "begin new -u",
           "begin new u -", "begin --no-wait new u", "begin -- --brand=pmff", "map -", "map --missing=1 film", "map --missing= film", "map --json film", "boxes --percent film", "info -film",
-          "info --json=1 film", "rows --raw film", "get --output film", "get film --output", "get film --output=new --output=other", "get film --output -- 0 1", "get --percent film",
-          "why", "why 1 2", "why --help=1", "why -1", "why 0", "why 21", "why 28", "why 29", "why 36", "why 18446744073709551615", "why one", "help map film", "help film", "--version map",
+          "info --json=1 film", "rows --raw film", "index -", "index -film", "index --tree=1 film", "index --tree= film", "index --json film", "get --output film", "get film --output", "get film --output=new --output=other", "get film --output -- 0 1", "get --percent film",
+          "why", "why 1 2", "why --help=1", "why -1", "why 0", "why 21", "why 28", "why 29", "why 40", "why 18446744073709551615", "why one", "help map film", "help film", "--version map",
           "append film --offset=4 --last=1 --lost 1", "append film --offset=4 --good -piece", "append film --offset=4 --good --lost 1", "append film --offset=4 --open=1",
           "append film --offset= --lost 1", "append film --offset 4 --lost=", "append film --offset 4 --no-wait=1 --lost 1", "append --offset 4 --lost 1 -- film other",
           "append --offset 4 --lost 1 -film"]
@@ -141,7 +142,7 @@ def claim_failed(name, command, *given):
 
 
 def reading_words(film):
-    return [("map", film), ("map", "--missing", film), ("boxes", film), ("rows", film), ("get", film, "0", "1"), ("get", film, "0", "0"), ("append", film, "--offset", "0", "--lost", "1")]
+    return [("map", film), ("map", "--missing", film), ("boxes", film), ("rows", film), ("index", film), ("index", "--tree", film), ("get", film, "0", "1"), ("get", film, "0", "0"), ("append", film, "--offset", "0", "--lost", "1")]
 
 
 def absent(command):

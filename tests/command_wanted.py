@@ -4,11 +4,14 @@ import time as clock
 
 import model
 from command_run import KEPT, claim, claim_missing, claim_not_got, claim_refused, why
+from film_boxes import shown_type
 
 STATES = {"lost": model.LOST, "damaged": model.DAMAGED, "good": model.GOOD, "elsewhere": model.ELSEWHERE}
 WORDS = {state: word for word, state in STATES.items()}
 SEGMENT_HEADING = ("segment", "place", "offset", "flags", "time", "chunks", "header", "length", "repaired")
 CHUNK_HEADING = ("segment", "index", "start", "size", "state", "place")
+SERVED = {model.NONE: "none", model.SOME: "some", model.ALL: "all"}
+SIGNS = {model.NONE: "-", model.SOME: "%", model.ALL: " "}
 
 
 def number_of(file):
@@ -66,6 +69,28 @@ def rows_text(file):
         text += model.line(number, *row, repaired(row[3]))
     text += model.line(*CHUNK_HEADING)
     return text + b"".join(model.line(*row[:4], WORDS[row[4]], row[5]) for row in answer[2])
+
+
+def index_fields(file):
+    """Of each indexed box of an accepted file its level, its place, its size, its type as it is shown, and whether all,
+    some or none of it is there."""
+    return [(*row[:3], shown_type(row[3].to_bytes(4, "big")), row[4]) for row in model.index(file)[1]]
+
+
+def index_text(file):
+    return b"".join(model.line(*row[:4], SERVED[row[4]]) for row in index_fields(file))
+
+
+def tree_text(file):
+    """The same for a person: columns as wide as their widest field, and a last line with the counts."""
+    rows = index_fields(file)
+    columns = [["box", *["  " * (row[0] - 1) + row[3] for row in rows]], ["place", *[f"{row[1]:,}" for row in rows]], ["size", *[f"{row[2]:,}" for row in rows]]]
+    box, place, size = [max(len(field) for field in column) for column in columns]
+    lines = [f"{fields[0]:<{box}}  {fields[1]:>{place}}  {fields[2]:>{size}}" for fields in zip(*columns)]
+    lines = ["  " + lines[0], *[f"{SIGNS[row[4]]} {line}  {SERVED[row[4]]}" for row, line in zip(rows, lines[1:])]]
+    whole, some, none = [f"{sum(row[4] == how for row in rows):,}" for how in (model.ALL, model.SOME, model.NONE)]
+    lines.append(f"{len(rows):,} {'box' if len(rows) == 1 else 'boxes'}: {whole} whole, {some} in part, {none} missing")
+    return "".join(line + "\n" for line in lines).encode("ascii") if rows else b""
 
 
 def got(file, first, length):
@@ -141,6 +166,18 @@ def claim_rows(name, command, film, file):
         claim_refused(f"rows of {name}", answer, number, film)
     else:
         claim(f"rows of {name}", answer, 0, rows_text(file))
+
+
+def claim_index(name, command, film, file):
+    """The rows, and the tree, which says where there are none."""
+    number, rows, tree = number_of(file), command.run("index", film), command.run("index", "--tree", film)
+    if number:
+        claim_refused(f"index of {name}", rows, number, film)
+        claim_refused(f"index --tree of {name}", tree, number, film)
+        return
+    text = tree_text(file)
+    claim(f"index of {name}", rows, 0, index_text(file))
+    claim(f"index --tree of {name}", tree, 0, text, b"" if text else b"paff: %s: no box is indexed\n" % film.encode())
 
 
 def claim_get(name, command, film, file, first, length):

@@ -14,6 +14,7 @@ from collections import Counter
 import corpus_boxes
 import corpus_chunks
 import corpus_elsewhere
+import corpus_index
 import corpus_mixed
 import corpus_orders
 import corpus_random
@@ -26,7 +27,7 @@ from record import taken
 ROOT = os.path.join(os.path.dirname(os.path.abspath(__file__)), "..")
 CRATE = os.path.join(ROOT, "crates", "reading_run")
 LARGEST_FILE = 65_535
-MOST_BYTES = 480_000
+MOST_BYTES = 600_000
 FULL_TABLES = (448, 6144)
 TO_SPARE = 3
 
@@ -40,7 +41,7 @@ def sample():
 
 def records():
     made = [sample()]
-    for part in (corpus_boxes, corpus_segments, corpus_chunks, corpus_mixed, corpus_elsewhere, corpus_orders, corpus_tables, corpus_random):
+    for part in (corpus_boxes, corpus_segments, corpus_chunks, corpus_mixed, corpus_elsewhere, corpus_index, corpus_orders, corpus_tables, corpus_random):
         made += part.records()
     return made
 

@@ -1,6 +1,8 @@
-"""Makes files that reading must refuse with one given number, 2 to 25 but 21, which no file meets."""
+"""Makes files that reading must refuse with one given number, 2 to 25 but 21, which no file meets, or 36 to 39."""
 
-from boxes import box, full, lost_segment, open_segment, pfhd, sized, sized_large, surl
+import broken
+import faults_index
+from boxes import box, full, lost_segment, open_segment, pfhd, sized, surl
 from foreign import DAMAGED, ELSEWHERE, GOOD, LIMIT, LOST, foreign_plan, skipped_box, text
 from plan import Entry, Other, Segment, Whole
 
@@ -28,43 +30,19 @@ def put_last(rng, plan, content):
 # Framing.
 
 def header_cut_short(rng, plan):
-    small = rng.randbytes(rng.randint(1, 7))
-    large = sized(1, rng.choice([b"free", b"uuid"])) + rng.randbytes(rng.randint(0, 7))
-    put_last(rng, plan, rng.choice([small, large]))
+    put_last(rng, plan, broken.cut_header(rng))
 
 
 def size_field_0(rng, plan):
-    kind = rng.choice([b"free", b"pdat", b"pseg", b"uuid"])
-    put_last(rng, plan, sized(0, kind) + rng.randbytes(rng.choice([0, 9, 16])))
-
-
-def short_vendor(rng):
-    """A uuid whose size leaves out some of its user type, with as many bytes as it says, or fewer, or more."""
-    size, header = rng.choice([
-        (rng.choice([2, 7, 8, 9, 15, 16, 17, 19, 20, 22, 23]), sized),
-        (rng.choice([0, 8, 15, 16, 17, 23, 24, 25, 30, 31]), sized_large)])
-    front = header(size, b"uuid")
-    return front + rng.randbytes(rng.choice([0, max(0, size - len(front)), 16, rng.randint(0, 20)]))
+    put_last(rng, plan, broken.size_0(rng))
 
 
 def size_below_header(rng, plan):
-    small = sized(rng.randint(2, 7)) + rng.randbytes(rng.choice([0, 4]))
-    large = sized_large(rng.randint(0, 15))
-    put_last(rng, plan, rng.choice([small, large, short_vendor(rng), short_vendor(rng)]))
-
-
-def cut_vendor(rng):
-    """A uuid large enough for its user type, in which the container ends."""
-    front = rng.choice([
-        sized(rng.choice([24, 24, 25, 31, 32, 40, 2 ** 32 - 1]), b"uuid"),
-        sized_large(rng.choice([32, 32, 33, 40, 2 ** 32 + 32, 2 ** 64 - 1]), b"uuid")])
-    return front + rng.randbytes(rng.choice([0, 1, 12, 15, rng.randint(0, 15)]))
+    put_last(rng, plan, broken.below_header(rng))
 
 
 def box_ends_after_container(rng, plan):
-    small = sized(rng.choice([9, 9, 10, 2 ** 31, 2 ** 32 - 1]), b"pdat")
-    large = sized_large(rng.choice([17, 2 ** 32 - 1, 2 ** 32 + 16, 2 ** 63, 2 ** 64 - 1]), b"pdat")
-    put_last(rng, plan, rng.choice([small, large, cut_vendor(rng)]))
+    put_last(rng, plan, broken.past_container(rng))
 
 
 def too_many_boxes(rng, plan):
@@ -329,6 +307,7 @@ FAULTS = {
     23: source_over_limit,
     24: may_not_lie_there,
     25: sizes_disagree,
+    **faults_index.FAULTS,
 }
 
 

@@ -1,17 +1,18 @@
 """Makes files as another writer would, with everything the paper allows."""
 
 from boxes import box, ftyp, pfhd, surl
+from indexes import add_indexes
 from plan import Data, Entry, Other, Plan, Segment, Whole
 
 LIMIT = 1_099_511_627_775
 # The first source offset that takes a `pshd` of the 64-bit form.
 WIDE = 4_294_967_296
 LOST, DAMAGED, GOOD, ELSEWHERE = 0x80, 0xC0, 0x40, 0x00
-NOT_KNOWN = [b"free", b"skip", b"uuid", b"uuid", b"ptle", b"fidx", b"mdat", b"dref"]
+NOT_KNOWN = [b"free", b"skip", b"uuid", b"uuid", b"ptle", b"mdat", b"dref", b"bidx", b"dint"]
 OUT_OF_PLACE = {
-    "file": [b"pfhd", b"surl", b"pshd", b"ploc"],
-    "pfil": [b"ftyp", b"pfil", b"pseg", b"pshd", b"ploc", b"pdat"],
-    "pseg": [b"ftyp", b"pfil", b"pfhd", b"pseg", b"pdat"],
+    "file": [b"pfhd", b"surl", b"pshd", b"ploc", b"fidx", b"frpa"],
+    "pfil": [b"ftyp", b"pfil", b"pseg", b"pshd", b"ploc", b"pdat", b"frpa"],
+    "pseg": [b"ftyp", b"pfil", b"pfhd", b"pseg", b"pdat", b"frpa"],
 }
 
 
@@ -184,7 +185,37 @@ def foreign_plan(rng, huge=False, mixed=None):
     while rng.random() < 0.2:
         items.append(Other(skipped_box(rng, "file")))
     rng.shuffle(items)
-    return Plan(foreign_ftyp(rng, mixed), foreign_pfil_parts(rng), items, seldom(rng), mixed)
+    plan = Plan(foreign_ftyp(rng, mixed), foreign_pfil_parts(rng), items, seldom(rng), mixed)
+    if rng.random() < 0.4:
+        add_indexes(rng, plan)
+    return plan
+
+
+def indexed_plan(rng):
+    """The plan of a file that has most of its source, of which an index tells the boxes."""
+    data, at, segments = Data(rng.randbytes(rng.randint(40, 150)), seldom(rng)), 0, []
+    sizes = rng.choice([[8], [8, 16], [8, 16, rng.randint(1, 60), 60]])
+    while at < len(data.body):
+        segment = Segment(at, [])
+        for _ in range(rng.randint(1, 3)):
+            size = min(len(data.body) - segment.end(), rng.choice(sizes))
+            flag_byte = GOOD if rng.random() < 0.7 else rng.choice([DAMAGED, LOST, ELSEWHERE])
+            segment.entries.append(Entry(flag_byte, size, data if flag_byte in (GOOD, DAMAGED) else None, segment.end()))
+        dress(rng, segment)
+        segments.append(segment)
+        at = segment.end()
+    if rng.random() < 0.6:
+        segments[-1].flags |= 1
+    items = [data, *segments]
+    rng.shuffle(items)
+    plan = Plan(foreign_ftyp(rng, False), foreign_pfil_parts(rng), items, seldom(rng))
+    add_indexes(rng, plan)
+    return plan
+
+
+def indexed_file(rng):
+    """The bytes of such a file."""
+    return indexed_plan(rng).assemble()
 
 
 def mixed_file(rng):
@@ -206,7 +237,7 @@ def overstep(rng, plan):
 
 def foreign_file(rng):
     """The bytes of a file by another writer; a few in a hundred go too far."""
-    plan = foreign_plan(rng, huge=seldom(rng))
+    plan = indexed_plan(rng) if rng.random() < 0.05 else foreign_plan(rng, huge=seldom(rng))
     if rng.random() < 0.04:
         overstep(rng, plan)
     return plan.assemble()

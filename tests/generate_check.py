@@ -8,6 +8,7 @@ from itertools import groupby
 
 import generate
 import model
+import model_index
 from additions import top_level_count
 from boxes import head
 from expecting import close, expect
@@ -30,8 +31,7 @@ def plocs_and_pshds(file):
         large = file[row[0]:row[0] + 4] == bytes([0, 0, 0, 1])
         size_place, size_width = (row[0] + 8, 8) if large else (row[0], 4)
         end = row[0] + int.from_bytes(file[size_place:size_place + size_width], "big")
-        parts = boxes_in(file, row[0] + (16 if large else 8), end)
-        places = {file[place + 4:place + 8]: place + header for place, _, header in parts}
+        places = {part.kind: part.body for part in model.frame(file, row[0] + (16 if large else 8), end)}
         yield file[places[b"ploc"] + 4], file[row[5]]
 
 
@@ -58,6 +58,7 @@ def check_foreign(files):
     check_far(files)
     check_elsewhere(files)
     check_mixed(files)
+    check_indexes(files)
 
 
 def check_size_forms(files):
@@ -208,6 +209,44 @@ def check_mixed(files):
     expect("no chunk outside in the others", not any(list(outside_runs(file)) for file, head in heads if not head.mixed))
 
 
+def forms_of_index(file):
+    """What stands in the indexes of an accepted file: forms of sizes, front parts, boxes that are skipped, and where."""
+    for name, place, end in containers(file):
+        for index in model.of_kind(model.frame(file, place, end), b"fidx") if name != "file" else []:
+            yield f"in {name}"
+            yield from forms_in_list(file, model.frame(file, index.body, index.end), 1)
+
+
+def forms_in_list(file, boxes, level):
+    yield from ["empty"] if not boxes else []
+    for at, one in enumerate(boxes):
+        if one.kind != b"bidx":
+            yield "a front part" if one.kind == b"frpa" else "an integrity box" if one.kind == b"dint" else "another box"
+            continue
+        size, kind, header, place = model_index.stated_header(file, one)
+        inner = model.frame(file, place, one.end)
+        yield from ["large"] * (file[one.body:one.body + 4] == bytes([0, 0, 0, 1])) + ["a vendor's"] * (kind == b"uuid") + ["a large bidx"] * (one.body - one.place == 16)
+        yield from ["a front part longer than its box"] * any(size is not None and part.end - part.body > size for part in model.of_kind(inner, b"frpa"))
+        yield from [f"to the end, {'inside' if level > 1 else 'of the source'}", "something behind it"][:1 + (at + 1 < len(boxes))] if size is None else []
+        yield from forms_in_list(file, inner, level + 1)
+
+
+def check_indexes(files):
+    """Indexes in pfil and in segments, in every form, and of rows each level with none, some and all."""
+    met = Counter(form for file in files for form in set(forms_of_index(file)))
+    for form in ("in pfil", "in pseg", "empty", "a front part", "an integrity box", "another box", "large", "a vendor's", "a large bidx", "a front part longer than its box",
+                 "to the end, inside", "to the end, of the source", "something behind it"):
+        expect(f"an index, {form}", met[form] >= 5)
+    found = [(file, row) for file in files for row in model.index(file)[1]]
+    levels = Counter((row[0], row[4]) for file, row in found)
+    for level in range(1, 9):
+        expect(f"rows of level {level}", sum(levels[level, served] for served in (0, 1, 2)) >= 10)
+        expect(f"none, some and all of level {level}", level > 3 or all(levels[level, served] >= 3 for served in (0, 1, 2)))
+    expect("a third of the files has rows", len({file for file, row in found}) / len(files) > 0.3)
+    expect("rows past what is described", any(row[1] >= model.length(file)[1] for file, row in found))
+    expect("a row to the limit", any(row[1] + row[2] == LIMIT for file, row in found))
+
+
 # The meaning, position by position.
 
 def position_by_position(chunks, described):
@@ -250,6 +289,7 @@ def check_meaning(file):
         expect("list never empty", all(run > 0 for first, run in found))
     expect("totals", answer[3:], (len(had), len(missing)))
     check_maps(file, chunks, suppliers)
+    check_rows(file, set(had))
 
 
 def text_by_position(file, names, totals):
@@ -272,6 +312,13 @@ def check_maps(file, chunks, suppliers):
     expect("map without names", model.missmap_text(file), text_by_position(file, names, ["have", "miss"]))
 
 
+def check_rows(file, had):
+    """Of each indexed box whether none, some or all of its positions are had."""
+    for level, place, size, kind, served in model.index(file)[1]:
+        inside = len([p for p in had if place <= p < place + size])
+        expect("how many of a box are served", served, 0 if inside == 0 else 2 if inside == size else 1)
+
+
 # Faulty and spoiled files.
 
 def check_faulty(rng, runs):
@@ -281,6 +328,7 @@ def check_faulty(rng, runs):
             expect(f"faulty file for {number}", model.read(file), ("refused", number))
             expect(f"maps of a file for {number}", [model.map_text(file), model.missmap_text(file)],
                    2 * [b"refused\t%d\n" % number])
+            expect(f"index of a file for {number}", model.index(file), ("refused", number))
             expect(f"parts of a file for {number}",
                    [model.url(file), model.mime(file), model.serve(file, 0)], 3 * [(0, 0)])
 
@@ -327,6 +375,7 @@ def check_spoiled(rng, files):
             ends = [row[5] + row[3] for row in answer[2] if row[5] > 0]
             expect("places in the spoiled file", all(end <= len(spoiled) for end in ends))
     expect("spoiled files meet many numbers", len(numbers) >= 15)
+    expect("spoiled files meet that of a wrong index", 36 in numbers)
     expect("spoiled files have a uuid that is too short", too_short >= 20)
 
 
@@ -344,7 +393,7 @@ def check_additions(rng, files):
                 expect(f"append refuses with {number}", answer, ("refused", number))
             elif own[0] == "read" or own == ("refused", 12):
                 expect("append takes a file that the spoiling left acceptable",
-                       answer[0] == "length" or answer[1] in (35, 6, 13, 22, 23, 25))
+                       answer[0] == "length" or answer[1] in (35, 6, 13, 22, 23, 25, 36, 37, 39))
             else:
                 expect("append refuses the file", answer, own)
             if answer[0] == "refused":
@@ -355,7 +404,7 @@ def check_all_additions(rng, files):
     answers = [model.append(**generate.addition(rng, file))[0] for file in files]
     taken = sum(answer[0] == "length" for answer in answers) / len(answers)
     expect("more than half of the additions taken", 0.5 < taken < 0.9)
-    for number in [30, 31, 32, 35, 6, 13, 22, 23, 25, 33]:
+    for number in [30, 31, 32, 35, 6, 13, 22, 23, 25, 36, 37, 39, 33]:
         expect(f"append meets {number}", ("refused", number) in answers)
     print(f"additions taken: {100 * taken:.1f} %")
 

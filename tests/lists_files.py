@@ -1,10 +1,10 @@
-"""Makes records on the paper's files, on open and empty ones, on chunks of size 0, many small ranges, long parts, and
-the limits."""
+"""Makes records on the paper's files, on open and empty ones, on chunks of size 0, many small ranges, long parts,
+indexes, and the limits."""
 
-from boxes import box, entry, head, lost_segment, open_segment, ploc, pshd
+from boxes import bidx, box, entry, fidx, ftyp, head, lost_segment, open_segment, pfhd, ploc, pshd, surl
 from foreign import DAMAGED, ELSEWHERE, GOOD, LIMIT, LOST, WIDE
 from lists_record import assembled, file_of, listed, refused
-from plan import Data, Entry, Other, Segment, Whole
+from plan import Data, Entry, Other, Plan, Segment, Whole
 
 LAST = 1
 
@@ -127,6 +127,20 @@ def places():
     yield listed("places", "one place for three chunks", assembled([data] + same), [(0, 3), (4, 3), (8, 3)], [(3, 1), (7, 1), (11, 1)])
 
 
+def with_index():
+    """An index in pfil or in a segment changes neither list."""
+    data = Data(bytes(range(10, 40)))
+    entries = [Entry(GOOD, 12, data, 0), Entry(LOST, 8), Entry(DAMAGED, 4, data, 12), Entry(GOOD, 6, data, 20)]
+    index = fidx(bidx(16, b"moov", bidx(8)), bidx(0))
+    for where in ("pfil", "a segment", "an open segment"):
+        film, later = Segment(0, entries, LAST), Segment(20, [])
+        plan = Plan(ftyp(), [pfhd(), surl()], [data, film, later])
+        {"pfil": plan.pfil_parts, "a segment": film.after, "an open segment": later.between}[where].append(fidx(bidx(10)) if where == "an open segment" else index)
+        yield listed("index", f"an index in {where}", plan.assemble(), [(0, 12), (24, 6)], [(12, 12)])
+    spoiled = Plan(ftyp(), [pfhd(), surl(), fidx(bidx(7))], [data, Segment(0, entries, LAST)])
+    yield refused("index", 36, "an index with a size under its header", spoiled.assemble())
+
+
 def limits():
     yield listed("limits", f"all lost, to {LIMIT}", head() + lost_segment(0, [LIMIT], flags=LAST), [], [(0, LIMIT)])
     yield listed("limits", f"open at {LIMIT}", head() + open_segment(LIMIT), [], [(0, LIMIT)])
@@ -151,5 +165,5 @@ def far():
 
 
 def records():
-    for made in (of_the_paper, open_and_closed, of_size_0, many_pairs, many_segments, long_parts, places, held_elsewhere, of_boxes, limits, far):
+    for made in (of_the_paper, open_and_closed, of_size_0, many_pairs, many_segments, long_parts, places, held_elsewhere, of_boxes, with_index, limits, far):
         yield from made()

@@ -22,7 +22,7 @@ from lists_record import assembled
 from plan import Data, Entry, Other, Segment
 
 CRATE = os.path.join(ROOT, "crates", "mapping_run")
-MOST_BYTES = 520_000
+MOST_BYTES = 560_000
 LARGEST_FILE = 65_537
 LARGEST_BUFFER = 65_600
 LAST = 1

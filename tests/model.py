@@ -1,4 +1,4 @@
-"""Models the reader, the server, the lists, both maps, the list of boxes and the writer of partial files.
+"""Models the reader, the server, the lists, the index, both maps, the list of boxes and the writer of partial files.
 
 Written from the paper "What is to be made, with rules" in its order, from
 5.1.1 to 5.1.8 of ISO/IEC 23001-14 for the layout of fields, and from the change
@@ -101,20 +101,21 @@ Of request 6, the map that names damage:
     where some are 0.
 41. Does a damaged chunk change what is received?  No, and neither does it change
     the missing list: held and lost together are missing as before.
+
+Of request 7, the box index; tests/model_index.py has those on the index itself:
+
+42. Which calls refuse with 36 to 39?  All that refuse with 25, as "Refusals,
+    after 25 in number order" has no exception.
+43. What are none, some and all counted of?  Of the positions of the box; those
+    past the described length are not served.
+44. When does append judge an index?  In its result: a file that is accepted
+    before has a right one, and after 12 none is judged until then.
 """
 
 from collections import namedtuple
 
-# Sizes we hold to.
-
-LIMITS = {
-    "file": 1_073_741_824,
-    "boxes in one container": 512,
-    "segments": 64,
-    "chunks": 1_024,
-    "source": 1_099_511_627_775,
-    "program input": 65_536,
-}
+from model_boxes import *
+from model_index import indexed_boxes
 
 # The kinds of box the base knows: container, and how many of each.
 
@@ -129,41 +130,6 @@ KINDS = {
     b"pdat": ("file", "any number"),
 }
 
-# Refusal numbers.
-
-FILE_OVER_LIMIT = 1
-HEADER_CUT_SHORT = 2
-SIZE_FIELD_0 = 3
-SIZE_BELOW_HEADER = 4
-BOX_ENDS_AFTER_CONTAINER = 5
-TOO_MANY_BOXES = 6
-FTYP_FAULT = 7
-NEITHER_BRAND = 8
-PFIL_FAULT = 9
-PFHD_FAULT = 10
-SURL_FAULT = 11
-NO_PSEG = 12
-TOO_MANY_SEGMENTS = 13
-PSHD_FAULT = 14
-NOT_ONE_PLOC = 15
-SURL_INSIDE_PSEG = 16
-PLOC_FAULT = 17
-WIDTH_OVER_8 = 18
-DATA_REFERENCE = 19
-RESERVED_BIT = 20
-TOO_MANY_CHUNKS = 22
-SOURCE_OVER_LIMIT = 23
-MAY_NOT_LIE_THERE = 24
-SIZES_DISAGREE = 25
-LENT_TABLE_TOO_SHORT = 26
-INPUT_OVER_LIMIT = 27
-STATED_LENGTH_OVER_BUFFER = 30
-CHUNK_LIST_FAULT = 31
-DATA_NOT_EQUAL_TO_SIZES = 32
-BUFFER_TOO_SHORT = 33
-ZERO_BYTE_IN_TEXT = 34
-NOT_TO_GO_OUTSIDE = 35
-
 # Field layout.
 
 LAST_SEGMENT = 0x000001
@@ -171,97 +137,24 @@ CORRUPTED = 0x80
 PRESENT = 0x40
 RESERVED = 0x3F
 LOST, DAMAGED, GOOD, ELSEWHERE = 0, 1, 2, 3
+NONE, SOME, ALL = 0, 1, 2
 FLAG_BYTES = {LOST: CORRUPTED, DAMAGED: CORRUPTED | PRESENT, GOOD: PRESENT, ELSEWHERE: 0}
 SEGMENT_ROW_LENGTH = 7
 CHUNK_ROW_LENGTH = 6
+INDEX_ROW_LENGTH = 5
 RANGE_LENGTH = 2
-USER_TYPE_LENGTH = 16
 PAFF, PMFF = b"paff", b"pmff"
 NEVER_A_CHUNK = (b"ftyp", b"pfil", b"pseg", b"pdat")
 
-Box = namedtuple("Box", "kind place user_type body end")
 Segment = namedtuple(
     "Segment", "place offset flags repair_time chunk_count pshd_body pshd_length end")
 Chunk = namedtuple("Chunk", "segment index start size state place")
 Text = namedtuple("Text", "place length")
 Head = namedtuple("Head", "boxes mixed url mime")
-Reading = namedtuple("Reading", "segments chunks described closed url mime")
-
-
-class Refused(Exception):
-    """A refusal, with its number."""
-
-    def __init__(self, number):
-        super().__init__(number)
-        self.number = number
-
-
-def refuse_if(fault, number):
-    if fault:
-        raise Refused(number)
-
-
-def attempt(step, *given):
-    """The refusal number (0 if none) and the value of a step."""
-    try:
-        return 0, step(*given)
-    except Refused as refusal:
-        return refusal.number, None
-
-
-# Fields.
-
-def unsigned(file, place, width):
-    """`width` bytes, most significant first; width 0 has value 0."""
-    value = 0
-    for byte in file[place:place + width]:
-        value = 256 * value + byte
-    return value
-
-
-def signed(file, place, width):
-    """The same bytes in two's complement."""
-    value = unsigned(file, place, width)
-    if width > 0 and file[place] >= 0x80:
-        value -= 256 ** width
-    return value
+Reading = namedtuple("Reading", "segments chunks described closed url mime indexed")
 
 
 # Framing.
-
-def frame_box(file, place, end):
-    """The box at a place of a container that ends at `end`."""
-    header = 8
-    refuse_if(end - place < header, HEADER_CUT_SHORT)
-    size, kind = unsigned(file, place, 4), file[place + 4:place + 8]
-    refuse_if(size == 0, SIZE_FIELD_0)
-    if size == 1:
-        header = 16
-        refuse_if(end - place < header, HEADER_CUT_SHORT)
-        size = unsigned(file, place + 8, 8)
-    user_type = place + header
-    if kind == b"uuid":
-        header += USER_TYPE_LENGTH
-    refuse_if(size < header, SIZE_BELOW_HEADER)
-    refuse_if(place + size > end, BOX_ENDS_AFTER_CONTAINER)
-    body = place + header
-    return Box(kind, place, file[user_type:body], body, place + size)
-
-
-def framed(file, place, end):
-    """The boxes of one container one by one, from a place to its end or up to the first fault."""
-    count = 0
-    while place < end:
-        refuse_if(count == LIMITS["boxes in one container"], TOO_MANY_BOXES)
-        box = frame_box(file, place, end)
-        yield box
-        count, place = count + 1, box.end
-
-
-def frame(file, place, end):
-    """All boxes of one container."""
-    return list(framed(file, place, end))
-
 
 def tiled(data):
     """The boxes that bytes are from the first to the last, however many."""
@@ -275,10 +168,6 @@ def tiled(data):
 def allowed_outside(boxes):
     """Whether boxes are of types that a chunk may be made of."""
     return not any(box.kind in NEVER_A_CHUNK for box in boxes)
-
-
-def of_kind(boxes, kind):
-    return [box for box in boxes if box.kind == kind]
 
 
 def count_kept(boxes, kind):
@@ -473,13 +362,18 @@ def known_size(segments):
 
 
 def accept(file):
-    """Stages 1 to 25: what an acceptable file says."""
-    head = read_head(file)
+    """Stages 1 to 25 and 36 to 39: what an acceptable file says."""
+    return accept_behind(file, read_head(file))
+
+
+def accept_behind(file, head):
+    """The stages from 12 on."""
     segments, chunks = read_segments(file, head)
     size = known_size(segments)
+    indexed = indexed_boxes(file, head.boxes, [segment.offset for segment in segments], size)
     closed = size is not None
     described = size if closed else max(segment.end for segment in segments)
-    return Reading(segments, chunks, described, closed, head.url, head.mime)
+    return Reading(segments, chunks, described, closed, head.url, head.mime, indexed)
 
 
 def accept_into(file, segment_room, chunk_room):
@@ -587,6 +481,31 @@ def lists(file, segment_room=None, chunk_room=None, had_room=None, missing_room=
         return ("refused", number)
     had, missing = found
     return ("lists", had, missing, total(had), total(missing))
+
+
+# The index.
+
+def how_many_served(reading, first, length):
+    """Whether none, some or all of these positions are served."""
+    served = 0
+    for had, run in ranges(reading, True):
+        served += max(0, min(had + run, first + length) - max(had, first))
+    if served == 0:
+        return NONE
+    return ALL if served == length else SOME
+
+
+def accept_index(file, room):
+    reading = accept(file)
+    check_room(len(reading.indexed) * INDEX_ROW_LENGTH, room)
+    return [(box.level, box.place, box.size, unsigned(box.kind, 0, 4), how_many_served(reading, box.place, box.size))
+            for box in reading.indexed]
+
+
+def index(file, room=None):
+    """The row of each indexed box."""
+    number, rows = attempt(accept_index, file, room)
+    return ("refused", number) if number else ("index", rows)
 
 
 # The heading.
@@ -766,13 +685,12 @@ def added_length(source_offset, pairs, data_length, outside):
 
 
 def read_earlier(file):
-    """The head, segments and chunks of the file; 12 counts as serving nothing."""
+    """The head, segments and chunks of the file; 12 counts as serving nothing, whatever the index."""
     head = read_head(file)
     if not of_kind(head.boxes, b"pseg"):
         return head, [], []
-    segments, chunks = read_segments(file, head)
-    known_size(segments)
-    return head, segments, chunks
+    reading = accept_behind(file, head)
+    return head, reading.segments, reading.chunks
 
 
 def check_append(buffer, stated_length, source_offset, last, outside, chunk_list, data):
@@ -794,6 +712,8 @@ def check_append(buffer, stated_length, source_offset, last, outside, chunk_list
     new = Segment(place=None, offset=source_offset, flags=flags_of(last), repair_time=None,
                   chunk_count=len(pairs), pshd_body=None, pshd_length=None, end=source_end)
     known_size(segments + [new])
+    if b"fidx" in buffer[:stated_length]:
+        accept(buffer[:stated_length] + addition(source_offset, 0, last, outside, pairs, data))
     refuse_if(end > len(buffer), BUFFER_TOO_SHORT)
     return pairs, end
 
@@ -820,20 +740,25 @@ def write_ploc(pairs, offsets):
     return write_box(b"ploc", head, entries)
 
 
-def append(buffer, stated_length, source_offset, repair_time, last, outside, chunk_list, data):
-    """Writes one pdat, if any chunk's data goes there, then that of the chunks outside, then the pseg."""
-    number, checked = attempt(
-        check_append, buffer, stated_length, source_offset, last, outside, chunk_list, data)
-    if number:
-        return ("refused", number), buffer
-    pairs, end = checked
+def addition(source_offset, repair_time, last, outside, pairs, data):
+    """One pdat, if any chunk's data goes there, then that of the chunks outside, then the pseg."""
     pdat = b""
     if any_inside(pairs, outside):
         pdat = write_box(b"pdat", *data_of(pairs, data, outside, goes_inside))
     boxes = b"".join(data_of(pairs, data, outside, goes_outside))
     pshd = write_pshd(source_offset, repair_time, last)
     ploc = write_ploc(pairs, offsets_of(pairs, outside))
-    file = buffer[:stated_length] + pdat + boxes + write_box(b"pseg", pshd, ploc)
+    return pdat + boxes + write_box(b"pseg", pshd, ploc)
+
+
+def append(buffer, stated_length, source_offset, repair_time, last, outside, chunk_list, data):
+    """Writes an addition that is taken behind the file."""
+    number, checked = attempt(
+        check_append, buffer, stated_length, source_offset, last, outside, chunk_list, data)
+    if number:
+        return ("refused", number), buffer
+    pairs, end = checked
+    file = buffer[:stated_length] + addition(source_offset, repair_time, last, outside, pairs, data)
     assert len(file) == end
     return ("length", end), file + buffer[end:]
 

@@ -4,6 +4,7 @@ import os
 import random
 
 import model
+import model_check_index
 from boxes import box, entry, ftyp, full, head, lost_segment, open_segment, pfhd, ploc, pshd, surl
 from expecting import close, expect
 from model import PAFF, PMFF
@@ -744,5 +745,6 @@ if __name__ == "__main__":
     check_far_written()
     check_held_and_lost()
     check_ranges_of_names()
+    model_check_index.check()
     check_random_runs(random.Random(1), 300)
     raise SystemExit(close())

@@ -4,7 +4,7 @@ file cost one reading."""
 import model
 
 # Functions of the model that are pure, with a file or a reading as their first argument.
-REMEMBERED = ["accept", "read_earlier", "edges", "supplier", "run_length", "ranges", "named_ranges"]
+REMEMBERED = ["accept", "read_earlier", "edges", "supplier", "run_length", "ranges", "named_ranges", "accept_index"]
 
 
 def remembered(step):

@@ -2,12 +2,15 @@
 file may be or a little larger."""
 
 import corpus
+import corpus_index
 import generate
 import lists
 import maps
 from boxes import box, ftyp, pfhd, surl
 from faults import BOXES, CHUNKS, FAULTS, SEGMENTS, too_many_boxes
-from foreign import GOOD, close, foreign_entry, foreign_plan, foreign_segment
+from faults_index import to_the_end
+from foreign import GOOD, LOST, close, foreign_entry, foreign_plan, foreign_segment
+from indexes import Index, Indexed, put_index
 from plan import Data, Entry, Plan, Segment, Whole
 from spoiling import boxes_in, cut
 
@@ -103,7 +106,20 @@ def near_what_the_program_takes(rng):
     return maps.of_size(rng.choice([65_535, 65_536, 65_537, 131_072]))
 
 
-LARGE = [many_chunks, many_segments, many_boxes, many_boxes, many_outside, many_outside, long_data, near_what_the_program_takes]
+def many_indexed(rng):
+    """An index with lists as long as they may be, or one box longer, over a source of many short ranges."""
+    data = Data(rng.randbytes(2_000))
+    entries = [Entry(rng.choice([GOOD, LOST]), 8, data, 8 * at) for at in range(250)]
+    around = Indexed(8 + 8 * BOXES, b"moov")
+    around.parts = near(rng, BOXES) * [Indexed(8, b"free")]
+    around.parts[-1] = to_the_end(b"free", [])
+    index = Index([around, *(near(rng, BOXES) - 1) * [Indexed(8, b"mdat")]])
+    plan = plain([data, Segment(0, entries)])
+    put_index(rng, rng.choice([plan, *plan.segments()]), index)
+    return plan.assemble()
+
+
+LARGE = [many_chunks, many_segments, many_indexed, many_boxes, many_boxes, many_outside, many_outside, long_data, near_what_the_program_takes]
 
 
 def large_file(rng):
@@ -125,14 +141,23 @@ def twice_faulty_file(rng):
     return plan.assemble()
 
 
+def faulty_index(rng):
+    return generate.faulty_file(rng, rng.choice([36, 36, 36, 37, 38, 39]))
+
+
+def spoiled_index(rng):
+    return generate.spoil(rng, generate.indexed_file(rng))
+
+
 def noise(rng):
     return rng.randbytes(rng.randint(0, 60))
 
 
 def of_corpora():
-    """Every file that the corpora of reading and listing have, once, and those on damage that the corpus of the maps
-    has."""
-    return sorted({record.file for record in [*corpus.records(), *lists.records()]} | {file.content for file in maps.of_damage()})
+    """Every file that the corpora of reading and listing have, once, with all that were worked out by hand on indexes,
+    and those on damage that the corpus of the maps has."""
+    records = [*corpus.records(), *corpus_index.claims(), *lists.records()]
+    return sorted({record.file for record in records} | {file.content for file in maps.of_damage()})
 
 
 def chooser(listed):
@@ -145,7 +170,7 @@ def chooser(listed):
         return generate.spoil(rng, listed_file(rng) if rng.random() < 0.2 else generate.foreign_file(rng))
 
     shares = [(generate.foreign_file, 320), (spoiled_file, 280), (cut_file, 120), (faulty_file, 70), (twice_faulty_file, 120), (listed_file, 80), (noise, 4),
-              (large_file, 6)]
+              (large_file, 6), (generate.indexed_file, 60), (spoiled_index, 60), (faulty_index, 40)]
     makers, weights = zip(*shares)
     first = [lambda rng, number=number: generate.faulty_file(rng, number) for number in sorted(FAULTS)] + LARGE
 

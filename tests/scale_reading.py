@@ -1,9 +1,9 @@
-"""Makes the cases of reading a file: its rows, texts, served positions, lists, maps and boxes, with tables, lists and
-buffers of every awkward length."""
+"""Makes the cases of reading a file: its rows, texts, served positions, lists, index, maps and boxes, with tables, lists
+and buffers of every awkward length."""
 
 import model
 from maps import refusal_in
-from scale_stream import CHUNKS, FILE, HAD, MISSING, NONE, SEGMENTS, TEXT, Memory, packed
+from scale_stream import CHUNKS, FILE, HAD, MISSING, NONE, SEGMENTS, TABLE, TEXT, Memory, packed
 
 # The longest that each table and list has to be.
 FULL = (448, 6144, 2050, 2050)
@@ -99,6 +99,17 @@ def list_case(stream, file, rooms):
     stream.call("list", refusal, (), memories(stream, refusal, rooms), told)
 
 
+def index_cases(stream, rng, file, count):
+    """So many tables of the awkward lengths for an index, and among them one that is ample."""
+    answer = model.index(file)
+    numbers = [] if answer[0] == "refused" else [number for row in answer[1] for number in row]
+    stream.hold(TABLE, packed(numbers))
+    for room in [len(numbers) + TO_SPARE, *rng.sample(awkward(len(numbers)), count)]:
+        refusal = number_of(model.index(file, room))
+        table = Memory(room, NONE, NONE if refusal else TABLE)
+        stream.call("index", refusal, (), [stream.whole(FILE), table], (len(numbers) // model.INDEX_ROW_LENGTH,))
+
+
 def text_cases(stream, name, text, most, rooms):
     """A call that writes this text into buffers of these lengths."""
     stream.refusals_in_texts[name][refusal_in(text)] += len(rooms)
@@ -159,6 +170,7 @@ def few_cases(stream, rng, file):
     needed = hold_file(stream, file)
     read_case(stream, file, rooms_enough(rng, needed[:2]))
     list_case(stream, file, rooms_enough(rng, needed))
+    index_cases(stream, rng, file, 1)
     map_cases(stream, rng, file, len(file), 1)
     boxes_cases(stream, rng, file, len(file), 0)
 
@@ -179,6 +191,7 @@ def file_cases(stream, rng, file):
         list_case(stream, file, rooms)
     read_case(stream, file, any_rooms(rng, needed[:2]))
     list_case(stream, file, any_rooms(rng, needed))
+    index_cases(stream, rng, file, 1 if short else 4)
     for most in (len(file), max(0, len(file) - 1), model.LIMITS["program input"], 2 ** 64 - 1):
         map_cases(stream, rng, file, most, 1 if few else 2)
     for most in (len(file), max(0, len(file) - 1), 0, 2 ** 64 - 1):

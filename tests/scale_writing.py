@@ -5,6 +5,7 @@ import additions
 import generate
 import model
 import writes_elsewhere
+import writes_index
 import writes_limits
 import writes_mixed
 import writes_random
@@ -117,9 +118,11 @@ def large_append(rng, file):
 
 
 def first_file(stream, rng):
-    """What a run appends to: a file that is begun, or any other."""
-    if rng.random() < 0.65:
+    """What a run appends to: a file that is begun, by another writer with an index, or any other."""
+    if rng.random() < 0.55:
         return begin_cases(stream, rng, Begin(rng.choice(additions.BRANDS), *additions.texts(rng)))
+    if rng.random() < 0.35:
+        return additions.begun_with_index(rng, rng.choice([None, None, 36, 37, 39, 39]))
     file = generate.foreign_file(rng)
     return generate.spoil(rng, file) if rng.random() < 0.3 else file
 
@@ -150,7 +153,7 @@ def run_of_corpus(stream, run):
 
 
 def corpus_runs(stream):
-    for run in [*writes_limits.runs(), *writes_refusals.runs(), *writes_mixed.runs(), *writes_elsewhere.runs()]:
+    for run in [*writes_limits.runs(), *writes_refusals.runs(), *writes_mixed.runs(), *writes_elsewhere.runs(), *writes_index.runs()]:
         run_of_corpus(stream, run)
 
 

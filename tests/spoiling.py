@@ -1,8 +1,9 @@
-"""Spoils a file: cuts, flips, splices, wrong sizes and types, boxes dropped, doubled or swapped."""
+"""Spoils a file: cuts, flips, splices, wrong sizes and types, boxes dropped, doubled or swapped, in an index too."""
 
 
 def boxes_in(file, place, end):
-    """Place, end and header length, that of the size and the type, of the boxes in reach, also in pfil and pseg."""
+    """Place, end and header length, that of the size and the type, of the boxes in reach, also in pfil, pseg and an
+    index."""
     found = []
     while end - place >= 8:
         size, header = int.from_bytes(file[place:place + 4], "big"), 8
@@ -11,10 +12,18 @@ def boxes_in(file, place, end):
         if size < header or place + size > end:
             break
         found.append((place, place + size, header))
-        if file[place + 4:place + 8] in (b"pfil", b"pseg"):
+        if file[place + 4:place + 8] in (b"pfil", b"pseg", b"fidx"):
             found += boxes_in(file, place + header, place + size)
+        elif file[place + 4:place + 8] == b"bidx":
+            found += boxes_in(file, place + header + stated_length(file, place + header), place + size)
         place += size
     return found
+
+
+def stated_length(file, place):
+    """The length of what a bidx states of its box."""
+    large, vendor = file[place:place + 4] == bytes([0, 0, 0, 1]), file[place + 4:place + 8] == b"uuid"
+    return 8 + (8 if large else 0) + (16 if vendor else 0)
 
 
 def with_size(file, place, header, size):
@@ -85,6 +94,19 @@ def retype(rng, file):
     return file[:place + 4] + kind + file[place + 8:]
 
 
+def restate(rng, file):
+    """Sets the size that a bidx states to another, or makes a bidx of any box."""
+    boxes = boxes_in(file, 0, len(file))
+    stating = [(place, end, header) for place, end, header in boxes if file[place + 4:place + 8] == b"bidx" and end - place >= header + 8]
+    if not stating:
+        place = rng.choice(boxes)[0] if boxes else 0
+        return file[:place + 4] + rng.choice([b"bidx", b"fidx", b"frpa"]) + file[place + 8:]
+    place, end, header = rng.choice(stating)
+    stated = int.from_bytes(file[place + header:place + header + 4], "big")
+    size = rng.choice([0, 0, 1, 7, 8, stated + 1, stated - 1, stated + 8, stated - 8, 2 ** 32 - 1])
+    return with_size(file, place + header, 8, size)
+
+
 def drop(rng, file):
     boxes = boxes_in(file, 0, len(file))
     if not boxes:
@@ -112,7 +134,7 @@ def swap(rng, file):
             + file[one[0]:one[1]] + file[two[1]:])
 
 
-SPOILINGS = [cut, cut_out, flip, flip, flip, flip, insert, splice, resize, retype, drop, double, swap]
+SPOILINGS = [cut, cut_out, flip, flip, flip, flip, insert, splice, resize, retype, restate, drop, double, swap]
 
 
 def spoil(rng, file):

@@ -18,6 +18,7 @@ from collections import Counter
 
 import model
 import writes_elsewhere
+import writes_index
 import writes_limits
 import writes_mixed
 import writes_random
@@ -29,14 +30,14 @@ from sums import sum_of
 from writes_run import Append, Begin, length_after, performed
 
 CRATE = os.path.join(ROOT, "crates", "writing_run")
-MOST_BYTES = 500_000
+MOST_BYTES = 560_000
 SHORT = 96
 OF_BEGIN = {33, 34}
 OF_APPEND = set(FAULTS) - {12} | {30, 31, 32, 33, 35}
 
 
 def runs():
-    return [run for part in (writes_refusals, writes_limits, writes_mixed, writes_elsewhere, writes_random) for run in part.runs()]
+    return [run for part in (writes_refusals, writes_limits, writes_mixed, writes_elsewhere, writes_index, writes_random) for run in part.runs()]
 
 
 # Their bytes.

@@ -16,12 +16,14 @@
 #include <unistd.h>
 
 /* An implementation from before request 1 lacks the first of these calls, one from before request 6 the second too, and
-   one from before request 7 the last; so may its header. */
+   one from before request 7 the others; so may its header. */
 extern __typeof__(vrazhupa_map) vrazhupa_missmap;
 extern uint64_t vrazhupa_heading(const uint8_t *file, size_t file_length, uint64_t told[7]);
+extern uint64_t vrazhupa_index(const uint8_t *file, size_t file_length, uint64_t *table, size_t table_length, uint64_t told[1]);
 #pragma weak vrazhupa_boxes
 #pragma weak vrazhupa_missmap
 #pragma weak vrazhupa_heading
+#pragma weak vrazhupa_index
 
 /* An argument that came with request 2. */
 #ifdef BEFORE_MIXED
@@ -30,7 +32,7 @@ extern uint64_t vrazhupa_heading(const uint8_t *file, size_t file_length, uint64
 #define SINCE_MIXED(number) (number) != 0,
 #endif
 
-enum { BLOCK, READ, URL, MIME, SERVE, ASK, LIST, MAP, BEGIN, APPEND, BOXES, MISSMAP, HEADING, KINDS, ZEROS = 254, END = 255 };
+enum { BLOCK, READ, URL, MIME, SERVE, ASK, LIST, MAP, BEGIN, APPEND, BOXES, MISSMAP, HEADING, INDEX, KINDS, ZEROS = 254, END = 255 };
 enum { ANSWERS = 64 };
 
 /* What a kind of call takes: its numbers, its memories with their width in bytes, and how many numbers it tells. */
@@ -59,6 +61,7 @@ static const struct shape shapes[KINDS] = {
     [BOXES] = {"boxes", {1, 2}, 1, {{"file", 1}, {"buffer", 1}}},
     [MISSMAP] = {"missmap", {1, 2}, 1, {{"file", 1}, {"buffer", 1}}},
     [HEADING] = {"heading", {0, 1}, 7, {{"file", 1}}},
+    [INDEX] = {"index", {0, 2}, 1, {{"file", 1}, {"table", 8}}},
 };
 
 static struct lent lent[MEMORIES];
@@ -114,6 +117,8 @@ static uint64_t make(const uint64_t *numbers)
         return call_for_text(vrazhupa_missmap, numbers[0]);
     case HEADING:
         return vrazhupa_heading(lent[0].at, lent[0].length, numbers_of(&told));
+    case INDEX:
+        return vrazhupa_index(lent[0].at, lent[0].length, numbers_of(&lent[1]), lent[1].length, numbers_of(&told));
     default:
         return call_on_tables(numbers[0]);
     }
@@ -175,7 +180,7 @@ static void run_case(void)
 static bool is_there(unsigned call)
 {
     return call > BLOCK && call < KINDS && (call != BOXES || vrazhupa_boxes != NULL) && (call != MISSMAP || vrazhupa_missmap != NULL) &&
-           (call != HEADING || vrazhupa_heading != NULL);
+           (call != HEADING || vrazhupa_heading != NULL) && (call != INDEX || vrazhupa_index != NULL);
 }
 
 static int say_calls(void)

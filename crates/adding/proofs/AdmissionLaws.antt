@@ -3,19 +3,20 @@
 use Prim.Native.Nat.{ℕ, _+_, _-_, _%_, _^_, _≤_, _<_, min}
 use mathlib.Core.Bool.{Bool, true, false}
 use mathlib.Core.List.{List, [], _∷_, _++_, map}
-use mathlib.Core.Path.{_≡_, sym, ap, ap₂, _∙_}
+use mathlib.Core.Path.{_≡_, refl, sym, ap, ap₂, _∙_}
 use native.Mathlib.Nat.{mod-lt}
 use native.Mathlib.Decide.{decLe}
 use native.Mathlib.Omega.{arith}
 use borrow.Author.Tests.{le-leb, lt-leb, leb-true, eqb-true, eqb-false}
 use lib.Dec.{leb, lit<}
 use lib.ListN.{length}
-use Rattle.boxes.specs.Answer.{refused, given, _>>=_}
+use Rattle.boxes.specs.Answer.{Answer, refused, given, _>>=_}
 use Rattle.boxes.proofs.AnswerLaws.{then-then}
 use Rattle.boxes.specs.Framing.{boxLimit}
 use Rattle.partial.specs.Addition.{Addition, items, flagsFor}
 use Rattle.partial.specs.Append.{added, addedBoxes, newSegment, psegPlace, admission}
 use Rattle.partial.specs.Heading.{Heading}
+use Rattle.partial.specs.Index.{indexed}
 use Rattle.partial.specs.Limits.{fileLimit, segmentLimit, chunkLimit, sourceLimit}
 use Rattle.partial.specs.Meaning.{agree}
 use Rattle.partial.specs.Reading.{admitted}
@@ -28,7 +29,7 @@ use Rattle.gathering.specs.declared.gathered.Gathered.{Gathered}
 use Rattle.gathering.proofs.GatheredLaws.{gathered-segments, gathered-chunks}
 use Rattle.outside.specs.declared.chunks.Outside.{Outside}
 use Rattle.reading.specs.declared.judging.Judged.{Judged}
-use Rattle.adding.specs.Admission.{Tells, admittedBeside, Beside, Asked, admittedLength}
+use Rattle.adding.specs.Admission.{Tells, indexedBeside, admittedBeside, Beside, Asked, admittedLength}
 use Rattle.adding.specs.Counts.{capped}
 use Rattle.adding.specs.declared.counts.Counts.{Counts}
 use Rattle.adding.specs.declared.layout.Layout.{Layout}
@@ -80,34 +81,35 @@ module _ (ss : List Segment) {s : Segment} {g : Gathered} {header : SegmentHeade
   source-end test = omega (arith, leb-true (header .offset .0 + c .sum) sourceLimit (sym test), tells .offset, tells .sum)
 
 -- the answer, by the first test that fails
-module _ (ss : List Segment) (s : Segment) where
-  pub admitted-13 : leb (length ss + 1) segmentLimit ≡ false → refused 13 ≡ admittedBeside ss s
+module _ (f : List ℕ) (h : Heading) (ss : List Segment) (s : Segment) where
+  pub admitted-13 : leb (length ss + 1) segmentLimit ≡ false → refused 13 ≡ admittedBeside f h ss s
   unfolding admittedBeside admitted
   admitted-13 over = rw over
 
   module _ (few : leb (length ss + 1) segmentLimit ≡ true) where
-    pub admitted-22 : false ≡ leb (length (chunksOf ss) + length (s .chunks)) chunkLimit → refused 22 ≡ admittedBeside ss s
+    pub admitted-22 : false ≡ leb (length (chunksOf ss) + length (s .chunks)) chunkLimit → refused 22 ≡ admittedBeside f h ss s
     unfolding admittedBeside admitted
     admitted-22 over = rw (few, ← over)
 
     module _ (chunks : true ≡ leb (length (chunksOf ss) + length (s .chunks)) chunkLimit) where
-      pub admitted-23 : false ≡ leb (endOf s) sourceLimit → refused 23 ≡ admittedBeside ss s
+      pub admitted-23 : false ≡ leb (endOf s) sourceLimit → refused 23 ≡ admittedBeside f h ss s
       unfolding admittedBeside admitted
       admitted-23 over = rw (few, ← chunks, ← over)
 
       module _ (low : true ≡ leb (endOf s) sourceLimit) where
-        pub admitted-25 : false ≡ agree (ss ++ (s ∷ [])) → refused 25 ≡ admittedBeside ss s
+        pub admitted-25 : false ≡ agree (ss ++ (s ∷ [])) → refused 25 ≡ admittedBeside f h ss s
         unfolding admittedBeside admitted
         admitted-25 differ = rw (few, ← chunks, ← low, ← differ)
 
-        pub admitted-given : true ≡ agree (ss ++ (s ∷ [])) → given tt ≡ admittedBeside ss s
-        unfolding admittedBeside admitted
-        admitted-given same = rw (few, ← chunks, ← low, ← same)
+        -- and else by the index
+        pub admitted-by : true ≡ agree (ss ++ (s ∷ [])) → indexedBeside f h ss s ≡ admittedBeside f h ss s
+        unfolding admittedBeside admitted indexedBeside
+        admitted-by same = rw (few, ← chunks, ← low, ← same)
 
 -- ---- an addition to a file
 
 -- the tests, by what the code has at hand
-module _ {h : Heading} {ss : List Segment} {j : Judged} {a : Addition} {header : SegmentHeader} {c : Counts} {o : Outside} {l : Layout} (n : ℕ) (beside : Beside h ss j) (asked : Asked a header c o l) where
+module _ {f : List ℕ} {h : Heading} {ss : List Segment} {j : Judged} {a : Addition} {header : SegmentHeader} {c : Counts} {o : Outside} {l : Layout} (n : ℕ) (beside : Beside f h ss j) (asked : Asked a header c o l) where
   pub file-test : {b : Bool} → b ≡ leb (n + l .added) fileLimit → b ≡ leb (n + length (added a)) fileLimit
   file-test test =
       test
@@ -137,18 +139,25 @@ module _ {h : Heading} {ss : List Segment} {j : Judged} {a : Addition} {header :
       }
 
 -- the answer, by the first test that fails
-module _ (h : Heading) (ss : List Segment) (n : ℕ) (a : Addition) where
-  pub admission-1 : false ≡ leb (n + length (added a)) fileLimit → refused 1 ≡ admittedLength h ss n a
+module _ (f : List ℕ) (h : Heading) (ss : List Segment) (n : ℕ) (a : Addition) where
+  pub admission-1 : false ≡ leb (n + length (added a)) fileLimit → refused 1 ≡ admittedLength f h ss n a
   unfolding admittedLength admission
   admission-1 over = rw (← over)
 
   module _ (small : true ≡ leb (n + length (added a)) fileLimit) where
-    pub admission-6 : false ≡ leb (length (h .boxes) + addedBoxes a) boxLimit → refused 6 ≡ admittedLength h ss n a
+    pub admission-6 : false ≡ leb (length (h .boxes) + addedBoxes a) boxLimit → refused 6 ≡ admittedLength f h ss n a
     unfolding admittedLength admission
     admission-6 over = rw (← small, ← over)
 
     module _ (boxes : true ≡ leb (length (h .boxes) + addedBoxes a) boxLimit) where
       -- and else by whether its segment is admitted
-      pub admission-by : (admittedBeside ss (new n a) >>= λ _. given (n + length (added a))) ≡ admittedLength h ss n a
+      pub admission-by : (admittedBeside f h ss (new n a) >>= λ _. given (n + length (added a))) ≡ admittedLength f h ss n a
       unfolding admittedLength admission admittedBeside
-      admission-by = rw (← small, ← boxes) (then-then (admitted sourceLimit ss (new n a)) (λ _. given tt) (λ _. given (n + length (added a))))
+      admission-by =
+          rw (← small, ← boxes) (go (admitted sourceLimit ss (new n a)))
+        where
+          go : (x : Answer (List Segment))
+              → (_>>=_ {B = Unit {0}} x (λ ts. indexed sourceLimit f h ts >>= λ _. given tt) >>= λ _. given (n + length (added a)))
+              ≡ (x >>= λ ts. indexed sourceLimit f h ts >>= λ _. given (n + length (added a)))
+          go (refused k) = refl
+          go (given ts) = then-then (indexed sourceLimit f h ts) (λ _. given tt) (λ _. given (n + length (added a)))

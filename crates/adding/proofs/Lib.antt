@@ -1,4 +1,5 @@
 pub mod AdmissionLaws
+pub mod BesideLaws
 pub mod CountLaws
 pub mod Determined
 pub mod LengthLaws

@@ -1,16 +1,17 @@
--- Document 01, "Append": "1, 6, 13, 22, 23 or 25 if the result would have it", by what was read of the file and counted
--- of the addition.
+-- Document 01, "Append": "1, 6, 13, 22, 23 or 25 if the result would have it", and document 02, [7]: "36, 37 or 39 if
+-- its result would", by what was read of the file and counted of the addition.
 use Prim.Native.Nat.{ℕ, _+_, _%_}
-use mathlib.Core.Bool.{true}
-use mathlib.Core.List.{List, map}
+use mathlib.Core.Bool.{Bool, true}
+use mathlib.Core.List.{List, [], _∷_, _++_, map}
 use mathlib.Core.Path.{_≡_}
 use lib.ListN.{length}
 use Rattle.boxes.specs.Answer.{Answer, refused, given, _>>=_}
 use Rattle.partial.specs.Addition.{Addition}
 use Rattle.partial.specs.Append.{added, admission}
-use Rattle.partial.specs.Heading.{Heading}
+use Rattle.partial.specs.Heading.{Heading, heading}
+use Rattle.partial.specs.Index.{hasIndex, indexed}
 use Rattle.partial.specs.Limits.{sourceLimit}
-use Rattle.partial.specs.Reading.{admitted}
+use Rattle.partial.specs.Reading.{earlierSegments, admitted}
 use Rattle.partial.specs.Segments.{Segment, isLast}
 use Rattle.partial.specs.Sequences.{sum}
 use Rattle.partial.specs.declared.header.SegmentHeader.{SegmentHeader}
@@ -31,10 +32,23 @@ pub record Tells (s : Segment) (header : SegmentHeader) (c : Counts) : Type 0 wh
   pub items : c .items ≡ length (s .chunks)
   pub sum : c .sum ≡ capped (sum (map (λ c. c .size) (s .chunks)))
 
--- whether it is admitted beside segments, or its refusal
-unfoldable pub admittedBeside : List Segment → Segment → Answer (Unit {0})
-admittedBeside ss s = do
-  _ ← admitted sourceLimit ss s
+-- a file that append takes: its heading, its segments, and whether its `pfil` has an index
+pub record Known (f : List ℕ) (h : Heading) (ss : List Segment) (inPfil : Bool) : Type 0 where
+  pub head : heading f ≡ given h
+  pub read : earlierSegments sourceLimit f ≡ given ss
+  pub index : inPfil ≡ hasIndex (h .inner)
+
+-- whether its index is told beside one segment more, or its refusal
+unfoldable pub indexedBeside : List ℕ → Heading → List Segment → Segment → Answer (Unit {0})
+indexedBeside f h ss s = do
+  _ ← indexed sourceLimit f h (ss ++ (s ∷ []))
+  given tt
+
+-- whether a segment is admitted beside those of the file, and then its index beside the segment, or the refusal
+unfoldable pub admittedBeside : List ℕ → Heading → List Segment → Segment → Answer (Unit {0})
+admittedBeside f h ss s = do
+  ts ← admitted sourceLimit ss s
+  _ ← indexed sourceLimit f h ts
   given tt
 
 -- what an answer about that says
@@ -42,8 +56,9 @@ unfoldable pub admittedAnswer : Verdict → Answer (Unit {0})
 admittedAnswer (Refused n) = refused n
 admittedAnswer Taken = given tt
 
--- what was read of a file: how many boxes it has, and what its segments say together
-pub record Beside (h : Heading) (ss : List Segment) (j : Judged) : Type 0 where
+-- what was read of a file: how many boxes it has, what its segments say together, and whether its `pfil` has an index
+pub record Beside (f : List ℕ) (h : Heading) (ss : List Segment) (j : Judged) : Type 0 where
+  pub file : Known f h ss (j .head .indexed)
   pub boxes : j .head .boxes ≡ length (h .boxes)
   pub segments : j .gathered ≡ gatheredOf ss
 
@@ -57,7 +72,8 @@ pub record Asked (a : Addition) (header : SegmentHeader) (c : Counts) (o : Outsi
   pub laid : Laid a l
 
 -- the length of a file of n bytes with the addition, or its refusal
-unfoldable pub admittedLength : Heading → List Segment → ℕ → Addition → Answer ℕ
-admittedLength h ss n a = do
-  _ ← admission sourceLimit h ss n a
+unfoldable pub admittedLength : List ℕ → Heading → List Segment → ℕ → Addition → Answer ℕ
+admittedLength f h ss n a = do
+  ts ← admission sourceLimit h ss n a
+  _ ← indexed sourceLimit f h ts
   given (n + length (added a))

@@ -1,13 +1,15 @@
-// Whether a file takes an addition: 35, and then 1, 6, 13, 22, 23 or 25 if the result would have it.
+// Whether a file takes an addition: 35, and then 1, 6, 13, 22, 23, 25, 36, 37 or 39 if the result would have it.
 use crate::counts::Counts;
 use crate::layout::Layout;
 use boxes::limits::BOX_LIMIT;
 use boxes::refusals::TOO_MANY_BOXES;
 use ends::sizes::gives_size;
 use gathering::gathered::Gathered;
+use indexing::end::End;
 use numerals::order::ends_by;
 use numerals::order::sum_of;
 use outside::chunks::Outside;
+use partial::answers::Counted;
 use partial::answers::Written;
 use partial::header::SegmentHeader;
 use partial::limits::CHUNK_LIMIT;
@@ -20,17 +22,22 @@ use partial::refusals::SIZES_DIFFER;
 use partial::refusals::SOURCE_TOO_LONG;
 use partial::refusals::TOO_MANY_CHUNKS;
 use partial::refusals::TOO_MANY_SEGMENTS;
+use reading::indexed::index_stages;
 use reading::judging::Judged;
 ghost use mathlib.Core.Bool.{true};
-ghost use mathlib.Core.List.{List};
+ghost use mathlib.Core.List.{List, [], _∷_};
 ghost use mathlib.Core.Path.{_≡_};
+ghost use lib.ListN.{length};
+ghost use Rattle.boxes.specs.Kinds.{fidx, those};
 ghost use Rattle.partial.specs.Addition.{Addition, items, outsideRight};
 ghost use Rattle.partial.specs.Append.{addedBoxes};
 ghost use Rattle.partial.specs.Answers.{writtenAnswer};
 ghost use Rattle.partial.specs.Heading.{Heading};
+ghost use Rattle.partial.specs.Meaning.{knownSize};
 ghost use Rattle.partial.specs.Segments.{Segment};
 ghost use Rattle.gathering.specs.Gathered.{gatheredOf};
-ghost use Rattle.adding.specs.Admission.{Tells, admittedBeside, admittedAnswer, Beside, Asked, admittedLength};
+ghost use Rattle.indexing.specs.Ends.{endOf};
+ghost use Rattle.adding.specs.Admission.{Tells, Known, indexedBeside, admittedBeside, admittedAnswer, Beside, Asked, admittedLength};
 ghost use Rattle.outside.specs.Chunks.{outsideOf};
 ghost use Rattle.adding.specs.Counts.{capped, Sorted};
 
@@ -60,9 +67,33 @@ pub enum Verdict {
     Taken,
 }
 
-// 13, 22, 23 and 25 of the new segment, by what was gathered of those before it.
-fn admitted(gathered: Gathered, header: SegmentHeader, counts: Counts) -> Verdict
-    ensures { λ r. ⌜ ((ss : List Segment) (s : Segment) → gathered ≡ gatheredOf ss → Tells s header counts → admittedAnswer r ≡ admittedBeside ss s) ⌝ }
+// 36, 37 and 39 of the file's own index beside a new segment, which has none, of a source that ends there. The index of
+// a file that has a segment was told when it was read, and is told again.
+fn index_beside(file: &[u8], indexed: bool, segments: u64, size: End) -> Verdict
+    ensures { λ r. ⌜ ((h : Heading) (ss : List Segment) (s : Segment) → Known (now (file .entry)) h ss indexed
+        → segments ≡ length ss → those fidx (s .inner) ≡ [] → endOf size ≡ knownSize (s ∷ [])
+        → admittedAnswer r ≡ indexedBeside (now (file .entry)) h ss s) ⌝ }
+{
+    if segments != 0 {
+        return Verdict::Taken;
+    }
+    match index_stages(file, indexed, false, size) {
+        Counted::Refused(k) => Verdict::Refused(k),
+        Counted::Rows(_) => Verdict::Taken,
+    }
+}
+
+// 13, 22, 23 and 25 of the new segment, by what was gathered of those before it, and then the index beside it.
+fn admitted(
+    file: &[u8],
+    indexed: bool,
+    gathered: Gathered,
+    header: SegmentHeader,
+    counts: Counts,
+) -> Verdict
+    ensures { λ r. ⌜ ((h : Heading) (ss : List Segment) (s : Segment) → Known (now (file .entry)) h ss indexed
+        → gathered ≡ gatheredOf ss → Tells s header counts → those fidx (s .inner) ≡ []
+        → admittedAnswer r ≡ admittedBeside (now (file .entry)) h ss s) ⌝ }
 {
     let offset = header.offset;
     if SEGMENT_LIMIT <= gathered.segments {
@@ -81,11 +112,16 @@ fn admitted(gathered: Gathered, header: SegmentHeader, counts: Counts) -> Verdic
     if !with.agree() {
         return Verdict::Refused(SIZES_DIFFER);
     }
-    Verdict::Taken
+    let size = End {
+        known: gives,
+        at: Position(end),
+    };
+    index_beside(file, indexed, gathered.segments, size)
 }
 
 // The length of a file of n bytes with the addition, or the number of the first refusal that the result would have.
 pub fn admission(
+    file: &[u8],
     judged: Judged,
     n: u64,
     header: SegmentHeader,
@@ -93,7 +129,8 @@ pub fn admission(
     outside: Outside,
     layout: Layout,
 ) -> Written
-    ensures { λ r. ⌜ ((h : Heading) (ss : List Segment) (a : Addition) → Beside h ss judged → Asked a header counts outside layout → writtenAnswer r ≡ admittedLength h ss n a) ⌝ }
+    ensures { λ r. ⌜ ((h : Heading) (ss : List Segment) (a : Addition) → Beside (now (file .entry)) h ss judged
+        → Asked a header counts outside layout → writtenAnswer r ≡ admittedLength (now (file .entry)) h ss n a) ⌝ }
 {
     let head = judged.head;
     if !ends_by(n, layout.added, FILE_LIMIT) {
@@ -102,7 +139,7 @@ pub fn admission(
     if !ends_by(head.boxes, added_boxes(counts, outside), BOX_LIMIT) {
         return Written::Refused(TOO_MANY_BOXES);
     }
-    match admitted(judged.gathered, header, counts) {
+    match admitted(file, head.indexed, judged.gathered, header, counts) {
         Verdict::Refused(k) => Written::Refused(k),
         Verdict::Taken => Written::Length(n + layout.added),
     }

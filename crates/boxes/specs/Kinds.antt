@@ -1,5 +1,5 @@
--- Document 01, "Framing", and document 02, [7]: the types that are known, with their containers and how many of each, in
--- one table.
+-- Document 01, "Framing", and document 02, [7]: the types that are known, with their containers and how many of each,
+-- in one table.
 use Prim.Native.Nat.{ℕ}
 use mathlib.Core.Bool.{Bool, true, false, _&&_}
 use mathlib.Core.List.{List, [], _∷_}

@@ -12,6 +12,7 @@ use Rattle.boxes.specs.Kinds.{pshd, is, right, those, boxAt, firstOf, ploc, sur
 use Rattle.boxes.specs.declared.kinds.Container.the-variants.{Pseg}
 use Rattle.boxes.proofs.KindLaws.{first-is, right-one, those-few, is-eqb}
 use Rattle.partial.specs.Entries.{plocHead}
+use Rattle.partial.specs.Index.{hasIndex}
 use Rattle.partial.specs.Reading.{pshdRight, pshdFields}
 use Rattle.fields.specs.Fields.{valuesOf, fieldsOf}
 use Rattle.fields.specs.declared.fields.Fields.{Fields}
@@ -99,7 +100,7 @@ module _ (f : List ℕ) (b : Framed) where
         parts-source some = rw (box-fields b, known, header-given, single, ne-eqb (length (those surl bs)) 0 some)
 
         pub parts-by : length (those surl bs) ≡ 0
-            → partsIn f (boxOf b) ≡ (plocHead f (firstOf ploc bs) >>= λ l. given (record { header = x .0; fields = x .1; location = l }))
+            → partsIn f (boxOf b) ≡ (plocHead f (firstOf ploc bs) >>= λ l. given (record { header = x .0; fields = x .1; location = l; indexed = hasIndex bs }))
         unfolding partsIn
         parts-by nothing = rw (box-fields b, known, header-given, single, nothing)
 

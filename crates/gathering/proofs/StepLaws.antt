@@ -12,11 +12,12 @@ use Rattle.boxes.specs.Framing.{Box, boxesIn, boxOf}
 use Rattle.boxes.specs.Kinds.{pshd, ploc, surl, is, right, those, boxAt, firstOf}
 use Rattle.boxes.specs.declared.framing.Framed.{Framed}
 use Rattle.boxes.specs.declared.kinds.Container.the-variants.{Pseg}
-use Rattle.boxes.proofs.AnswerLaws.{refused-same, both-given, held, given-same, then-then}
+use Rattle.boxes.proofs.AnswerLaws.{refused-same, both-given, held, given-same}
 use Rattle.boxes.proofs.KindLaws.{first-is}
 use Rattle.boxes.proofs.ToldLaws.{box-fields}
 use Rattle.partial.specs.Entries.{Ploc, plocHead, chunksFrom}
 use Rattle.partial.specs.Heading.{Heading}
+use Rattle.partial.specs.Index.{hasIndex}
 use Rattle.partial.specs.Limits.{chunkLimit, sourceLimit}
 use Rattle.partial.specs.Reading.{pshdRight, pshdFields, segment}
 use Rattle.partial.specs.Segments.{Chunk, Segment, chunksOf, endOf}
@@ -78,14 +79,14 @@ judged limit f h before at inner p = do
   given (built at inner p cs)
 
 -- the same tests, grouped as the parts of a segment's box are
-regrouped : (header : Box × Fields) (next : Parts → Answer Segment) (x y z : Bool) (w : Answer Ploc)
-    → _>>=_ {B = Segment} (hold 14 x) (λ _. hold 15 y >>= λ _. hold 16 z >>= λ _. w >>= λ l. next (record { header = header .0; fields = header .1; location = l }))
-    ≡ _>>=_ {B = Segment} (_>>=_ {B = Parts} (hold 14 x >>= λ _. given header) (λ u. hold 15 y >>= λ _. hold 16 z >>= λ _. w >>= λ l. given (record { header = u .0; fields = u .1; location = l }))) next
-regrouped header next false y z w = refl
-regrouped header next true false z w = refl
-regrouped header next true true false w = refl
-regrouped header next true true true (refused n) = refl
-regrouped header next true true true (given l) = refl
+regrouped : (header : Box × Fields) (indexed : Bool) (next : Parts → Answer Segment) (x y z : Bool) (w : Answer Ploc)
+    → _>>=_ {B = Segment} (hold 14 x) (λ _. hold 15 y >>= λ _. hold 16 z >>= λ _. w >>= λ l. next (record { header = header .0; fields = header .1; location = l; indexed = indexed }))
+    ≡ _>>=_ {B = Segment} (_>>=_ {B = Parts} (hold 14 x >>= λ _. given header) (λ u. hold 15 y >>= λ _. hold 16 z >>= λ _. w >>= λ l. given (record { header = u .0; fields = u .1; location = l; indexed = indexed }))) next
+regrouped header indexed next false y z w = refl
+regrouped header indexed next true false z w = refl
+regrouped header indexed next true true false w = refl
+regrouped header indexed next true true true (refused n) = refl
+regrouped header indexed next true true true (given l) = refl
 
 -- the parts among these boxes
 abbrev partsWith : List ℕ → List Box → Answer Parts
@@ -94,7 +95,7 @@ partsWith f inner = do
   _ ← hold 15 (right Pseg ploc inner)
   _ ← hold 16 (eqb (length (those surl inner)) 0)
   l ← plocHead f (firstOf ploc inner)
-  given (record { header = header .0; fields = header .1; location = l })
+  given (record { header = header .0; fields = header .1; location = l; indexed = hasIndex inner })
 
 module _ (f : List ℕ) (h : Heading) (ss : List Segment) (b : Framed) where
   module _ {inner : List Box} (boxes : boxesIn Pseg f (boxOf b .body) (boxOf b .end) ≡ given inner) where
@@ -107,7 +108,7 @@ module _ (f : List ℕ) (h : Heading) (ss : List Segment) (b : Framed) where
     segment-with =
         let next = judged sourceLimit f h ss (boxOf b .at) inner in
         let header : Box × Fields = (firstOf pshd inner, valuesOf (pshdFields f (firstOf pshd inner))) in
-        rw boxes (regrouped header next (pshdRight f inner) (right Pseg ploc inner) (eqb (length (those surl inner)) 0) (plocHead f (firstOf ploc inner)))
+        rw boxes (regrouped header (hasIndex inner) next (pshdRight f inner) (right Pseg ploc inner) (eqb (length (those surl inner)) 0) (plocHead f (firstOf ploc inner)))
         ∙ ap (λ (x : Box). partsWith f inner >>= judged sourceLimit f h ss (x .at) inner) (box-fields b)
 
   pub segment-fault : {n : ℕ} → partsIn f (boxOf b) ≡ refused n → segment sourceLimit f h ss (boxOf b) ≡ refused n
@@ -125,6 +126,15 @@ module _ (f : List ℕ) (h : Heading) (ss : List Segment) (b : Framed) where
     inside =
         let (inner, boxes, _) = both-given (boxesIn Pseg f (boxOf b .body) (boxOf b .end)) _ parts in
         (inner, boxes)
+
+    -- whether one of them is an index
+    flagged : p .indexed ≡ hasIndex (inside .0)
+    flagged =
+        let (header, _, e) = both-given (headerIn f (inside .0)) _ (sym (parts-with (inside .1)) ∙ parts) in
+        let (_, e) = held 15 (right Pseg ploc (inside .0)) _ e in
+        let (_, e) = held 16 (eqb (length (those surl (inside .0))) 0) _ e in
+        let (l, _, e) = both-given (plocHead f (firstOf ploc (inside .0))) _ e in
+        sym (ap (λ p. p .indexed) (given-same e))
 
     by-parts : segment sourceLimit f h ss (boxOf b) ≡ judged sourceLimit f h ss (b .at .0) (inside .0) (partsOf p)
     by-parts = segment-with (inside .1) ∙ rw (sym (parts-with (inside .1)) ∙ parts)
@@ -153,7 +163,7 @@ module _ (f : List ℕ) (h : Heading) (ss : List Segment) (b : Framed) where
         pub segment-told : {before g : Gathered} {numbered : Bool} {t₀ t u₀ u : List ℕ} {cs : List Chunk} {c : Cursor} → before ≡ gatheredOf ss
             → chunksBy f h (b .at .0) (p .location) first ≡ given cs → length cs ≡ p .location .count → Ran f (h .boxes) first before numbered u₀ cs c u
             → Put t₀ (segmentRowLength * before .segments) (rowBy (b .at .0) (p .fields) (p .location .count) (boxOf (p .header))) t
-            → ((s : Segment) → p .fields .flags ≡ s .flags → p .location .count ≡ length (s .chunks) → c .start .0 ≡ endOf s → g ≡ gatheredOf (ss ++ (s ∷ [])))
+            → ((s : Segment) → p .fields .flags ≡ s .flags → p .location .count ≡ length (s .chunks) → c .start .0 ≡ endOf s → p .indexed ≡ hasIndex (s .inner) → g ≡ gatheredOf (ss ++ (s ∷ [])))
             → Segmented f h ss (boxOf b) numbered t₀ t u₀ u (Given g (c .last))
         unfolding Segmented endOf segmentRow
         segment-told {numbered = numbered} {cs = cs} so-far e many ran put gathers =
@@ -161,7 +171,7 @@ module _ (f : List ℕ) (h : Heading) (ss : List Segment) (b : Framed) where
             let number = gathered-segments ss so-far in (
               s,
               segment-read e,
-              gathers s refl (sym many) (ran .ends),
+              gathers s refl (sym many) (ran .ends) flagged,
               ran .known,
               put-same (ap (λ (n : ℕ). segmentRowLength * n) number) (ap (λ (n : ℕ). rowBy (b .at .0) (p .fields) n (boxOf (p .header))) (sym many)) put,
               put-same (ap (λ (n : ℕ). formLength numbered * n) (gathered-chunks ss so-far)) (ap (λ (n : ℕ). putsOf numbered n cs) number) (ran .rows),

@@ -1,6 +1,7 @@
 -- Document 01, "In one `pseg`: framing, 14, 15, 16, then 17 (head), 18, 19": the parts of a segment's box, and what is
 -- told of them.
 use Prim.Native.Nat.{ℕ}
+use mathlib.Core.Bool.{Bool}
 use mathlib.Core.List.{List}
 use lib.Dec.{eqb}
 use lib.ListN.{length}
@@ -9,6 +10,7 @@ use Rattle.boxes.specs.Framing.{Box, boxesIn, boxOf}
 use Rattle.boxes.specs.Kinds.{pshd, ploc, surl, right, those, firstOf}
 use Rattle.boxes.specs.declared.kinds.Container.the-variants.{Pseg}
 use Rattle.partial.specs.Entries.{Ploc, plocHead}
+use Rattle.partial.specs.Index.{hasIndex}
 use Rattle.partial.specs.Reading.{pshdRight, pshdFields}
 use Rattle.fields.specs.Fields.{valuesOf}
 use Rattle.fields.specs.Location.{plocOf}
@@ -19,11 +21,12 @@ use Rattle.gathering.specs.declared.parts.Parts.{Parts as CodeParts}
 use Rattle.gathering.specs.declared.parts.PartsRead.{PartsRead}
 use Rattle.gathering.specs.declared.parts.PartsRead.the-variants.{Refused, Given}
 
--- its `pshd`, the fields of that, and the head of its `ploc`
+-- its `pshd`, the fields of that, the head of its `ploc`, and whether it has an index
 pub record Parts : Type 0 where
   pub header : Box
   pub fields : Fields
   pub location : Ploc
+  pub indexed : Bool
 
 -- 14: the `pshd` among the boxes of a segment, with its fields
 unfoldable pub headerIn : List ℕ → List Box → Answer (Box × Fields)
@@ -38,7 +41,7 @@ partsIn f b = do
   _ ← hold 15 (right Pseg ploc inner)
   _ ← hold 16 (eqb (length (those surl inner)) 0)
   l ← plocHead f (firstOf ploc inner)
-  given (record { header = header .0; fields = header .1; location = l })
+  given (record { header = header .0; fields = header .1; location = l; indexed = hasIndex inner })
 
 -- what an answer about a header says
 unfoldable pub pshdAnswer : HeaderRead → Answer (Box × Fields)
@@ -47,7 +50,7 @@ pshdAnswer (HeaderRead.Given b fields) = given (boxOf b, fields)
 
 -- what parts that were read say
 abbrev pub partsOf : CodeParts → Parts
-partsOf p = record { header = boxOf (p .header); fields = p .fields; location = plocOf (p .location) }
+partsOf p = record { header = boxOf (p .header); fields = p .fields; location = plocOf (p .location); indexed = p .indexed }
 
 -- what an answer about the parts says
 unfoldable pub partsAnswer : PartsRead → Answer Parts

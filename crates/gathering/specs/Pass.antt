@@ -20,8 +20,8 @@ use Rattle.gathering.specs.declared.pass.Passed.the-variants.{Refused, G
 abbrev pub segmentsBy : List ℕ → Heading → Answer (List Segment)
 segmentsBy f h = segmentsFrom sourceLimit f h [] (those pseg (h .boxes))
 
--- what an answer about them says: the first refusal, or what is gathered of them, with their rows, and their chunks by numbers
--- or rows
+-- what an answer about them says: the first refusal, or what is gathered of them, with their rows, and their chunks by
+-- numbers or rows
 unfoldable pub Gathers : List ℕ → Heading → Bool → List ℕ → List ℕ → List ℕ → List ℕ → Passed → Type 0
 Gathers f h numbered t₀ t u₀ u (Refused n) = segmentsBy f h ≡ refused n
 Gathers f h numbered t₀ t u₀ u (Given g) =

@@ -3,6 +3,7 @@ use boxes::framing::Framed;
 use boxes::framing::Header;
 use boxes::framing::header_at;
 use boxes::kinds::Container;
+use boxes::kinds::FIDX;
 use boxes::kinds::PLOC;
 use boxes::kinds::PSHD;
 use boxes::kinds::SURL;
@@ -27,11 +28,12 @@ ghost use Rattle.boxes.specs.declared.kinds.Container.the-variants.{Pseg};
 ghost use Rattle.tallying.specs.Rules.{tallyOf};
 ghost use Rattle.gathering.specs.Parts.{headerIn, pshdAnswer, partsIn, partsAnswer};
 
-// Its `pshd`, the fields of that, and the head of its `ploc`.
+// Its `pshd`, the fields of that, the head of its `ploc`, and whether it has an index.
 pub struct Parts {
     pub header: Framed,
     pub fields: Fields,
     pub location: Location,
+    pub indexed: bool,
 }
 
 // What a segment's box holds, or the number of its refusal.
@@ -87,6 +89,7 @@ pub(crate) fn parts_of(file: &[u8], b: Framed) -> PartsRead
             header,
             fields,
             location,
+            indexed: inner.of(FIDX) != 0,
         }),
         LocationRead::Refused(n) => PartsRead::Refused(n),
     }

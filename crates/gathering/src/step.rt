@@ -56,6 +56,7 @@ pub(crate) fn segment_of(
             let fields = p.fields;
             let location = p.location;
             let header = p.header;
+            let indexed = p.indexed;
             let at = location.first;
             let count = location.count;
             let start = fields.offset;
@@ -82,7 +83,7 @@ pub(crate) fn segment_of(
                     put_segment(segments, before.segments, place, fields, count, header);
                     let end = cursor.start;
                     let held = cursor.last;
-                    SegmentRead::Given(before.with(fields.flags, count, end), held)
+                    SegmentRead::Given(before.with(fields.flags, count, end, indexed), held)
                 }
             }
         }

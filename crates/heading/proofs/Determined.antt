@@ -13,6 +13,7 @@ head-told g h e =
       boxes = e i .boxes;
       segments = e i .segments;
       mixed = e i .mixed;
+      indexed = e i .indexed;
       url = record { place = record { 0 = e i .url .place }; size = e i .url .size };
       mime = record { place = record { 0 = e i .mime .place }; size = e i .mime .size };
     }

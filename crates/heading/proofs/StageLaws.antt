@@ -13,6 +13,7 @@ use Rattle.boxes.specs.declared.kinds.Container.the-variants.{File, Pfil}
 use Rattle.boxes.proofs.ToldLaws.{box-fields}
 use Rattle.partial.specs.Limits.{fileLimit}
 use Rattle.partial.specs.Heading.{ftypRight, brandRight, pfilRight, pfhdRight, surlRight, url, mime, fileBoxes, judged, heading}
+use Rattle.partial.specs.Index.{hasIndex}
 use Rattle.heading.specs.declared.answers.Head.{Head}
 use Rattle.heading.specs.declared.answers.Headed.the-variants.{Found}
 use Rattle.heading.specs.Facts.{factsOf, partOf, headedAnswer}
@@ -66,8 +67,10 @@ module _ (f : List ℕ) where
 
   -- what is told where there is no refusal
   pub found-told : (bs is : List Box) (h : Head) → h .boxes ≡ length bs → h .segments ≡ length (those pseg bs)
+      → h .indexed ≡ hasIndex is
       → partOf (h .url) ≡ url f (firstOf surl is)
       → partOf (h .mime) ≡ mime f (firstOf surl is)
       → headedAnswer (Found h) ≡ given (factsOf f (record { boxes = bs; inner = is; mixed = h .mixed }))
   unfolding headedAnswer factsOf
-  found-told bs is h boxes segments url mime = λ i. given (record { boxes = boxes i; segments = segments i; mixed = h .mixed; url = url i; mime = mime i })
+  found-told bs is h boxes segments indexed url mime =
+      λ i. given (record { boxes = boxes i; segments = segments i; mixed = h .mixed; indexed = indexed i; url = url i; mime = mime i })

@@ -6,24 +6,26 @@ use lib.ListN.{length}
 use Rattle.boxes.specs.Answer.{Answer, refused, given, _>>=_}
 use Rattle.boxes.specs.Kinds.{surl, pseg, those, firstOf}
 use Rattle.partial.specs.Heading.{Part, Heading, url, mime}
+use Rattle.partial.specs.Index.{hasIndex}
 use Rattle.heading.specs.declared.answers.Part as Stated
 use Rattle.heading.specs.declared.answers.Head.{Head}
 use Rattle.heading.specs.declared.answers.Headed.{Headed}
 use Rattle.heading.specs.declared.answers.Headed.the-variants.{Refused, Found}
 
--- how many boxes the file has, how many of them are `pseg`, whether it is mixed, and the URL and the MIME text of the
--- first `surl`
+-- how many boxes the file has, how many of them are `pseg`, whether it is mixed, whether its `pfil` has an index, and
+-- the URL and the MIME text of the first `surl`
 pub record Facts : Type 0 where
   pub boxes : ℕ
   pub segments : ℕ
   pub mixed : Bool
+  pub indexed : Bool
   pub url : Part
   pub mime : Part
 
 unfoldable pub factsOf : List ℕ → Heading → Facts
 factsOf f h =
     let first = firstOf surl (h .inner) in
-    record { boxes = length (h .boxes); segments = length (those pseg (h .boxes)); mixed = h .mixed; url = url f first; mime = mime f first }
+    record { boxes = length (h .boxes); segments = length (those pseg (h .boxes)); mixed = h .mixed; indexed = hasIndex (h .inner); url = url f first; mime = mime f first }
 
 -- what is told of a heading, or its refusal
 abbrev pub told : List ℕ → Answer Heading → Answer Facts
@@ -35,7 +37,7 @@ partOf p = record { place = p .place .0; size = p .size }
 
 -- what a head that was found says
 abbrev pub factsBy : Head → Facts
-factsBy h = record { boxes = h .boxes; segments = h .segments; mixed = h .mixed; url = partOf (h .url); mime = partOf (h .mime) }
+factsBy h = record { boxes = h .boxes; segments = h .segments; mixed = h .mixed; indexed = h .indexed; url = partOf (h .url); mime = partOf (h .mime) }
 
 -- what an answer about a heading says
 unfoldable pub headedAnswer : Headed → Answer Facts

@@ -7,12 +7,13 @@ pub struct Part {
     pub size: u64,
 }
 
-// How many boxes the file has, how many of them are `pseg`, whether it is mixed, and the URL and the MIME text of the
-// first `surl`.
+// How many boxes the file has, how many of them are `pseg`, whether it is mixed, whether its `pfil` has an index, and
+// the URL and the MIME text of the first `surl`.
 pub struct Head {
     pub boxes: u64,
     pub segments: u64,
     pub mixed: bool,
+    pub indexed: bool,
     pub url: Part,
     pub mime: Part,
 }

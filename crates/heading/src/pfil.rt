@@ -6,6 +6,7 @@ use crate::surl::surl_formed;
 use crate::surl::url_of;
 use boxes::framing::Framed;
 use boxes::kinds::Container;
+use boxes::kinds::FIDX;
 use boxes::kinds::PFHD;
 use boxes::kinds::PFIL;
 use boxes::kinds::PSEG;
@@ -128,6 +129,7 @@ pub(crate) fn inner_of(file: &[u8], b: Framed, boxes: Tally, mixed: bool) -> Hea
         boxes: boxes.boxes,
         segments: boxes.of(PSEG),
         mixed,
+        indexed: inner.of(FIDX) != 0,
         url: url_of(file, first),
         mime: mime_of(file, first),
     })

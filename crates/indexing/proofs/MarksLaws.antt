@@ -34,7 +34,7 @@ unfolding plainRows
 rows-append [] js = refl
 rows-append (i ∷ is) js = ap (λ (rows : List ℕ). plainRow i ++ rows) (rows-append is js) ∙ sym (append-assoc (plainRow i) (plainRows is) (plainRows js))
 
-rows-long : (is : List Indexed) → length (plainRows is) ≡ indexRowLength * length is
+pub rows-long : (is : List Indexed) → length (plainRows is) ≡ indexRowLength * length is
 unfolding plainRows plainRow
 rows-long [] = refl
 rows-long (i ∷ is) = omega (arith, length-append (plainRow i) (plainRows is), rows-long is)

@@ -46,12 +46,13 @@ unfolding
     Meaning.supplied Meaning.placeOfByte Meaning.served Meaning.onward Meaning.servedRun Meaning.missingRun Meaning.reply
     Index.sizeBy Index.frontBy Index.indexFields Index.isKnown Index.endFrom Index.wherever Index.endRight Index.frontPart Index.listFramed
     Index.lastOrSized Index.noneFollows Index.withRest Index.inARow Index.untold Index.indexList Index.indexIn
+    Index.indexOfSegments Index.indexOf Index.hasIndex Index.indexed Index.servedOf Index.indexedSize Index.indexRow Index.indexRows
     Ranges.joined Ranges.ranges Ranges.classOf Ranges.rangesOf Ranges.ofClass Ranges.hadList Ranges.missingList Ranges.total
     Ranges.among Ranges.apart Ranges.inRow
     Memory.fits Memory.filled Memory.after Memory.textWritten
     Tables.segmentRow Tables.segmentRows Tables.chunkRow Tables.chunkRowsOf Tables.chunkRowsFrom Tables.chunkRows Tables.rangeRows
     Tables.hadRows Tables.missingRows Tables.tabled Tables.listed Tables.summary Tables.totals Tables.bytesIn Tables.nowhere
-    Tables.servedPart Tables.asked Tables.textOf
+    Tables.servedPart Tables.asked Tables.textOf Tables.indexTabled
     Naming.damagedAt Naming.namedClass Naming.namedRanges Naming.heldList Naming.lostList
     Map.ascii Map.decimal Map.line Map.refusedLine Map.sourceLine Map.rangeLine Map.rangeLines Map.totalLine Map.mapWord Map.mapOf Map.missWord Map.missmapOf
     Map.textFor Map.mapText Map.missmapText
@@ -61,7 +62,7 @@ unfolding
     Addition.outsideRight Addition.sayable
     Append.insideData Append.outsideData Append.anyInside Append.dataBox Append.stored Append.addedBoxes Append.back Append.placedWith Append.placed Append.lengthSize Append.offsetSize Append.flagByte Append.entryBytes
     Append.plocBody Append.versionFor Append.pshdBody Append.psegBody Append.added Append.psegPlace Append.newChunks
-    Append.newSegment Append.admission Append.appended Append.result
+    Append.newInner Append.newSegment Append.admission Append.appended Append.result
     Runs.bufferIn Runs.fileIn Runs.sizeAfter Runs.begin Runs.append Runs.appendAll
     Again.dataOf Again.listFor Again.someOutside Again.again Again.writeAgain
     Carried.carriedBy Carried.carried Carried.orElse

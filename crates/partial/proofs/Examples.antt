@@ -7,7 +7,7 @@ use Rattle.partial.specs.Limits.{programLimit, sourceLimit}
 use Rattle.partial.specs.Segments.{Segment}
 use Rattle.partial.specs.Map.{refusedLine, ascii}
 use Rattle.partial.specs.Examples.{table, AsThePaperSays, AtTheProgramLimit}
-use Rattle.partial.specs.IndexExamples.{indexTable, IndexAsThePaperSays}
+use Rattle.partial.specs.IndexExamples.{IndexAsThePaperSays}
 use Rattle.partial.proofs.Computing.{computing}
 use Rattle.partial.proofs.Reading.PrintedLaws.{printed}
 
@@ -16,7 +16,7 @@ unfolding table computing
 as-the-paper-says = refl
 
 index-as-the-paper-says : IndexAsThePaperSays
-unfolding indexTable computing
+unfolding computing
 index-as-the-paper-says = refl
 
 refused-27 : refusedLine 27 ≡ ascii "refused\t27\n"

@@ -7,6 +7,7 @@ pub mod IndexKeptLaws
 pub mod IndexServedLaws
 pub mod IndexShapeLaws
 pub mod IndexedLaws
+pub mod IndexingLaws
 pub mod KeptLaws
 pub mod LieLaws
 pub mod LimitLaws

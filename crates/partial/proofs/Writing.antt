@@ -10,6 +10,7 @@ pub mod DataLaws
 pub mod EntriesBackLaws
 pub mod FieldsBackLaws
 pub mod GrownLaws
+pub mod IndexReasonLaws
 pub mod NewSegmentLaws
 pub mod OutsideLaws
 pub mod PlacedLaws

@@ -8,6 +8,8 @@ use Rattle.partial.specs.declared.answers.Asked.{Asked}
 use Rattle.partial.specs.declared.answers.Asked.the-variants as Asked
 use Rattle.partial.specs.declared.answers.Listed.{Listed}
 use Rattle.partial.specs.declared.answers.Listed.the-variants as Listed
+use Rattle.partial.specs.declared.answers.Counted.{Counted}
+use Rattle.partial.specs.declared.answers.Counted.the-variants as Counted
 use Rattle.partial.specs.declared.answers.Written.{Written}
 use Rattle.partial.specs.declared.answers.Written.the-variants as Written
 use Rattle.partial.specs.Meaning.{Reply, servedFor, missingFor, notBelow}
@@ -31,6 +33,11 @@ unfoldable pub listedAnswer : Listed → Answer Totals
 listedAnswer (Listed.Refused n) = refused n
 listedAnswer (Listed.Lists h m receivedTotal missingTotal) =
     given (record { hadRanges = h; missingRanges = m; receivedTotal = receivedTotal; missingTotal = missingTotal })
+
+-- the index: how many rows it has
+unfoldable pub countedAnswer : Counted → Answer ℕ
+countedAnswer (Counted.Refused n) = refused n
+countedAnswer (Counted.Rows n) = given n
 
 -- begin and append: the length of the file
 unfoldable pub writtenAnswer : Written → Answer ℕ

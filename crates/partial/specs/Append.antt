@@ -17,6 +17,7 @@ use Rattle.partial.specs.Segments.{Chunk, Segment, present, corrupted, h
 use Rattle.partial.specs.Heading.{Heading, heading}
 use Rattle.partial.specs.Entries.{offsetPlace}
 use Rattle.partial.specs.Reading.{offsetWidth, earlierSegments, admitted}
+use Rattle.partial.specs.Index.{indexed}
 use Rattle.partial.specs.Begin.{versionAndFlags}
 use Rattle.partial.specs.Mixed.{boxesMany}
 use Rattle.partial.specs.Addition.{Addition, flagsFor, Item, items, listRight, sizeOf, dataRight, goesOut, goesIn, dataFor, outsideRight}
@@ -164,8 +165,9 @@ admission limit h ss n a = do
   _ ← hold 6 (leb (length (h .boxes) + addedBoxes a) boxLimit)
   admitted limit ss (newSegment (psegPlace n a) a)
 
--- what append answers for the first n bytes of a buffer: its refusals in order, or the length of the result. The buffer
--- is left as `written` says, by `result`
+-- what append answers for the first n bytes of a buffer: its refusals in order, or the length of the result; 36, 37 and
+-- 39 are those of the file's own index beside the result's segments, of which the new one has none. The buffer is left
+-- as `written` says, by `result`
 unfoldable pub appended : ℕ → List ℕ → ℕ → Addition → Answer ℕ
 appended limit buffer n a = do
   _ ← hold 30 (leb n (length buffer))
@@ -175,7 +177,8 @@ appended limit buffer n a = do
   _ ← hold 31 (listRight (a .list))
   _ ← hold 32 (dataRight a)
   _ ← hold 35 (outsideRight h a)
-  _ ← admission limit h ss n a
+  ts ← admission limit h ss n a
+  _ ← indexed limit f h ts
   let size = n + length (added a)
   _ ← hold 33 (leb size (length buffer))
   given size

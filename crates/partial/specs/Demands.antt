@@ -22,11 +22,13 @@ use Rattle.partial.specs.Heading.{Part, Heading, heading}
 use Rattle.partial.specs.Mixed.{allowed}
 use Rattle.partial.specs.Meaning.{givesSize, describedLength, covers, supplier, supplied, chunkNo, chunkFor, served, servedRun, missingRun}
 use Rattle.partial.specs.Meaning.{reply, servedFor, missingFor, notBelow}
+use Rattle.partial.specs.Index.{Indexed, indexed, indexedSize}
+use Rattle.partial.specs.IndexShape.{InOrder, ServedAsSaid}
 use Rattle.partial.specs.Reading.{segmentsFrom, reading, earlierSegments}
 use Rattle.partial.specs.Ranges.{had, rangesOf, ofClass, hadList, missingList, total, among, apart, inRow}
 use Rattle.partial.specs.Naming.{damagedAt, namedRanges, heldList, lostList}
 use Rattle.partial.specs.Memory.{after, written, textWritten}
-use Rattle.partial.specs.Tables.{tabled, listed, totals, bytesIn, servedPart, asked, textOf}
+use Rattle.partial.specs.Tables.{tabled, listed, indexTabled, indexTable, totals, bytesIn, servedPart, asked, textOf}
 use Rattle.partial.specs.Map.{decimal, line, refusedLine, textFor}
 use Rattle.partial.specs.BoxList.{each, boxLine, boxesText}
 use Rattle.partial.specs.Begin.{beginning, isText, begun}
@@ -44,9 +46,13 @@ oneOf numbers n = someOf (eqb n) numbers
 abbrev pub beforeAgreement : ℕ → Bool
 beforeAgreement n = within 1 11 n || (within 13 8 n || within 22 3 n)
 
--- and with 25, the last of them
+-- those of the index
+abbrev pub ofIndex : ℕ → Bool
+ofIndex n = within 36 4 n
+
+-- with these and with 25 between them, all of a file's stages
 abbrev pub ofStages : ℕ → Bool
-ofStages n = beforeAgreement n || eqb n 25
+ofStages n = beforeAgreement n || (eqb n 25 || ofIndex n)
 
 -- a refused addition changes nothing
 abbrev NothingChanges : ℕ → Type 0
@@ -61,6 +67,7 @@ pub record Never (limit n : ℕ) : Type 0 where
   pub read : (f a b : List ℕ) → tabled limit f a b ≡ refused n → ⊥
   pub ask : (f a b : List ℕ) (p : ℕ) → asked (tabled limit f a b) p ≡ refused n → ⊥
   pub list : (f a b h m : List ℕ) → listed limit f a b h m ≡ refused n → ⊥
+  pub index : (f t : List ℕ) → indexTabled limit f t ≡ refused n → ⊥
   pub begin : (buffer : List ℕ) (brand : Brand) (u m : List ℕ) → begun buffer brand u m ≡ refused n → ⊥
   pub append : (buffer : List ℕ) (size : ℕ) (a : Addition) → appended limit buffer size a ≡ refused n → ⊥
   pub text : (text buffer : List ℕ) → textWritten text buffer ≡ refused n → ⊥
@@ -73,6 +80,7 @@ pub record Demand1 (limit : ℕ) : Type 0 where
   -- one numbered refusal, of those that the paper has for the call
   pub readNumbers : (f a b : List ℕ) (n : ℕ) → tabled limit f a b ≡ refused n → T (ofStages n || oneOf (12 ∷ 26 ∷ []) n)
   pub listNumbers : (f a b h m : List ℕ) (n : ℕ) → listed limit f a b h m ≡ refused n → T (ofStages n || oneOf (12 ∷ 26 ∷ []) n)
+  pub indexNumbers : (f t : List ℕ) (n : ℕ) → indexTabled limit f t ≡ refused n → T (ofStages n || oneOf (12 ∷ 26 ∷ []) n)
   pub beginNumbers : (buffer : List ℕ) (brand : Brand) (u m : List ℕ) (n : ℕ) → begun buffer brand u m ≡ refused n → T (oneOf (34 ∷ 1 ∷ 33 ∷ []) n)
   pub appendNumbers :
       (buffer : List ℕ) (size : ℕ) (a : Addition) (n : ℕ)
@@ -93,6 +101,7 @@ pub record Demand1 (limit : ℕ) : Type 0 where
       (rows : List Segment → List ℕ) (f a b h m table : List ℕ) (n : ℕ)
       → listed limit f a b h m ≡ refused n
       → after rows (listed limit f a b h m) table ≡ table
+  pub indexKept : (f table : List ℕ) (n : ℕ) → indexTabled limit f table ≡ refused n → after indexTable (indexTabled limit f table) table ≡ table
   pub beginKept :
       (buffer : List ℕ) (brand : Brand) (u m : List ℕ) (n : ℕ)
       → begun buffer brand u m ≡ refused n
@@ -212,6 +221,14 @@ pub record Reaches25 (limit : ℕ) (f : List ℕ) (ss : List Segment) : Type 0 w
   pub few : length (those pseg (h .boxes)) ≤ segmentLimit
   pub read : segmentsFrom limit f h [] (those pseg (h .boxes)) ≡ given ss
 
+-- document 02, [7]: the boxes of an accepted file's index
+pub record Indexing (ss : List Segment) (is : List Indexed) : Type 0 where
+  -- each before those of its own list, which lie inside it, on one of eight levels
+  pub inOrder : InOrder is
+  -- none is empty, and of each is said whether all, some or none of its positions are served
+  pub notEmpty : (i : Indexed) → List·Memᴰ i is → 0 < indexedSize i
+  pub served : (i : Indexed) → List·Memᴰ i is → ServedAsSaid ss (i .place) (indexedSize i)
+
 -- an accepted file: its sizes agree, and each source byte is served or listed missing
 pub record Mapped (f : List ℕ) (h : Heading) (ss : List Segment) : Type 0 where
   pub agreed : InAgreement ss
@@ -273,9 +290,26 @@ pub record BoxesPrinted (most : ℕ) (input : List ℕ) : Type 0 where
 -- file
 pub record Demand2 (limit : ℕ) : Type 0 where
   pub mapped : (f : List ℕ) (h : Heading) (ss : List Segment) → heading f ≡ given h → reading limit f ≡ given ss → Mapped f h ss
-  -- a file that reaches 25 is accepted exactly if its sizes agree, and no other is; it is 25 exactly if they do not
-  pub agrees : (f : List ℕ) (ss : List Segment) → (reading limit f ≡ given ss) ↔ (Reaches25 limit f ss × InAgreement ss)
+  -- a file that reaches 25 is accepted exactly if its sizes agree and its index is told, and no other is; it is 25
+  -- exactly if they do not. Its segments, over which serving, lists and maps are, are those that it reaches 25 with:
+  -- the index never changes what is served
+  pub agrees :
+      (f : List ℕ) (ss : List Segment)
+      → (reading limit f ≡ given ss)
+      ↔ ((reached : Reaches25 limit f ss) × InAgreement ss × ((is : List Indexed) × (indexed limit f (reached .h) ss ≡ given is)))
   pub disagrees : (f : List ℕ) → (reading limit f ≡ refused 25) ↔ ((ss : List Segment) × Reaches25 limit f ss × (InAgreement ss → ⊥))
+  -- it is 36 to 39 exactly if its sizes agree and its index has that number
+  pub indexRefused :
+      (f : List ℕ) (n : ℕ)
+      → ((reading limit f ≡ refused n) × T (ofIndex n))
+      ↔ ((ss : List Segment) × (reached : Reaches25 limit f ss) × InAgreement ss × (indexed limit f (reached .h) ss ≡ refused n))
+  -- what is told of an accepted file's index
+  pub indexing :
+      (f : List ℕ) (h : Heading) (ss : List Segment) (is : List Indexed)
+      → heading f ≡ given h
+      → reading limit f ≡ given ss
+      → indexed limit f h ss ≡ given is
+      → Indexing ss is
   -- the part is empty exactly when the file is refused, a table is too short or p is not supplied
   pub partEmpty :
       (f a b : List ℕ) (p : ℕ)
@@ -334,7 +368,8 @@ pub record Right (limit : ℕ) (h : Heading) (ss : List Segment) (n : ℕ) (a : 
   pub low : a .sourceOffset + sum (map (λ i. i .size) (items (a .list))) ≤ limit
   pub agreed : InAgreement (ss ++ (newSegment (psegPlace n a) a ∷ []))
 
--- an addition that append takes: it is right, beside a file that append takes, and the buffer has room for the result
+-- an addition that append takes: it is right, beside a file that append takes, whose index is told beside it, and the
+-- buffer has room for the result
 pub record Acceptable (limit : ℕ) (buffer : List ℕ) (n : ℕ) (a : Addition) : Type 0 where
   pub enough : n ≤ length buffer
   pub h : Heading
@@ -342,6 +377,7 @@ pub record Acceptable (limit : ℕ) (buffer : List ℕ) (n : ℕ) (a : Addition)
   pub headed : heading (fileIn (lent buffer n)) ≡ given h
   pub before : earlierSegments limit (fileIn (lent buffer n)) ≡ given ss
   pub right : Right limit h ss n a
+  pub index : (is : List Indexed) × (indexed limit (fileIn (lent buffer n)) h (ss ++ (newSegment (psegPlace n a) a ∷ [])) ≡ given is)
   pub room : n + length (added a) ≤ length buffer
 
 -- the numbered reasons for which an addition is refused, in their order
@@ -376,7 +412,13 @@ pub record Reasons (limit : ℕ) (buffer : List ℕ) (n : ℕ) (a : Addition) : 
       → dataRight a ≡ true
       → outsideRight h a ≡ false
       → appended limit buffer n a ≡ refused 35
-  -- then what the result would have, 1, 6, 13, 22, 23 or 25, and then 33
+  -- document 02, [7]: 36 to 39 are the file's own, but of one whose only refusal is 12, and that has no 38
+  pub byIndex :
+      (k : ℕ)
+      → T (ofIndex k)
+      → appended limit buffer n a ≡ refused k
+      → (reading limit (fileIn (lent buffer n)) ≡ refused k) ⊎ ((reading limit (fileIn (lent buffer n)) ≡ refused 12) × (k ≡ 38 → ⊥))
+  -- then what the result would have, 1, 6, 13, 22, 23, 25, 36, 37 or 39, and then 33
   pub byResult :
       (h : Heading) (ss : List Segment)
       → n ≤ length buffer
@@ -423,8 +465,8 @@ pub record Demand3 (limit : ℕ) : Type 0 where
       (l : Lent) (additions : List Addition) (ss : List Segment)
       → earlierSegments limit (fileIn l) ≡ given ss
       → (ts : List Segment) × (earlierSegments limit (fileIn (appendAll limit l additions)) ≡ given ts)
-  -- an addition is given a length exactly if it has a right list and data, within each limit, in agreement and within
-  -- the buffer; it is the length of the file and of what is added
+  -- an addition is given a length exactly if it has a right list and data, within each limit, in agreement, beside an
+  -- index that is told, and within the buffer; it is the length of the file and of what is added
   pub accepts :
       (buffer : List ℕ) (n : ℕ) (a : Addition) (size : ℕ)
       → (appended limit buffer n a ≡ given size)

@@ -120,7 +120,7 @@ abbrev segmentWith : Bool → ℕ → Bool → List ℕ → List ℕ → Additio
 segmentWith outside offset last list bytes =
     record { sourceOffset = offset; repairTime = 0; last = last; outside = outside; list = list; bytes = bytes }
 
-abbrev segmentAt : ℕ → Bool → List ℕ → List ℕ → Addition
+abbrev pub segmentAt : ℕ → Bool → List ℕ → List ℕ → Addition
 segmentAt = segmentWith false
 
 -- the file that append makes of a file
@@ -128,7 +128,7 @@ abbrev grownBy : List ℕ → Addition → List ℕ
 grownBy f a = fileIn (append sourceLimit (lent (f ++ spare) (length f)) a)
 
 -- what it answers
-abbrev answerTo : List ℕ → Addition → List ℤ
+abbrev pub answerTo : List ℕ → Addition → List ℤ
 answerTo f a = says (appended sourceLimit (f ++ spare) (length f) a >>= λ size. given (pos size ∷ []))
 
 abbrev missingIn : List ℕ → Answer (List ℤ)
@@ -259,18 +259,22 @@ rowsShort =
 
 -- the body of a `pshd` in its two forms, with flags and a source offset: version 0 with 32 bits for it, and version 1
 -- with 64
-abbrev version0 : ℕ → ℕ → List ℕ
+abbrev pub version0 : ℕ → ℕ → List ℕ
 version0 flags start = 0 ∷ (bytesOf 3 flags ++ (bytesOf 4 start ++ bytesOf 8 0))
 
 abbrev version1 : ℕ → ℕ → List ℕ
 version1 flags start = 1 ∷ (bytesOf 3 flags ++ (bytesOf 8 start ++ bytesOf 8 0))
 
--- a `pseg` as another writer makes it: the body of its `pshd`, and one chunk of one byte's size, with what follows that
-abbrev foreign : List ℕ → ℕ → ℕ → List ℕ → List ℕ
-foreign header state size rest =
+-- a `pseg` as another writer makes it: the body of its `pshd`, and one chunk of one byte's size, with what follows
+-- that; and with boxes behind its `ploc`
+abbrev pub foreignWith : List ℕ → List ℕ → ℕ → ℕ → List ℕ → List ℕ
+foreignWith boxes header state size rest =
     boxed (pseg .code)
     (boxed (pshd .code) header
-    ++ boxed (ploc .code) (bytesOf 4 0 ++ (0x11 ∷ (bytesOf 2 0 ++ (bytesOf 2 1 ++ (state ∷ size ∷ rest))))))
+    ++ (boxed (ploc .code) (bytesOf 4 0 ++ (0x11 ∷ (bytesOf 2 0 ++ (bytesOf 2 1 ++ (state ∷ size ∷ rest))))) ++ boxes))
+
+abbrev foreign : List ℕ → ℕ → ℕ → List ℕ → List ℕ
+foreign = foreignWith []
 
 -- a file with one such segment at 2, whose chunk of 2 is good, and data behind it
 abbrev dataBehind : ℕ → List ℕ
@@ -323,8 +327,8 @@ sizesDiffer =
       paper = map pos (replicate 6 25);
     }
 
--- the same size a second time, and an end and an open offset just there, are taken: to 55 bytes come two segments of 51,
--- or one and an open one of 49
+-- the same size a second time, and an end and an open offset just there, are taken: to 55 bytes come two segments of
+-- 51, or one and an open one of 49
 abbrev sizesAgree : Example
 sizesAgree =
     record {

@@ -27,11 +27,12 @@ pub record IndexFields : Type 0 where
   pub kind : ℕ
   pub list : ℕ
 
--- the size by `indexed_box_size` and the 64 bits that may follow the type: 0 runs to the end, 1 means that they do follow
+-- the size by `indexed_box_size` and the 64 bits that may follow the type: 0 runs to the end, 1 means that they do
+-- follow
 unfoldable pub sizeBy : ℕ → ℕ → Option ℕ
 sizeBy size large = elim (eqb size 0) [ true ↦ none | false ↦ some (elim (eqb size 1) [ true ↦ large | false ↦ size ]) ]
 
--- the bytes of a header: size and type, the 64-bit size where there is one, the user type of a `uuid`
+-- how many bytes a header has: size and type, the 64-bit size where there is one, the user type of a `uuid`
 unfoldable pub frontBy : ℕ → ℕ → ℕ
 frontBy size kind = (elim (eqb size 1) [ true ↦ 16 | false ↦ 8 ]) + userSize kind
 
@@ -79,7 +80,8 @@ pub record Indexed : Type 0 where
   pub end : Option ℕ
   pub kind : ℕ
 
--- boxes of the index, one before those of its list, and where the last of one list ends, if it has one and that is known
+-- boxes of the index, one before those of its list, and where the last of one list ends, if it has one and that is
+-- known
 pub record Told : Type 0 where
   pub boxes : List Indexed
   pub end : Option ℕ
@@ -118,8 +120,8 @@ untold level b = record { level = level; place = 0; end = none; kind = 0 }
 
 module _ (limit : ℕ) (f : List ℕ) where
   unfoldable mutual
-    -- the `bidx` boxes of a list on a level, which what encloses them ends there: from a place on, each where the one
-    -- before it ends
+    -- the `bidx` boxes of a list on a level, inside what has that end: the first at a place, each other where the one
+    -- before it ends. No box of a ninth level is looked into
     pub indexList : ℕ → ℕ → Option ℕ → ℕ → List Box → Answer Told
     indexList zero level enclosing place bs = given (record { boxes = map (untold level) bs; end = none })
     indexList (suc calls) level enclosing place bs = inARow (λ last at b. indexedBox calls level enclosing last at b) place bs

@@ -1,5 +1,5 @@
--- Document 02, [7], as sentences about the boxes of an index: each stands before those of its own list, on a level of one
--- to eight, and those lie inside it.
+-- Document 02, [7], as sentences about the boxes of an index: each stands before those of its own list, on a level of
+-- one to eight, and those lie inside it.
 use Prim.Native.Nat.{ℕ, _+_, _≤_, _<_}
 use mathlib.Core.List.{List, [], _∷_}
 use mathlib.Core.Bool.{true, false}

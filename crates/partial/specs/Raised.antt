@@ -1,7 +1,7 @@
 -- Document 02, [5]: "Prove that old files keep their maps and that the writer gives the same bytes for every segment
 -- accepted before", of any two source limits of which the one is not below the other.
 use Prim.Native.Nat.{ℕ}
-use mathlib.Core.Bool.{Bool}
+use mathlib.Core.Bool.{Bool, _||_}
 use mathlib.Core.List.{List}
 use mathlib.Core.Logic.{_⊎_}
 use mathlib.Core.Path.{_≡_}
@@ -11,7 +11,7 @@ use Rattle.boxes.specs.Framing.{Box}
 use Rattle.partial.specs.Segments.{Segment}
 use Rattle.partial.specs.Heading.{Part}
 use Rattle.partial.specs.Reading.{reading}
-use Rattle.partial.specs.Tables.{tabled, listed, servedPart, asked, textOf}
+use Rattle.partial.specs.Tables.{tabled, listed, indexTabled, servedPart, asked, textOf}
 use Rattle.partial.specs.Map.{refusedLine, textFor}
 use Rattle.partial.specs.Addition.{Addition}
 use Rattle.partial.specs.Append.{appended}
@@ -19,7 +19,7 @@ use Rattle.partial.specs.Runs.{lent, append}
 
 -- the numbers of refusals that judge the limit
 abbrev pub judgesLimit : ℕ → Bool
-judgesLimit n = eqb n 23
+judgesLimit n = eqb n 23 || eqb n 36
 
 -- an answer under the lower limit, and the answer under the higher one
 pub record Kept {A : Type 0} (low high : Answer A) : Type 0 where
@@ -34,6 +34,8 @@ pub record Raised (low high : ℕ) : Type 0 where
   pub reads : (f : List ℕ) → Kept (reading low f) (reading high f)
   pub tables : (f a b : List ℕ) → Kept (tabled low f a b) (tabled high f a b)
   pub lists : (f a b h m : List ℕ) → Kept (listed low f a b h m) (listed high f a b h m)
+  -- its index is the same
+  pub indexes : (f table : List ℕ) → Kept (indexTabled low f table) (indexTabled high f table)
   -- asking of a position has the same answer
   pub asks : (f a b : List ℕ) (p : ℕ) → Kept (asked (tabled low f a b) p) (asked (tabled high f a b) p)
   -- serving hands back the same part of an accepted file, and its URL and MIME text are the same parts

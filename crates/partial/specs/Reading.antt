@@ -1,4 +1,5 @@
--- Document 01, refusals 12 to 25: the segments of a file, each read beside those before it.
+-- Document 01, refusals 12 to 25, and document 02, [7], 36 to 39 after them: the segments of a file, each read beside
+-- those before it.
 use Prim.Native.Nat.{ℕ, _+_, _-_}
 use mathlib.Core.Bool.{Bool, true, false, _&&_}
 use mathlib.Core.List.{List, [], _∷_, _++_}
@@ -14,6 +15,7 @@ use Rattle.partial.specs.Segments.{Segment, chunksOf, endOf}
 use Rattle.partial.specs.Heading.{Heading, heading}
 use Rattle.partial.specs.Entries.{plocHead, chunksFrom}
 use Rattle.partial.specs.Meaning.{agree}
+use Rattle.partial.specs.Index.{indexed}
 
 -- 5.1.4.2: the bytes of `source_byte_offset`, 32 bits in version 0 and 64 in every other
 unfoldable pub offsetWidth : ℕ → ℕ
@@ -84,12 +86,14 @@ segments limit f h = do
   _ ← hold 25 (agree ss)
   given ss
 
--- stages 1 to 25
+-- all stages: 1 to 25, then the index, which changes nothing of the segments
 unfoldable pub reading : ℕ → List ℕ → Answer (List Segment)
 reading limit f = do
   h ← heading f
   _ ← hold 12 (right File pseg (h .boxes))
-  segments limit f h
+  ss ← segments limit f h
+  _ ← indexed limit f h ss
+  given ss
 
 -- the segments of a file that append takes: those of an acceptable file, or, of one whose only refusal is 12, none,
 -- since it counts as serving nothing

@@ -1,5 +1,5 @@
--- Document 01, "Rows", "Serving", "Lists" and refusal 26: what the reading calls answer, hand back and leave in the
--- lent tables.
+-- Document 01, "Rows", "Serving", "Lists" and refusal 26, and document 02, [7], "give a table of each indexed box":
+-- what the reading calls answer, hand back and leave in the lent tables.
 use Prim.Native.Nat.{ℕ, suc}
 use mathlib.Core.Bool.{Bool, true, false, _&&_}
 use mathlib.Core.List.{List, [], _∷_, _++_}
@@ -11,6 +11,7 @@ use Rattle.partial.specs.Segments.{Chunk, Segment, chunksOf}
 use Rattle.partial.specs.Heading.{Part, heading}
 use Rattle.partial.specs.Meaning.{describedLength, isClosed, supplied, placeOfByte, servedRun, Reply, reply}
 use Rattle.partial.specs.Reading.{reading}
+use Rattle.partial.specs.Index.{Indexed, indexed, indexRows}
 use Rattle.partial.specs.Ranges.{Range, hadList, missingList, total}
 use Rattle.partial.specs.Memory.{fits}
 
@@ -60,8 +61,8 @@ hadRows ss = rangeRows (hadList ss)
 unfoldable pub missingRows : List Segment → List ℕ
 missingRows ss = rangeRows (missingList ss)
 
--- reading, serving and asking with the two lent tables: stages 1 to 25, then 26. A table is left as `after` says, by
--- its rows: `segmentRows`, `chunkRows`, `hadRows` or `missingRows`
+-- reading, serving and asking with the two lent tables: all stages of the file, then 26. A table is left as `after`
+-- says, by its rows: `segmentRows`, `chunkRows`, `hadRows` or `missingRows`
 unfoldable pub tabled : ℕ → List ℕ → List ℕ → List ℕ → Answer (List Segment)
 tabled limit f segmentTable chunkTable = do
   ss ← reading limit f
@@ -74,6 +75,23 @@ listed limit f segmentTable chunkTable hadTable missingTable = do
   ss ← tabled limit f segmentTable chunkTable
   _ ← hold 26 (fits (hadRows ss) hadTable && fits (missingRows ss) missingTable)
   given ss
+
+-- the index with its lent table: the segments and the boxes of the index. The table is left as `after` says, by
+-- `indexTable`
+unfoldable pub indexTabled : ℕ → List ℕ → List ℕ → Answer (List Segment × List Indexed)
+indexTabled limit f table = do
+  ss ← reading limit f
+  h ← heading f
+  is ← indexed limit f h ss
+  _ ← hold 26 (fits (indexRows ss is) table)
+  given (ss, is)
+
+abbrev pub indexTable : List Segment × List Indexed → List ℕ
+indexTable told = indexRows (told .0) (told .1)
+
+-- what is answered of the index: how many boxes it has
+abbrev pub indexCount : List Segment × List Indexed → ℕ
+indexCount told = length (told .1)
 
 -- what reading says of an accepted file: how many rows each table has, the described length, whether the size is known
 pub record Summary : Type 0 where

@@ -31,6 +31,12 @@ pub enum Listed {
     },
 }
 
+// The index: how many rows were filled.
+pub enum Counted {
+    Refused(u64),
+    Rows(u64),
+}
+
 // Begin and append: the length of the file that was written.
 pub enum Written {
     Refused(u64),

@@ -56,3 +56,9 @@ pub const ZERO_IN_TEXT: u64 = 34;
 pub const NOT_WHOLE_BOXES: u64 = 35;
 // An index list is wrong: its framing, a cut field, a size, a filling, a second `fidx` or front part, or an end.
 pub const INDEX_WRONG: u64 = 36;
+// A box of a ninth level stands in an index.
+pub const NINTH_LEVEL: u64 = 37;
+// Both `pfil` and a segment have an index.
+pub const INDEXES_IN_BOTH: u64 = 38;
+// A size of 0 runs to an end that is not known.
+pub const END_UNKNOWN: u64 = 39;

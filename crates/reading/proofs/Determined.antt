@@ -1,29 +1,33 @@
 -- Each public call's contract determines its answer, and what it leaves in the lent tables: two that it allows of the
 -- same arguments are equal. A part of the lent file is determined by where it lies and by its bytes. What `judge_into`
--- leaves in a table is determined where the file is accepted and all of that fits.
+-- leaves in a table is determined where the file is accepted and all of that fits, and the stages of an index where the
+-- file's heading and segments are known and whether they have one.
 use Prim.Native.Nat.{ℕ, _≤_}
 use mathlib.Core.List.{List}
 use mathlib.Core.Path.{_≡_, sym, ap, _∙_}
 use denote.Ref.{now, ptr}
 use lib.ListN.{length}
-use Rattle.numerals.proofs.Determined.{OneResult, OneLeft, OneLeftKnown}
+use Rattle.numerals.proofs.Determined.{OneResult, OneKnown, OneLeft, OneLeftKnown}
 use Rattle.boxes.specs.Answer.{given}
 use Rattle.boxes.proofs.ToldLaws.{Tells}
 use Rattle.gathering.specs.Numbers.{numbersOf}
 use Rattle.gathering.proofs.Determined.{one-put}
-use Rattle.heading.specs.Facts.{partOf, factsBy}
+use Rattle.heading.specs.Facts.{partOf}
 use Rattle.heading.proofs.Determined.{head-told}
-use Rattle.partial.specs.Answers.{readAnswer}
-use Rattle.partial.specs.Heading.{Part}
+use Rattle.partial.specs.Answers.{readAnswer, countedAnswer}
+use Rattle.partial.specs.Heading.{Part, Heading, heading}
 use Rattle.partial.specs.Limits.{sourceLimit}
-use Rattle.partial.specs.Reading.{reading}
+use Rattle.partial.specs.Reading.{segments, reading}
 use Rattle.partial.specs.Segments.{Segment}
 use Rattle.partial.specs.Tables.{Summary, segmentRows}
+use Rattle.partial.specs.declared.answers.Counted.the-variants as Counted
 use Rattle.partial.specs.declared.answers.Read.the-variants as Read
-use Rattle.reading.specs.Judged.{Judged, judgedAnswer}
+use Rattle.reading.specs.Judged.{Judged, judgedBy, judgedAnswer}
 use Rattle.reading.specs.Parts.{HandedBack, locatedAnswer}
+use Rattle.reading.specs.Staged.{HasIndexes}
 use Rattle.reading.specs.declared.judging.Judgement.the-variants as Judgement
 use Rattle.reading.specs.declared.parts.Located.the-variants as Located
+use Rattle.reading.proofs.indexed.index_stages.Reads as index-stages
 use Rattle.reading.proofs.judging.earlier_of.Reads as earlier-of
 use Rattle.reading.proofs.judging.judge.Reads as judge
 use Rattle.reading.proofs.judging.judge_into.Reads as judge-into
@@ -45,9 +49,9 @@ judged-told (Judgement.Refused n) (Judgement.Refused m) e = cc
 judged-told (Judgement.Refused n) (Judgement.Given k) e = cc
 judged-told (Judgement.Given j) (Judgement.Refused m) e = cc
 judged-told (Judgement.Given j) (Judgement.Given k) e =
-    let same : _≡_ {A = Judged} (record { facts = factsBy (j .head); gathered = j .gathered }) (record { facts = factsBy (k .head); gathered = k .gathered }) = cc in
+    let same : judgedBy j ≡ judgedBy k = cc in
     let head = head-told (j .head) (k .head) (ap (λ (x : Judged). x .facts) same) in
-    ap Judgement.Given (λ i. record { head = head i; gathered = same i .gathered })
+    ap Judgement.Given (λ i. record { head = head i; gathered = same i .gathered; index = same i .index })
 
 read-told : Tells readAnswer
 unfolding readAnswer
@@ -57,6 +61,13 @@ read-told (Read.Tables a b c d) (Read.Refused m) e = cc
 read-told (Read.Tables a b c d) (Read.Tables a′ b′ c′ d′) e =
     let same : _≡_ {A = Summary} (record { segments = a; chunks = b; described = c .0; closed = d }) (record { segments = a′; chunks = b′; described = c′ .0; closed = d′ }) = cc in
     λ i. Read.Tables (same i .segments) (same i .chunks) (record { 0 = same i .described }) (same i .closed)
+
+pub counted-told : Tells countedAnswer
+unfolding countedAnswer
+counted-told (Counted.Refused n) (Counted.Refused m) e = cc
+counted-told (Counted.Refused n) (Counted.Rows m) e = cc
+counted-told (Counted.Rows n) (Counted.Refused m) e = cc
+counted-told (Counted.Rows n) (Counted.Rows m) e = cc
 
 pub located-told : Tells locatedAnswer
 unfolding locatedAnswer
@@ -75,6 +86,10 @@ one-part p q =
     let place = p .place ∙ sym (q .place) in
     let holds = p .holds ∙ sym (q .holds) in
     λ i. ((memory i, place i), holds i)
+
+index-stages-result : OneKnown index-stages.Post
+    (λ κs args ((h, ss) : Heading × List Segment). (heading (now (args .0)) ≡ given h) × (segments sourceLimit (now (args .0)) h ≡ given ss) × HasIndexes h ss (args .1 .0) (args .1 .1 .0))
+index-stages-result κs args (h, ss) (head, known, has) x y after after′ p q = counted-told x y (p h ss head known has ∙ sym (q h ss head known has))
 
 earlier-of-result : OneResult earlier-of.Post
 earlier-of-result κs args x y after after′ p q = judged-told x y (p ∙ sym q)

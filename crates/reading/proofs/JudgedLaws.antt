@@ -13,11 +13,13 @@ use Rattle.boxes.specs.Kinds.{pseg, those, right}
 use Rattle.boxes.specs.declared.kinds.Container.the-variants.{File}
 use Rattle.boxes.proofs.AnswerLaws.{not-both, refused-same, given-same, both-given, held}
 use Rattle.partial.specs.Heading.{Heading, heading}
+use Rattle.partial.specs.Index.{Indexed, hasIndex, indexed}
 use Rattle.partial.specs.Limits.{segmentLimit, sourceLimit}
 use Rattle.partial.specs.Meaning.{agree}
 use Rattle.partial.specs.Reading.{segmentsFrom, segments, reading}
 use Rattle.partial.specs.Segments.{Segment}
 use Rattle.partial.proofs.Meaning.SequenceLaws.{which}
+use Rattle.partial.proofs.Reading.ReadingLaws.{reading-segments}
 use Rattle.partial.proofs.Reading.RefusalLaws.{no-segments}
 use Rattle.heading.specs.Facts.{Facts, factsOf, factsBy, told, headedAnswer}
 use Rattle.heading.specs.declared.answers.Head.{Head}
@@ -30,7 +32,7 @@ use Rattle.gathering.proofs.PassLaws.{rows-put}
 use Rattle.gathering.specs.declared.gathered.Gathered.{Gathered}
 use Rattle.gathering.specs.declared.pass.Passed.{Passed}
 use Rattle.gathering.specs.declared.pass.Passed.the-variants as Passed
-use Rattle.reading.specs.Judged.{Judged, gatheredIn, judgedIn, earlierTold, readingTold, gatheredAnswer, judgedAnswer, KeptIn}
+use Rattle.reading.specs.Judged.{Judged, gatheredIn, indexedTold, judgedIn, earlierTold, readingTold, gatheredAnswer, judgedBy, judgedAnswer, KeptIn}
 use Rattle.reading.specs.declared.judging.Judgement.{Judgement}
 use Rattle.reading.specs.declared.judging.Judgement.the-variants as Judgement
 use Rattle.reading.specs.declared.judging.Judged.{Judged as CodeJudged}
@@ -56,6 +58,10 @@ module _ (f : List ℕ) {r : Headed} (answer : headedAnswer r ≡ told f (headin
 pub facts-segments : (f : List ℕ) (h : Heading) (head : Head) → factsOf f h ≡ factsBy head → head .segments ≡ length (those pseg (h .boxes))
 unfolding factsOf
 facts-segments f h head e = sym (ap (λ x. x .segments) e)
+
+pub facts-indexed : (f : List ℕ) (h : Heading) (head : Head) → factsOf f h ≡ factsBy head → head .indexed ≡ hasIndex (h .inner)
+unfolding factsOf
+facts-indexed f h head e = sym (ap (λ x. x .indexed) e)
 
 pub facts-mixed : (f : List ℕ) (h : Heading) {x : Facts} → factsOf f h ≡ x → x .mixed ≡ h .mixed
 unfolding factsOf
@@ -128,10 +134,30 @@ module _ (f : List ℕ) (h : Heading) {t₀ t u₀ u : List ℕ} where
   kept-ungathered e = kept-refused (first-refused (segments sourceLimit f h) gatheredOf e)
 
   pub kept-read : heading f ≡ given h → KeptIn (segments sourceLimit f h) t₀ t u₀ u → KeptIn (reading sourceLimit f) t₀ t u₀ u
-  unfolding reading
-  kept-read known rows = λ ss all.
-      let (_, all) = held 12 (right File pseg (h .boxes)) _ (rw known at all) in
-      rows ss all
+  kept-read known rows = λ ss all. rows ss (reading-segments sourceLimit f known all)
+
+-- ---- the index
+
+module _ (f : List ℕ) (h : Heading) where
+  pub judged-refused : {n : ℕ} → gatheredIn f h ≡ refused n → judgedIn f h ≡ refused n
+  unfolding judgedIn gatheredIn
+  judged-refused e = rw (first-refused (segments sourceLimit f h) gatheredOf e)
+
+  pub gathered-known : {g : Gathered} → gatheredIn f h ≡ given g → (ss : List Segment) × (segments sourceLimit f h ≡ given ss) × (g ≡ gatheredOf ss)
+  unfolding gatheredIn
+  gathered-known e =
+      let (ss, all, same) = both-given (segments sourceLimit f h) _ e in
+      (ss, all, sym (given-same same))
+
+  module _ {ss : List Segment} (all : segments sourceLimit f h ≡ given ss) where
+    pub judged-unindexed : {n : ℕ} → indexedTold f h ss ≡ refused n → judgedIn f h ≡ refused n
+    unfolding judgedIn
+    judged-unindexed e = rw (all, e)
+
+    pub judged-given : {n : ℕ} {g : Gathered} {x : Facts} → indexedTold f h ss ≡ given n → factsOf f h ≡ x → g ≡ gatheredOf ss
+        → judgedIn f h ≡ given (record { facts = x; gathered = g; index = n })
+    unfolding judgedIn
+    judged-given e same of = rw (all, e, same, ← of)
 
 -- ---- a file
 
@@ -154,79 +180,97 @@ module _ (f : List ℕ) where
     reading-by some = rw (known, some)
 
     pub earlier-cases : {t : Bool} → right File pseg (h .boxes) ≡ t
-        → earlierTold f ≡ elim t [ true ↦ readingTold f | false ↦ given (record { facts = factsOf f h; gathered = gatheredOf [] }) ]
+        → earlierTold f ≡ elim t [ true ↦ readingTold f | false ↦ given (record { facts = factsOf f h; gathered = gatheredOf []; index = 0 }) ]
     unfolding earlierTold
-    earlier-cases e = rw known (ap (λ (t : Bool). elim t [ true ↦ readingTold f | false ↦ given (record { facts = factsOf f h; gathered = gatheredOf [] }) ]) e)
+    earlier-cases e = rw known (ap (λ (t : Bool). elim t [ true ↦ readingTold f | false ↦ given (record { facts = factsOf f h; gathered = gatheredOf []; index = 0 }) ]) e)
 
-    -- a file without a segment is told of by the same steps
-    pub earlier-by : earlierTold f ≡ judgedIn f h
-    unfolding judgedIn gatheredIn
-    earlier-by =
+    -- a file with a segment is told of by the same steps
+    pub earlier-by : right File pseg (h .boxes) ≡ true → earlierTold f ≡ judgedIn f h
+    earlier-by some = earlier-cases some ∙ reading-by some
+
+    pub earlier-unread : {n : ℕ} → gatheredIn f h ≡ refused n → earlierTold f ≡ refused n
+    unfolding gatheredIn
+    earlier-unread e =
         elim (which (right File pseg (h .boxes))) [
-          | inl some ↦ earlier-cases some ∙ reading-by some
-          | inr lacks ↦ earlier-cases lacks ∙ rw (no-segments sourceLimit f h lacks)
+          | inl some ↦ earlier-by some ∙ judged-refused f h e
+          | inr lacks ↦
+              let none : gatheredIn f h ≡ given (gatheredOf []) = rw (no-segments sourceLimit f h lacks) in
+              absurd (not-both (sym e ∙ none))
         ]
 
-  module _ (h : Heading) where
-    pub judged-refused : {n : ℕ} → gatheredIn f h ≡ refused n → judgedIn f h ≡ refused n
-    unfolding judgedIn
-    judged-refused e = rw e
-
-    pub judged-given : {g : Gathered} {x : Facts} → gatheredIn f h ≡ given g → factsOf f h ≡ x → judgedIn f h ≡ given (record { facts = x; gathered = g })
-    unfolding judgedIn
-    judged-given e same = rw (e, same)
+    -- one without is told of by its heading
+    pub earlier-begun : {g : Gathered} {x : Facts} → right File pseg (h .boxes) ≡ false → gatheredIn f h ≡ given g → factsOf f h ≡ x
+        → earlierTold f ≡ given (record { facts = x; gathered = g; index = 0 })
+    unfolding gatheredIn
+    earlier-begun lacks e same =
+        earlier-cases lacks ∙ rw (same, given-same (sym (rw (no-segments sourceLimit f h lacks) at e)))
 
 -- ---- what a judgement says of reading
 
--- an accepted file: its heading and its segments, of which all is told
+-- an accepted file: its heading, its segments and the boxes of its index, of which all is told
 pub record Accepted (f : List ℕ) (j : Judged) : Type 0 where
   pub h : Heading
   pub ss : List Segment
   pub head : heading f ≡ given h
   pub some : right File pseg (h .boxes) ≡ true
   pub all : segments sourceLimit f h ≡ given ss
+  pub boxes : List Indexed
+  pub index : indexed sourceLimit f h ss ≡ given boxes
   pub facts : factsOf f h ≡ j .facts
   pub gathered : j .gathered ≡ gatheredOf ss
+  pub counted : j .index ≡ length boxes
 
 module _ (f : List ℕ) where
   pub accepted : {j : Judged} → readingTold f ≡ given j → Accepted f j
-  unfolding readingTold judgedIn gatheredIn
+  unfolding readingTold judgedIn indexedTold
   accepted {j} e =
       let (h, head, e) = both-given (heading f) _ e in
       let (some, e) = held 12 (right File pseg (h .boxes)) _ e in
-      let (g, gathered, e) = both-given (gatheredIn f h) _ e in
-      let (ss, all, same) = both-given (segments sourceLimit f h) _ gathered in
+      let (ss, all, e) = both-given (segments sourceLimit f h) _ e in
+      let (n, told, e) = both-given (indexedTold f h ss) _ e in
+      let (boxes, index, counted) = both-given (indexed sourceLimit f h ss) _ told in
+      let same = given-same e in
       record {
         h = h;
         ss = ss;
         head = head;
         some = some;
         all = all;
-        facts = ap (λ (j : Judged). j .facts) (given-same e);
-        gathered = sym (given-same same ∙ ap (λ (j : Judged). j .gathered) (given-same e));
+        boxes = boxes;
+        index = index;
+        facts = ap (λ (j : Judged). j .facts) same;
+        gathered = sym (ap (λ (j : Judged). j .gathered) same);
+        counted = sym (given-same counted ∙ ap (λ (j : Judged). j .index) same);
       }
 
   pub read-refused : {n : ℕ} → readingTold f ≡ refused n → reading sourceLimit f ≡ refused n
-  unfolding readingTold reading judgedIn gatheredIn
+  unfolding readingTold reading judgedIn indexedTold
   read-refused {n} e = go (heading f) e
     where
+      -- the index, then the segments, then 12
+      last : (h : Heading) (ss : List Segment) (x : Answer (List Indexed))
+          → _>>=_ {B = Judged} (x >>= λ is. given (length is)) (λ n. given (record { facts = factsOf f h; gathered = gatheredOf ss; index = n })) ≡ refused n
+          → _>>=_ {B = List Segment} x (λ _. given ss) ≡ refused n
+      last h ss (refused m) e = ap refused (refused-same e)
+      last h ss (given is) e = absurd (not-both (sym e))
+
       within : (h : Heading) (t : Bool) (x : Answer (List Segment))
-          → _>>=_ {B = Judged} (hold 12 t) (λ _. (x >>= λ ss. given (gatheredOf ss)) >>= λ g. given (record { facts = factsOf f h; gathered = g })) ≡ refused n
-          → (hold 12 t >>= λ _. x) ≡ refused n
+          → _>>=_ {B = Judged} (hold 12 t) (λ _. x >>= λ ss. indexedTold f h ss >>= λ n. given (record { facts = factsOf f h; gathered = gatheredOf ss; index = n })) ≡ refused n
+          → _>>=_ {B = List Segment} (hold 12 t) (λ _. x >>= λ ss. indexed sourceLimit f h ss >>= λ _. given ss) ≡ refused n
       within h false x e = ap refused (refused-same e)
       within h true (refused m) e = ap refused (refused-same e)
-      within h true (given ss) e = absurd (not-both (sym e))
+      within h true (given ss) e = last h ss (indexed sourceLimit f h ss) e
 
       go : (x : Answer Heading)
           → _>>=_ {B = Judged} x (λ h. hold 12 (right File pseg (h .boxes)) >>= λ _. judgedIn f h) ≡ refused n
-          → (x >>= λ h. hold 12 (right File pseg (h .boxes)) >>= λ _. segments sourceLimit f h) ≡ refused n
+          → _>>=_ {B = List Segment} x (λ h. hold 12 (right File pseg (h .boxes)) >>= λ _. segments sourceLimit f h >>= λ ss. indexed sourceLimit f h ss >>= λ _. given ss) ≡ refused n
       go (refused m) e = ap refused (refused-same e)
       go (given h) e = within h (right File pseg (h .boxes)) (segments sourceLimit f h) e
 
   module _ {j : Judged} (a : Accepted f j) where
     pub read-given : reading sourceLimit f ≡ given (a .ss)
     unfolding reading
-    read-given = rw (a .head, a .some, a .all)
+    read-given = rw (a .head, a .some, a .all, a .index)
 
     pub read-segments : segmentsBy f (a .h) ≡ given (a .ss)
     read-segments = segments-by f (a .h) (a .all)
@@ -237,6 +281,6 @@ module _ {r : Judgement} {x : Answer Judged} (answer : judgedAnswer r ≡ x) whe
   unfolding judgedAnswer
   judgement-refused e = sym answer ∙ ap judgedAnswer e
 
-  pub judgement-given : {j : CodeJudged} → r ≡ Judgement.Given j → x ≡ given (record { facts = factsBy (j .head); gathered = j .gathered })
+  pub judgement-given : {j : CodeJudged} → r ≡ Judgement.Given j → x ≡ given (judgedBy j)
   unfolding judgedAnswer
   judgement-given e = sym answer ∙ ap judgedAnswer e

@@ -1,4 +1,5 @@
 pub mod JudgedLaws
+pub mod StagedLaws
 pub mod PartLaws
 pub mod TableLaws
 pub mod TextLaws

@@ -1,4 +1,5 @@
-// Stages 1 to 25: what a file says, before any lent table is filled.
+// All stages: what a file says, before any lent table is filled.
+use crate::indexed::index_stages;
 use boxes::kinds::Container;
 use boxes::kinds::PSEG;
 use gathering::gathered::Gathered;
@@ -7,32 +8,47 @@ use gathering::pass::pass;
 use heading::answers::Head;
 use heading::answers::Headed;
 use heading::stages::heading_of;
+use indexing::end::End;
+use partial::answers::Counted;
 use partial::limits::SEGMENT_LIMIT;
 use partial::refusals::NO_SEGMENT;
 use partial::refusals::SIZES_DIFFER;
 use partial::refusals::TOO_MANY_SEGMENTS;
 use tallying::rules::keeps;
+ghost use Prim.Native.Nat.{ℕ};
+ghost use mathlib.Core.List.{List};
 ghost use mathlib.Core.Path.{_≡_};
 ghost use lib.ListN.{length};
 ghost use Rattle.boxes.specs.Answer.{given};
 ghost use Rattle.boxes.specs.Framing.{boxesIn};
-ghost use Rattle.boxes.specs.Kinds.{pseg, those};
+ghost use Rattle.boxes.specs.Kinds.{pseg, right, those};
 ghost use Rattle.boxes.specs.declared.kinds.Container.the-variants.{File};
-ghost use Rattle.partial.specs.Heading.{Heading};
+ghost use Rattle.partial.specs.Heading.{Heading, heading};
 ghost use Rattle.partial.specs.Limits.{sourceLimit};
 ghost use Rattle.partial.specs.Reading.{segments, reading};
-ghost use Rattle.reading.specs.Judged.{gatheredIn, gatheredAnswer, judgedAnswer, earlierTold, readingTold, KeptIn};
+ghost use Rattle.partial.specs.Segments.{Segment};
+ghost use Rattle.heading.specs.Facts.{factsOf, factsBy};
+ghost use Rattle.gathering.specs.Gathered.{gatheredOf};
+ghost use Rattle.reading.specs.Judged.{gatheredIn, judgedIn, gatheredAnswer, judgedAnswer, earlierTold, readingTold, KeptIn};
 
-// What the heading of a file tells, and what is gathered of its segments.
+// What the heading of a file tells, what is gathered of its segments, and how many rows its index has.
 pub struct Judged {
     pub head: Head,
     pub gathered: Gathered,
+    pub index: u64,
 }
 
 // What a file says, or the number of its refusal.
 pub enum Judgement {
     Refused(u64),
     Given(Judged),
+}
+
+// 12: whether a file of that heading has a segment.
+fn has_segment(head: Head) -> bool
+    ensures { λ r. ⌜ ((f : List ℕ) (h : Heading) → factsOf f h ≡ factsBy head → r ≡ right File pseg (h .boxes)) ⌝ }
+{
+    keeps(Container::File, PSEG, head.segments)
 }
 
 // Stages 13 to 25 of a file, mixed or not, whose framing is right and that has so many `pseg` boxes; their rows and
@@ -64,7 +80,29 @@ fn segments_of(
     }
 }
 
-// What a file that append takes says: one that is acceptable, or whose only refusal is 12.
+// What a file says of which stages 1 to 25 are passed: 36 to 39 are those of its index.
+fn with_index(file: &[u8], head: Head, gathered: Gathered) -> Judgement
+    ensures { λ r. ⌜ ((h : Heading) (ss : List Segment) → heading (now (file .entry)) ≡ given h
+        → factsOf (now (file .entry)) h ≡ factsBy head → segments sourceLimit (now (file .entry)) h ≡ given ss
+        → gathered ≡ gatheredOf ss → judgedAnswer r ≡ judgedIn (now (file .entry)) h) ⌝ }
+{
+    let sizes = gathered.sizes;
+    let at = sizes.size;
+    let size = End {
+        known: sizes.known,
+        at,
+    };
+    match index_stages(file, head.indexed, gathered.indexed, size) {
+        Counted::Refused(n) => Judgement::Refused(n),
+        Counted::Rows(index) => Judgement::Given(Judged {
+            head,
+            gathered,
+            index,
+        }),
+    }
+}
+
+// What a file that append takes says: one that is acceptable, or whose only refusal is 12, whatever its index.
 pub fn earlier_of(file: &[u8]) -> Judgement
     ensures { λ r. ⌜ judgedAnswer r ≡ earlierTold (now (file .entry)) ⌝ }
 {
@@ -80,7 +118,16 @@ pub fn earlier_of(file: &[u8]) -> Judgement
             &mut no_numbers,
         ) {
             Passed::Refused(n) => Judgement::Refused(n),
-            Passed::Given(gathered) => Judgement::Given(Judged { head, gathered }),
+            Passed::Given(gathered) => {
+                if !has_segment(head) {
+                    return Judgement::Given(Judged {
+                        head,
+                        gathered,
+                        index: 0,
+                    });
+                }
+                with_index(file, head, gathered)
+            }
         },
     }
 }
@@ -94,12 +141,12 @@ pub fn judge_into(file: &[u8], rows: &mut [u64], numbers: &mut [u64]) -> Judgeme
     match heading_of(file) {
         Headed::Refused(n) => Judgement::Refused(n),
         Headed::Found(head) => {
-            if !keeps(Container::File, PSEG, head.segments) {
+            if !has_segment(head) {
                 return Judgement::Refused(NO_SEGMENT);
             }
             match segments_of(file, head.mixed, head.segments, rows, numbers) {
                 Passed::Refused(n) => Judgement::Refused(n),
-                Passed::Given(gathered) => Judgement::Given(Judged { head, gathered }),
+                Passed::Given(gathered) => with_index(file, head, gathered),
             }
         }
     }

@@ -1,5 +1,5 @@
--- Laws of the counts by the rows of the table: how a loop over it counts one box more, what is read at a kind's row, and
--- what a tally says.
+-- Laws of the counts by the rows of the table: how a loop over it counts one box more, what is read at a kind's row,
+-- and what a tally says.
 use Prim.Native.Nat.{ℕ, zero, suc, _+_, _≤_, _<_}
 use mathlib.Core.Bool.{Bool, true, false, _||_}
 use mathlib.Core.List.{List, [], _∷_, _++_, map}

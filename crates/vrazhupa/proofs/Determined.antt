@@ -4,6 +4,7 @@ use mathlib.Core.Path.{sym, _∙_}
 use denote.Ref.{now}
 use Rattle.numerals.proofs.Determined.{OneResult, OneLeft}
 use Rattle.vrazhupa.proofs.reading_calls.vrazhupa_ask.Reads as ask
+use Rattle.vrazhupa.proofs.reading_calls.vrazhupa_index.Reads as index
 use Rattle.vrazhupa.proofs.reading_calls.vrazhupa_list.Reads as list
 use Rattle.vrazhupa.proofs.reading_calls.vrazhupa_boxes.Reads as boxes
 use Rattle.vrazhupa.proofs.reading_calls.vrazhupa_heading.Reads as heading
@@ -87,6 +88,15 @@ list-had κs args x y after after′ p q = p .hadTable ∙ sym (q .hadTable)
 
 list-missing : OneLeft list.Post (λ κs after. now (after .1 .1 .1 .1 .0))
 list-missing κs args x y after after′ p q = p .missingTable ∙ sym (q .missingTable)
+
+index-result : OneResult index.Post
+index-result κs args x y after after′ p q = p .said .number ∙ sym (q .said .number)
+
+index-told : OneLeft index.Post (λ κs after. now (after .1 .1 .0))
+index-told κs args x y after after′ p q = p .said .values ∙ sym (q .said .values)
+
+index-rows : OneLeft index.Post (λ κs after. now (after .1 .0))
+index-rows κs args x y after after′ p q = p .rows ∙ sym (q .rows)
 
 map-result : OneResult map.Post
 map-result κs args x y after after′ p q = p .said .number ∙ sym (q .said .number)

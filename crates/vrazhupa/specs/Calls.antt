@@ -13,9 +13,10 @@ use Rattle.partial.specs.Limits.{sourceLimit}
 use Rattle.partial.specs.Memory.{after, written, textWritten}
 use Rattle.partial.specs.Reading.{reading}
 use Rattle.partial.specs.declared.brand.Brand.{Brand}
+use Rattle.partial.specs.Tables.{indexTabled, indexTable, indexCount}
 use Rattle.partial.specs.Tables.{tabled, listed, summary, totals, servedPart, asked, textOf, hadRows, missingRows}
 use Rattle.reading.specs.Tables.{Filled}
-use Rattle.vrazhupa.specs.Says.{Says, headingNumbers, summaryNumbers, totalsNumbers, replyNumbers, partNumbers, lengthNumbers}
+use Rattle.vrazhupa.specs.Says.{Says, headingNumbers, summaryNumbers, totalsNumbers, replyNumbers, partNumbers, oneNumber}
 
 -- the heading alone, so that a file that was only begun is told of too
 pub record SaysHeaded (f before after : List ℕ) (r : ℕ) : Type 0 where
@@ -44,15 +45,20 @@ pub record SaysListed (f segments segments′ chunks chunks′ had had′ missin
   pub hadTable : had′ ≡ after hadRows (listed sourceLimit f segments chunks had missing) had
   pub missingTable : missing′ ≡ after missingRows (listed sourceLimit f segments chunks had missing) missing
 
+-- how many rows the index has, and the rows in the table
+pub record SaysIndexed (f table table′ told told′ : List ℕ) (r : ℕ) : Type 0 where
+  pub said : Says oneNumber (indexTabled sourceLimit f table >>= λ index. given (indexCount index)) told told′ r
+  pub rows : table′ ≡ after indexTable (indexTabled sourceLimit f table) table
+
 -- a text's length, and the text in the buffer
 pub record SaysPrinted (text buffer buffer′ told told′ : List ℕ) (r : ℕ) : Type 0 where
-  pub said : Says lengthNumbers (textWritten text buffer) told told′ r
+  pub said : Says oneNumber (textWritten text buffer) told told′ r
   pub left : buffer′ ≡ written text (textWritten text buffer) buffer
 
 pub record SaysBegun (brand : Brand) (url mime buffer buffer′ told told′ : List ℕ) (r : ℕ) : Type 0 where
-  pub said : Says lengthNumbers (begun buffer brand url mime) told told′ r
+  pub said : Says oneNumber (begun buffer brand url mime) told told′ r
   pub left : buffer′ ≡ written (beginning brand url mime) (begun buffer brand url mime) buffer
 
 pub record SaysAppended (buffer buffer′ : List ℕ) (n : ℕ) (a : Addition) (told told′ : List ℕ) (r : ℕ) : Type 0 where
-  pub said : Says lengthNumbers (appended sourceLimit buffer n a) told told′ r
+  pub said : Says oneNumber (appended sourceLimit buffer n a) told told′ r
   pub left : buffer′ ≡ written (result buffer n a) (appended sourceLimit buffer n a) buffer

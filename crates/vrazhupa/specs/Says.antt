@@ -49,6 +49,6 @@ partNumbers p = p .place ∷ p .size ∷ []
 unfoldable pub headingNumbers : Facts → List ℕ
 headingNumbers h = flag (h .mixed) ∷ h .boxes ∷ h .segments ∷ (partNumbers (h .url) ++ partNumbers (h .mime))
 
--- the length of what was written
-unfoldable pub lengthNumbers : ℕ → List ℕ
-lengthNumbers n = n ∷ []
+-- the length of what was written, or how many rows were filled
+unfoldable pub oneNumber : ℕ → List ℕ
+oneNumber n = n ∷ []

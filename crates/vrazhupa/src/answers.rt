@@ -2,14 +2,15 @@
 // numbers are as they were.
 use heading::answers::Headed;
 use partial::answers::Asked;
+use partial::answers::Counted;
 use partial::answers::Listed;
 use partial::answers::Read;
 use partial::answers::Written;
 use reading::parts::Located;
 ghost use Rattle.heading.specs.Facts.{headedAnswer};
-ghost use Rattle.partial.specs.Answers.{readAnswer, askedAnswer, listedAnswer, writtenAnswer};
+ghost use Rattle.partial.specs.Answers.{readAnswer, askedAnswer, listedAnswer, countedAnswer, writtenAnswer};
 ghost use Rattle.reading.specs.Parts.{locatedAnswer};
-ghost use Rattle.vrazhupa.specs.Says.{Says, headingNumbers, summaryNumbers, replyNumbers, partNumbers, totalsNumbers, lengthNumbers};
+ghost use Rattle.vrazhupa.specs.Says.{Says, headingNumbers, summaryNumbers, replyNumbers, partNumbers, totalsNumbers, oneNumber};
 
 // The kinds of answers about a position.
 const SERVED: u64 = 0;
@@ -111,9 +112,22 @@ pub(crate) fn say_listed(r: Listed, told: &mut [u64; 4]) -> u64
     }
 }
 
+// How many rows were filled.
+pub(crate) fn say_counted(r: Counted, told: &mut [u64; 1]) -> u64
+    ensures { λ n. ⌜ Says oneNumber (countedAnswer r) (now (told .entry)) (now (told .exit)) n ⌝ }
+{
+    match r {
+        Counted::Refused(n) => n,
+        Counted::Rows(many) => {
+            *told = [many];
+            0
+        }
+    }
+}
+
 // The length of what was written.
 pub(crate) fn say_written(r: Written, told: &mut [u64; 1]) -> u64
-    ensures { λ n. ⌜ Says lengthNumbers (writtenAnswer r) (now (told .entry)) (now (told .exit)) n ⌝ }
+    ensures { λ n. ⌜ Says oneNumber (writtenAnswer r) (now (told .entry)) (now (told .exit)) n ⌝ }
 {
     match r {
         Written::Refused(n) => n,

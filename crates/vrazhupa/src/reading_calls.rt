@@ -1,6 +1,7 @@
-// The exported calls that read a file: its heading, tables and texts, positions, lists, both maps and the list of its
-// boxes.
+// The exported calls that read a file: its heading, tables and texts, positions, lists, index, both maps and the list
+// of its boxes.
 use crate::answers::say_asked;
+use crate::answers::say_counted;
 use crate::answers::say_headed;
 use crate::answers::say_listed;
 use crate::answers::say_part;
@@ -8,6 +9,7 @@ use crate::answers::say_read;
 use crate::answers::say_written;
 use boxlisting::call::boxes;
 use heading::stages::heading_of;
+use indexrows::calls::index;
 use listing::calls::list;
 use mapping::call::map;
 use mapping::call::missmap;
@@ -21,7 +23,7 @@ ghost use Rattle.partial.specs.BoxList.{boxesText};
 ghost use Rattle.partial.specs.Heading.{url, mime};
 ghost use Rattle.partial.specs.Limits.{sourceLimit};
 ghost use Rattle.partial.specs.Map.{mapText, missmapText};
-ghost use Rattle.vrazhupa.specs.Calls.{SaysHeaded, SaysRead, SaysText, SaysServed, SaysAsked, SaysListed, SaysPrinted};
+ghost use Rattle.vrazhupa.specs.Calls.{SaysHeaded, SaysRead, SaysText, SaysServed, SaysAsked, SaysListed, SaysIndexed, SaysPrinted};
 
 // Tells the heading of a file, also of one that was only begun.
 #[no_mangle]
@@ -104,6 +106,14 @@ pub extern "C" fn vrazhupa_list(
         (now (missing .exit)) (now (told .entry)) (now (told .exit)) r ⌝ }
 {
     say_listed(list(file, segments, chunks, had, missing), told)
+}
+
+// Tells the boxes of a file's index in rows.
+#[no_mangle]
+pub extern "C" fn vrazhupa_index(file: &[u8], table: &mut [u64], told: &mut [u64; 1]) -> u64
+    ensures { λ r. ⌜ SaysIndexed (now (file .entry)) (now (table .entry)) (now (table .exit)) (now (told .entry)) (now (told .exit)) r ⌝ }
+{
+    say_counted(index(file, table), told)
 }
 
 // Writes the map's text, 27 for a file of more bytes than the caller takes.

@@ -18,6 +18,7 @@ use Rattle.partial.specs.Addition.{Addition, asks, items, listRight, dataSize, 
 use Rattle.partial.specs.Answers.{writtenAnswer}
 use Rattle.partial.specs.Append.{added, admission, appended, result}
 use Rattle.partial.specs.Heading.{Heading, heading}
+use Rattle.partial.specs.Index.{Indexed, indexed}
 use Rattle.partial.specs.Limits.{fileLimit, sourceLimit}
 use Rattle.partial.specs.Memory.{after, filled}
 use Rattle.partial.specs.Reading.{earlierSegments}
@@ -35,9 +36,9 @@ use Rattle.partial.proofs.Writing.ResultLaws.{appended-offered}
 use Rattle.heading.specs.Facts.{factsOf, factsBy}
 use Rattle.filling.specs.Rows.{Put}
 use Rattle.gathering.specs.Gathered.{gatheredOf}
-use Rattle.reading.specs.Judged.{earlierTold}
+use Rattle.reading.specs.Judged.{judgedBy, earlierTold}
 use Rattle.reading.specs.declared.judging.Judged.{Judged}
-use Rattle.reading.proofs.JudgedLaws.{first-refused, earlier-cases, accepted, read-refused, read-given}
+use Rattle.reading.proofs.JudgedLaws.{earlier-cases, accepted, read-refused, read-given}
 use Rattle.reading.proofs.JudgedLaws.{earlier-headless as told-headless}
 use Rattle.outside.specs.declared.chunks.Outside.{Outside}
 use Rattle.adding.specs.Admission.{Beside, Asked, admittedLength}
@@ -113,6 +114,16 @@ module _ (header : SegmentHeader) (o : Bool) (list bytes : List ℕ) {c : Counts
 
 -- ---- the file
 
+-- a refusal of two steps before others is theirs whatever follows
+stops : {A B C D : Type 0} (x : Answer A) (y : A → Answer B) (m : C) (next : Answer D) {k : ℕ} → (x >>= λ a. y a >>= λ _. given m) ≡ refused k
+    → (x >>= λ a. y a >>= λ _. next) ≡ refused k
+stops (refused j) y m next e = ap refused (refused-same e)
+stops {B = B} {D = D} (given a) y m next {k} e = go (y a) e
+  where
+    go : (z : Answer B) → (z >>= λ _. given m) ≡ refused k → (z >>= λ _. next) ≡ refused k
+    go (refused j) e = ap refused (refused-same e)
+    go (given b) e = absurd (not-both (sym e))
+
 -- a refusal of what is told of it is a refusal of its segments
 pub earlier-refused : (f : List ℕ) {k : ℕ} → earlierTold f ≡ refused k → earlierSegments sourceLimit f ≡ refused k
 earlier-refused f {k} e = go (heading f) refl
@@ -131,10 +142,10 @@ pub record Earlier (f : List ℕ) (j : Judged) : Type 0 where
   pub ss : List Segment
   pub head : heading f ≡ given h
   pub read : earlierSegments sourceLimit f ≡ given ss
-  pub beside : Beside h ss j
+  pub beside : Beside f h ss j
   pub mixed : j .head .mixed ≡ h .mixed
 
-pub earlier : (f : List ℕ) (j : Judged) → earlierTold f ≡ given (record { facts = factsBy (j .head); gathered = j .gathered }) → Earlier f j
+pub earlier : (f : List ℕ) (j : Judged) → earlierTold f ≡ given (judgedBy j) → Earlier f j
 unfolding earlierTold factsOf
 earlier f j e =
     let (h, head, _) = both-given (heading f) _ e in
@@ -155,7 +166,11 @@ earlier f j e =
           ss = ss;
           head = head;
           read = read;
-          beside = record { boxes = sym (ap (λ x. x .boxes) facts); segments = gathered };
+          beside = record {
+            file = record { head = head; read = read; index = sym (ap (λ x. x .indexed) facts) };
+            boxes = sym (ap (λ x. x .boxes) facts);
+            segments = gathered;
+          };
           mixed = sym (ap (λ x. x .mixed) facts);
         }
 
@@ -188,6 +203,7 @@ module _ (buffer : List ℕ) (n : ℕ) (header : SegmentHeader) (o : Bool) (list
 
       by-admission : appended sourceLimit buffer n (asks header o list bytes)
           ≡ (admission sourceLimit (file .h) (file .ss) n (asks header o list bytes)
+          >>= λ ts. indexed sourceLimit (take n buffer) (file .h) ts
           >>= λ _. hold 33 (leb (n + length (added (asks header o list bytes))) (length buffer)) >>= λ _. given (n + length (added (asks header o list bytes))))
       by-admission = appended-offered sourceLimit buffer n (asks header o list bytes) (file .h) (file .ss) fits offered
 
@@ -203,25 +219,30 @@ module _ (buffer : List ℕ) (n : ℕ) (header : SegmentHeader) (o : Bool) (list
           }
 
       module _ (r : Written)
-          (answer : (h : Heading) (ss : List Segment) (a : Addition) → Beside h ss j → Asked a header c x l → writtenAnswer r ≡ admittedLength h ss n a) where
-        told : writtenAnswer r ≡ admittedLength (file .h) (file .ss) n (asks header o list bytes)
+          (answer : (h : Heading) (ss : List Segment) (a : Addition) → Beside (take n buffer) h ss j → Asked a header c x l → writtenAnswer r ≡ admittedLength (take n buffer) h ss n a) where
+        told : writtenAnswer r ≡ admittedLength (take n buffer) (file .h) (file .ss) n (asks header o list bytes)
         told = answer (file .h) (file .ss) (asks header o list bytes) (file .beside) asked
 
         pub not-admitted : {k : ℕ} → r ≡ Written.Refused k → appended sourceLimit buffer n (asks header o list bytes) ≡ refused k
         unfolding writtenAnswer admittedLength
         not-admitted e =
             by-admission
-            ∙ rw (first-refused (admission sourceLimit (file .h) (file .ss) n (asks header o list bytes)) _ (sym told ∙ ap writtenAnswer e))
+            ∙ stops (admission sourceLimit (file .h) (file .ss) n (asks header o list bytes)) (indexed sourceLimit (take n buffer) (file .h)) _ _ (sym told ∙ ap writtenAnswer e)
 
         module _ {m : ℕ} (e : r ≡ Written.Length m) where
           taken : (ts : List Segment)
               × (admission sourceLimit (file .h) (file .ss) n (asks header o list bytes) ≡ given ts)
+              × (is : List Indexed)
+              × (indexed sourceLimit (take n buffer) (file .h) ts ≡ given is)
               × (given (n + length (added (asks header o list bytes))) ≡ given m)
           unfolding writtenAnswer admittedLength
-          taken = both-given (admission sourceLimit (file .h) (file .ss) n (asks header o list bytes)) _ (sym told ∙ ap writtenAnswer e)
+          taken =
+              let (ts, admits, rest) = both-given (admission sourceLimit (file .h) (file .ss) n (asks header o list bytes)) _ (sym told ∙ ap writtenAnswer e) in
+              let (is, index, same) = both-given (indexed sourceLimit (take n buffer) (file .h) ts) _ rest in
+              (ts, admits, is, index, same)
 
           pub new-length : m ≡ n + length (added (asks header o list bytes))
-          new-length = sym (given-same (taken .2))
+          new-length = sym (given-same (taken .4))
 
           all-held : Admits sourceLimit (file .h) (file .ss) n (asks header o list bytes)
           all-held = admits sourceLimit (file .h) (file .ss) n (asks header o list bytes) (taken .1) .0
@@ -242,10 +263,10 @@ module _ (buffer : List ℕ) (n : ℕ) (header : SegmentHeader) (o : Bool) (list
           pub too-short : length buffer < m → appended sourceLimit buffer n (asks header o list bytes) ≡ refused 33
           too-short short =
               let long = new-length in
-              by-admission ∙ rw (taken .1, lt-leb (n + length (added (asks header o list bytes))) (length buffer) (omega arith))
+              by-admission ∙ rw (taken .1, taken .3, lt-leb (n + length (added (asks header o list bytes))) (length buffer) (omega arith))
 
           pub appended-given : {end : ℕ} → m ≤ length buffer → end ≡ n + length (added (asks header o list bytes))
               → appended sourceLimit buffer n (asks header o list bytes) ≡ given end
           appended-given room ends =
               let long = new-length in
-              by-admission ∙ rw (taken .1, le-leb (n + length (added (asks header o list bytes))) (length buffer) (omega arith), ends)
+              by-admission ∙ rw (taken .1, taken .3, le-leb (n + length (added (asks header o list bytes))) (length buffer) (omega arith), ends)

@@ -30,8 +30,7 @@ ghost use Rattle.partial.specs.Addition.{asks, items, listRight, outsideRight};
 ghost use Rattle.partial.specs.Append.{added};
 ghost use Rattle.partial.specs.Heading.{Heading, heading};
 ghost use Rattle.partial.specs.Limits.{fileLimit};
-ghost use Rattle.heading.specs.Facts.{factsBy};
-ghost use Rattle.reading.specs.Judged.{earlierTold};
+ghost use Rattle.reading.specs.Judged.{judgedBy, earlierTold};
 ghost use Rattle.adding.specs.Counts.{Sorted};
 ghost use Rattle.adding.specs.Layout.{Laid};
 ghost use Rattle.filling.specs.Rows.{Puts};
@@ -84,14 +83,22 @@ fn append_right(
     bytes: &[u8],
 ) -> Written
     requires { ⌜ (n ≤ length (now buffer))
-        × (earlierTold (take n (now buffer)) ≡ given (record { facts = factsBy (judged .head); gathered = judged .gathered }))
+        × (earlierTold (take n (now buffer)) ≡ given (judgedBy judged))
         × (listRight (now list) ≡ true) × Sorted (asks header outside (now list) (now bytes)) counts stored
         × ((h : Heading) → heading (take n (now buffer)) ≡ given h
         → outsideRight h (asks header outside (now list) (now bytes)) ≡ true) ⌝ }
     ensures { λ r. ⌜ Appends (now (buffer .entry)) (now (buffer .exit)) n (asks header outside (now (list .entry)) (now (bytes .entry))) r ⌝ }
 {
     let layout = layout_of(counts, stored, header.offset);
-    match admission(judged, n, header, counts, stored, layout) {
+    match admission(
+        &buffer[..n as usize],
+        judged,
+        n,
+        header,
+        counts,
+        stored,
+        layout,
+    ) {
         Written::Refused(k) => Written::Refused(k),
         Written::Length(size) => {
             if (buffer.len() as u64) < size {
@@ -124,7 +131,7 @@ fn append_to(
     list: &[u64],
     bytes: &[u8],
 ) -> Written
-    requires { ⌜ (n ≤ length (now buffer)) × (earlierTold (take n (now buffer)) ≡ given (record { facts = factsBy (judged .head); gathered = judged .gathered })) ⌝ }
+    requires { ⌜ (n ≤ length (now buffer)) × (earlierTold (take n (now buffer)) ≡ given (judgedBy judged)) ⌝ }
     ensures { λ r. ⌜ Appends (now (buffer .entry)) (now (buffer .exit)) n (asks header outside (now (list .entry)) (now (bytes .entry))) r ⌝ }
 {
     if list.len() % 2 != 0 {

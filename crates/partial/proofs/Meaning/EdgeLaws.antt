@@ -1,7 +1,7 @@
 -- How many ranges a file has: no more than one, and one for each edge of a chunk, since the class of a position changes
 -- only where a chunk starts or ends.
 use Prim.Native.Nat.{ℕ, suc, _+_, _-_, _≤_, _<_}
-use mathlib.Core.Bool.{Bool, true, false, _||_}
+use mathlib.Core.Bool.{true, false}
 use mathlib.Core.List.{List, [], _∷_, _++_}
 use mathlib.Core.Logic.{inl, inr}
 use mathlib.Core.Path.{_≡_, refl, sym, ap, _∙_}
@@ -16,7 +16,7 @@ use Rattle.partial.specs.Segments.{Chunk, Segment, good, damaged, chunks
 use Rattle.partial.specs.Meaning.{covers, coversAs, supplied, describedLength}
 use Rattle.partial.specs.Ranges.{Range, ranges, classOf, rangesOf}
 use Rattle.partial.specs.Naming.{damagedAt, namedClass, namedRanges}
-use Rattle.partial.proofs.Meaning.SequenceLaws.{which, some-append}
+use Rattle.partial.proofs.Meaning.SequenceLaws.{which, neither, some-append}
 use Rattle.partial.proofs.Meaning.SupplyLaws.{supplied-some}
 use Rattle.partial.proofs.Meaning.RangeLaws.{Cut, done, next, cut, ordered}
 use Rattle.partial.proofs.Meaning.DescribedLaws.{Follow, InOrder}
@@ -110,11 +110,6 @@ unfolding edgesOf chunksOf
 edges-many [] = sym (zero-add 0)
 edges-many (s ∷ ss) =
     rw (length-append, length-append, from-many (s .sourceOffset) (s .chunks), edges-many ss) (omega arith)
-
--- what fails of two fails of each
-neither : (a b : Bool) → (a || b) ≡ false → (a ≡ false) × (b ≡ false)
-neither false b h = (refl, h)
-neither true b h = (h, absurd (let z : _≡_ {A = ℕ} 0 1 = cc in omega arith))
 
 differ : (m n : ℕ) → eqb m n ≡ false → m ≡ n → ⊥
 differ m n e same = let z : _≡_ {A = ℕ} 0 1 = cc (e, eq-eqb m n same) in omega arith

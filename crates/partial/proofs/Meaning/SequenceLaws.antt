@@ -1,9 +1,9 @@
 -- Laws of a test's two values, of `within`, and of what is said of a list: some or all pass a test, the largest.
 use Prim.Native.Nat.{ℕ, zero, suc, _+_, _≤_, _<_}
 use mathlib.Core.Bool.{Bool, true, false, _&&_, _||_, and-false, and-assoc, or-assoc, or-true, false≢true}
-use mathlib.Core.List.{List, [], _∷_, _++_, map}
-use mathlib.Core.Logic.{_⊎_, inl, inr}
-use mathlib.Core.Path.{_≡_, refl, sym, ap, _∙_}
+use mathlib.Core.List.{List, [], _∷_, _++_, map, List·Memᴰ, List·Memᴰ·not-nil, List·Memᴰ·cases-cons}
+use mathlib.Core.Logic.{_⊎_, inl, inr, ⊎-elim}
+use mathlib.Core.Path.{_≡_, refl, sym, ap, subst, _∙_}
 use native.Mathlib.Omega.{arith}
 use borrow.Author.Tests.{le-leb, lt-ltb, le-ltb, leb-true, ltb-true}
 use lib.Dec.{T}
@@ -19,6 +19,11 @@ which false = inr refl
 pub both : (a b : Bool) → (a && b) ≡ true → (a ≡ true) × (b ≡ true)
 both true b h = (refl, h)
 both false b h = (h, absurd (false≢true h))
+
+-- and neither passes where not even one does
+pub neither : (a b : Bool) → (a || b) ≡ false → (a ≡ false) × (b ≡ false)
+neither false b h = (refl, h)
+neither true b h = (h, absurd (false≢true (sym h)))
 
 -- a test as a type
 pub passes : (b : Bool) → T b → b ≡ true
@@ -45,6 +50,14 @@ Each P [] = Unit {0}
 Each P (x ∷ xs) = P x × Each P xs
 
 module _ {A : Type 0} where
+  pub each-append : (P : A → Type 0) (xs ys : List A) → Each P xs → Each P ys → Each P (xs ++ ys)
+  each-append P [] ys one two = two
+  each-append P (x ∷ xs) ys (here, one) two = (here, each-append P xs ys one two)
+
+  pub each-member : (P : A → Type 0) (xs : List A) → Each P xs → (x : A) → List·Memᴰ x xs → P x
+  each-member P [] each x there = absurd (List·Memᴰ·not-nil there)
+  each-member P (y ∷ ys) (here, each) x there = ⊎-elim (λ same. subst P (sym same) here) (each-member P ys each x) (List·Memᴰ·cases-cons there)
+
   pub some-append : (test : A → Bool) (xs ys : List A) → someOf test (xs ++ ys) ≡ (someOf test xs || someOf test ys)
   unfolding someOf
   some-append test [] ys = refl

@@ -170,6 +170,21 @@ module _ (f : List ℕ) (h : Heading) where
 abbrev pub withBoxes : Heading → List Box → Heading
 withBoxes h more = record { boxes = h .boxes ++ more; inner = h .inner; mixed = h .mixed }
 
+-- the second box of the file is its `pfil`, and what that holds lies in the file
+module _ (f : List ℕ) (h : Heading) (t : Headed f h) where
+  pfil-second : 1 < length (h .boxes)
+  unfolding pfilRight
+  pfil-second = is-there pfil (lit< tt) 1 (h .boxes) (both (is pfil (boxAt 1 (h .boxes))) (right File pfil (h .boxes)) (t .pfil) .0)
+
+  pfil-ends : boxAt 1 (h .boxes) .end ≤ length f
+  pfil-ends =
+      lies-ends (length f) (boxAt 1 (h .boxes)) (all-boxAt (lies (length f)) (h .boxes) 1 pfil-second (boxes-lie File f 0 (length f) (h .boxes) (t .boxes)))
+
+  pub inner-lie : allOf (lies (length f)) (h .inner) ≡ true
+  inner-lie =
+      let b = boxAt 1 (h .boxes) in
+      further-lie (b .end) (length f) pfil-ends (h .inner) (boxes-lie Pfil f (b .body) (b .end) (h .inner) (t .inner))
+
 -- stages 1 to 11 of a file with more behind it
 module _ (f g : List ℕ) (h : Heading) (cs : List Box) where
   ftyp-first : Headed f h → (0 < length (h .boxes)) × (boxAt 0 (h .boxes) .body + 8 ≤ boxAt 0 (h .boxes) .end)
@@ -180,10 +195,6 @@ module _ (f g : List ℕ) (h : Heading) (cs : List Box) where
       let (two, fours) = both (is ftyp b && leb (b .body + 8) (b .end)) (eqb ((b .end - b .body) % 4) 0) three in
       let (kind, room) = both (is ftyp b) (leb (b .body + 8) (b .end)) two in
       (is-there ftyp (lit< tt) 0 (h .boxes) kind, leb-true (b .body + 8) (b .end) room)
-
-  pfil-second : Headed f h → 1 < length (h .boxes)
-  unfolding pfilRight
-  pfil-second t = is-there pfil (lit< tt) 1 (h .boxes) (both (is pfil (boxAt 1 (h .boxes))) (right File pfil (h .boxes)) (t .pfil) .0)
 
   pub headed-appended : Headed f h → length (f ++ g) ≤ fileLimit
       → Filled File g (length g) 0 cs
@@ -196,20 +207,18 @@ module _ (f g : List ℕ) (h : Heading) (cs : List Box) where
       let bs = h .boxes in
       let ds = map (moved (length f)) cs in
       let (first, room) = ftyp-first t in
-      let second = pfil-second t in
+      let second = pfil-second f h t in
       let lie = boxes-lie File f 0 (length f) bs (t .boxes) in
       let end-first = lies-ends (length f) (boxAt 0 bs) (all-boxAt (lies (length f)) bs 0 first lie) in
-      let end-second = lies-ends (length f) (boxAt 1 bs) (all-boxAt (lies (length f)) bs 1 second lie) in
-      let inner-boxes = boxes-lie Pfil f (boxAt 1 bs .body) (boxAt 1 bs .end) (h .inner) (t .inner) in
-      let inner-lie = further-lie (boxAt 1 bs .end) (length f) end-second (h .inner) inner-boxes in
+      let inside = inner-lie f h t in
       record {
         small = le-leb (length (f ++ g)) fileLimit fits;
         boxes = boxes-appended File f g (t .boxes) new few;
         ftyp = rw (boxAt-first bs ds 0 first, right-append File ftyp bs ds no-ftyp) (t .ftyp);
         brand = rw (boxAt-first bs ds 0 first, brand-kept f g (boxAt 0 bs) room end-first) (t .brand);
         pfil = rw (boxAt-first bs ds 1 second, right-append File pfil bs ds no-pfil) (t .pfil);
-        inner = rw (boxAt-first bs ds 1 second) (boxes-kept f g (boxAt 1 bs .end) end-second Pfil (boxAt 1 bs .body) ∙ t .inner);
-        pfhd = pfhdRight-kept f g (h .inner) (t .pfhd) inner-lie;
-        surl = surlRight-kept f g (h .inner) (t .surl) inner-lie;
+        inner = rw (boxAt-first bs ds 1 second) (boxes-kept f g (boxAt 1 bs .end) (pfil-ends f h t) Pfil (boxAt 1 bs .body) ∙ t .inner);
+        pfhd = pfhdRight-kept f g (h .inner) (t .pfhd) inside;
+        surl = surlRight-kept f g (h .inner) (t .surl) inside;
         mixed = t .mixed ∙ rw (boxAt-first bs ds 0 first, brand-kept f g (boxAt 0 bs) room end-first);
       }

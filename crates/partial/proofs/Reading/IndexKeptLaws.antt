@@ -6,7 +6,7 @@ use mathlib.Core.Logic.{inl, inr}
 use mathlib.Core.Option.{Option, none, some}
 use mathlib.Core.Path.{_≡_, refl, sym, ap, _∙_}
 use native.Mathlib.Omega.{arith}
-use borrow.Author.Tests.{leb-true, eqb-true}
+use borrow.Author.Tests.{leb-true}
 use lib.Dec.{leb, eqb}
 use lib.ListN.{length}
 use Rattle.boxes.specs.Answer.{Answer, refused, given, _>>=_, hold}
@@ -14,16 +14,13 @@ use Rattle.numerals.specs.Numbers.{number}
 use Rattle.boxes.specs.Framing.{Box, userSize, boxesIn}
 use Rattle.boxes.specs.Kinds.{fidx, bidx, frpa, right, those}
 use Rattle.boxes.specs.declared.kinds.Container.{Container}
-use Rattle.boxes.specs.declared.kinds.Container.the-variants.{Pseg, Pfil, Fidx, Bidx}
-use Rattle.boxes.proofs.AnswerLaws.{not-both, given-same}
+use Rattle.boxes.specs.declared.kinds.Container.the-variants.{Fidx, Bidx}
+use Rattle.boxes.proofs.AnswerLaws.{not-both}
 use Rattle.boxes.proofs.ContainerLaws.{boxes-kept}
 use Rattle.numerals.proofs.NumberLaws.{number-append}
 use Rattle.partial.specs.Sequences.{allOf}
-use Rattle.partial.specs.Segments.{Segment}
-use Rattle.partial.specs.Heading.{Heading}
-use Rattle.partial.specs.Meaning.{knownSize}
 use Rattle.partial.specs.Index.{IndexFields, sizeBy, frontBy, indexFields, endFrom, endRight, frontPart, listFramed, Told, noneFollows, inARow, indexList, indexedBox}
-use Rattle.partial.specs.Index.{Indexed, lastOrSized, withRest, wherever, callLimit, indexIn, indexOfSegments, indexOf}
+use Rattle.partial.specs.Index.{Indexed, lastOrSized, withRest, wherever, callLimit, indexIn}
 use Rattle.partial.proofs.Meaning.SequenceLaws.{which, both}
 use Rattle.partial.proofs.Reading.HeadingAppendLaws.{lies, lies-ends, boxes-lie, those-all, further-lie}
 

@@ -8,32 +8,24 @@ use native.Mathlib.Omega.{arith}
 use borrow.Author.Tests.{leb-true, eqb-true}
 use lib.Dec.{leb, eqb}
 use Rattle.boxes.specs.Answer.{Answer, given, _>>=_}
-use Rattle.boxes.specs.Framing.{Box, boxesIn}
+use Rattle.numerals.specs.Numbers.{number}
+use Rattle.boxes.specs.Framing.{Box, userSize, boxesIn}
 use Rattle.boxes.specs.Kinds.{fidx, bidx, right, those}
 use Rattle.boxes.specs.declared.kinds.Container.{Container}
 use Rattle.boxes.specs.declared.kinds.Container.the-variants.{Pfil, Pseg, Fidx}
 use Rattle.boxes.proofs.AnswerLaws.{both-given, held, given-same}
 use Rattle.partial.specs.Sequences.{allOf}
 use Rattle.partial.specs.Index.{IndexFields, isKnown, wherever, endRight, frontPart, Indexed, Told, noneFollows, withRest, inARow, untold, indexList, indexedBox, listFramed, callLimit}
-use Rattle.partial.specs.Index.{indexIn, indexOfSegments, indexed}
+use Rattle.partial.specs.Index.{indexFields, frontBy, indexedSize, indexIn, indexOfSegments, indexed}
 use Rattle.partial.specs.Segments.{Segment}
 use Rattle.partial.specs.Heading.{Heading}
 use Rattle.partial.specs.Meaning.{knownSize}
 use Rattle.partial.specs.IndexShape.{Inside, Under, Nested, Stepwise, InOrder}
-use Rattle.partial.proofs.Meaning.SequenceLaws.{both, all-append}
-use Rattle.partial.proofs.Reading.IndexGivenLaws.{known, Boxed, boxTold, told-boxed}
+use Rattle.partial.proofs.Meaning.SequenceLaws.{both, all-append, Each, each-append}
+use Rattle.partial.proofs.Reading.IndexGivenLaws.{known, boxTold, told-boxed}
 use Rattle.partial.proofs.Reading.IndexedLaws.{indexed-whole}
 
 -- ---- boxes behind others
-
--- what is so of each
-abbrev Each : (Indexed → Type 0) → List Indexed → Type 0
-Each P [] = Unit {0}
-Each P (i ∷ is) = P i × Each P is
-
-each-append : (P : Indexed → Type 0) (xs ys : List Indexed) → Each P xs → Each P ys → Each P (xs ++ ys)
-each-append P [] ys one two = two
-each-append P (x ∷ xs) ys (here, one) two = (here, each-append P xs ys one two)
 
 each-by : (P Q : Indexed → Type 0) → ((i : Indexed) → P i → Q i) → (is : List Indexed) → Each P is → Each Q is
 each-by P Q of [] each = tt
@@ -73,12 +65,17 @@ stepwise-append level before (x ∷ xs) ys (some-level, next, one) (here, low) n
 abbrev EndsBy : ℕ → Indexed → Type 0
 EndsBy end i = (d : ℕ) → i .end ≡ some d → d ≤ end
 
+-- a box has some bytes
+abbrev Filled : Indexed → Type 0
+Filled i = 0 < indexedSize i
+
 pub record Shaped (level place : ℕ) (told : Told) : Type 0 where
   pub nested : Nested (told .boxes)
   pub stepwise : (before : ℕ) → level ≤ before + 1 → Stepwise before (told .boxes)
   pub starts : Starts level (told .boxes)
   pub low : Each (λ i. level ≤ i .level) (told .boxes)
   pub from : Each (λ i. place ≤ i .place) (told .boxes)
+  pub sized : Each Filled (told .boxes)
   pub to : (end : ℕ) → told .end ≡ some end → Each (EndsBy end) (told .boxes) × (place ≤ end)
   pub ended : (told .boxes ≡ [] → ⊥) → (end : ℕ) × (told .end ≡ some end)
 
@@ -99,8 +96,22 @@ each-both : (P Q R : Indexed → Type 0) → ((i : Indexed) → P i → Q i → 
 each-both P Q R of [] one two = tt
 each-both P Q R of (i ∷ is) (p, one) (q, two) = (of i p q, each-both P Q R of is one two)
 
+-- a header has some bytes
+front-some : (f : List ℕ) (b : Box) {x : IndexFields} → indexFields f b ≡ given x → 0 < x .front
+unfolding indexFields frontBy
+front-some f b e =
+    let (_, e1) = held 36 (leb (b .body + 8) (b .end)) _ e in
+    let size = number f (b .body) 4 in
+    let kind = number f (b .body + 4) 4 in
+    let (_, e2) = held 36 (leb (b .body + frontBy size kind) (b .end)) _ e1 in
+    subst (λ (x : IndexFields). 0 < x .front) (given-same e2) (go (eqb size 1) (userSize kind))
+  where
+    go : (large : Bool) (user : ℕ) → 0 < (elim large as (λ _. ℕ) [ true ↦ 16 | false ↦ 8 ]) + user
+    go true user = omega arith
+    go false user = omega arith
+
 -- a box around a list that it is filled by
-module _ (limit level place : ℕ) (some-level : 1 ≤ level) (x : IndexFields) (inner : List Box) (more : Told)
+module _ (limit level place : ℕ) (some-level : 1 ≤ level) (x : IndexFields) (some-front : 0 < x .front) (inner : List Box) (more : Told)
     (shape : Shaped (level + 1) (place + x .front + frontPart inner) more) where
   filled-by : (e : ℕ) → wherever (λ filled. wherever (eqb filled) (some e)) (more .end) ≡ true → (f : ℕ) → more .end ≡ some f → f ≡ e
   unfolding wherever
@@ -117,7 +128,7 @@ module _ (limit level place : ℕ) (some-level : 1 ≤ level) (x : IndexFields) 
 
   boxed-shape : (e : ℕ) → endRight limit place x (some e) ≡ true → wherever (λ filled. wherever (eqb filled) (some e)) (more .end) ≡ true
       → Shaped level place (boxTold level place x (some e) more)
-  unfolding endRight wherever
+  unfolding endRight wherever indexedSize
   boxed-shape e right-end fills =
       let (over, _) = both (leb (place + x .front) e) (leb e limit) right-end in
       let room : place + x .front ≤ e = leb-true (place + x .front) e over in
@@ -130,6 +141,7 @@ module _ (limit level place : ℕ) (some-level : 1 ≤ level) (x : IndexFields) 
         starts = refl;
         low = (omega arith, each-by (λ i. level + 1 ≤ i .level) (λ i. level ≤ i .level) (λ i low. omega (arith, low)) (more .boxes) (shape .low));
         from = (omega arith, each-by (λ i. place + x .front + frontPart inner ≤ i .place) (λ i. place ≤ i .place) (λ i low. omega (arith, low)) (more .boxes) (shape .from));
+        sized = (omega (arith, room, some-front), shape .sized);
         to = λ end same.
             let at : e ≡ end = some-same same in
             ((λ d own-end. omega (arith, some-same own-end, at), subst (λ (n : ℕ). Each (EndsBy n) (more .boxes)) at ends), omega (arith, room, at));
@@ -147,6 +159,7 @@ module _ (level place e : ℕ) (t rest : Told) (one : Shaped level place t) (end
         starts = first (t .boxes) (one .starts);
         low = each-append (λ i. level ≤ i .level) (t .boxes) (rest .boxes) (one .low) (two .low);
         from = each-append (λ i. place ≤ i .place) (t .boxes) (rest .boxes) (one .from) (each-by (λ i. e ≤ i .place) (λ i. place ≤ i .place) (λ i low. omega (arith, low, over)) (rest .boxes) (two .from));
+        sized = each-append Filled (t .boxes) (rest .boxes) (one .sized) (two .sized);
         to = λ end same.
             let (others, later) = two .to end same in
             (each-append (EndsBy end) (t .boxes) (rest .boxes) (each-by (EndsBy e) (EndsBy end) (λ i by d own. omega (arith, by d own, later)) (t .boxes) by) others, omega (arith, over, later));
@@ -165,6 +178,7 @@ nothing-shaped level place =
       starts = tt;
       low = tt;
       from = tt;
+      sized = tt;
       to = λ end same. absurd (none-some same);
       ended = λ some-box. absurd (some-box refl);
     }
@@ -229,7 +243,7 @@ module _ (limit : ℕ) (f : List ℕ) where
       let (at, is) = some-end end ended in
       let from : ℕ = place + x .front + frontPart inner in
       let shape = list end from (those bidx inner) more (t .list) others in
-      let box = boxed-shape limit level place some-level x inner more shape at (rw is at (t .right-end)) (rw is at (t .fills)) in
+      let box = boxed-shape limit level place some-level x (front-some f b (t .fields)) inner more shape at (rw is at (t .right-end)) (rw is at (t .fills)) in
       (subst (Shaped level place) (ap (λ (o : Option ℕ). boxTold level place x o more) (sym is) ∙ same) box, subst (λ (u : Told). u .boxes ≡ [] → ⊥) same cons≢nil)
 
   -- boxes of a ninth level have no end that is known
@@ -256,9 +270,10 @@ record Listed (boxes : List Indexed) : Type 0 where
   stepwise : (before : ℕ) → Stepwise before boxes
   starts : Starts 1 boxes
   low : Each (λ i. 1 ≤ i .level) boxes
+  sized : Each Filled boxes
 
 none-listed : Listed []
-none-listed = record { nested = tt; stepwise = λ before. tt; starts = tt; low = tt }
+none-listed = record { nested = tt; stepwise = λ before. tt; starts = tt; low = tt; sized = tt }
 
 listed-append : (xs ys : List Indexed) → Listed xs → Listed ys → Listed (xs ++ ys)
 listed-append xs ys one two =
@@ -267,6 +282,7 @@ listed-append xs ys one two =
       stepwise = λ before. stepwise-append 1 before xs ys (one .stepwise before) (one .low) (omega arith) (λ from _. two .stepwise from);
       starts = first xs (one .starts);
       low = each-append (λ i. 1 ≤ i .level) xs ys (one .low) (two .low);
+      sized = each-append Filled xs ys (one .sized) (two .sized);
     }
   where
     first : (xs : List Indexed) → Starts 1 xs → Starts 1 (xs ++ ys)
@@ -289,7 +305,7 @@ module _ (limit : ℕ) (f : List ℕ) where
           let (told, list, e2) = both-given (indexList limit f callLimit 1 size start (those bidx inner)) _ e1 in
           let same : told .boxes ≡ boxes = given-same e2 in
           let shape = list-shaped limit f callLimit tt 1 (omega arith) size start (those bidx inner) told list (rw same all) in
-          subst Listed same (record { nested = shape .nested; stepwise = λ before. shape .stepwise before (omega arith); starts = shape .starts; low = shape .low })
+          subst Listed same (record { nested = shape .nested; stepwise = λ before. shape .stepwise before (omega arith); starts = shape .starts; low = shape .low; sized = shape .sized })
 
   segments-listed : (size : Option ℕ) (ss : List Segment) (boxes : List Indexed) → indexOfSegments limit f size ss ≡ given boxes → allOf known boxes ≡ true → Listed boxes
   unfolding indexOfSegments
@@ -301,10 +317,11 @@ module _ (limit : ℕ) (f : List ℕ) where
       let (one, others) = both (allOf known first) (allOf known later) (rw all-append at (subst (λ (is : List Indexed). allOf known is ≡ true) (sym same) all)) in
       subst Listed same (listed-append first later (in-listed Pseg (s .inner) size (s .sourceOffset) first here one) (segments-listed size ss later there others))
 
-  -- what is told of the index of an accepted file is in order
-  pub indexed-order : (h : Heading) (ss : List Segment) (boxes : List Indexed) → indexed limit f h ss ≡ given boxes → InOrder boxes
+  -- what is told of the index of an accepted file is in order, and no box of it is empty
+  pub indexed-order : (h : Heading) (ss : List Segment) (boxes : List Indexed) → indexed limit f h ss ≡ given boxes → InOrder boxes × Each Filled boxes
   indexed-order h ss boxes e =
       let (first, later, t, same) = indexed-whole limit f h ss e in
       let (one, others) = both (allOf known first) (allOf known later) (rw all-append at (t .ended)) in
       let all = listed-append first later (in-listed Pfil (h .inner) (knownSize ss) 0 first (t .inPfil) one) (segments-listed (knownSize ss) ss later (t .inSegments) others) in
-      subst InOrder same (record { nested = all .nested; stepwise = all .stepwise 0; deepest = rw (t .shallow) tt; ended = rw (t .ended) tt })
+      subst (λ (is : List Indexed). InOrder is × Each Filled is) same
+      (record { nested = all .nested; stepwise = all .stepwise 0; deepest = rw (t .shallow) tt; ended = rw (t .ended) tt }, all .sized)

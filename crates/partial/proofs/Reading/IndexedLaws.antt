@@ -1,7 +1,7 @@
 -- The index of a file with one more segment that has none, and with more behind it: what was told of it is told again.
-use Prim.Native.Nat.{ℕ, zero, suc, _+_, _≤_}
-use mathlib.Core.Bool.{Bool, true, false, not, _&&_, _||_, or-false}
-use mathlib.Core.List.{List, [], _∷_, _++_, append-nil}
+use Prim.Native.Nat.{ℕ, _+_}
+use mathlib.Core.Bool.{Bool, true, false, not, _&&_, _||_, and-false}
+use mathlib.Core.List.{List, [], _∷_, _++_}
 use mathlib.Core.Option.{Option, none, some}
 use mathlib.Core.Path.{_≡_, refl, sym, ap, subst, _∙_}
 use native.Mathlib.Decide.{decLe}
@@ -9,24 +9,24 @@ use native.Mathlib.Omega.{arith}
 use borrow.Author.Tests.{eq-eqb, ne-eqb, lt-ltb, le-ltb}
 use lib.Dec.{leb, eqb}
 use lib.ListN.{length}
-use Rattle.boxes.specs.Answer.{Answer, refused, given, _>>=_, hold}
+use Rattle.boxes.specs.Answer.{Answer, given, _>>=_}
 use Rattle.boxes.specs.Framing.{Box, boxesIn}
 use Rattle.boxes.specs.Kinds.{fidx, bidx, right, those}
 use Rattle.boxes.specs.declared.kinds.Container.{Container}
 use Rattle.boxes.specs.declared.kinds.Container.the-variants.{Pfil, Pseg, Fidx}
-use Rattle.boxes.proofs.AnswerLaws.{both-given, held, given-same, then-then}
+use Rattle.boxes.proofs.AnswerLaws.{both-given, held, given-same, Only, only-then, only-held, only-given}
 use Rattle.boxes.proofs.KindLaws.{few-right}
 use Rattle.partial.specs.Sequences.{someOf, allOf}
 use Rattle.partial.specs.Segments.{Segment}
 use Rattle.partial.specs.Heading.{Heading}
-use Rattle.partial.specs.Meaning.{givesSize, knownSize}
+use Rattle.partial.specs.Meaning.{knownSize}
 use Rattle.partial.specs.Carried.{orElse}
-use Rattle.partial.specs.Index.{isKnown, listFramed, Indexed, Told, indexList, levelLimit, callLimit, indexIn, indexOfSegments, indexOf, hasIndex, indexed}
+use Rattle.partial.specs.Index.{listFramed, Indexed, indexList, levelLimit, callLimit, indexIn, indexOfSegments, indexOf, hasIndex, indexed}
 use Rattle.partial.proofs.Meaning.SequenceLaws.{both, all-append}
 use Rattle.partial.proofs.Meaning.DescribedLaws.{known-append}
 use Rattle.partial.proofs.Reading.HeadingAppendLaws.{lies}
-use Rattle.partial.proofs.Reading.IndexGivenLaws.{list-sized, known}
-use Rattle.partial.proofs.Reading.IndexKeptLaws.{then-known, index-in-kept}
+use Rattle.partial.proofs.Reading.IndexGivenLaws.{index-only, list-sized, known}
+use Rattle.partial.proofs.Reading.IndexKeptLaws.{index-in-kept}
 
 -- ---- a container without an index
 
@@ -151,6 +151,16 @@ module _ (limit : ℕ) (f : List ℕ) (h : Heading) where
           ended = u .ended;
         })
         ∙ ap given same
+
+-- a file whose only segment has no index has no 38
+pub no-38 : (limit : ℕ) (f : List ℕ) (h : Heading) (s : Segment) → those fidx (s .inner) ≡ [] → Only (λ n. n ≡ 38 → ⊥) (indexed limit f h (s ∷ []))
+unfolding indexed someOf
+no-38 limit f h s lacks =
+    let P : ℕ → Type 0 = λ n. n ≡ 38 → ⊥ in
+    only-then P (indexOf limit f h (s ∷ [])) _ (index-only P (λ e. omega arith) limit f h (s ∷ []))
+    (λ boxes.
+    rw (has-none limit f (s .inner) lacks, and-false)
+    (only-held P 37 (allOf (λ i. leb (i .level) levelLimit) boxes) _ (λ e. omega arith) (only-held P 39 (allOf known boxes) _ (λ e. omega arith) (only-given P boxes))))
 
 -- of two such segments only the size of the source is told apart
 pub indexed-alike : (limit : ℕ) (f : List ℕ) (h : Heading) (ss : List Segment) (s t : Segment) → those fidx (s .inner) ≡ [] → those fidx (t .inner) ≡ []

@@ -4,7 +4,7 @@ use Prim.Native.Nat.{ℕ, zero, suc, _+_, _-_, _/_, _%_, _≤_}
 use mathlib.Core.Bool.{Bool, true, false, _&&_}
 use mathlib.Core.List.{List, [], _∷_, _++_}
 use mathlib.Core.Option.{Option, none, some}
-use mathlib.Core.Path.{_≡_, refl, sym, ap, _∙_}
+use mathlib.Core.Path.{_≡_, refl, sym, ap, subst, _∙_}
 use native.Mathlib.Omega.{arith}
 use borrow.Author.Tests.{leb-true, ltb-true, eqb-true}
 use lib.Dec.{leb, ltb, eqb, lit<}
@@ -24,7 +24,7 @@ use Rattle.partial.specs.Segments.{Chunk, Segment, present, chunksOf, ha
 use Rattle.partial.specs.Heading.{Heading}
 use Rattle.partial.specs.Entries.{Ploc, Entry, plocHead, stateOf, entry, mayLie, offsetPlace, placeOf, chunksFrom, chunkStep, Cursor}
 use Rattle.partial.specs.Reading.{offsetWidth, pshdFields, pshdRight, segment, segmentsFrom}
-use Rattle.partial.proofs.Meaning.SequenceLaws.{both}
+use Rattle.partial.proofs.Meaning.SequenceLaws.{both, all-append}
 use Rattle.partial.proofs.Reading.HeadingAppendLaws.{lies, lies-ends, boxes-lie, all-boxAt, further-lie, first-lies}
 
 -- what the step tests, of the boxes, the `ploc` and the chunks that it finds
@@ -205,3 +205,24 @@ module _ (f g : List ℕ) where
         let (s, read, e1) = both-given (segment limit f h before b) _ e in
         let (here, there) = both (lies (length f) b) (allOf (lies (length f)) bs) l in
         rw (segment-kept limit before b s (lies-ends (length f) b here) read) (segments-kept limit bs (before ++ (s ∷ [])) ss there e1)
+
+-- the boxes inside segments lie in the file where the boxes of the segments do
+module _ (limit : ℕ) (f : List ℕ) (h : Heading) where
+  abbrev pub insideFile : Segment → Bool
+  insideFile s = allOf (lies (length f)) (s .inner)
+
+  segment-inside : (before : List Segment) (b : Box) {s : Segment} → b .end ≤ length f → segment limit f h before b ≡ given s → insideFile s ≡ true
+  segment-inside before b ends e =
+      let (inner, l, cs, t, same) = stepped limit f h before b e in
+      subst (λ (s : Segment). insideFile s ≡ true) same (further-lie (b .end) (length f) ends inner (boxes-lie Pseg f (b .body) (b .end) inner (t .boxes)))
+
+  pub segments-inside : (bs : List Box) (before : List Segment) {ss : List Segment} → allOf (lies (length f)) bs ≡ true → allOf insideFile before ≡ true
+      → segmentsFrom limit f h before bs ≡ given ss
+      → allOf insideFile ss ≡ true
+  unfolding segmentsFrom allOf
+  segments-inside [] before lie all e = subst (λ (ss : List Segment). allOf insideFile ss ≡ true) (given-same e) all
+  segments-inside (b ∷ bs) before lie all e =
+      let (s, read, e1) = both-given (segment limit f h before b) _ e in
+      let (here, there) = both (lies (length f) b) (allOf (lies (length f)) bs) lie in
+      let one = segment-inside before b (lies-ends (length f) b here) read in
+      segments-inside bs (before ++ (s ∷ [])) there (rw (all-append, all, one)) e1

@@ -16,14 +16,13 @@ use Rattle.partial.specs.Reading.{reading}
 use Rattle.partial.specs.Memory.{fits}
 use Rattle.partial.specs.Tables.{segmentRows, chunkRows, tabled, bytesIn, nowhere, servedPart}
 use Rattle.partial.proofs.Meaning.SequenceLaws.{which}
-use Rattle.partial.proofs.Reading.ReadingLaws.{read-mapped}
+use Rattle.partial.proofs.Reading.ReadingLaws.{reading-read, read-mapped}
 
 -- an accepted file's heading
 pub headed-read : (limit : ℕ) (f : List ℕ) {ss : List Segment} → reading limit f ≡ given ss → (h : Heading) × (heading f ≡ given h)
-unfolding reading
 headed-read limit f e =
-    let (h, head, rest) = both-given (heading f) _ e in
-    (h, head)
+    let (h, _, r) = reading-read limit f e in
+    (h, r .headed)
 
 -- a file whose tables are long enough is accepted
 pub tabled-read : (limit : ℕ) (f a b : List ℕ) {ss : List Segment} → tabled limit f a b ≡ given ss → reading limit f ≡ given ss

@@ -18,11 +18,14 @@ use Rattle.partial.specs.Segments.{Segment, chunksOf}
 use Rattle.partial.specs.Heading.{Heading, heading, Part}
 use Rattle.partial.specs.Entries.{Ploc, Cursor, plocHead, entry, chunkStep, chunksFrom}
 use Rattle.partial.specs.Reading.{pshdFields, pshdRight, segment, segmentsFrom, segments, reading, earlierSegments}
-use Rattle.partial.specs.Tables.{tabled, listed, asked, textOf}
+use Rattle.partial.specs.Index.{Indexed, indexOf, indexed}
+use Rattle.partial.specs.Tables.{tabled, listed, indexTabled, asked, textOf}
 use Rattle.partial.specs.Map.{refusedLine, textFor}
 use Rattle.partial.specs.Raised.{Kept, judgesLimit}
 use Rattle.partial.proofs.Meaning.SequenceLaws.{which}
 use Rattle.partial.proofs.Reading.PrintedLaws.{printed}
+use Rattle.partial.proofs.Reading.IndexGivenLaws.{index-only, index-raised}
+use Rattle.partial.proofs.Reading.ReadingLaws.{laterStages}
 
 -- the same, or the first was refused for the limit
 abbrev pub Same : {A : Type 0} → Answer A → Answer A → Type 0
@@ -102,9 +105,26 @@ module _ (low high : ℕ) (raised : low ≤ high) where
         same-after (hold 13 (leb (length psegs) segmentLimit)) _ _
         (λ _. same-then (segmentsFrom low f h [] psegs) (segmentsFrom high f h [] psegs) _ _ (segments-from-same [] psegs) (λ ss. inl refl))
 
+    -- an index that is told stays so, and a refusal while it is told is 36
+    index-same : (ss : List Segment) → Same (indexOf low f h ss) (indexOf high f h ss)
+    index-same ss = go (indexOf low f h ss) refl
+      where
+        go : (x : Answer (List Indexed)) → indexOf low f h ss ≡ x → Same (indexOf low f h ss) (indexOf high f h ss)
+        go (given is) e = inl (index-raised low high raised f h ss is e ∙ sym e)
+        go (refused n) e = inr (n, index-only (λ n. T (judgesLimit n)) tt low f h ss n e, e)
+
+    pub indexed-same : (ss : List Segment) → Same (indexed low f h ss) (indexed high f h ss)
+    unfolding indexed
+    indexed-same ss = same-then (indexOf low f h ss) (indexOf high f h ss) _ _ (index-same ss) (λ is. inl refl)
+
+    later-same : Same (laterStages low f h) (laterStages high f h)
+    later-same =
+        same-then (segments low f h) (segments high f h) _ _ segments-same
+        (λ ss. same-then (indexed low f h ss) (indexed high f h ss) _ _ (indexed-same ss) (λ _. inl refl))
+
   pub reading-same : (f : List ℕ) → Same (reading low f) (reading high f)
   unfolding reading
-  reading-same f = same-after (heading f) _ _ (λ h. same-after (hold 12 (right File pseg (h .boxes))) _ _ (λ _. segments-same f h))
+  reading-same f = same-after (heading f) _ _ (λ h. same-after (hold 12 (right File pseg (h .boxes))) _ _ (λ _. later-same f h))
 
   pub earlier-same : (f : List ℕ) → Same (earlierSegments low f) (earlierSegments high f)
   unfolding earlierSegments
@@ -117,6 +137,14 @@ module _ (low high : ℕ) (raised : low ≤ high) where
   pub listed-same : (f a b h m : List ℕ) → Same (listed low f a b h m) (listed high f a b h m)
   unfolding listed
   listed-same f a b h m = same-then (tabled low f a b) (tabled high f a b) _ _ (tabled-same f a b) (λ ss. inl refl)
+
+  pub index-tabled-same : (f table : List ℕ) → Same (indexTabled low f table) (indexTabled high f table)
+  unfolding indexTabled
+  index-tabled-same f table =
+      same-then (reading low f) (reading high f) _ _ (reading-same f)
+      (λ ss.
+      same-after (heading f) _ _
+      (λ h. same-then (indexed low f h ss) (indexed high f h ss) _ _ (indexed-same f h ss) (λ is. inl refl)))
 
   pub asked-same : (f a b : List ℕ) (p : ℕ) → Same (asked (tabled low f a b) p) (asked (tabled high f a b) p)
   unfolding asked

@@ -1,13 +1,14 @@
--- What reading gives of an accepted file: its chunks follow each other and lie in data boxes, and its sizes agree.
+-- What reading is made of, stage by stage, and what it gives of an accepted file: its chunks follow each other and lie
+-- in data boxes, and its sizes agree.
 use Prim.Native.Nat.{ℕ, zero, suc, _+_, _≤_, _<_}
-use mathlib.Core.Bool.{true, not, _||_}
+use mathlib.Core.Bool.{true, false, not, _||_}
 use mathlib.Core.List.{List, [], _∷_, _++_, append-nil}
 use mathlib.Core.Logic.{inl, inr}
 use mathlib.Core.Option.{Option, none, some}
-use mathlib.Core.Path.{_≡_, refl, subst}
+use mathlib.Core.Path.{_≡_, refl, sym, subst, _∙_}
 use lib.Dec.{leb, eqb}
 use lib.ListN.{length}
-use Rattle.boxes.specs.Answer.{refused, given, _>>=_, hold}
+use Rattle.boxes.specs.Answer.{Answer, refused, given, _>>=_, hold}
 use Rattle.boxes.specs.Framing.{Box}
 use Rattle.boxes.specs.Kinds.{pseg, right, those, boxAt}
 use Rattle.boxes.specs.declared.kinds.Container.the-variants.{File}
@@ -19,6 +20,7 @@ use Rattle.partial.specs.Segments.{Chunk, Segment, chunksOf, hasPlace}
 use Rattle.partial.specs.Heading.{Heading, heading}
 use Rattle.partial.specs.Entries.{Ploc, Entry, entry, mayLie, offsetPlace, placeOf, chunksFrom, chunkStep, Cursor}
 use Rattle.partial.specs.Meaning.{agree}
+use Rattle.partial.specs.Index.{Indexed, indexed}
 use Rattle.partial.specs.Reading.{segment, segmentsFrom, segments, reading}
 use Rattle.partial.specs.Demands.{Mapped}
 use Rattle.partial.proofs.Reading.HeadingAppendLaws.{headed}
@@ -113,11 +115,52 @@ module _ (limit : ℕ) (f : List ℕ) (h : Heading) where
       let all = segments-told [] (those pseg (h .boxes)) (record { order = tt; lie = refl }) read in
       subst (Accepted f h) (given-same g) (record { agreed = agreed; order = all .order; lie = all .lie; inside = heading-inside f head })
 
+-- what reading tests of an accepted file
+pub record Read (limit : ℕ) (f : List ℕ) (h : Heading) (ss : List Segment) (is : List Indexed) : Type 0 where
+  pub headed : heading f ≡ given h
+  pub there : right File pseg (h .boxes) ≡ true
+  pub segmented : segments limit f h ≡ given ss
+  pub told : indexed limit f h ss ≡ given is
+
+-- the stages behind 12
+abbrev pub laterStages : ℕ → List ℕ → Heading → Answer (List Segment)
+laterStages limit f h = segments limit f h >>= λ ss. indexed limit f h ss >>= λ _. given ss
+
+module _ (limit : ℕ) (f : List ℕ) where
+  pub reading-headless : {n : ℕ} → heading f ≡ refused n → reading limit f ≡ refused n
+  unfolding reading
+  reading-headless e = rw (reading, e)
+
+  pub reading-none : {h : Heading} → heading f ≡ given h → right File pseg (h .boxes) ≡ false → reading limit f ≡ refused 12
+  unfolding reading
+  reading-none head lacks = rw (reading, head, lacks)
+
+  pub reading-some : {h : Heading} → heading f ≡ given h → right File pseg (h .boxes) ≡ true → reading limit f ≡ laterStages limit f h
+  unfolding reading
+  reading-some head there = rw (reading, head, there)
+
+  pub read-reading : {h : Heading} {ss : List Segment} {is : List Indexed} → Read limit f h ss is → reading limit f ≡ given ss
+  read-reading r = reading-some (r .headed) (r .there) ∙ rw (r .segmented, r .told)
+
+  pub reading-read : {ss : List Segment} → reading limit f ≡ given ss → (h : Heading) × (is : List Indexed) × Read limit f h ss is
+  unfolding reading
+  reading-read e =
+      let (h, head, e1) = both-given (heading f) _ e in
+      let (there, e2) = held 12 (right File pseg (h .boxes)) _ e1 in
+      let (ss, segmented, e3) = both-given (segments limit f h) _ e2 in
+      let (is, told, e4) = both-given (indexed limit f h ss) _ e3 in
+      (h, is, subst (λ (x : List Segment). Read limit f h x is) (given-same e4) (record { headed = head; there = there; segmented = segmented; told = told }))
+
 -- an accepted file's segments are those of its heading
 module _ (limit : ℕ) (f : List ℕ) {h : Heading} {ss : List Segment} (head : heading f ≡ given h) where
+  -- and so is what is told of its index
+  pub reading-known : reading limit f ≡ given ss → (is : List Indexed) × Read limit f h ss is
+  reading-known g =
+      let (k, is, r) = reading-read limit f g in
+      (is, subst (λ (x : Heading). Read limit f x ss is) (given-same (sym (r .headed) ∙ head)) r)
+
   pub reading-segments : reading limit f ≡ given ss → segments limit f h ≡ given ss
-  unfolding reading
-  reading-segments g = held 12 (right File pseg (h .boxes)) _ (rw (reading, head) at g) .1
+  reading-segments g = reading-known g .1 .segmented
 
   -- each source byte of an accepted file is served or listed missing
   pub read-mapped : reading limit f ≡ given ss → Mapped f h ss

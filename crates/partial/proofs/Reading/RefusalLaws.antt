@@ -27,18 +27,20 @@ use Rattle.partial.specs.Entries.{Ploc, plocHead, stateOf, Entry, entry,
 use Rattle.partial.specs.Entries.{Cursor}
 use Rattle.partial.specs.Meaning.{agree, knownSize}
 use Rattle.partial.specs.Reading.{pshdFields, pshdRight, segment, segmentsFrom, segments, reading, admitted, earlierSegments}
+use Rattle.partial.specs.Index.{indexed, indexRows}
 use Rattle.partial.specs.Memory.{fits, after, textWritten}
-use Rattle.partial.specs.Tables.{segmentRows, chunkRows, hadRows, missingRows, tabled, listed, asked, textOf, bytesIn, nowhere}
+use Rattle.partial.specs.Tables.{segmentRows, chunkRows, hadRows, missingRows, tabled, listed, indexTabled, indexTable, asked, textOf, bytesIn, nowhere}
 use Rattle.partial.specs.declared.brand.Brand.{Brand}
 use Rattle.partial.specs.Begin.{beginning, isText, begun}
 use Rattle.partial.specs.Addition.{Addition, listRight, dataRight, outsideRight}
 use Rattle.partial.specs.Append.{addedBoxes, newSegment, added, appended, admission, psegPlace}
 use Rattle.partial.specs.Runs.{lent, sizeAfter, append}
-use Rattle.partial.specs.Demands.{beforeAgreement, ofStages, Never, Demand1, Takes}
+use Rattle.partial.specs.Demands.{beforeAgreement, ofIndex, ofStages, Never, Demand1, Takes}
 use Rattle.partial.proofs.Meaning.SequenceLaws.{inside, which}
-use Rattle.partial.proofs.Reading.ReadingLaws.{reading-segments}
+use Rattle.partial.proofs.Reading.ReadingLaws.{laterStages, reading-headless, reading-none, reading-some, reading-segments}
+use Rattle.partial.proofs.Reading.IndexGivenLaws.{indexed-only}
 
--- stages 1 to 11 and 13 to 24, by a kind that has their numbers, and 25
+-- stages 1 to 11 and 13 to 24, by a kind that has their numbers, then 25 and 36 to 39
 module _ (P : ℕ → Type 0) (known : (n : ℕ) → T (beforeAgreement n) → P n) where
   boxes-only : (c : Container) (s : List ℕ) (start end : ℕ) → Only P (boxesIn c s start end)
   boxes-only c s start end n e =
@@ -125,12 +127,35 @@ module _ (P : ℕ → Type 0) (known : (n : ℕ) → T (beforeAgreement n) → P
       only-then P (segment limit f h before b) _ (segment-only limit f h before b)
       (λ s. segments-from-only limit f h (before ++ (s ∷ [])) bs)
 
-  segments-only : P 25 → (limit : ℕ) (f : List ℕ) (h : Heading) → Only P (segments limit f h)
+  pub segments-only : P 25 → (limit : ℕ) (f : List ℕ) (h : Heading) → Only P (segments limit f h)
   unfolding segments within
   segments-only last limit f h =
       only-held P 13 (leb (length (those pseg (h .boxes))) segmentLimit) _ (known 13 tt)
       (only-then P (segmentsFrom limit f h [] (those pseg (h .boxes))) _ (segments-from-only limit f h [] (those pseg (h .boxes)))
       (λ ss. only-held P 25 (agree ss) _ last (only-given P ss)))
+
+  -- 1, 6, 13, 22, 23 and 25 of an addition's result
+  pub admission-only : P 25 → (limit : ℕ) (h : Heading) (ss : List Segment) (n : ℕ) (a : Addition) → Only P (admission limit h ss n a)
+  unfolding admission admitted within
+  admission-only last limit h ss n a =
+      let new = newSegment (psegPlace n a) a in
+      only-held P 1 (leb (n + length (added a)) fileLimit) _ (known 1 tt)
+      (only-held P 6 (leb (length (h .boxes) + addedBoxes a) boxLimit) _ (known 6 tt)
+      (only-held P 13 (leb (length ss + 1) segmentLimit) _ (known 13 tt)
+      (only-held P 22 (leb (length (chunksOf ss) + length (new .chunks)) chunkLimit) _ (known 22 tt)
+      (only-held P 23 (leb (endOf new) limit) _ (known 23 tt)
+      (only-held P 25 (agree (ss ++ (new ∷ []))) _ last (only-given P _))))))
+
+  -- and those of the index
+  module _ (rest : (n : ℕ) → T (eqb n 25 || ofIndex n) → P n) where
+    told-only : (limit : ℕ) (f : List ℕ) (h : Heading) (ss : List Segment) → Only P (indexed limit f h ss)
+    unfolding within
+    told-only limit f h ss = indexed-only P (rest 36 tt) limit f (rest 37 tt) (rest 38 tt) (rest 39 tt) h ss
+
+    later-only : (limit : ℕ) (f : List ℕ) (h : Heading) → Only P (laterStages limit f h)
+    later-only limit f h =
+        only-then P (segments limit f h) _ (segments-only (rest 25 tt) limit f h)
+        (λ ss. only-then P (indexed limit f h ss) _ (told-only limit f h ss) (λ _. only-given P ss))
 
 -- a test that passes beside another
 beside : (b c : Bool) → T b → T (b || c)
@@ -140,7 +165,15 @@ abbrev OfFile : ℕ → Type 0
 OfFile n = T (ofStages n)
 
 known-file : (n : ℕ) → T (beforeAgreement n) → OfFile n
-known-file n = beside (beforeAgreement n) (eqb n 25)
+known-file n = beside (beforeAgreement n) (eqb n 25 || ofIndex n)
+
+-- or is the other
+behind : (b c : Bool) → T c → T (b || c)
+behind true c t = tt
+behind false c t = t
+
+rest-file : (n : ℕ) → T (eqb n 25 || ofIndex n) → OfFile n
+rest-file n = behind (beforeAgreement n) (eqb n 25 || ofIndex n)
 
 -- append takes an acceptable file, or one whose only refusal is 12
 module _ (limit : ℕ) (f : List ℕ) where
@@ -165,14 +198,6 @@ module _ (limit : ℕ) (f : List ℕ) where
     pub earlier-none : right File pseg (h .boxes) ≡ false → earlierSegments limit f ≡ given []
     earlier-none lacks = earlier-by lacks
 
-    reading-none : right File pseg (h .boxes) ≡ false → reading limit f ≡ refused 12
-    unfolding reading
-    reading-none lacks = rw (reading, head, lacks)
-
-    reading-some : right File pseg (h .boxes) ≡ true → reading limit f ≡ segments limit f h
-    unfolding reading
-    reading-some there = rw (reading, head, there)
-
     -- the segments of a file that append takes are those of its heading
     pub earlier-read : {ss : List Segment} → earlierSegments limit f ≡ given ss → segments limit f h ≡ given ss
     earlier-read e =
@@ -181,18 +206,21 @@ module _ (limit : ℕ) (f : List ℕ) where
           | inr lacks ↦ no-segments h lacks ∙ sym (earlier-none lacks) ∙ e
         ]
 
+  pub earlier-headless : {n : ℕ} → heading f ≡ refused n → earlierSegments limit f ≡ refused n
+  unfolding earlierSegments
+  earlier-headless e = rw (earlierSegments, e)
+
   -- reading differs from what append goes by only in 12
-  twelve-apart : (reading limit f ≡ earlierSegments limit f) ⊎ ((reading limit f ≡ refused 12) × (earlierSegments limit f ≡ given []))
-  unfolding reading earlierSegments
+  pub twelve-apart : (reading limit f ≡ earlierSegments limit f) ⊎ ((reading limit f ≡ refused 12) × (earlierSegments limit f ≡ given []))
   twelve-apart = go (heading f) refl
     where
       go : (x : Answer Heading) → heading f ≡ x
           → (reading limit f ≡ earlierSegments limit f) ⊎ ((reading limit f ≡ refused 12) × (earlierSegments limit f ≡ given []))
-      go (refused n) e = inl (rw e)
+      go (refused n) e = inl (reading-headless limit f e ∙ sym (earlier-headless e))
       go (given h) e =
           elim (which (right File pseg (h .boxes))) [
             | inl there ↦ inl (sym (earlier-some e there))
-            | inr lacks ↦ inr (reading-none e lacks, earlier-none e lacks)
+            | inr lacks ↦ inr (reading-none limit f e lacks, earlier-none e lacks)
           ]
 
   -- such a file has a heading
@@ -202,11 +230,7 @@ module _ (limit : ℕ) (f : List ℕ) where
       let (h, head, _) = both-given (heading f) _ e in
       (h, head)
 
-  pub earlier-headless : {n : ℕ} → heading f ≡ refused n → earlierSegments limit f ≡ refused n
-  unfolding earlierSegments
-  earlier-headless e = rw (earlierSegments, e)
-
-  module _ (P : ℕ → Type 0) (known : (n : ℕ) → T (beforeAgreement n) → P n) (last : P 25) where
+  module _ (P : ℕ → Type 0) (known : (n : ℕ) → T (beforeAgreement n) → P n) (rest : (n : ℕ) → T (eqb n 25 || ofIndex n) → P n) where
     earlier-only : Only P (earlierSegments limit f)
     earlier-only n e = go (heading f) refl
       where
@@ -214,7 +238,7 @@ module _ (limit : ℕ) (f : List ℕ) where
         go (refused m) head = heading-only P known f n (head ∙ ap refused (refused-same (sym (earlier-headless head) ∙ e)))
         go (given h) head =
             elim (which (right File pseg (h .boxes))) [
-              | inl there ↦ segments-only P known last limit f h n (sym (earlier-some head there ∙ reading-some head there) ∙ e)
+              | inl there ↦ later-only P known rest limit f h n (sym (earlier-some head there ∙ reading-some limit f head there) ∙ e)
               | inr lacks ↦ absurd (not-both (sym e ∙ earlier-none head lacks))
             ]
 
@@ -223,7 +247,7 @@ module _ (limit : ℕ) (f : List ℕ) where
   takes =
       record {
         acceptable = λ ss e. ⊎-elim (λ same. sym same ∙ e) (λ t. absurd (not-both (sym (t .0) ∙ e))) twelve-apart;
-        onlyTwelve = λ e. ⊎-elim (λ same. absurd (earlier-only OfFile known-file tt 12 (sym same ∙ e))) (λ t. t .1) twelve-apart;
+        onlyTwelve = λ e. ⊎-elim (λ same. absurd (earlier-only OfFile known-file rest-file 12 (sym same ∙ e))) (λ t. t .1) twelve-apart;
         itsOwn = λ k e other. ⊎-elim (λ same. sym same ∙ e) (λ t. absurd (other (refused-same (sym e ∙ t .0)))) twelve-apart;
       }
 
@@ -235,11 +259,14 @@ module _ (limit : ℕ) where
   known-read : (n : ℕ) → T (beforeAgreement n) → OfReading n
   known-read n before = beside (ofStages n) (someOf (eqb n) (12 ∷ 26 ∷ [])) (known-file n before)
 
+  rest-read : (n : ℕ) → T (eqb n 25 || ofIndex n) → OfReading n
+  rest-read n other = beside (ofStages n) (someOf (eqb n) (12 ∷ 26 ∷ [])) (rest-file n other)
+
   pub reading-only : (f : List ℕ) → Only OfReading (reading limit f)
   unfolding reading within someOf
   reading-only f =
       only-then OfReading (heading f) _ (heading-only OfReading known-read f)
-      (λ h. only-held OfReading 12 (right File pseg (h .boxes)) _ tt (segments-only OfReading known-read tt limit f h))
+      (λ h. only-held OfReading 12 (right File pseg (h .boxes)) _ tt (later-only OfReading known-read rest-read limit f h))
 
   tabled-only : (f a b : List ℕ) → Only OfReading (tabled limit f a b)
   unfolding tabled within someOf
@@ -253,22 +280,24 @@ module _ (limit : ℕ) where
       only-then OfReading (tabled limit f a b) _ (tabled-only f a b)
       (λ ss. only-held OfReading 26 (fits (hadRows ss) h && fits (missingRows ss) m) _ tt (only-given OfReading ss))
 
+  index-tabled-only : (f t : List ℕ) → Only OfReading (indexTabled limit f t)
+  unfolding indexTabled within someOf
+  index-tabled-only f t =
+      only-then OfReading (reading limit f) _ (reading-only f)
+      (λ ss.
+      only-then OfReading (heading f) _ (heading-only OfReading known-read f)
+      (λ h.
+      only-then OfReading (indexed limit f h ss) _ (told-only OfReading known-read rest-read limit f h ss)
+      (λ is. only-held OfReading 26 (fits (indexRows ss is) t) _ tt (only-given OfReading (ss, is)))))
+
   abbrev OfAddition : ℕ → Type 0
   OfAddition n = T (ofStages n || someOf (eqb n) (30 ∷ 31 ∷ 32 ∷ 33 ∷ 35 ∷ []))
 
   known-added : (n : ℕ) → T (beforeAgreement n) → OfAddition n
   known-added n before = beside (ofStages n) (someOf (eqb n) (30 ∷ 31 ∷ 32 ∷ 33 ∷ 35 ∷ [])) (known-file n before)
 
-  admission-only : (h : Heading) (ss : List Segment) (n : ℕ) (a : Addition) → Only OfAddition (admission limit h ss n a)
-  unfolding admission admitted within someOf
-  admission-only h ss n a =
-      let new = newSegment (psegPlace n a) a in
-      only-held OfAddition 1 (leb (n + length (added a)) fileLimit) _ tt
-      (only-held OfAddition 6 (leb (length (h .boxes) + addedBoxes a) boxLimit) _ tt
-      (only-held OfAddition 13 (leb (length ss + 1) segmentLimit) _ tt
-      (only-held OfAddition 22 (leb (length (chunksOf ss) + length (new .chunks)) chunkLimit) _ tt
-      (only-held OfAddition 23 (leb (endOf new) limit) _ tt
-      (only-held OfAddition 25 (agree (ss ++ (new ∷ []))) _ tt (only-given OfAddition _))))))
+  rest-added : (n : ℕ) → T (eqb n 25 || ofIndex n) → OfAddition n
+  rest-added n other = beside (ofStages n) (someOf (eqb n) (30 ∷ 31 ∷ 32 ∷ 33 ∷ 35 ∷ [])) (rest-file n other)
 
   appended-only : (buffer : List ℕ) (n : ℕ) (a : Addition) → Only OfAddition (appended limit buffer n a)
   unfolding appended within someOf
@@ -278,13 +307,15 @@ module _ (limit : ℕ) where
       only-held OfAddition 30 (leb n (length buffer)) _ tt
       (only-then OfAddition (heading f) _ (heading-only OfAddition known-added f)
       (λ h.
-      only-then OfAddition (earlierSegments limit f) _ (earlier-only limit f OfAddition known-added tt)
+      only-then OfAddition (earlierSegments limit f) _ (earlier-only limit f OfAddition known-added rest-added)
       (λ ss.
       only-held OfAddition 31 (listRight (a .list)) _ tt
       (only-held OfAddition 32 (dataRight a) _ tt
       (only-held OfAddition 35 (outsideRight h a) _ tt
-      (only-then OfAddition (admission limit h ss n a) _ (admission-only h ss n a)
-      (λ _. only-held OfAddition 33 (leb size (length buffer)) _ tt (only-given OfAddition size))))))))
+      (only-then OfAddition (admission limit h ss n a) _ (admission-only OfAddition known-added (rest-added 25 tt) limit h ss n a)
+      (λ ts.
+      only-then OfAddition (indexed limit f h ts) _ (told-only OfAddition known-added rest-added limit f h ts)
+      (λ _. only-held OfAddition 33 (leb size (length buffer)) _ tt (only-given OfAddition size)))))))))
 
 abbrev OfBegin : ℕ → Type 0
 OfBegin n = T (someOf (eqb n) (34 ∷ 1 ∷ 33 ∷ []))
@@ -332,6 +363,7 @@ module _ (limit : ℕ) where
         read = λ f a b e. tabled-only limit f a b 21 e;
         ask = λ f a b p e. tabled-only limit f a b 21 (ask-told (tabled limit f a b) p 21 e);
         list = λ f a b h m e. listed-only limit f a b h m 21 e;
+        index = λ f t e. index-tabled-only limit f t 21 e;
         begin = λ buffer brand u m e. begun-only buffer brand u m 21 e;
         append = λ buffer size a e. appended-only limit buffer size a 21 e;
         text = λ text buffer e. omega (arith, text-only text buffer 21 e);
@@ -344,6 +376,7 @@ demand1 limit =
     record {
       readNumbers = tabled-only limit;
       listNumbers = listed-only limit;
+      indexNumbers = index-tabled-only limit;
       beginNumbers = begun-only;
       appendNumbers = appended-only limit;
       textNumbers = text-only;
@@ -352,6 +385,7 @@ demand1 limit =
       textsEmpty = text-empty limit;
       tablesKept = λ rows f a b. memory-kept rows (tabled limit f a b);
       listsKept = λ rows f a b h m. memory-kept rows (listed limit f a b h m);
+      indexKept = λ f table. memory-kept indexTable (indexTabled limit f table) table;
       beginKept = λ buffer brand u m. memory-kept (λ _. beginning brand u m) (begun buffer brand u m) buffer;
       appendKept = append-kept limit;
       textKept = λ text buffer. memory-kept (λ _. text) (textWritten text buffer) buffer;

@@ -12,6 +12,7 @@ use lib.ListN.{length, take}
 use Rattle.boxes.specs.Answer.{Answer, refused, given}
 use Rattle.partial.specs.Segments.{Segment}
 use Rattle.partial.specs.Heading.{Heading}
+use Rattle.partial.specs.Index.{indexed}
 use Rattle.partial.specs.Reading.{reading, earlierSegments}
 use Rattle.partial.specs.Memory.{after}
 use Rattle.partial.specs.Addition.{Addition}
@@ -94,7 +95,7 @@ module _ (limit : ℕ) (buffer : List ℕ) (n : ℕ) (a : Addition) where
         agreed = in-agreement (t .ss ++ (newSegment (psegPlace n a) a ∷ [])) (r .agreed);
       } in
       appended-offered limit buffer n a (t .h) (t .ss) (t .enough) offered
-      ∙ rw (admission-of limit (t .h) (t .ss) n a ok, le-leb (n + length (added a)) (length buffer) (t .room))
+      ∙ rw (admission-of limit (t .h) (t .ss) n a ok, t .index .1, le-leb (n + length (added a)) (length buffer) (t .room))
 
   acceptable : (size : ℕ) → appended limit buffer n a ≡ given size → Acceptable limit buffer n a × (size ≡ n + length (added a))
   unfolding fileIn
@@ -118,6 +119,7 @@ module _ (limit : ℕ) (buffer : List ℕ) (n : ℕ) (a : Addition) where
             low = ok .low;
             agreed = agreement _ (ok .agreed);
           };
+          index = (t .index .0, ap (λ (m : ℕ). indexed limit (take n buffer) h (ss ++ (newSegment (psegPlace m a) a ∷ []))) long ∙ t .index .1);
           room = omega arith;
         },
         total,

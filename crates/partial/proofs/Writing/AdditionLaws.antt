@@ -6,6 +6,7 @@ use Rattle.partial.specs.Addition.{Addition}
 use Rattle.partial.specs.Runs.{fileIn}
 use Rattle.partial.specs.Demands.{Reasons, Demand3}
 use Rattle.partial.proofs.Reading.RefusalLaws.{demand1, takes, earlier-headed}
+use Rattle.partial.proofs.Writing.IndexReasonLaws.{by-index}
 use Rattle.partial.proofs.Writing.ReasonLaws.{length-over, file-refused, list-wrong, data-wrong, outside-wrong}
 use Rattle.partial.proofs.Writing.ResultLaws.{by-result, too-many}
 use Rattle.partial.proofs.Writing.BegunLaws.{just-begun, begins}
@@ -22,6 +23,7 @@ reasons limit buffer n a =
       listWrong = λ ss fits e. list-wrong limit buffer n a fits (earlier-headed limit (take n buffer) e .1) e;
       dataWrong = λ ss fits e. data-wrong limit buffer n a fits (earlier-headed limit (take n buffer) e .1) e;
       outsideWrong = λ h ss fits head read. outside-wrong limit buffer n a fits head read;
+      byIndex = by-index limit buffer n a;
       byResult = by-result limit buffer n a;
       tooMany = too-many limit buffer n a;
     }

@@ -12,7 +12,7 @@ use lib.ListN.{length}
 use Rattle.boxes.specs.Answer.{Answer, refused, given, _>>=_, hold}
 use Rattle.numerals.specs.Numbers.{holds}
 use Rattle.boxes.specs.Framing.{Box, frontSize, boxed, boxedAt}
-use Rattle.boxes.specs.Kinds.{pseg, pshd, ploc, right, boxAt, firstOf, those, surl}
+use Rattle.boxes.specs.Kinds.{pseg, pshd, ploc, fidx, right, boxAt, firstOf, those, surl}
 use Rattle.boxes.specs.declared.kinds.Container.the-variants.{Pseg}
 use Rattle.boxes.proofs.BoxedLaws.{boxed-stand}
 use Rattle.boxes.proofs.KindLaws.{first-is, one-right, firstOf-those, is-eqb, boxAt-getD}
@@ -50,6 +50,11 @@ module _ (at : ℕ) (a : Addition) where
   pub end-new : endOf (newSegment at a) ≡ a .sourceOffset + sum (map (λ i. i .size) (items (a .list)))
   unfolding newSegment endOf
   end-new = rw (sizes-chunks at (a .sourceOffset) (placed (a .outside) (items (a .list))), sizes-placed (a .outside) (items (a .list)))
+
+  -- a new segment has no index
+  pub no-index-new : those fidx (newSegment at a .inner) ≡ []
+  unfolding newSegment newInner
+  no-index-new = neither fidx _ _ (is-eqb fidx _) (is-eqb fidx _)
 
 -- what the fields of an addition have to be for its bytes to say them
 pub record Sayable (a : Addition) : Type 0 where

@@ -1,5 +1,5 @@
--- What a higher source limit leaves as it was: an addition has the same answer and the same bytes, or had 23; and with
--- the laws of reading all that is stated.
+-- What a higher source limit leaves as it was: an addition has the same answer and the same bytes, or had 23 or 36; and
+-- with the laws of reading all that is stated.
 use Prim.Native.Nat.{ℕ, _+_, _≤_}
 use mathlib.Core.List.{List}
 use mathlib.Core.Logic.{inl}
@@ -12,13 +12,14 @@ use Rattle.partial.specs.Limits.{fileLimit, segmentLimit, chunkLimit}
 use Rattle.partial.specs.Segments.{Segment, chunksOf, endOf}
 use Rattle.partial.specs.Heading.{Heading, heading}
 use Rattle.partial.specs.Reading.{earlierSegments, admitted}
+use Rattle.partial.specs.Index.{indexed}
 use Rattle.partial.specs.Tables.{servedPart}
 use Rattle.partial.specs.Addition.{Addition, listRight, dataRight, outsideRight}
 use Rattle.partial.specs.Append.{addedBoxes, added, psegPlace, newSegment, admission, appended}
 use Rattle.partial.specs.Runs.{lent, append}
 use Rattle.partial.specs.Raised.{Raised}
 use Rattle.partial.proofs.Reading.RaisedLaws.{Same, kept, same-then, same-after, same-held, earlier-same, reading-same, tabled-same, listed-same}
-use Rattle.partial.proofs.Reading.RaisedLaws.{asked-same, texts-same, maps-accepted, maps-same}
+use Rattle.partial.proofs.Reading.RaisedLaws.{indexed-same, index-tabled-same, asked-same, texts-same, maps-accepted, maps-same}
 
 module _ (low high : ℕ) (raised : low ≤ high) where
   admitted-same : (before : List Segment) (s : Segment) → Same (admitted low before s) (admitted high before s)
@@ -52,7 +53,9 @@ module _ (low high : ℕ) (raised : low ≤ high) where
       same-after (hold 32 (dataRight a)) _ _
       (λ _.
       same-after (hold 35 (outsideRight h a)) _ _
-      (λ _. same-then (admission low h ss n a) (admission high h ss n a) _ _ (admission-same h ss n a) (λ _. inl refl)))))))
+      (λ _.
+      same-then (admission low h ss n a) (admission high h ss n a) _ _ (admission-same h ss n a)
+      (λ ts. same-then (indexed low f h ts) (indexed high f h ts) _ _ (indexed-same low high raised f h ts) (λ _. inl refl))))))))
 
   bytes-same : (buffer : List ℕ) (n : ℕ) (a : Addition) (size : ℕ) → appended low buffer n a ≡ given size → append high (lent buffer n) a ≡ append low (lent buffer n) a
   unfolding append
@@ -64,6 +67,7 @@ module _ (low high : ℕ) (raised : low ≤ high) where
         reads = λ f. kept _ _ (reading-same low high raised f);
         tables = λ f a b. kept _ _ (tabled-same low high raised f a b);
         lists = λ f a b h m. kept _ _ (listed-same low high raised f a b h m);
+        indexes = λ f table. kept _ _ (index-tabled-same low high raised f table);
         asks = λ f a b p. kept _ _ (asked-same low high raised f a b p);
         serves = λ f a b p ss e. ap (λ r. servedPart r p) (kept _ _ (tabled-same low high raised f a b) .accepted ss e ∙ sym e);
         texts = texts-same low high raised;

@@ -9,7 +9,7 @@ use borrow.Author.Tests.{le-leb, lt-leb, leb-true}
 use lib.Dec.{leb, eqb}
 use lib.ListN.{length, take, drop, length-append}
 use lib.Seq.{length-take-le, take-at}
-use Rattle.boxes.specs.Answer.{refused, given, _>>=_, hold}
+use Rattle.boxes.specs.Answer.{Answer, refused, given, _>>=_, hold}
 use Rattle.boxes.specs.Framing.{Box, boxLimit}
 use Rattle.boxes.specs.Kinds.{ftyp, pfil, pseg, pdat, is, right, those}
 use Rattle.boxes.specs.declared.kinds.Container.the-variants.{File}
@@ -18,26 +18,30 @@ use Rattle.boxes.proofs.AnswerLaws.{both-given, held, given-same}
 use Rattle.boxes.proofs.KindLaws.{those-append, those-one, is-eqb, some-right, those-nil, those-other}
 use Rattle.boxes.proofs.ContainerLaws.{Filled, boxes-filled, boxes-crowded}
 use Rattle.partial.specs.Limits.{fileLimit, segmentLimit, chunkLimit}
-use Rattle.partial.specs.Sequences.{sum}
+use Rattle.partial.specs.Sequences.{allOf, sum}
 use Rattle.partial.specs.Segments.{Segment, endOf, chunksOf}
 use Rattle.partial.specs.Heading.{Heading, heading, fileBoxes}
 use Rattle.partial.specs.Mixed.{allowed}
 use Rattle.partial.specs.Meaning.{agree}
+use Rattle.partial.specs.Index.{Indexed, indexed}
 use Rattle.partial.specs.Reading.{segment, segmentsFrom, segments, reading, earlierSegments, admitted}
 use Rattle.partial.specs.Memory.{after, filled}
 use Rattle.partial.specs.Addition.{items, Addition, listRight, dataRight, outsideRight}
 use Rattle.partial.specs.Append.{addedBoxes, added, newSegment, appended, result, admission, psegPlace, placed}
 use Rattle.partial.specs.Runs.{lent, fileIn, sizeAfter, append}
 use Rattle.partial.proofs.Writing.PlacedLaws.{list-formed, sizes-placed}
-use Rattle.partial.proofs.Reading.HeadingAppendLaws.{headed, heading-of, headed-appended, lies, boxes-lie, those-all, withBoxes}
-use Rattle.partial.proofs.Reading.KeptLaws.{segments-kept}
+use Rattle.partial.proofs.Reading.HeadingAppendLaws.{headed, heading-of, headed-appended, inner-lie, lies, boxes-lie, those-all, withBoxes}
+use Rattle.partial.proofs.Reading.KeptLaws.{segments-kept, segments-inside}
+use Rattle.partial.proofs.Reading.IndexKeptLaws.{then-known}
+use Rattle.partial.proofs.Reading.IndexedLaws.{indexed-kept}
+use Rattle.partial.proofs.Reading.ReadingLaws.{reading-headless, reading-some}
 use Rattle.partial.proofs.Reading.LimitLaws.{segments-many}
 use Rattle.partial.proofs.Reading.RefusalLaws.{earlier-read}
 use Rattle.partial.proofs.Writing.FieldsBackLaws.{sizes-eight}
 use Rattle.partial.proofs.Writing.WholeLaws.{allowed-other, filled-row, row-starts}
 use Rattle.partial.proofs.Writing.AddedBoxesLaws.{segmentBox, newBoxes, boxes-added, added-moved, those-new, data-low, length-added}
 use Rattle.partial.proofs.Writing.AddedBoxesLaws.{added-many, lie-longer, lie-new, out-lie}
-use Rattle.partial.proofs.Writing.NewSegmentLaws.{Sayable, length-new, new-segment, end-new}
+use Rattle.partial.proofs.Writing.NewSegmentLaws.{Sayable, length-new, new-segment, end-new, no-index-new}
 
 -- segments are read box by box
 module _ (limit : ℕ) (f : List ℕ) (h : Heading) where
@@ -57,10 +61,11 @@ pub record Offered (limit : ℕ) (f : List ℕ) (h : Heading) (ss : List Segment
   pub carried : dataRight a ≡ true
   pub outside : outsideRight h a ≡ true
 
--- and one that is admitted
+-- and one that is admitted, beside an index that is told
 pub record Taken (limit : ℕ) (f : List ℕ) (h : Heading) (ss : List Segment) (a : Addition) : Type 0 where
   pub offered : Offered limit f h ss a
   pub admits : admission limit h ss (length f) a ≡ given (ss ++ (newSegment (psegPlace (length f) a) a ∷ []))
+  pub index : (is : List Indexed) × (indexed limit f h (ss ++ (newSegment (psegPlace (length f) a) a ∷ [])) ≡ given is)
 
 -- what admission tests
 pub record Admits (limit : ℕ) (h : Heading) (ss : List Segment) (n : ℕ) (a : Addition) : Type 0 where
@@ -107,6 +112,15 @@ module _ (limit : ℕ) (h : Heading) (ss : List Segment) (n : ℕ) (a : Addition
         t .agreed,
       )
 
+-- what is admitted is the segment behind those before it
+pub admitted-given : (limit : ℕ) (ss : List Segment) (s : Segment) {ts : List Segment} → admitted limit ss s ≡ given ts → ts ≡ ss ++ (s ∷ [])
+unfolding admitted
+admitted-given limit ss s e =
+    let (_, e1) = held 13 (leb (length ss + 1) segmentLimit) _ e in
+    let (_, e2) = held 22 (leb (length (chunksOf ss) + length (s .chunks)) chunkLimit) _ e1 in
+    let (_, e3) = held 23 (leb (endOf s) limit) _ e2 in
+    sym (given-same (held 25 (agree (ss ++ (s ∷ []))) _ e3 .1))
+
 -- an accepted addition is one to a file that append takes, and there is room for it
 pub taken-any : (limit : ℕ) (buffer : List ℕ) (n : ℕ) (a : Addition) (size : ℕ) → appended limit buffer n a ≡ given size
     → (h : Heading) × (ss : List Segment) × Taken limit (take n buffer) h ss a × (n ≡ length (take n buffer)) × (size ≡ n + length (added a))
@@ -121,14 +135,17 @@ taken-any limit buffer n a size e =
     let (carried, e5) = held 32 (dataRight a) _ e4 in
     let (outer, e6) = held 35 (outsideRight h a) _ e5 in
     let (us, admitted-there, e7) = both-given (admission limit h ss n a) _ e6 in
-    let (room, e8) = held 33 (leb (n + length (added a)) (length buffer)) _ e7 in
+    let (is, told, e8) = both-given (indexed limit f h us) _ e7 in
+    let (room, e9) = held 33 (leb (n + length (added a)) (length buffer)) _ e8 in
     let long : length f ≡ n = length-take-le n buffer (leb-true n (length buffer) lent-enough) in
-    let total = given-same e8 in (
+    let (ok, same) = admits limit h ss n a {ts = us} admitted-there in
+    let total = given-same e9 in (
       h,
       ss,
       record {
         offered = record { headed = head; before = before; list = list; carried = carried; outside = outer };
-        admits = rw long (admission-of limit h ss n a (admits limit h ss n a {ts = us} admitted-there .0));
+        admits = rw long (admission-of limit h ss n a ok);
+        index = (is, rw long (ap (indexed limit f h) (sym same) ∙ told));
       },
       sym long,
       sym total,
@@ -198,6 +215,21 @@ module _ (limit : ℕ) (f : List ℕ) (h : Heading) (ss : List Segment) (a : Add
           (headed-appended f (added a) h (newBoxes 0 a) (headed f h (t .headed)) (rw length-append small) new-filled (rw (added-many a) room)
           (rw moved-there (none-new ftyp refl refl (λ b free. allowed-other b free .0))) (rw moved-there (none-new pfil refl refl (λ b free. allowed-other b free .1)))))
 
+      -- nothing of its index changes, with the new segment beside the others
+      index-added : let ts = ss ++ (newSegment (psegPlace (length f) a) a ∷ []) in
+          indexed limit (f ++ added a) grownHeading ts ≡ indexed limit f h ts
+      unfolding segments allOf
+      index-added =
+          let n = length f in
+          let old : List Box = those pseg (h .boxes) in
+          let (_, e1) = held 13 (leb (length old) segmentLimit) _ (earlier-read limit f (t .headed) (t .before)) in
+          let (us, read, e2) = both-given (segmentsFrom limit f h [] old) _ e1 in
+          let (_, e3) = held 25 (agree us) _ e2 in
+          let head = headed f h (t .headed) in
+          let lie = those-all pseg (lies n) (h .boxes) (boxes-lie File f 0 n (h .boxes) (head .boxes)) in
+          let new : Segment = newSegment (psegPlace n a) a in
+          indexed-kept f (added a) limit h grownHeading refl new (no-index-new (psegPlace n a) a) ss (inner-lie f h head) (segments-inside limit f h old [] lie refl (read ∙ e3))
+
       segments-added : Sayable a
           → segments limit (f ++ added a) grownHeading ≡ admitted limit ss (newSegment (psegPlace (length f) a) a)
       unfolding segments segmentsFrom admitted
@@ -230,17 +262,24 @@ module _ (limit : ℕ) (f : List ℕ) (h : Heading) (ss : List Segment) (a : Add
           go false chunks low = refl
 
     -- reading the longer file: the refusals that the result would have, in their order, or its segments
-    pub reading-result : Sayable a → reading limit (f ++ added a) ≡ admission limit h ss (length f) a
-    unfolding reading admission
+    pub reading-result : Sayable a → reading limit (f ++ added a) ≡ (admission limit h ss (length f) a >>= λ ts. indexed limit f h ts >>= λ _. given ts)
+    unfolding admission
     reading-result says =
         let size : ℕ = length f + length (added a) in
         let many : ℕ = length (h .boxes) + addedBoxes a in
         elim (decLe size fileLimit) [
-          | no over ↦ rw (heading-large (omega arith), lt-leb size fileLimit (omega arith))
+          | no over ↦ reading-headless limit (f ++ added a) (heading-large (omega arith)) ∙ rw (lt-leb size fileLimit (omega arith))
           | yes small ↦
               elim (decLe many boxLimit) [
-                | no over ↦ rw (heading-crowded small (omega arith), le-leb size fileLimit small, lt-leb many boxLimit (omega arith))
-                | yes room ↦ rw (heading-added small room, le-leb size fileLimit small, le-leb many boxLimit room, pseg-there) (segments-added small says)
+                | no over ↦
+                    reading-headless limit (f ++ added a) (heading-crowded small (omega arith))
+                    ∙ rw (le-leb size fileLimit small, lt-leb many boxLimit (omega arith))
+                | yes room ↦
+                    reading-some limit (f ++ added a) (heading-added small room) pseg-there
+                    ∙ rw (segments-added small says, le-leb size fileLimit small, le-leb many boxLimit room)
+                    (then-known (admitted limit ss (newSegment (psegPlace (length f) a) a)) _ _ (λ ts e.
+                    let same = admitted-given limit ss (newSegment (psegPlace (length f) a) a) e in
+                    rw same (ap (λ (x : Answer (List Indexed)). x >>= λ _. given (ss ++ (newSegment (psegPlace (length f) a) a ∷ []))) (index-added small))))
               ]
         ]
 
@@ -252,7 +291,7 @@ taken-sayable limit f h ss a t below time =
 
 pub reading-added : (limit : ℕ) (f : List ℕ) (h : Heading) (ss : List Segment) (a : Addition) → Taken limit f h ss a → Sayable a
     → reading limit (f ++ added a) ≡ given (ss ++ (newSegment (psegPlace (length f) a) a ∷ []))
-reading-added limit f h ss a t says = reading-result limit f h ss a (t .offered) says ∙ t .admits
+reading-added limit f h ss a t says = reading-result limit f h ss a (t .offered) says ∙ rw (t .admits, t .index .1)
 
 -- the file that an accepted addition leaves
 pub file-after : (limit : ℕ) (buffer : List ℕ) (n : ℕ) (a : Addition) (size : ℕ) → appended limit buffer n a ≡ given size → n ≡ length (take n buffer)

@@ -18,12 +18,15 @@ use Rattle.partial.specs.Sequences.{allOf}
 use Rattle.partial.specs.Segments.{Segment, isOpen, endOf, chunksOf}
 use Rattle.partial.specs.Heading.{Heading}
 use Rattle.partial.specs.Meaning.{givesSize, knownSize, agree}
+use Rattle.partial.specs.Index.{indexed}
 use Rattle.partial.specs.Reading.{offsetWidth, admitted}
 use Rattle.partial.specs.Addition.{items, Addition, flagsFor, dataRight, outsideRight}
 use Rattle.partial.specs.Append.{insideData, outsideData, anyInside, dataBox, stored, addedBoxes, placed, plocBody, versionFor}
 use Rattle.partial.specs.Append.{pshdBody, psegBody, added, psegPlace, newSegment, admission}
 use Rattle.partial.specs.Carried.{carried}
 use Rattle.partial.proofs.Meaning.SequenceLaws.{which, all-append}
+use Rattle.partial.proofs.Reading.IndexedLaws.{indexed-alike}
+use Rattle.partial.proofs.Writing.NewSegmentLaws.{no-index-new}
 use Rattle.partial.proofs.Writing.ReadsBackLaws.{Offered, Taken, Admits, admission-of, admits}
 
 -- what is tested of each segment where a size is known
@@ -83,20 +86,30 @@ module _ (a : Addition) where
   unfolding newSegment endOf givesSize isOpen
   agree-cut ss at = agree-same (newSegment at (cut a)) (newSegment at a) refl refl ss
 
+  -- nor does the index, for which the size of the source is the same
+  pub index-cut : (limit : ℕ) (f : List ℕ) (h : Heading) (ss : List Segment) (at : ℕ)
+      → indexed limit f h (ss ++ (newSegment at (cut a) ∷ [])) ≡ indexed limit f h (ss ++ (newSegment at a ∷ []))
+  unfolding newSegment endOf givesSize isOpen
+  index-cut limit f h ss at =
+      indexed-alike limit f h ss (newSegment at (cut a)) (newSegment at a) (no-index-new at (cut a)) (no-index-new at a)
+      (known-same (newSegment at (cut a)) (newSegment at a) refl refl ss)
+
 module _ (limit : ℕ) (h : Heading) (ss : List Segment) (n : ℕ) (a : Addition) where
-  -- the same refusals, and whatever follows
-  pub admission-cut : {C : Type 0} (rest : Answer C) → (admission limit h ss n (cut a) >>= λ _. rest) ≡ (admission limit h ss n a >>= λ _. rest)
+  -- the same refusals, and whatever follows that tells the two segments not apart
+  pub admission-cut : {C : Type 0} (rest : List Segment → Answer C)
+      → rest (ss ++ (newSegment (psegPlace n a) (cut a) ∷ [])) ≡ rest (ss ++ (newSegment (psegPlace n a) a ∷ []))
+      → (admission limit h ss n (cut a) >>= rest) ≡ (admission limit h ss n a >>= rest)
   unfolding admission admitted newSegment endOf
-  admission-cut rest =
+  admission-cut rest same =
       let at = psegPlace n a in
       rw (added-cut a, boxes-cut a, place-cut a n, agree-cut a ss at)
       (go (leb (n + length (added a)) fileLimit) (leb (length (h .boxes) + addedBoxes a) boxLimit) (leb (length ss + 1) segmentLimit)
       (leb (length (chunksOf ss) + length (newSegment at a .chunks)) chunkLimit) (leb (endOf (newSegment at a)) limit) (agree (ss ++ (newSegment at a ∷ []))))
     where
       go : (t1 t6 t13 t22 t23 t25 : Bool)
-          → (hold 1 t1 >>= (λ _. hold 6 t6 >>= λ _. hold 13 t13 >>= λ _. hold 22 t22 >>= λ _. hold 23 t23 >>= λ _. hold 25 t25 >>= λ _. given (ss ++ (newSegment (psegPlace n a) (cut a) ∷ []))) >>= λ _. rest)
-          ≡ (hold 1 t1 >>= (λ _. hold 6 t6 >>= λ _. hold 13 t13 >>= λ _. hold 22 t22 >>= λ _. hold 23 t23 >>= λ _. hold 25 t25 >>= λ _. given (ss ++ (newSegment (psegPlace n a) a ∷ []))) >>= λ _. rest)
-      go true true true true true true = refl
+          → (hold 1 t1 >>= (λ _. hold 6 t6 >>= λ _. hold 13 t13 >>= λ _. hold 22 t22 >>= λ _. hold 23 t23 >>= λ _. hold 25 t25 >>= λ _. given (ss ++ (newSegment (psegPlace n a) (cut a) ∷ []))) >>= rest)
+          ≡ (hold 1 t1 >>= (λ _. hold 6 t6 >>= λ _. hold 13 t13 >>= λ _. hold 22 t22 >>= λ _. hold 23 t23 >>= λ _. hold 25 t25 >>= λ _. given (ss ++ (newSegment (psegPlace n a) a ∷ []))) >>= rest)
+      go true true true true true true = same
       go true true true true true false = refl
       go true true true true false t25 = refl
       go true true true false t23 t25 = refl
@@ -125,4 +138,5 @@ module _ (limit : ℕ) (f : List ℕ) (h : Heading) (ss : List Segment) (a : Add
       record {
         offered = offered-cut (t .offered);
         admits = admission-of limit h ss (length f) (cut a) (admits-cut limit h ss (length f) a (admits limit h ss (length f) a (t .admits) .0));
+        index = (t .index .0, rw place-cut (index-cut a limit f h ss (psegPlace (length f) a) ∙ t .index .1));
       }

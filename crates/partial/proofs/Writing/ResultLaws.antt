@@ -1,5 +1,5 @@
--- Demand 3, the reasons for which an addition is refused by its result: what the result would have, 1, 6, 13, 22, 23 or
--- 25, and then 33.
+-- Demand 3, the reasons for which an addition is refused by its result: what the result would have, 1, 6, 13, 22, 23,
+-- 25, 36, 37 or 39, and then 33.
 use Prim.Native.Nat.{ℕ, _+_, _^_, _≤_}
 use mathlib.Core.Bool.{Bool, true, false, _&&_}
 use mathlib.Core.List.{List, [], _∷_, _++_}
@@ -13,11 +13,13 @@ use lib.Seq.{length-take-le}
 use Rattle.boxes.specs.Answer.{Answer, refused, given, _>>=_, hold}
 use Rattle.numerals.specs.Numbers.{holds}
 use Rattle.boxes.specs.Framing.{boxLimit}
+use Rattle.boxes.proofs.AnswerLaws.{then-then}
 use Rattle.numerals.proofs.WidthLaws.{below-holds}
 use Rattle.partial.specs.Limits.{fileLimit, segmentLimit, chunkLimit}
 use Rattle.partial.specs.Sequences.{allOf}
 use Rattle.partial.specs.Segments.{Segment, chunksOf}
 use Rattle.partial.specs.Heading.{Heading, heading}
+use Rattle.partial.specs.Index.{Indexed, indexed}
 use Rattle.partial.specs.Reading.{reading, admitted, earlierSegments}
 use Rattle.partial.specs.Addition.{items, Addition, listRight, dataRight, outsideRight, sayable}
 use Rattle.partial.specs.Append.{addedBoxes, added, appended, result, placedWith, placed, admission, psegPlace}
@@ -25,7 +27,7 @@ use Rattle.partial.specs.Runs.{lent, fileIn}
 use Rattle.partial.proofs.Meaning.SequenceLaws.{both, passes}
 use Rattle.partial.proofs.Writing.NewSegmentLaws.{Sayable, length-new}
 use Rattle.partial.proofs.Writing.ReadsBackLaws.{Offered, reading-result}
-use Rattle.partial.proofs.Writing.RepairTimeLaws.{cut, added-cut, offered-cut, admission-cut}
+use Rattle.partial.proofs.Writing.RepairTimeLaws.{cut, added-cut, offered-cut, admission-cut, index-cut}
 
 -- the sizes of a list whose numbers 64 bits hold
 sizes-said : (o : Bool) (out : ℕ) (list : List ℕ) → allOf (λ n. ltb n (2 ^ 64)) list ≡ true → allOf (λ p. holds 8 (p .size)) (placedWith o out (items list)) ≡ true
@@ -49,11 +51,18 @@ said a h =
       count = ltb-true (length (items (a .list))) (2 ^ 16) count;
     }
 
+-- a value that is looked at and passed on, and then something else
+passed-by : {A B C : Type 0} (x : Answer A) (look : A → Answer B) (last : Answer C)
+    → ((x >>= λ a. look a >>= λ _. given a) >>= λ _. last) ≡ (x >>= λ a. look a >>= λ _. last)
+passed-by (refused n) look last = refl
+passed-by (given a) look last = then-then (look a) (λ _. given a) (λ _. last)
+
 module _ (limit : ℕ) (buffer : List ℕ) (n : ℕ) (a : Addition) where
-  -- what append answers of an addition that is right in itself: admission, and then 33
+  -- what append answers of an addition that is right in itself: admission, the index, and then 33
   pub appended-offered : (h : Heading) (ss : List Segment) → n ≤ length buffer → Offered limit (take n buffer) h ss a
       → appended limit buffer n a
-      ≡ (admission limit h ss n a >>= λ _. hold 33 (leb (n + length (added a)) (length buffer)) >>= λ _. given (n + length (added a)))
+      ≡ (admission limit h ss n a
+      >>= λ ts. indexed limit (take n buffer) h ts >>= λ _. hold 33 (leb (n + length (added a)) (length buffer)) >>= λ _. given (n + length (added a)))
   unfolding appended
   appended-offered h ss fits t = rw (le-leb n (length buffer) fits, t .headed, t .before, t .list, t .carried, t .outside)
 
@@ -72,8 +81,14 @@ module _ (limit : ℕ) (buffer : List ℕ) (n : ℕ) (a : Addition) where
       let long : length f ≡ n = length-take-le n buffer fits in
       let offered : Offered limit f h ss a = record { headed = head; before = read; list = list; carried = carried; outside = outer } in
       let whole : length (f ++ added a) ≡ n + length (added a) = length-append f (added a) ∙ ap (λ (m : ℕ). m + length (added a)) long in
-      let same : reading limit (f ++ added a) ≡ admission limit h ss n (cut a) = rw (added-cut a, long) at (reading-result limit f h ss (cut a) (offered-cut limit f h ss a offered) (said a says)) in
-      appended-offered h ss fits offered ∙ rw (whole, same) (sym (admission-cut limit h ss n a _))
+      let same : reading limit (f ++ added a) ≡ (admission limit h ss n (cut a) >>= λ ts. indexed limit f h ts >>= λ _. given ts) = rw (added-cut a, long) at (reading-result limit f h ss (cut a) (offered-cut limit f h ss a offered) (said a says)) in
+      let last : Answer ℕ = hold 33 (leb (n + length (added a)) (length buffer)) >>= λ _. given (n + length (added a)) in
+      appended-offered h ss fits offered
+      ∙ rw (whole, same)
+      (sym
+      (passed-by (admission limit h ss n (cut a)) (indexed limit f h) last
+      ∙ admission-cut limit h ss n a (λ ts. indexed limit f h ts >>= λ _. last)
+      (ap (λ (x : Answer (List Indexed)). x >>= λ _. last) (index-cut a limit f h ss (psegPlace n a)))))
 
   -- of more chunks than `chunk_count` can say it is 22, unless 1, 6 or 13 comes before
   pub too-many : (h : Heading) (ss : List Segment) → n ≤ length buffer

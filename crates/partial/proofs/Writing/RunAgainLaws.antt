@@ -43,7 +43,7 @@ module _ (limit : ℕ) (f : List ℕ) (h : Heading) (ss : List Segment) (a : Add
   appended-of : appended limit buffer (length f) a ≡ given (length f + length (added a))
   appended-of =
       appended-offered limit buffer (length f) a h ss (omega arith) (rw same (t .offered))
-      ∙ rw (t .admits, le-leb (length f + length (added a)) (length buffer) room)
+      ∙ rw (t .admits, same, t .index .1, le-leb (length f + length (added a)) (length buffer) room)
 
   append-of : append limit (lent buffer (length f)) a ≡ lent (filled (f ++ added a) buffer) (length (f ++ added a))
   unfolding append after sizeAfter result

@@ -12,7 +12,8 @@ use Rattle.partial.specs.Append.{added, newSegment, appended, psegPlace}
 use Rattle.partial.specs.Runs.{lent, fileIn, append}
 use Rattle.partial.specs.Again.{again, settled}
 use Rattle.partial.specs.Demands.{Demand2}
-use Rattle.partial.proofs.Reading.AgreementReadLaws.{agrees, disagrees}
+use Rattle.partial.proofs.Reading.AgreementReadLaws.{agrees, disagrees, index-refused}
+use Rattle.partial.proofs.Reading.IndexingLaws.{indexing}
 use Rattle.partial.proofs.Reading.ReadingLaws.{read-mapped}
 use Rattle.partial.proofs.Writing.DataLaws.{settled-added}
 use Rattle.partial.proofs.Writing.ReadsBackLaws.{taken-any, file-after, reads-back, grownHeading, heading-added, admits}
@@ -45,6 +46,8 @@ demand2 limit below =
       mapped = λ f h ss head read. read-mapped limit f head read;
       agrees = agrees limit;
       disagrees = disagrees limit;
+      indexRefused = index-refused limit;
+      indexing = λ f h ss is _ _ e. indexing limit f h ss is e;
       partEmpty = part-empty limit;
       printed = λ of. printed of limit;
       readsBack = reads-back limit below;

@@ -26,6 +26,7 @@ use Rattle.partial.specs.Addition.{Addition}
 use Rattle.partial.specs.Append.{appended}
 use Rattle.partial.specs.Runs.{Lent, lent, fileIn, sizeAfter, begin, append, appendAll}
 use Rattle.partial.specs.Again.{writeAgain}
+use Rattle.partial.proofs.Reading.ReadingLaws.{reading-headless}
 use Rattle.partial.proofs.Reading.RefusalLaws.{takes}
 use Rattle.partial.proofs.Reading.HeadingAppendLaws.{heading-of, url-kept, mime-kept}
 use Rattle.partial.proofs.Writing.BegunLaws.{isMixed, begunHeading, sourceBox, begun-url, begun-mime, begun-headed, begun-taken}
@@ -91,8 +92,7 @@ nothing-added limit buffer [] = refl
 nothing-added limit buffer (a ∷ more) = rw (le-leb 0 (length buffer) zero-le, nothing-headed) (nothing-added limit buffer more)
 
 nothing-read : (limit : ℕ) → reading limit [] ≡ refused 7
-unfolding reading
-nothing-read limit = rw nothing-headed
+nothing-read limit = reading-headless limit [] nothing-headed
 
 -- ---- the whole
 

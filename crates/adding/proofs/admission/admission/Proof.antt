@@ -14,6 +14,7 @@ use Rattle.partial.specs.Append.{added}
 use Rattle.partial.specs.Heading.{Heading}
 use Rattle.partial.specs.Limits.{fileLimit}
 use Rattle.partial.specs.Segments.{Segment}
+use Rattle.partial.proofs.Writing.NewSegmentLaws.{no-index-new}
 use Rattle.adding.specs.Admission.{Beside, Asked, admittedAnswer, admittedLength}
 use Rattle.adding.proofs.AdmissionLaws.{file-test, size-whole, box-test, tells-new, admission-1, admission-6, admission-by}
 use borrow.Author.Needs.{needs}
@@ -26,8 +27,8 @@ ends-by-requires c κs = search needs
 returns : tie.Need-returns
 unfolding writtenAnswer
 returns c = λ h ss a beside asked.
-    let n = c .before .before .before .args .n in
-    admission-1 h ss n a (file-test n beside asked (sym (not-true _ (c .if1 .taken)) ∙ c .before .ends-by .ensures))
+    let n = c .before .before .before .before .args .n in
+    admission-1 _ h ss n a (file-test n beside asked (sym (not-true _ (c .if1 .taken)) ∙ c .before .ends-by .ensures))
 
 added-boxes-requires : tie.Need-added-boxes-requires
 added-boxes-requires c κs = search needs
@@ -39,30 +40,30 @@ returns-2 : tie.Need-returns-2
 unfolding writtenAnswer
 returns-2 c = λ h ss a beside asked.
     let met = c .before .before .before in
-    let n = met .before .before .before .args .n in
+    let n = met .before .before .before .before .args .n in
     let small = file-test n beside asked (sym (not-false _ (met .if1 .left)) ∙ met .before .ends-by .ensures) in
-    admission-6 h ss n a small (box-test n beside asked (c .before .before .added-boxes .ensures a (asked .sorted) (asked .whole)) (sym (not-true _ (c .if2 .taken)) ∙ c .before .ends-by2 .ensures))
+    admission-6 _ h ss n a small (box-test n beside asked (c .before .before .added-boxes .ensures a (asked .sorted) (asked .whole)) (sym (not-true _ (c .if2 .taken)) ∙ c .before .ends-by2 .ensures))
 
 admitted-requires : tie.Need-admitted-requires
 admitted-requires c κs = search needs
 
 -- past 6 the file is small, and whether the segment is admitted decides
-small-past : (c : tie.After-admitted) {h : Heading} {ss : List Segment} {a : Addition} → Beside h ss (c .before .before .before .before .before .before .before .args .judged)
-    → Asked a (c .before .before .before .before .before .before .before .args .header) (c .before .before .before .before .before .before .before .args .counts) (c .before .before .before .before .before .before .before .args .outside) (c .before .before .before .before .before .before .before .args .layout)
-    → true ≡ leb (c .before .before .before .before .before .before .before .args .n + length (added a)) fileLimit
+small-past : (c : tie.After-admitted) {h : Heading} {ss : List Segment} {a : Addition} → Beside (c .before .before .before .before .before .before .before .before .args .file .now) h ss (c .before .before .before .before .before .before .before .before .args .judged)
+    → Asked a (c .before .before .before .before .before .before .before .before .args .header) (c .before .before .before .before .before .before .before .before .args .counts) (c .before .before .before .before .before .before .before .before .args .outside) (c .before .before .before .before .before .before .before .before .args .layout)
+    → true ≡ leb (c .before .before .before .before .before .before .before .before .args .n + length (added a)) fileLimit
 small-past c beside asked =
     let met = c .before .before .before .before in
-    file-test (c .before .before .before .before .before .before .before .args .n) beside asked (sym (not-false _ (met .if1 .left)) ∙ met .before .ends-by .ensures)
+    file-test (c .before .before .before .before .before .before .before .before .args .n) beside asked (sym (not-false _ (met .if1 .left)) ∙ met .before .ends-by .ensures)
 
-by-admitted : (c : tie.After-admitted) (h : Heading) (ss : List Segment) (a : Addition) → Beside h ss (c .before .before .before .before .before .before .before .args .judged)
-    → Asked a (c .before .before .before .before .before .before .before .args .header) (c .before .before .before .before .before .before .before .args .counts) (c .before .before .before .before .before .before .before .args .outside) (c .before .before .before .before .before .before .before .args .layout)
-    → (admittedAnswer (c .admitted .result) >>= λ _. given (c .before .before .before .before .before .before .before .args .n + length (added a))) ≡ admittedLength h ss (c .before .before .before .before .before .before .before .args .n) a
+by-admitted : (c : tie.After-admitted) (h : Heading) (ss : List Segment) (a : Addition) → Beside (c .before .before .before .before .before .before .before .before .args .file .now) h ss (c .before .before .before .before .before .before .before .before .args .judged)
+    → Asked a (c .before .before .before .before .before .before .before .before .args .header) (c .before .before .before .before .before .before .before .before .args .counts) (c .before .before .before .before .before .before .before .before .args .outside) (c .before .before .before .before .before .before .before .before .args .layout)
+    → (admittedAnswer (c .admitted .result) >>= λ _. given (c .before .before .before .before .before .before .before .before .args .n + length (added a))) ≡ admittedLength (c .before .before .before .before .before .before .before .before .args .file .now) h ss (c .before .before .before .before .before .before .before .before .args .n) a
 by-admitted c h ss a beside asked =
-    let n = c .before .before .before .before .before .before .before .args .n in
+    let n = c .before .before .before .before .before .before .before .before .args .n in
     let met = c .before in
     let boxes = box-test n beside asked (met .before .before .added-boxes .ensures a (asked .sorted) (asked .whole)) (sym (not-false _ (met .if2 .left)) ∙ met .before .ends-by2 .ensures) in
-    ap (λ (x : Answer (Unit {0})). x >>= λ _. given (n + length (added a))) (c .admitted .ensures ss _ (beside .segments) (tells-new n beside asked))
-    ∙ admission-by h ss n a (small-past c beside asked) boxes
+    ap (λ (x : Answer (Unit {0})). x >>= λ _. given (n + length (added a))) (c .admitted .ensures h ss _ (beside .file) (beside .segments) (tells-new n beside asked) (no-index-new _ a))
+    ∙ admission-by _ h ss n a (small-past c beside asked) boxes
 
 enum-known-k : tie.Need-enum-known-k
 enum-known-k c = search needs
@@ -70,22 +71,22 @@ enum-known-k c = search needs
 enum-told : tie.Need-enum-told
 enum-told c = search needs
 
-add-t14 : tie.Need-add-t14
-add-t14 c =
+add-t15 : tie.Need-add-t15
+add-t15 c =
     let met = c .before .before .before .before .before .before .before in
-    let args = c .before .before .before .before .before .before .before .before .before .before .args in
+    let args = c .before .before .before .before .before .before .before .before .before .before .before .args in
     omega (arith, leb-true (args .n + args .layout .added) fileLimit (sym (met .before .ends-by .ensures) ∙ not-false _ (met .if1 .left)))
 
 returns-3 : tie.Need-returns-3
 unfolding writtenAnswer admittedAnswer
 returns-3 c = λ h ss a beside asked.
-    let n = c .before .before .before .before .before .before .before .before .before .before .args .n in
+    let n = c .before .before .before .before .before .before .before .before .before .before .before .args .n in
     ap (λ r. admittedAnswer r >>= λ _. given (n + length (added a))) (sym (c .before .k .given .1)) ∙ by-admitted (c .before .before .before) h ss a beside asked
 
 returns-4 : tie.Need-returns-4
 unfolding writtenAnswer admittedAnswer
 returns-4 c = λ h ss a beside asked.
-    let n = c .before .before .before .before .before .before .before .before .before .before .args .n in
+    let n = c .before .before .before .before .before .before .before .before .before .before .before .args .n in
     ap (λ (m : ℕ). given (n + m)) (size-whole n beside asked (small-past (c .before .before .before) beside asked))
     ∙ ap (λ r. admittedAnswer r >>= λ _. given (n + length (added a))) (sym (c .before .enum-told .given .1))
     ∙ by-admitted (c .before .before .before) h ss a beside asked
@@ -102,6 +103,6 @@ admission-spec =
     admitted-requires
     enum-known-k
     enum-told
-    add-t14
+    add-t15
     returns-3
     returns-4)

@@ -1,4 +1,4 @@
--- `adding::admission::admitted` meets its contract: 13, 22, 23 and 25 in their order.
+-- `adding::admission::admitted` meets its contract: 13, 22, 23 and 25 in their order, and then the index.
 use Prim.Native.Nat.{_+_}
 use mathlib.Core.Bool.{true}
 use mathlib.Core.List.{List, [], _∷_, _++_}
@@ -11,47 +11,48 @@ use Rattle.partial.specs.Limits.{segmentLimit, chunkLimit, sourceLimit}
 use Rattle.partial.specs.Meaning.{agree}
 use Rattle.partial.specs.Segments.{Segment, endOf, chunksOf}
 use Rattle.gathering.specs.Gathered.{gatheredOf}
-use Rattle.gathering.proofs.GatheredLaws.{gathered-sizes}
+use Rattle.gathering.proofs.GatheredLaws.{gathered-segments, gathered-sizes}
 use Rattle.adding.specs.Admission.{Tells, admittedAnswer}
 use Rattle.adding.proofs.AdmissionLaws.{segments-full, segments-few, chunk-test, source-test, source-end}
-use Rattle.adding.proofs.AdmissionLaws.{admitted-13, admitted-22, admitted-23, admitted-25, admitted-given}
+use Rattle.adding.proofs.BesideLaws.{new-end}
+use Rattle.adding.proofs.AdmissionLaws.{admitted-13, admitted-22, admitted-23, admitted-25, admitted-by}
 use borrow.Author.Needs.{needs}
 use Rattle.adding.proofs.admission.admitted.Statement.{statement}
 use Rattle.adding.proofs.admission.admitted.Tie as tie
 
 returns : tie.Need-returns
 unfolding admittedAnswer
-returns c = λ ss s known tells. admitted-13 ss s (segments-full ss known tells (c .if1 .taken))
+returns c = λ h ss s file known tells lacks. admitted-13 _ h ss s (segments-full ss known tells (c .if1 .taken))
 
 ends-by-requires : tie.Need-ends-by-requires
 ends-by-requires c κs = search needs
 
 returns-2 : tie.Need-returns-2
 unfolding admittedAnswer
-returns-2 c = λ ss s known tells.
+returns-2 c = λ h ss s file known tells lacks.
     let few = segments-few ss known tells (c .before .before .if1 .left) in
-    admitted-22 ss s few (chunk-test ss known tells (sym (not-true _ (c .if2 .taken)) ∙ c .before .ends-by .ensures))
+    admitted-22 _ h ss s few (chunk-test ss known tells (sym (not-true _ (c .if2 .taken)) ∙ c .before .ends-by .ensures))
 
 ends-by-requires-2 : tie.Need-ends-by-requires-2
 ends-by-requires-2 c κs = search needs
 
 returns-3 : tie.Need-returns-3
 unfolding admittedAnswer
-returns-3 c = λ ss s known tells.
+returns-3 c = λ h ss s file known tells lacks.
     let met = c .before .before in
     let few = segments-few ss known tells (met .before .before .if1 .left) in
     let chunks = chunk-test ss known tells (sym (not-false _ (met .if2 .left)) ∙ met .before .ends-by .ensures) in
-    admitted-23 ss s few chunks (source-test ss known tells (sym (not-true _ (c .if3 .taken)) ∙ c .before .ends-by2 .ensures))
+    admitted-23 _ h ss s few chunks (source-test ss known tells (sym (not-true _ (c .if3 .taken)) ∙ c .before .ends-by2 .ensures))
 
 -- past 23 the first three tests hold
-few-past : (c : tie.Else3) (ss : List Segment) {s : Segment} → c .before .before .before .before .before .before .before .args .gathered ≡ gatheredOf ss → Tells s (c .before .before .before .before .before .before .before .args .header) (c .before .before .before .before .before .before .before .args .counts) → leb (length ss + 1) segmentLimit ≡ true
+few-past : (c : tie.Else3) (ss : List Segment) {s : Segment} → c .before .before .before .before .before .before .before .before .args .gathered ≡ gatheredOf ss → Tells s (c .before .before .before .before .before .before .before .before .args .header) (c .before .before .before .before .before .before .before .before .args .counts) → leb (length ss + 1) segmentLimit ≡ true
 few-past c ss known tells = segments-few ss known tells (c .before .before .before .before .if1 .left)
 
-chunks-past : (c : tie.Else3) (ss : List Segment) {s : Segment} → c .before .before .before .before .before .before .before .args .gathered ≡ gatheredOf ss → Tells s (c .before .before .before .before .before .before .before .args .header) (c .before .before .before .before .before .before .before .args .counts)
+chunks-past : (c : tie.Else3) (ss : List Segment) {s : Segment} → c .before .before .before .before .before .before .before .before .args .gathered ≡ gatheredOf ss → Tells s (c .before .before .before .before .before .before .before .before .args .header) (c .before .before .before .before .before .before .before .before .args .counts)
     → true ≡ leb (length (chunksOf ss) + length (s .chunks)) chunkLimit
 chunks-past c ss known tells = chunk-test ss known tells (sym (not-false _ (c .before .before .if2 .left)) ∙ c .before .before .before .ends-by .ensures)
 
-low-past : (c : tie.Else3) (ss : List Segment) {s : Segment} → c .before .before .before .before .before .before .before .args .gathered ≡ gatheredOf ss → Tells s (c .before .before .before .before .before .before .before .args .header) (c .before .before .before .before .before .before .before .args .counts) → true ≡ leb (endOf s) sourceLimit
+low-past : (c : tie.Else3) (ss : List Segment) {s : Segment} → c .before .before .before .before .before .before .before .before .args .gathered ≡ gatheredOf ss → Tells s (c .before .before .before .before .before .before .before .before .args .header) (c .before .before .before .before .before .before .before .before .args .counts) → true ≡ leb (endOf s) sourceLimit
 low-past c ss known tells = source-test ss known tells (sym (not-false _ (c .if3 .left)) ∙ c .before .ends-by2 .ensures)
 
 cast-gives-size : tie.Need-cast-gives-size
@@ -61,7 +62,7 @@ gives-size-requires : tie.Need-gives-size-requires
 gives-size-requires c κs = search needs
 
 add-end : tie.Need-add-end
-add-end c = omega (arith, leb-true (c .before .before .before .before .before .before .before .before .before .before .before .before .args .header .offset .0 + c .before .before .before .before .before .before .before .before .before .before .before .before .args .counts .sum) sourceLimit (sym (c .before .before .before .before .before .before .ends-by2 .ensures) ∙ not-false _ (c .before .before .before .before .before .if3 .left)))
+add-end c = omega (arith, leb-true (c .before .before .before .before .before .before .before .before .before .before .before .before .before .args .header .offset .0 + c .before .before .before .before .before .before .before .before .before .before .before .before .before .args .counts .sum) sourceLimit (sym (c .before .before .before .before .before .before .ends-by2 .ensures) ∙ not-false _ (c .before .before .before .before .before .if3 .left)))
 
 with-requires : tie.Need-with-requires
 with-requires c κs = search needs
@@ -70,7 +71,7 @@ agree-requires : tie.Need-agree-requires
 agree-requires c κs = search needs
 
 -- the sizes agree with the new segment's as the code says
-sizes-agree : (c : tie.After-agree) (ss : List Segment) (s : Segment) → c .before .before .before .before .before .before .before .before .before .before .before .before .before .before .args .gathered ≡ gatheredOf ss → Tells s (c .before .before .before .before .before .before .before .before .before .before .before .before .before .before .args .header) (c .before .before .before .before .before .before .before .before .before .before .before .before .before .before .args .counts)
+sizes-agree : (c : tie.After-agree) (ss : List Segment) (s : Segment) → c .before .before .before .before .before .before .before .before .before .before .before .before .before .before .before .args .gathered ≡ gatheredOf ss → Tells s (c .before .before .before .before .before .before .before .before .before .before .before .before .before .before .before .args .header) (c .before .before .before .before .before .before .before .before .before .before .before .before .before .before .before .args .counts)
     → c .agree .result ≡ agree (ss ++ (s ∷ []))
 sizes-agree c ss s known tells =
     let past = c .before .before .before .before .before .before .before in
@@ -80,11 +81,19 @@ sizes-agree c ss s known tells =
 
 returns-4 : tie.Need-returns-4
 unfolding admittedAnswer
-returns-4 c = λ ss s known tells. admitted-25 ss s (few-past (c .before .before .before .before .before .before .before .before) ss known tells) (chunks-past (c .before .before .before .before .before .before .before .before) ss known tells) (low-past (c .before .before .before .before .before .before .before .before) ss known tells) (sym (not-true _ (c .if4 .taken)) ∙ sizes-agree (c .before) ss s known tells)
+returns-4 c = λ h ss s file known tells lacks. admitted-25 _ h ss s (few-past (c .before .before .before .before .before .before .before .before) ss known tells) (chunks-past (c .before .before .before .before .before .before .before .before) ss known tells) (low-past (c .before .before .before .before .before .before .before .before) ss known tells) (sym (not-true _ (c .if4 .taken)) ∙ sizes-agree (c .before) ss s known tells)
+
+index-beside-requires : tie.Need-index-beside-requires
+index-beside-requires c κs = search needs
 
 returns-5 : tie.Need-returns-5
-unfolding admittedAnswer
-returns-5 c = λ ss s known tells. admitted-given ss s (few-past (c .before .before .before .before .before .before .before .before) ss known tells) (chunks-past (c .before .before .before .before .before .before .before .before) ss known tells) (low-past (c .before .before .before .before .before .before .before .before) ss known tells) (sym (not-false _ (c .if4 .left)) ∙ sizes-agree (c .before) ss s known tells)
+returns-5 c = λ h ss s file known tells lacks.
+    let left = c .before in
+    let past = left .before .before .before .before .before .before .before .before in
+    let gives = left .before .before .before .before .before .before .gives-size .ensures s (tells .flags) (tells .items) in
+    let ends = source-end ss known tells (sym (not-false _ (past .if3 .left)) ∙ past .before .ends-by2 .ensures) in
+    c .index-beside .ensures h ss s file (gathered-segments ss known) lacks (new-end s gives ends)
+    ∙ admitted-by _ h ss s (few-past past ss known tells) (chunks-past past ss known tells) (low-past past ss known tells) (sym (not-false _ (left .if4 .left)) ∙ sizes-agree (left .before) ss s known tells)
 
 pub admitted-spec : {M : Type 1} → statement M
 admitted-spec =
@@ -101,4 +110,5 @@ admitted-spec =
     with-requires
     agree-requires
     returns-4
+    index-beside-requires
     returns-5)

@@ -1,5 +1,5 @@
--- `gathering::kept::put_rows` meets its contract. The loop's invariant: the chunks so far have their rows, and the others
--- are kept ahead.
+-- `gathering::kept::put_rows` meets its contract. The loop's invariant: the chunks so far have their rows, and the
+-- others are kept ahead.
 use borrow.Author.Needs.{needs}
 use Prim.Native.Nat.{_+_, _-_, _*_, _^_, _<_, _≤_, min}
 use mathlib.Core.Bool.{false}

@@ -1,11 +1,12 @@
 -- `gathering::parts::parts_of` meets its contract: framing, 14, 15, 16, and what the head of the `ploc` says.
 use mathlib.Core.Path.{refl, sym, ap, _∙_}
 use borrow.Author.Tests.{not-true, not-false}
-use Rattle.boxes.specs.Kinds.{ploc, surl}
+use Rattle.boxes.specs.Kinds.{ploc, surl, fidx}
 use Rattle.boxes.specs.declared.kinds.Container.the-variants.{Pseg}
 use Rattle.tallying.specs.Rules.{tallyOf}
 use Rattle.tallying.proofs.RuleLaws.{tally-fault, tally-sound, rule-kept}
 use Rattle.partial.specs.Entries.{plocHead}
+use Rattle.partial.proofs.Reading.IndexedLaws.{has-counted}
 use Rattle.gathering.specs.Parts.{partsAnswer}
 use Rattle.gathering.proofs.PartsLaws.{parts-fault, parts-header, parts-lone, parts-source, parts-by, pshd-given, pshd-refused}
 use Rattle.fields.proofs.LocationLaws.{location-given, location-refused}
@@ -82,13 +83,17 @@ location-of-requires c κs = search needs
 enum-known-location : tie.Need-enum-known-location
 enum-known-location c = search needs
 
+of-requires-3 : tie.Need-of-requires-3
+of-requires-3 c κs = search needs
+
 enum-known-n : tie.Need-enum-known-n
 enum-known-n c = search needs
 
 returns-5 : tie.Need-returns-5
 unfolding partsAnswer
 returns-5 c =
-    let kept = c .before .before .before .before .before .before .before .before in
+    let read = c .before in
+    let kept = read .before .before .before .before .before .before .before .before in
     let found = kept .before .before .before in
     let told = found .before .before in
     let tallied = told .before .before .before in
@@ -96,10 +101,11 @@ returns-5 c =
     let counted = tallied .tally .ensures ∙ ap tallyOf known in
     let header = pshd-given (told .header-of .ensures bs known counted) (found .header .given .1) in
     let rule = rule-kept bs counted Pseg ploc refl (kept .before .of .ensures) (kept .keeps .ensures) in
-    let single = sym rule ∙ not-false _ (c .before .before .before .before .before .before .before .if2 .left) in
-    let nothing = sym (c .before .before .before .before .before .before .of2 .ensures ∙ counts .of surl refl) ∙ c .before .before .before .before .before .if3 .left in
-    let first = ap (plocHead _) (sym (c .before .before .before .before .first-of .ensures bs known)) in
-    sym (parts-by _ _ known header single nothing ∙ rw (first ∙ location-given _ _ (c .before .before .before .location-of .ensures) (c .before .location .given .1)))
+    let single = sym rule ∙ not-false _ (read .before .before .before .before .before .before .before .if2 .left) in
+    let nothing = sym (read .before .before .before .before .before .before .of2 .ensures ∙ counts .of surl refl) ∙ read .before .before .before .before .before .if3 .left in
+    let first = ap (plocHead _) (sym (read .before .before .before .before .first-of .ensures bs known)) in
+    let flag = has-counted bs (c .of3 .ensures ∙ counts .of fidx refl) in
+    sym (parts-by _ _ known header single nothing ∙ rw (first ∙ location-given _ _ (read .before .before .before .location-of .ensures) (read .before .location .given .1), ← flag))
 
 returns-6 : tie.Need-returns-6
 unfolding partsAnswer
@@ -135,6 +141,7 @@ parts-of-spec =
     first-of-requires
     location-of-requires
     enum-known-location
+    of-requires-3
     enum-known-n
     returns-5
     returns-6)

@@ -6,11 +6,12 @@ use borrow.Author.Needs.{needs}
 use lib.ListN.{length}
 use Rattle.boxes.specs.Answer.{given}
 use Rattle.boxes.specs.Framing.{Box, boxesIn}
-use Rattle.boxes.specs.Kinds.{pfhd, surl, pseg}
+use Rattle.boxes.specs.Kinds.{pfhd, surl, pseg, fidx}
 use Rattle.boxes.specs.declared.kinds.Container.the-variants.{Pfil}
 use Rattle.tallying.specs.Rules.{tallyOf}
 use Rattle.tallying.proofs.RuleLaws.{tally-fault, tally-given, tally-known}
 use Rattle.partial.specs.Heading.{pfhdRight, surlRight, url, mime}
+use Rattle.partial.proofs.Reading.IndexedLaws.{has-counted}
 use Rattle.heading.specs.Facts.{headedAnswer}
 use Rattle.heading.specs.Steps.{Within}
 use Rattle.heading.proofs.FormLaws.{refuted, upheld}
@@ -100,15 +101,19 @@ first-of-requires-2 c κs = search needs
 of-requires : tie.Need-of-requires
 of-requires c κs = search needs
 
+of-requires-2 : tie.Need-of-requires-2
+of-requires-2 c κs = search needs
+
 url-of-requires : tie.Need-url-of-requires
-url-of-requires c κs = first-surl (c .before)
+url-of-requires c κs = first-surl (c .before .before)
 
 mime-of-requires : tie.Need-mime-of-requires
-mime-of-requires c κs = first-surl (c .before .before)
+mime-of-requires c κs = first-surl (c .before .before .before)
 
 returns-4 : tie.Need-returns-4
 returns-4 c bs tallied same front =
-    let after-of = c .before .before in
+    let after-index = c .before .before in
+    let after-of = after-index .before in
     let after-first = after-of .before in
     let after-surl = after-first .before .before in
     let else1 = after-surl .before .before .before .before in
@@ -120,6 +125,7 @@ returns-4 c bs tallied same front =
     let all = tally-given tallied refl in
     rw (all-right (start .args .file .now) bs front (start .args .b) same known right formed)
     (found-told (start .args .file .now) bs is _ (all .number) (after-of .of .ensures ∙ all .of pseg refl)
+    (has-counted is (after-index .of2 .ensures ∙ tally-given counted refl .of fidx refl))
     (c .before .url-of .ensures ∙ ap (url _) first)
     (c .mime-of .ensures ∙ ap (mime _) first))
 
@@ -136,6 +142,7 @@ inner-of-spec =
     returns-3
     first-of-requires-2
     of-requires
+    of-requires-2
     url-of-requires
     mime-of-requires
     returns-4)

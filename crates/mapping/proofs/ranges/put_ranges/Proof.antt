@@ -1,5 +1,6 @@
 -- `mapping::ranges::put_ranges` meets its contract. The loop's invariant: the ranges so far have their lines and are
--- counted, those from here on are left, and the sweeps are ready. A line has no more bytes than its range has positions, fifty times.
+-- counted, those from here on are left, and the sweeps are ready. A line has no more bytes than its range has
+-- positions, fifty times.
 use Prim.Native.Nat.{_+_, _-_, _*_, _≤_}
 use mathlib.Core.Path.{_≡_, refl, _∙_}
 use native.Mathlib.Omega.{arith}

@@ -1,9 +1,11 @@
--- `reading::judging::earlier_of` meets its contract: the heading, then its segments.
+-- `reading::judging::earlier_of` meets its contract: the heading, then its segments, then the index of a file that has
+-- one.
 use mathlib.Core.Path.{sym, _∙_}
+use borrow.Author.Tests.{not-true, not-false}
 use Rattle.partial.proofs.Reading.HeadingAppendLaws.{headed}
 use Rattle.reading.specs.Judged.{judgedAnswer}
 use Rattle.reading.proofs.JudgedLaws.{heading-refused, heading-found, facts-segments, facts-mixed, answer-refused, answer-given}
-use Rattle.reading.proofs.JudgedLaws.{earlier-headless, earlier-by, judged-refused, judged-given}
+use Rattle.reading.proofs.JudgedLaws.{earlier-headless, earlier-by, earlier-unread, earlier-begun, gathered-known}
 use borrow.Author.Needs.{needs}
 use Rattle.reading.proofs.judging.earlier_of.Statement.{statement}
 use Rattle.reading.proofs.judging.earlier_of.Tie as tie
@@ -32,17 +34,25 @@ enum-known-n-2 c = search needs
 enum-known-gathered : tie.Need-enum-known-gathered
 enum-known-gathered c = search needs
 
+has-segment-requires : tie.Need-has-segment-requires
+has-segment-requires c κs = search needs
+
 returns : tie.Need-returns
 unfolding judgedAnswer
-returns c = sym (earlier-headless _ (heading-refused _ (c .before .before .before .heading-of .ensures) (c .before .n .given .1)))
+returns c =
+    let read = c .before .before in
+    let met = read .before .before .before .before .before .before .before .before .before in
+    let (h, known, same) = heading-found _ (met .before .before .heading-of .ensures) (met .head .given .1) in
+    let rule = c .before .has-segment .ensures _ h same in
+    let (answer, _) = read .before .before .before .before .before .segments-of .ensures h (headed _ h known .boxes) (facts-mixed _ h same) (facts-segments _ h _ same) in
+    sym (earlier-begun _ known (sym rule ∙ not-true _ (c .if1 .taken)) (answer-given answer (read .before .gathered .given .1)) same)
+
+with-index-requires : tie.Need-with-index-requires
+with-index-requires c κs = search needs
 
 returns-2 : tie.Need-returns-2
 unfolding judgedAnswer
-returns-2 c =
-    let met = c .before .before .before .before .before .before .before .before .before in
-    let (h, known, same) = heading-found _ (met .before .before .heading-of .ensures) (met .head .given .1) in
-    let (answer, _) = c .before .before .before .before .before .segments-of .ensures h (headed _ h known .boxes) (facts-mixed _ h same) (facts-segments _ h _ same) in
-    sym (earlier-by _ known ∙ judged-refused _ h (answer-refused answer (c .before .n2 .given .1)))
+returns-2 c = sym (earlier-headless _ (heading-refused _ (c .before .before .before .heading-of .ensures) (c .before .n .given .1)))
 
 returns-3 : tie.Need-returns-3
 unfolding judgedAnswer
@@ -50,7 +60,18 @@ returns-3 c =
     let met = c .before .before .before .before .before .before .before .before .before in
     let (h, known, same) = heading-found _ (met .before .before .heading-of .ensures) (met .head .given .1) in
     let (answer, _) = c .before .before .before .before .before .segments-of .ensures h (headed _ h known .boxes) (facts-mixed _ h same) (facts-segments _ h _ same) in
-    sym (earlier-by _ known ∙ judged-given _ h (answer-given answer (c .before .gathered .given .1)) same)
+    sym (earlier-unread _ known (answer-refused answer (c .before .n2 .given .1)))
+
+returns-4 : tie.Need-returns-4
+returns-4 c =
+    let left = c .before in
+    let read = left .before .before in
+    let met = read .before .before .before .before .before .before .before .before .before in
+    let (h, known, same) = heading-found _ (met .before .before .heading-of .ensures) (met .head .given .1) in
+    let rule = left .before .has-segment .ensures _ h same in
+    let (answer, _) = read .before .before .before .before .before .segments-of .ensures h (headed _ h known .boxes) (facts-mixed _ h same) (facts-segments _ h _ same) in
+    let (ss, all, of) = gathered-known _ h (answer-given answer (read .before .gathered .given .1)) in
+    c .with-index .ensures h ss known same all of ∙ sym (earlier-by _ known (sym rule ∙ not-false _ (left .if1 .left)))
 
 pub earlier-of-spec : {M : Type 1} → statement M
 earlier-of-spec =
@@ -64,6 +85,9 @@ earlier-of-spec =
     segments-of-requires
     enum-known-n-2
     enum-known-gathered
+    has-segment-requires
     returns
+    with-index-requires
     returns-2
-    returns-3)
+    returns-3
+    returns-4)

@@ -1,13 +1,10 @@
--- `reading::judging::judge_into` meets its contract: the heading, then 12, then its segments.
-use mathlib.Core.Path.{sym, ap, _∙_}
+-- `reading::judging::judge_into` meets its contract: the heading, then 12, then its segments, then its index.
+use mathlib.Core.Path.{sym, _∙_}
 use borrow.Author.Tests.{not-true, not-false}
-use Rattle.boxes.specs.Kinds.{pseg, rightCount}
-use Rattle.boxes.specs.declared.kinds.Container.the-variants.{File}
-use Rattle.boxes.proofs.KindLaws.{right-count}
 use Rattle.partial.proofs.Reading.HeadingAppendLaws.{headed}
 use Rattle.reading.specs.Judged.{judgedAnswer}
 use Rattle.reading.proofs.JudgedLaws.{heading-refused, heading-found, facts-segments, facts-mixed, answer-refused, answer-given}
-use Rattle.reading.proofs.JudgedLaws.{reading-headless, reading-none, reading-by, judged-refused, judged-given, read-refused, kept-refused, kept-read}
+use Rattle.reading.proofs.JudgedLaws.{reading-headless, reading-none, reading-by, judged-refused, gathered-known, read-refused, kept-refused, kept-read}
 use borrow.Author.Needs.{needs}
 use Rattle.reading.proofs.judging.judge_into.Statement.{statement}
 use Rattle.reading.proofs.judging.judge_into.Tie as tie
@@ -21,15 +18,15 @@ enum-known-n c = search needs
 enum-known-head : tie.Need-enum-known-head
 enum-known-head c = search needs
 
-keeps-requires : tie.Need-keeps-requires
-keeps-requires c κs = search needs
+has-segment-requires : tie.Need-has-segment-requires
+has-segment-requires c κs = search needs
 
 returns : tie.Need-returns
 unfolding judgedAnswer
 returns c =
     let met = c .before .before .before in
     let (h, known, same) = heading-found _ (met .before .before .heading-of .ensures) (met .head .given .1) in
-    let rule = c .before .keeps .ensures ∙ ap (rightCount File pseg) (facts-segments _ h _ same) ∙ sym (right-count File pseg (h .boxes)) in
+    let rule = c .before .has-segment .ensures _ h same in
     let none = reading-none _ known (sym rule ∙ not-true _ (c .if1 .taken)) in
     (sym none, kept-refused (read-refused _ none))
 
@@ -41,6 +38,9 @@ enum-known-n-2 c = search needs
 
 enum-known-gathered : tie.Need-enum-known-gathered
 enum-known-gathered c = search needs
+
+with-index-requires : tie.Need-with-index-requires
+with-index-requires c κs = search needs
 
 returns-2 : tie.Need-returns-2
 unfolding judgedAnswer
@@ -60,7 +60,7 @@ returns-3 c =
     let kept = c .before .before .before .before .before .before .before .before .before .before in
     let met = kept .before .before .before in
     let (h, known, same) = heading-found _ (met .before .before .heading-of .ensures) (met .head .given .1) in
-    let rule = kept .before .keeps .ensures ∙ ap (rightCount File pseg) (facts-segments _ h _ same) ∙ sym (right-count File pseg (h .boxes)) in
+    let rule = kept .before .has-segment .ensures _ h same in
     let (answer, rows) = c .before .before .before .before .before .before .before .segments-of .ensures h (headed _ h known .boxes) (facts-mixed _ h same) (facts-segments _ h _ same) in
     let by = reading-by _ known (sym rule ∙ not-false _ (kept .if1 .left)) in
     (sym (by ∙ judged-refused _ h (answer-refused answer (c .before .n2 .given .1))), kept-read _ h known rows)
@@ -72,15 +72,16 @@ same-length-4 : tie.Need-same-length-4
 same-length-4 c = search needs
 
 returns-4 : tie.Need-returns-4
-unfolding judgedAnswer
 returns-4 c =
-    let kept = c .before .before .before .before .before .before .before .before .before .before in
+    let left = c .before in
+    let kept = left .before .before .before .before .before .before .before .before .before .before in
     let met = kept .before .before .before in
     let (h, known, same) = heading-found _ (met .before .before .heading-of .ensures) (met .head .given .1) in
-    let rule = kept .before .keeps .ensures ∙ ap (rightCount File pseg) (facts-segments _ h _ same) ∙ sym (right-count File pseg (h .boxes)) in
-    let (answer, rows) = c .before .before .before .before .before .before .before .segments-of .ensures h (headed _ h known .boxes) (facts-mixed _ h same) (facts-segments _ h _ same) in
+    let rule = kept .before .has-segment .ensures _ h same in
+    let (answer, rows) = left .before .before .before .before .before .before .before .segments-of .ensures h (headed _ h known .boxes) (facts-mixed _ h same) (facts-segments _ h _ same) in
     let by = reading-by _ known (sym rule ∙ not-false _ (kept .if1 .left)) in
-    (sym (by ∙ judged-given _ h (answer-given answer (c .before .gathered .given .1)) same), kept-read _ h known rows)
+    let (ss, all, of) = gathered-known _ h (answer-given answer (left .before .gathered .given .1)) in
+    (c .with-index .ensures h ss known same all of ∙ sym by, kept-read _ h known rows)
 
 pub judge-into-spec : {M : Type 1} → statement M
 judge-into-spec =
@@ -89,11 +90,12 @@ judge-into-spec =
     heading-of-requires
     enum-known-n
     enum-known-head
-    keeps-requires
+    has-segment-requires
     returns
     segments-of-requires
     enum-known-n-2
     enum-known-gathered
+    with-index-requires
     returns-2
     same-length
     same-length-2

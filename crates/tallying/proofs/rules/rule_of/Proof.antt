@@ -1,4 +1,5 @@
--- `tallying::rules::rule_of` meets its contract. The loop's invariant: the rows passed are others, so those left decide.
+-- `tallying::rules::rule_of` meets its contract. The loop's invariant: the rows passed are others, so those left
+-- decide.
 use Prim.Native.Nat.{_-_, _≤_}
 use mathlib.Core.Path.{_≡_, refl, sym, _∙_}
 use borrow.Author.Needs.{needs}

@@ -1,7 +1,7 @@
 -- `vrazhupa::answers::say_written` meets its contract.
 use mathlib.Core.Path.{refl, ap}
 use Rattle.partial.specs.Answers.{writtenAnswer}
-use Rattle.vrazhupa.specs.Says.{lengthNumbers}
+use Rattle.vrazhupa.specs.Says.{oneNumber}
 use Rattle.vrazhupa.proofs.SayLaws.{says-refused, says-given}
 use borrow.Author.Needs.{needs}
 use Rattle.vrazhupa.proofs.answers.say_written.Statement.{statement}
@@ -18,7 +18,7 @@ unfolding writtenAnswer
 returns c = says-refused _ (ap writtenAnswer (c .before .r .given .1))
 
 returns-2 : tie.Need-returns-2
-unfolding writtenAnswer lengthNumbers
+unfolding writtenAnswer oneNumber
 returns-2 c = says-given _ (ap writtenAnswer (c .before .before .r2 .given .1)) refl
 
 pub say-written-spec : {M : Type 1} → statement M

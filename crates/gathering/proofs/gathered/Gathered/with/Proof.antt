@@ -6,12 +6,12 @@ use Rattle.gathering.proofs.GatheredLaws.{gathered-sizes, gathered-more
 use Rattle.gathering.proofs.gathered.Gathered.with.Statement.{statement}
 use Rattle.gathering.proofs.gathered.Gathered.with.Tie as tie
 
-add-t6 : tie.Need-add-t6
-unfolding boxLimit
-add-t6 c = search needs
-
 add-t7 : tie.Need-add-t7
+unfolding boxLimit
 add-t7 c = search needs
+
+add-t8 : tie.Need-add-t8
+add-t8 c = search needs
 
 gives-size-requires : tie.Need-gives-size-requires
 gives-size-requires c κs = search needs
@@ -23,8 +23,8 @@ returns : tie.Need-returns
 returns c = (
   refl,
   refl,
-  λ ss s e flags count ends. gathered-more ss e s count (c .with .ensures ss s (gathered-sizes ss e) ends (c .before .gives-size .ensures s flags count)),
+  λ ss s e flags count ends flag. gathered-more ss e s count (c .before .with .ensures ss s (gathered-sizes ss e) ends (c .before .before .gives-size .ensures s flags count)) flag,
 )
 
 pub with-spec : {M : Type 1} → statement M
-with-spec = tie.close (tie.spec add-t6 add-t7 gives-size-requires with-requires returns)
+with-spec = tie.close (tie.spec add-t7 add-t8 gives-size-requires with-requires returns)

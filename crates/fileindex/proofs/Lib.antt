@@ -1,0 +1,6 @@
+pub mod SegmentLaws
+pub mod PartLaws
+pub mod HeadingLaws
+pub mod PassLaws
+pub mod FileLaws
+pub mod Determined

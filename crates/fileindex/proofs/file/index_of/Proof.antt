@@ -1,0 +1,139 @@
+-- `fileindex::file::index_of` meets its contract. The loop's invariant: the indexes so far are marked, and the boxes
+-- that are left decide.
+use mathlib.Core.List.{List}
+use mathlib.Core.Path.{_≡_, refl, sym, subst, _∙_}
+use borrow.Author.Needs.{needs}
+use borrow.Author.Tests.{leb-true}
+use lib.ListN.{length}
+use Rattle.boxes.specs.Answer.{given}
+use Rattle.boxes.specs.Framing.{boxOf}
+use Rattle.boxes.proofs.WalkLaws.{fewer, next-box, no-more, a-fault, walk-boxes}
+use Rattle.partial.specs.Heading.{Heading, heading}
+use Rattle.partial.specs.Limits.{sourceLimit}
+use Rattle.partial.specs.Reading.{segments}
+use Rattle.partial.specs.Segments.{Segment}
+use Rattle.partial.proofs.Reading.HeadingAppendLaws.{headed}
+use Rattle.indexing.specs.Ends.{endOf}
+use Rattle.indexing.specs.Index.{CountedIn}
+use Rattle.fileindex.specs.File.{Tells}
+use Rattle.fileindex.specs.Parts.{Adds}
+use Rattle.fileindex.proofs.FileLaws.{by-parts, tells-file}
+use Rattle.fileindex.proofs.HeadingLaws.{heading-holds}
+use Rattle.fileindex.proofs.PartLaws.{partsOf}
+use Rattle.fileindex.proofs.PassLaws.{Midway, midway-none, next, next-inside, midway-refused, midway-more, midway-end, midway-sound}
+use Rattle.fileindex.proofs.file.index_of.Statement.{statement}
+use Rattle.fileindex.proofs.file.index_of.Tie as tie
+
+abbrev Inv-loop : tie.InvT-loop
+Inv-loop file size table₀ walk₀ marks₀ table walk marks =
+    (length table ≡ length table₀)
+    × ((h : Heading) (ss : List Segment) → heading file ≡ given h → segments sourceLimit file h ≡ given ss → Midway file (endOf size) (partsOf h ss) table₀ table walk marks)
+
+abbrev μ-loop : tie.MeasureT-loop
+μ-loop file size table₀ walk₀ marks₀ table walk marks = walk .left
+
+new-requires : tie.Need-new-requires Inv-loop μ-loop
+new-requires c κs = tt
+
+loop-holds : tie.Need-loop-holds Inv-loop μ-loop
+loop-holds c =
+    let new = c .new .ensures in (
+      refl,
+      λ h ss head known.
+          let t = headed _ h head in
+          midway-none _ _ _ _ new (sym (walk-boxes _ new) ∙ t .boxes) (heading-holds _ h ss t known) (leb-true _ _ (t .small)),
+    )
+
+step-requires : tie.Need-step-requires Inv-loop μ-loop
+step-requires c κs = tt
+
+enum-known-b : tie.Need-enum-known-b Inv-loop μ-loop
+enum-known-b c = search needs
+
+index-at-requires : tie.Need-index-at-requires Inv-loop μ-loop
+index-at-requires c κs = tt
+
+enum-known-n : tie.Need-enum-known-n Inv-loop μ-loop
+enum-known-n c = search needs
+
+same-length : tie.Need-same-length Inv-loop μ-loop
+same-length c = search needs
+
+returns : tie.Need-returns Inv-loop μ-loop
+unfolding Tells Adds
+returns c = λ h ss head known.
+    let read = c .before .before .before .before .before in
+    let met = read .before .before .before in
+    let so-far = met .before .before .before .loop .inv .1 h ss head known in
+    let step = next-box (met .before .before .step .ensures) (met .b .given .1) in
+    let box = next _ _ _ _ so-far step in
+    let (told, _) = read .index-at .ensures (box .here) (box .held) (next-inside _ _ _ _ so-far step) in
+    sym (by-parts _ h _ ss) ∙ midway-refused _ _ _ _ so-far step (subst (Adds _ _ _ _) (c .before .n .given .1) told)
+
+enum-known-more : tie.Need-enum-known-more Inv-loop μ-loop
+enum-known-more c = search needs
+
+loop-less : tie.Need-loop-less Inv-loop μ-loop
+loop-less c =
+    let met = c .before .before .before .before .before .before .before .before in
+    fewer _ _ (next-box (met .before .before .step .ensures) (met .b .given .1))
+
+loop-again : tie.Need-loop-again Inv-loop μ-loop
+unfolding CountedIn boxOf
+loop-again c =
+    let read = c .before .before .before .before .before in
+    let met = read .before .before .before in
+    let inv = met .before .before .before .loop .inv in
+    let step = next-box (met .before .before .step .ensures) (met .b .given .1) in
+    let given-more = c .before .more .given .1 in (
+      read .index-at .kept .1 .1 .1 .1 .0 ∙ inv .0,
+      λ h ss head known.
+          let so-far = inv .1 h ss head known in
+          let box = next _ _ _ _ so-far step in
+          let (told, counted) = read .index-at .ensures (box .here) (box .held) (next-inside _ _ _ _ so-far step) in
+          midway-more _ _ _ _ so-far step _ _ _ (subst (Adds _ _ _ _) given-more told) (subst (CountedIn _) given-more counted),
+    )
+
+enum-told : tie.Need-enum-told Inv-loop μ-loop
+enum-told c = search needs
+
+same-length-2 : tie.Need-same-length-2 Inv-loop μ-loop
+same-length-2 c = search needs
+
+returns-2 : tie.Need-returns-2 Inv-loop μ-loop
+returns-2 c = λ h ss head known.
+    tells-file _ h _ ss _ _ _ (midway-end _ _ _ _ (c .before .before .before .loop .inv .1 h ss head known) (no-more (c .before .before .step .ensures) (c .enum-told .given .1)))
+
+enum-known-n-2 : tie.Need-enum-known-n-2 Inv-loop μ-loop
+enum-known-n-2 c = search needs
+
+same-length-3 : tie.Need-same-length-3 Inv-loop μ-loop
+same-length-3 c = search needs
+
+returns-3 : tie.Need-returns-3 Inv-loop μ-loop
+returns-3 c = λ h ss head known.
+    absurd (midway-sound _ _ _ _ (c .before .before .before .before .loop .inv .1 h ss head known) (a-fault (c .before .before .before .step .ensures) (c .before .n2 .given .1)))
+
+pub index-of-spec : {M : Type 1} → statement M
+index-of-spec =
+    tie.close
+    (tie.spec
+    Inv-loop
+    μ-loop
+    new-requires
+    loop-holds
+    step-requires
+    enum-known-b
+    index-at-requires
+    enum-known-n
+    same-length
+    returns
+    enum-known-more
+    loop-less
+    loop-again
+    enum-told
+    same-length-2
+    returns-2
+    enum-known-n-2
+    same-length-3
+    returns-3)

@@ -1,0 +1,3 @@
+pub mod Serving
+pub mod Marking
+pub mod Calls
