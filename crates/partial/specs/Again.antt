@@ -6,9 +6,9 @@ use lib.Dec.{eqb}
 use Rattle.boxes.specs.Framing.{Box}
 use Rattle.partial.specs.Sequences.{someOf}
 use Rattle.partial.specs.Segments.{Chunk, Segment, good, present, isLast}
-use Rattle.partial.specs.Heading.{Heading, url, mime}
+use Rattle.partial.specs.Heading.{Heading, url, mime, bytesIn}
 use Rattle.partial.specs.Entries.{inData}
-use Rattle.partial.specs.Tables.{bytesIn, textOf}
+use Rattle.partial.specs.Tables.{textOf}
 use Rattle.partial.specs.Begin.{brandFor}
 use Rattle.partial.specs.Addition.{Addition, items, goesOut}
 use Rattle.partial.specs.Runs.{Lent, begin, appendAll}

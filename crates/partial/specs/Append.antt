@@ -16,6 +16,7 @@ use Rattle.partial.specs.Sequences.{someOf, allOf}
 use Rattle.partial.specs.Segments.{Chunk, Segment, present, corrupted, hasPlace}
 use Rattle.partial.specs.Heading.{Heading, heading}
 use Rattle.partial.specs.Entries.{offsetPlace}
+use Rattle.partial.specs.Sources.{sourceBeside}
 use Rattle.partial.specs.Reading.{offsetWidth, earlierSegments, admitted}
 use Rattle.partial.specs.Index.{indexed}
 use Rattle.partial.specs.Begin.{versionAndFlags}
@@ -144,12 +145,15 @@ newInner at a =
     ∷ boxedAt (first + (frontSize + pshdSize)) (ploc .code) (length (plocBody (placed (a .outside) (items (a .list)))))
     ∷ []
 
--- the segment that an addition makes, its `pseg` at a place; the body of its `pshd` stands after two headers
-unfoldable pub newSegment : ℕ → Addition → Segment
-newSegment at a =
+-- the segment that an addition makes beside those of a file with that heading, its `pseg` at a place: it has no URLs of
+-- its own; the body of its `pshd` stands after two headers
+unfoldable pub newSegment : Heading → List Segment → ℕ → Addition → Segment
+newSegment h before at a =
     record {
       place = at;
       inner = newInner at a;
+      urls = h .urls;
+      source = sourceBeside before (h .urls);
       sourceOffset = a .sourceOffset;
       flags = flagsFor (a .last);
       repairTime = a .repairTime;
@@ -163,7 +167,7 @@ unfoldable pub admission : ℕ → Heading → List Segment → ℕ → Addition
 admission limit h ss n a = do
   _ ← hold 1 (leb (n + length (added a)) fileLimit)
   _ ← hold 6 (leb (length (h .boxes) + addedBoxes a) boxLimit)
-  admitted limit ss (newSegment (psegPlace n a) a)
+  admitted limit ss (newSegment h ss (psegPlace n a) a)
 
 -- what append answers for the first n bytes of a buffer: its refusals in order, or the length of the result; 36, 37 and
 -- 39 are those of the file's own index beside the result's segments, of which the new one has none. The buffer is left

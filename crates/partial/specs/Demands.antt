@@ -18,17 +18,18 @@ use Rattle.partial.specs.Limits.{fileLimit, segmentLimit, chunkLimit}
 use Rattle.partial.specs.Sequences.{someOf, sum, within}
 use Rattle.partial.specs.Segments.{Chunk, Segment, good, elsewhere, endOf, chunksOf}
 use Rattle.partial.specs.declared.brand.Brand.{Brand}
-use Rattle.partial.specs.Heading.{Part, Heading, heading}
+use Rattle.partial.specs.Heading.{Part, Heading, heading, bytesIn}
 use Rattle.partial.specs.Mixed.{allowed}
 use Rattle.partial.specs.Meaning.{givesSize, describedLength, covers, supplier, supplied, chunkNo, chunkFor, served, servedRun, missingRun}
 use Rattle.partial.specs.Meaning.{reply, servedFor, missingFor, notBelow}
+use Rattle.partial.specs.Sources.{ofSource}
 use Rattle.partial.specs.Index.{Indexed, indexed, indexedSize}
 use Rattle.partial.specs.IndexShape.{InOrder, ServedAsSaid}
 use Rattle.partial.specs.Reading.{segmentsFrom, reading, earlierSegments}
 use Rattle.partial.specs.Ranges.{had, rangesOf, ofClass, hadList, missingList, total, among, apart, inRow}
 use Rattle.partial.specs.Naming.{damagedAt, namedRanges, heldList, lostList}
 use Rattle.partial.specs.Memory.{after, written, textWritten}
-use Rattle.partial.specs.Tables.{tabled, listed, indexTabled, indexTable, totals, bytesIn, servedPart, asked, textOf}
+use Rattle.partial.specs.Tables.{tabled, listed, indexTabled, indexTable, totals, servedPart, asked, textOf}
 use Rattle.partial.specs.Map.{decimal, line, refusedLine, textFor}
 use Rattle.partial.specs.BoxList.{each, boxLine, boxesText}
 use Rattle.partial.specs.Begin.{beginning, isText, begun}
@@ -208,9 +209,9 @@ pub record Missing (f : List ℕ) (ss : List Segment) (p : ℕ) : Type 0 where
   pub upTo : (p + missingRun ss p ≡ describedLength ss) ⊎ T (supplied ss (p + missingRun ss p))
   pub notEmpty : 0 < missingRun ss p
 
--- no segment ends above, or differs from, a size that one of them makes known
+-- no segment ends above, or differs from, a size that one of its source makes known
 abbrev pub InAgreement : List Segment → Type 0
-InAgreement ss = (s t : Segment) → List·Memᴰ s ss → List·Memᴰ t ss → T (givesSize s) → endOf t ≤ endOf s
+InAgreement ss = (s t : Segment) → List·Memᴰ s ss → List·Memᴰ t ss → s .source ≡ t .source → T (givesSize s) → endOf t ≤ endOf s
 
 -- a file that reaches 25 with these segments: its heading is right, and each of its `pseg` boxes reads, of which there
 -- are some and not too many
@@ -289,7 +290,9 @@ pub record BoxesPrinted (most : ℕ) (input : List ℕ) : Type 0 where
 -- writer adds reads back with the same chunks and bytes; writing again what was read from our writer's file gives that
 -- file
 pub record Demand2 (limit : ℕ) : Type 0 where
-  pub mapped : (f : List ℕ) (h : Heading) (ss : List Segment) → heading f ≡ given h → reading limit f ≡ given ss → Mapped f h ss
+  -- of each source, of which a file has one
+  pub mapped : (f : List ℕ) (h : Heading) (ss : List Segment) → heading f ≡ given h → reading limit f ≡ given ss → (n : ℕ) → Mapped f h (ofSource n ss)
+  pub oneSource : (f : List ℕ) (ss : List Segment) → reading limit f ≡ given ss → ofSource 0 ss ≡ ss
   -- a file that reaches 25 is accepted exactly if its sizes agree and its index is told, and no other is; it is 25
   -- exactly if they do not. Its segments, over which serving, lists and maps are, are those that it reaches 25 with:
   -- the index never changes what is served
@@ -318,18 +321,19 @@ pub record Demand2 (limit : ℕ) : Type 0 where
   pub printed : (of : List Segment → List ℕ) (most : ℕ) (input : List ℕ) → Printed of limit most input
   -- the segment reads back with its fields and chunks
   pub readsBack :
-      (buffer : List ℕ) (n : ℕ) (a : Addition) (size : ℕ) (ss : List Segment)
+      (buffer : List ℕ) (n : ℕ) (a : Addition) (size : ℕ) (h : Heading) (ss : List Segment)
       → a .repairTime < 2 ^ 64
+      → heading (fileIn (lent buffer n)) ≡ given h
       → earlierSegments limit (fileIn (lent buffer n)) ≡ given ss
       → appended limit buffer n a ≡ given size
-      → reading limit (fileIn (append limit (lent buffer n) a)) ≡ given (ss ++ (newSegment (psegPlace n a) a ∷ []))
+      → reading limit (fileIn (append limit (lent buffer n) a)) ≡ given (ss ++ (newSegment h ss (psegPlace n a) a ∷ []))
   -- and those say again what was added, with the same bytes
   pub sameAgain :
-      (buffer : List ℕ) (n : ℕ) (a : Addition) (size : ℕ) (h : Heading)
+      (buffer : List ℕ) (n : ℕ) (a : Addition) (size : ℕ) (h : Heading) (ss : List Segment)
       → appended limit buffer n a ≡ given size
       → let g = fileIn (append limit (lent buffer n) a) in
       heading g ≡ given h
-      → again g h (newSegment (psegPlace n a) a) ≡ settled a
+      → again g h (newSegment h ss (psegPlace n a) a) ≡ settled a
   pub sameBytes : (a : Addition) → added (settled a) ≡ added a
   -- of a file that begin and append alone made, written into any buffer that it fits
   pub writtenAgain :
@@ -366,7 +370,7 @@ pub record Right (limit : ℕ) (h : Heading) (ss : List Segment) (n : ℕ) (a : 
   pub few : length ss < segmentLimit
   pub chunks : length (chunksOf ss) + length (items (a .list)) ≤ chunkLimit
   pub low : a .sourceOffset + sum (map (λ i. i .size) (items (a .list))) ≤ limit
-  pub agreed : InAgreement (ss ++ (newSegment (psegPlace n a) a ∷ []))
+  pub agreed : InAgreement (ss ++ (newSegment h ss (psegPlace n a) a ∷ []))
 
 -- an addition that append takes: it is right, beside a file that append takes, whose index is told beside it, and the
 -- buffer has room for the result
@@ -377,7 +381,7 @@ pub record Acceptable (limit : ℕ) (buffer : List ℕ) (n : ℕ) (a : Addition)
   pub headed : heading (fileIn (lent buffer n)) ≡ given h
   pub before : earlierSegments limit (fileIn (lent buffer n)) ≡ given ss
   pub right : Right limit h ss n a
-  pub index : (is : List Indexed) × (indexed limit (fileIn (lent buffer n)) h (ss ++ (newSegment (psegPlace n a) a ∷ [])) ≡ given is)
+  pub index : (is : List Indexed) × (indexed limit (fileIn (lent buffer n)) h (ss ++ (newSegment h ss (psegPlace n a) a ∷ [])) ≡ given is)
   pub room : n + length (added a) ≤ length buffer
 
 -- the numbered reasons for which an addition is refused, in their order

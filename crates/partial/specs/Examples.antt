@@ -17,12 +17,12 @@ use Rattle.numerals.specs.declared.numbers.Offset.the-variants.{Back}
 use Rattle.partial.specs.declared.brand.Brand.{Brand}
 use Rattle.partial.specs.declared.brand.Brand.the-variants.{Paff, Pmff}
 use Rattle.partial.specs.Limits.{programLimit, sourceLimit}
-use Rattle.partial.specs.Heading.{url, mime}
+use Rattle.partial.specs.Heading.{url, mime, bytesIn}
 use Rattle.partial.specs.Entries.{plocHead, entry}
 use Rattle.partial.specs.Meaning.{describedLength, isClosed, served}
 use Rattle.partial.specs.Reading.{reading}
 use Rattle.partial.specs.Memory.{after}
-use Rattle.partial.specs.Tables.{missingRows, tabled, summary, segmentRows, chunkRows, bytesIn, servedPart, textOf}
+use Rattle.partial.specs.Tables.{missingRows, tabled, summary, segmentRows, chunkRows, servedPart, textOf}
 use Rattle.partial.specs.Segments.{Segment}
 use Rattle.partial.specs.Map.{ascii, sourceLine, mapText, missmapText, textFor, refusedLine}
 use Rattle.partial.specs.BoxList.{boxesText}

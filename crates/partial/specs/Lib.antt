@@ -5,6 +5,7 @@ pub mod Heading
 pub mod Mixed
 pub mod Entries
 pub mod Meaning
+pub mod Sources
 pub mod Index
 pub mod IndexShape
 pub mod Reading

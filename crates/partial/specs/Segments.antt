@@ -46,11 +46,13 @@ pub record Chunk : Type 0 where
 abbrev pub noChunk : Chunk
 noChunk = record { start = 0; size = 0; state = lost; place = 0 }
 
--- a segment: the place of its box, the boxes inside, its source offset, flags and repair time, the place and length of
--- its `pshd` body, its chunks
+-- a segment: the place of its box, the boxes inside, the URLs of its source and the number of that, its source offset,
+-- flags and repair time, the place and length of its `pshd` body, its chunks
 pub record Segment : Type 0 where
   pub place : ℕ
   pub inner : List Box
+  pub urls : List (List ℕ)
+  pub source : ℕ
   pub sourceOffset : ℕ
   pub flags : ℕ
   pub repairTime : ℕ

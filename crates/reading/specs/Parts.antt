@@ -6,8 +6,8 @@ use mathlib.Core.Path.{_≡_}
 use lib.Dec.{leb}
 use lib.ListN.{length}
 use Rattle.boxes.specs.Answer.{Answer, refused, given}
-use Rattle.partial.specs.Heading.{Part}
-use Rattle.partial.specs.Tables.{bytesIn, nowhere}
+use Rattle.partial.specs.Heading.{Part, bytesIn}
+use Rattle.partial.specs.Tables.{nowhere}
 use Rattle.heading.specs.Facts.{partOf}
 use Rattle.reading.specs.declared.parts.Located.{Located}
 use Rattle.reading.specs.declared.parts.Located.the-variants.{Refused, At}

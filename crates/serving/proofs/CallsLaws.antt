@@ -14,7 +14,8 @@ use Rattle.partial.specs.Limits.{sourceLimit}
 use Rattle.partial.specs.Meaning.{supplier, supplied, describedLength, chunkFor, placeOfByte, servedRun, onward, reply, servedFor, missingFor, notBelow}
 use Rattle.partial.specs.Memory.{after}
 use Rattle.partial.specs.Segments.{Chunk, noChunk, Segment, chunksOf}
-use Rattle.partial.specs.Tables.{tabled, chunkRows, summary, Summary, servedPart, asked, bytesIn, nowhere}
+use Rattle.partial.specs.Tables.{tabled, chunkRows, summary, Summary, servedPart, asked, nowhere}
+use Rattle.partial.specs.Heading.{bytesIn}
 use Rattle.partial.specs.declared.answers.Read.{Read}
 use Rattle.partial.specs.declared.answers.Read.the-variants as Read
 use Rattle.partial.specs.declared.position.Position.{Position}

@@ -22,14 +22,14 @@ use Rattle.boxes.proofs.KindLaws.{some-right}
 use Rattle.partial.specs.Limits.{fileLimit, segmentLimit, chunkLimit}
 use Rattle.partial.specs.Sequences.{someOf, within}
 use Rattle.partial.specs.Segments.{Segment, present, chunksOf, endOf, hasPlace}
-use Rattle.partial.specs.Heading.{Heading, heading, ftypRight, brandRight, pfilRight, pfhdRight, surlRight, fileBoxes, judged, Part}
+use Rattle.partial.specs.Heading.{Heading, heading, ftypRight, brandRight, pfilRight, pfhdRight, surlRight, fileBoxes, judged, Part, bytesIn}
 use Rattle.partial.specs.Entries.{Ploc, plocHead, stateOf, Entry, entry, mayLie, offsetPlace, placeOf, chunksFrom, chunkStep}
 use Rattle.partial.specs.Entries.{Cursor}
 use Rattle.partial.specs.Meaning.{agree, knownSize}
 use Rattle.partial.specs.Reading.{pshdFields, pshdRight, segment, segmentsFrom, segments, reading, admitted, earlierSegments}
 use Rattle.partial.specs.Index.{indexed, indexRows}
 use Rattle.partial.specs.Memory.{fits, after, textWritten}
-use Rattle.partial.specs.Tables.{segmentRows, chunkRows, hadRows, missingRows, tabled, listed, indexTabled, indexTable, asked, textOf, bytesIn, nowhere}
+use Rattle.partial.specs.Tables.{segmentRows, chunkRows, hadRows, missingRows, tabled, listed, indexTabled, indexTable, asked, textOf, nowhere}
 use Rattle.partial.specs.declared.brand.Brand.{Brand}
 use Rattle.partial.specs.Begin.{beginning, isText, begun}
 use Rattle.partial.specs.Addition.{Addition, listRight, dataRight, outsideRight}

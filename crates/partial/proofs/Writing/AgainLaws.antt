@@ -12,8 +12,7 @@ use Rattle.boxes.specs.Framing.{boxed}
 use Rattle.boxes.specs.Kinds.{pseg}
 use Rattle.partial.specs.Sequences.{allOf}
 use Rattle.partial.specs.Segments.{present, isLast}
-use Rattle.partial.specs.Heading.{Heading}
-use Rattle.partial.specs.Tables.{bytesIn}
+use Rattle.partial.specs.Heading.{Heading, bytesIn}
 use Rattle.partial.specs.Addition.{Item, items, Addition, flagsFor, listRight, sizeOf, dataSize, dataRight, goesOut}
 use Rattle.partial.specs.Append.{back, placedWith, placed, newChunks, newSegment, added, psegPlace, psegBody, stored}
 use Rattle.partial.specs.Again.{dataOf, listFor, someOutside, again, settled}

@@ -15,10 +15,10 @@ use Rattle.boxes.proofs.KindLaws.{boxAt-getD, is-eqb}
 use Rattle.boxes.proofs.ContainerLaws.{boxes-none}
 use Rattle.partial.specs.Limits.{fileLimit}
 use Rattle.partial.specs.Segments.{Segment}
-use Rattle.partial.specs.Heading.{Part, Heading, heading, ftypRight, url, mime, fileBoxes, judged}
+use Rattle.partial.specs.Heading.{Part, Heading, heading, ftypRight, url, mime, fileBoxes, judged, bytesIn}
 use Rattle.partial.specs.Reading.{reading}
 use Rattle.partial.specs.Memory.{after, filled}
-use Rattle.partial.specs.Tables.{bytesIn, textOf}
+use Rattle.partial.specs.Tables.{textOf}
 use Rattle.partial.specs.declared.brand.Brand.{Brand}
 use Rattle.partial.specs.declared.brand.Brand.the-variants.{Paff, Pmff}
 use Rattle.partial.specs.Begin.{brandFor, brandCode, beginning, isText, begun}
