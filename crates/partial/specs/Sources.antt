@@ -18,7 +18,7 @@ unfoldable pub sameText : List ℕ → List ℕ → Bool
 sameText [] [] = true
 sameText [] (_ ∷ _) = false
 sameText (_ ∷ _) [] = false
-sameText (a ∷ as) (b ∷ bs) = eqb a b && sameText as bs
+sameText (a ∷ rest) (b ∷ others) = eqb a b && sameText rest others
 
 -- byte-equal URLs in the same order
 unfoldable pub sameUrls : List (List ℕ) → List (List ℕ) → Bool
