@@ -8,6 +8,7 @@ use Rattle.partial.specs.Heading
 use Rattle.partial.specs.Mixed
 use Rattle.partial.specs.Entries
 use Rattle.partial.specs.Meaning
+use Rattle.partial.specs.Sources
 use Rattle.partial.specs.Index
 use Rattle.partial.specs.Reading
 use Rattle.partial.specs.Ranges
@@ -34,12 +35,13 @@ unfolding
     Sequences.someOf Sequences.allOf Sequences.sum Sequences.largest Sequences.within Sequences.stretch
     Segments.isState Segments.present Segments.corrupted Segments.hasPlace Segments.isOpen Segments.isLast Segments.endOf
     Segments.chunksOf
-    Heading.ftypRight Heading.brandsFrom Heading.brands Heading.branded Heading.brandRight Heading.pfilRight
+    Heading.bytesIn Heading.ftypRight Heading.brandsFrom Heading.brands Heading.branded Heading.brandRight Heading.pfilRight
     Heading.pfhdFormed Heading.pfhdRight Heading.text Heading.url Heading.mime Heading.surlFormed Heading.surlRight
-    Heading.fileBoxes Heading.judged Heading.heading
+    Heading.urlsIn Heading.fileBoxes Heading.judged Heading.heading
     Mixed.allowed Mixed.fillUp Mixed.wholeBoxes Mixed.boxesOf Mixed.areBoxes Mixed.boxesMany
     Entries.plocHead Entries.state Entries.stateOf Entries.entry Entries.inData Entries.mayLie Entries.offsetPlace Entries.placeOf
     Entries.chunkStep Entries.chunksFrom
+    Sources.urlsFor Sources.sameText Sources.sameUrls Sources.sourceCount Sources.sourceAmong Sources.sourceBeside Sources.ofSource Sources.agreed
     Reading.offsetWidth Reading.pshdFields Reading.pshdRight Reading.segment Reading.segmentsFrom Reading.segments Reading.reading
     Reading.earlierSegments Reading.admitted
     Meaning.givesSize Meaning.knownSize Meaning.describedLength Meaning.isClosed Meaning.agree Meaning.covers Meaning.supplier
@@ -51,7 +53,7 @@ unfolding
     Ranges.among Ranges.apart Ranges.inRow
     Memory.fits Memory.filled Memory.after Memory.textWritten
     Tables.segmentRow Tables.segmentRows Tables.chunkRow Tables.chunkRowsOf Tables.chunkRowsFrom Tables.chunkRows Tables.rangeRows
-    Tables.hadRows Tables.missingRows Tables.tabled Tables.listed Tables.summary Tables.totals Tables.bytesIn Tables.nowhere
+    Tables.hadRows Tables.missingRows Tables.tabled Tables.listed Tables.summary Tables.totals Tables.nowhere
     Tables.servedPart Tables.asked Tables.textOf Tables.indexTabled
     Naming.damagedAt Naming.namedClass Naming.namedRanges Naming.heldList Naming.lostList
     Map.ascii Map.decimal Map.line Map.refusedLine Map.sourceLine Map.rangeLine Map.rangeLines Map.totalLine Map.mapWord Map.mapOf Map.missWord Map.missmapOf

@@ -1,4 +1,4 @@
--- Laws of a list of segments: supply, the described length, the lists, serving and asking.
+-- Laws of a list of segments: supply, the described length, the lists, serving and asking, and its sources.
 pub mod AgreementLaws
 pub mod AlikeLaws
 pub mod DescribedLaws
@@ -11,5 +11,6 @@ pub mod RangeLaws
 pub mod RunLaws
 pub mod SequenceLaws
 pub mod ServingLaws
+pub mod SourceLaws
 pub mod StretchLaws
 pub mod SupplyLaws

@@ -183,6 +183,8 @@ segmentOf flags start size inner =
     record {
       place = 0;
       inner = inner;
+      urls = [];
+      source = 0;
       sourceOffset = start;
       flags = flags;
       repairTime = 0;
@@ -200,7 +202,7 @@ indexes flags inFile inFirst inSecond =
     (boxesIn Pfil f 0 (length inFile)
     >>= λ inner. boxesIn Pseg f (length inFile) (length inFile + length inFirst)
     >>= λ first. boxesIn Pseg f (length inFile + length inFirst) (length f)
-    >>= λ second. indexed sourceLimit f (record { boxes = []; inner = inner; mixed = false }) (segmentOf 0 4 4 first ∷ segmentOf flags 8 88 second ∷ []))
+    >>= λ second. indexed sourceLimit f (record { boxes = []; inner = inner; urls = []; mixed = false }) (segmentOf 0 4 4 first ∷ segmentOf flags 8 88 second ∷ []))
 
 -- boxes in boxes, each with a size of 0, on so many levels, with what the list of the last holds
 abbrev nested : ℕ → List ℕ → List ℕ

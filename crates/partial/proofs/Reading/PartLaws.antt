@@ -16,7 +16,8 @@ use Rattle.partial.specs.Reading.{reading}
 use Rattle.partial.specs.Memory.{fits}
 use Rattle.partial.specs.Tables.{segmentRows, chunkRows, tabled, nowhere, servedPart}
 use Rattle.partial.proofs.Meaning.SequenceLaws.{which}
-use Rattle.partial.proofs.Reading.ReadingLaws.{reading-read, read-mapped}
+use Rattle.partial.proofs.Reading.OneSourceLaws.{read-mapped}
+use Rattle.partial.proofs.Reading.ReadingLaws.{reading-read}
 
 -- an accepted file's heading
 pub headed-read : (limit : ℕ) (f : List ℕ) {ss : List Segment} → reading limit f ≡ given ss → (h : Heading) × (heading f ≡ given h)

@@ -20,12 +20,12 @@ use Rattle.boxes.proofs.AnswerLaws.{not-both, both-given, Only, refused-same, o
 use Rattle.boxes.proofs.ContainerLaws.{boxes-numbers}
 use Rattle.boxes.proofs.KindLaws.{some-right}
 use Rattle.partial.specs.Limits.{fileLimit, segmentLimit, chunkLimit}
-use Rattle.partial.specs.Sequences.{someOf, within}
+use Rattle.partial.specs.Sequences.{someOf, allOf, within}
 use Rattle.partial.specs.Segments.{Segment, present, chunksOf, endOf, hasPlace}
 use Rattle.partial.specs.Heading.{Heading, heading, ftypRight, brandRight, pfilRight, pfhdRight, surlRight, fileBoxes, judged, Part, bytesIn}
 use Rattle.partial.specs.Entries.{Ploc, plocHead, stateOf, Entry, entry, mayLie, offsetPlace, placeOf, chunksFrom, chunkStep}
 use Rattle.partial.specs.Entries.{Cursor}
-use Rattle.partial.specs.Meaning.{agree, knownSize}
+use Rattle.partial.specs.Sources.{agreed}
 use Rattle.partial.specs.Reading.{pshdFields, pshdRight, segment, segmentsFrom, segments, reading, admitted, earlierSegments}
 use Rattle.partial.specs.Index.{indexed, indexRows}
 use Rattle.partial.specs.Memory.{fits, after, textWritten}
@@ -132,19 +132,19 @@ module _ (P : ℕ → Type 0) (known : (n : ℕ) → T (beforeAgreement n) → P
   segments-only last limit f h =
       only-held P 13 (leb (length (those pseg (h .boxes))) segmentLimit) _ (known 13 tt)
       (only-then P (segmentsFrom limit f h [] (those pseg (h .boxes))) _ (segments-from-only limit f h [] (those pseg (h .boxes)))
-      (λ ss. only-held P 25 (agree ss) _ last (only-given P ss)))
+      (λ ss. only-held P 25 (agreed ss) _ last (only-given P ss)))
 
   -- 1, 6, 13, 22, 23 and 25 of an addition's result
   pub admission-only : P 25 → (limit : ℕ) (h : Heading) (ss : List Segment) (n : ℕ) (a : Addition) → Only P (admission limit h ss n a)
   unfolding admission admitted within
   admission-only last limit h ss n a =
-      let new = newSegment (psegPlace n a) a in
+      let new = newSegment h ss (psegPlace n a) a in
       only-held P 1 (leb (n + length (added a)) fileLimit) _ (known 1 tt)
       (only-held P 6 (leb (length (h .boxes) + addedBoxes a) boxLimit) _ (known 6 tt)
       (only-held P 13 (leb (length ss + 1) segmentLimit) _ (known 13 tt)
       (only-held P 22 (leb (length (chunksOf ss) + length (new .chunks)) chunkLimit) _ (known 22 tt)
       (only-held P 23 (leb (endOf new) limit) _ (known 23 tt)
-      (only-held P 25 (agree (ss ++ (new ∷ []))) _ last (only-given P _))))))
+      (only-held P 25 (agreed (ss ++ (new ∷ []))) _ last (only-given P _))))))
 
   -- and those of the index
   module _ (rest : (n : ℕ) → T (eqb n 25 || ofIndex n) → P n) where
@@ -178,7 +178,7 @@ rest-file n = behind (beforeAgreement n) (eqb n 25 || ofIndex n)
 -- append takes an acceptable file, or one whose only refusal is 12
 module _ (limit : ℕ) (f : List ℕ) where
   pub no-segments : (h : Heading) → right File pseg (h .boxes) ≡ false → segments limit f h ≡ given []
-  unfolding segments segmentsFrom agree knownSize
+  unfolding segments segmentsFrom agreed allOf
   no-segments h lacks =
       elim (decLe 1 (length (those pseg (h .boxes)))) [
         | yes there ↦ absurd (true≢false (sym (some-right File pseg (h .boxes) refl there) ∙ lacks))

@@ -20,25 +20,30 @@ use Rattle.partial.specs.Append.{added, newSegment, appended, psegPlace}
 use Rattle.partial.specs.Runs.{Lent, lent, fileIn, sizeAfter, append, appendAll}
 use Rattle.partial.specs.Carried.{carried}
 use Rattle.partial.specs.Demands.{Grown, Acceptable}
-use Rattle.partial.proofs.Reading.ReadingLaws.{accepted}
+use Rattle.partial.proofs.Reading.OneSourceLaws.{accepted, all-plain, plain-more, agreed-all}
 use Rattle.partial.proofs.Writing.GrownLaws.{grown}
+use Rattle.partial.proofs.Writing.NewSegmentLaws.{urls-new, source-new}
 use Rattle.partial.proofs.Writing.RepairTimeLaws.{cut, added-cut, taken-cut}
 use Rattle.partial.proofs.Writing.ReadsBackLaws.{Taken, taken-any, taken, taken-sayable, reading-added, file-after, admits, Offered, Admits}
 use Rattle.partial.proofs.Writing.ReadsBackLaws.{admission-of}
 use Rattle.partial.proofs.Reading.RefusalLaws.{takes, earlier-read}
 use Rattle.partial.proofs.Meaning.SequenceLaws.{passes}
-use Rattle.partial.proofs.Meaning.AgreementLaws.{in-agreement, agreement}
+use Rattle.partial.proofs.Meaning.SourceLaws.{in-agreement, agreement}
 use Rattle.partial.proofs.Writing.ResultLaws.{appended-offered}
 
 module _ (limit : ℕ) (f : List ℕ) (h : Heading) (ss : List Segment) (a : Addition) (t : Taken limit f h ss a) where
   grown-taken : limit < 2 ^ 64 → (ts : List Segment) × (reading limit (f ++ added a) ≡ given ts) × Grown f (f ++ added a) ss ts a
   unfolding carried
   grown-taken below =
-      let new : List Segment = newSegment (psegPlace (length f) (cut a)) (cut a) ∷ [] in
+      let new : List Segment = newSegment h ss (psegPlace (length f) (cut a)) (cut a) ∷ [] in
       let same = added-cut a in
       let cut-taken = taken-cut limit f h ss a t in
       let read : reading limit (f ++ added a) ≡ given (ss ++ new) = rw same at (reading-added limit f h ss (cut a) cut-taken (taken-sayable limit f h ss (cut a) cut-taken below (mod-lt (a .repairTime) (lit< tt)))) in
-      let grew : Grown f (f ++ added a) ss (ss ++ new) (cut a) = rw same at (grown f h ss (cut a) (accepted limit f h (t .offered .headed) (earlier-read limit f (t .offered .headed) (t .offered .before))) (cut-taken .offered .carried) (admits limit h ss (length f) (cut a) (cut-taken .admits) .0 .agreed)) in
+      let before = earlier-read limit f (t .offered .headed) (t .offered .before) in
+      let at = psegPlace (length f) (cut a) in
+      let one = plain-more h ss (newSegment h ss at (cut a)) (all-plain limit f h before) (urls-new h ss at (cut a)) (source-new h ss at (cut a)) in
+      let sizes = sym (agreed-all h (ss ++ new) one) ∙ admits limit h ss (length f) (cut a) (cut-taken .admits) .0 .agreed in
+      let grew : Grown f (f ++ added a) ss (ss ++ new) (cut a) = rw same at (grown f h ss (cut a) (accepted limit f h (t .offered .headed) before) (cut-taken .offered .carried) sizes) in
       (ss ++ new, read, record { kept = grew .kept; noShorter = grew .noShorter })
 
 -- after each accepted addition
@@ -92,7 +97,7 @@ module _ (limit : ℕ) (buffer : List ℕ) (n : ℕ) (a : Addition) where
         few = omega (arith, r .few);
         chunks = r .chunks;
         low = r .low;
-        agreed = in-agreement (t .ss ++ (newSegment (psegPlace n a) a ∷ [])) (r .agreed);
+        agreed = in-agreement (t .ss ++ (newSegment (t .h) (t .ss) (psegPlace n a) a ∷ [])) (r .agreed);
       } in
       appended-offered limit buffer n a (t .h) (t .ss) (t .enough) offered
       ∙ rw (admission-of limit (t .h) (t .ss) n a ok, t .index .1, le-leb (n + length (added a)) (length buffer) (t .room))
@@ -119,7 +124,7 @@ module _ (limit : ℕ) (buffer : List ℕ) (n : ℕ) (a : Addition) where
             low = ok .low;
             agreed = agreement _ (ok .agreed);
           };
-          index = (t .index .0, ap (λ (m : ℕ). indexed limit (take n buffer) h (ss ++ (newSegment (psegPlace m a) a ∷ []))) long ∙ t .index .1);
+          index = (t .index .0, ap (λ (m : ℕ). indexed limit (take n buffer) h (ss ++ (newSegment h ss (psegPlace m a) a ∷ []))) long ∙ t .index .1);
           room = omega arith;
         },
         total,

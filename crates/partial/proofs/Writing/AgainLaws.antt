@@ -11,7 +11,7 @@ use lib.Seq.{take-add, take-all}
 use Rattle.boxes.specs.Framing.{boxed}
 use Rattle.boxes.specs.Kinds.{pseg}
 use Rattle.partial.specs.Sequences.{allOf}
-use Rattle.partial.specs.Segments.{present, isLast}
+use Rattle.partial.specs.Segments.{Segment, present, isLast}
 use Rattle.partial.specs.Heading.{Heading, bytesIn}
 use Rattle.partial.specs.Addition.{Item, items, Addition, flagsFor, listRight, sizeOf, dataSize, dataRight, goesOut}
 use Rattle.partial.specs.Append.{back, placedWith, placed, newChunks, newSegment, added, psegPlace, psegBody, stored}
@@ -54,8 +54,8 @@ module _ (g : List ℕ) (at : ℕ) (inside : at ≤ length g) (o : Bool) (out : 
         | inr e ↦ rw (e, rest, data-none i e, data-past i is e)
       ]
 
-module _ (f more : List ℕ) (a : Addition) (h : Heading) (list : listRight (a .list) ≡ true) (right : dataRight a ≡ true) where
-  bytes-again : dataOf ((f ++ added a) ++ more) (newSegment (psegPlace (length f) a) a .chunks) ≡ a .bytes
+module _ (f more : List ℕ) (a : Addition) (h k : Heading) (ss : List Segment) (list : listRight (a .list) ≡ true) (right : dataRight a ≡ true) where
+  bytes-again : dataOf ((f ++ added a) ++ more) (newSegment k ss (psegPlace (length f) a) a .chunks) ≡ a .bytes
   unfolding added newSegment psegPlace placed
   bytes-again =
       let is = items (a .list) in
@@ -68,7 +68,7 @@ module _ (f more : List ℕ) (a : Addition) (h : Heading) (list : listRight (a .
       ∙ take-all (dataSize is) (a .bytes) (omega (arith, data-length a right)))
 
   -- a segment's fields, chunks and bytes are those that were asked for, whatever was added after it
-  pub same-again : let s = newSegment (psegPlace (length f) a) a in
+  pub same-again : let s = newSegment k ss (psegPlace (length f) a) a in
       someOutside (h .boxes) (s .chunks) ≡ settled a .outside
       → again ((f ++ added a) ++ more) h s ≡ settled a
   unfolding again newSegment listRight placed

@@ -23,7 +23,7 @@ use Rattle.boxes.proofs.KindLaws.{some-right, right-some, firstOf-those, one-ri
 use Rattle.partial.specs.Limits.{fileLimit}
 use Rattle.partial.specs.Sequences.{someOf, allOf, stretch}
 use Rattle.partial.specs.Heading.{Heading, paff, pmff, ftypRight, brandsFrom, brands, branded, brandRight, pfilRight, pfhdFormed}
-use Rattle.partial.specs.Heading.{pfhdRight, text, url, mime, surlFormed, surlRight}
+use Rattle.partial.specs.Heading.{pfhdRight, text, url, mime, surlFormed, surlRight, urlsIn}
 use Rattle.partial.specs.Reading.{earlierSegments}
 use Rattle.partial.specs.Memory.{after, filled}
 use Rattle.partial.specs.declared.brand.Brand.{Brand}
@@ -135,7 +135,7 @@ module _ (brand : Brand) (u m : List ℕ) where
   sourceBox = boxedAt (filePlace + (frontSize + length versionAndFlags)) (surl .code) (length (sourceBody u m))
 
   abbrev pub begunHeading : Heading
-  begunHeading = record { boxes = brandBox ∷ fileBox ∷ []; inner = plainBox ∷ sourceBox ∷ []; mixed = isMixed brand }
+  begunHeading = record { boxes = brandBox ∷ fileBox ∷ []; inner = plainBox ∷ sourceBox ∷ []; urls = urlsIn (beginning brand u m) (plainBox ∷ sourceBox ∷ []); mixed = isMixed brand }
 
   stands-all : Stands (beginning brand u m) 0 (boxed (ftyp .code) brandBody ++ boxed (pfil .code) fileBody)
   unfolding beginning
@@ -249,6 +249,7 @@ module _ (brand : Brand) (u m : List ℕ) where
         inner = rw (second-box pfil brandBox fileBox) (begun-inner small);
         pfhd = begun-pfhd;
         surl = begun-surl plain-url plain-mime;
+        urls = refl;
         mixed = sym (begun-branded pmff);
       }
 

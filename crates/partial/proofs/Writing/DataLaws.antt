@@ -334,9 +334,9 @@ module _ (a : Addition) where
   unfolding addedBoxes
   settled-boxes = rw (any-settled, outside-settled)
 
-  settled-segment : (at : ℕ) → newSegment at (settled a) ≡ newSegment at a
+  settled-segment : (h : Heading) (ss : List Segment) (at : ℕ) → newSegment h ss at (settled a) ≡ newSegment h ss at a
   unfolding newSegment newInner pshdBody
-  settled-segment at = rw placed-settled
+  settled-segment h ss at = rw placed-settled
 
   -- and is as right
   pub settled-right : (h : Heading) → outsideRight h (settled a) ≡ outsideRight h a
@@ -349,4 +349,4 @@ module _ (a : Addition) where
 
   pub settled-admission : (limit : ℕ) (h : Heading) (ss : List Segment) (n : ℕ) → admission limit h ss n (settled a) ≡ admission limit h ss n a
   unfolding admission
-  settled-admission limit h ss n = rw (settled-added, settled-boxes, settled-place n, settled-segment (psegPlace n a))
+  settled-admission limit h ss n = rw (settled-added, settled-boxes, settled-place n, settled-segment h ss (psegPlace n a))

@@ -46,10 +46,10 @@ module _ (g : List ℕ) (at p : ℕ) (o : Bool) (out : ℕ) where
       ]
 
 -- the new segment supplies what the addition carries
-new-served : (a : Addition) → dataRight a ≡ true → (f rest : List ℕ) (p : ℕ)
-    → served (f ++ (stored a ++ rest)) (newSegment (psegPlace (length f) a) a ∷ []) p ≡ carried a p
+new-served : (h : Heading) (ss : List Segment) (a : Addition) → dataRight a ≡ true → (f rest : List ℕ) (p : ℕ)
+    → served (f ++ (stored a ++ rest)) (newSegment h ss (psegPlace (length f) a) a ∷ []) p ≡ carried a p
 unfolding chunksOf newSegment placed carried
-new-served a right f rest p =
+new-served h ss a right f rest p =
     let is = items (a .list) in
     served-from _ _ p
     ∙ rw append-nil (carried-byte _ _ p (a .outside) (sizeOf (goesOut (a .outside)) is) (a .sourceOffset) is (a .bytes) (stored-added f rest a right))
@@ -65,13 +65,13 @@ served-kept f more ss p inside =
 
 -- after an addition to an accepted file
 pub grown : (f : List ℕ) (h : Heading) (ss : List Segment) (a : Addition) → Accepted f h ss → dataRight a ≡ true
-    → agree (ss ++ (newSegment (psegPlace (length f) a) a ∷ [])) ≡ true
-    → Grown f (f ++ added a) ss (ss ++ (newSegment (psegPlace (length f) a) a ∷ [])) a
+    → agree (ss ++ (newSegment h ss (psegPlace (length f) a) a ∷ [])) ≡ true
+    → Grown f (f ++ added a) ss (ss ++ (newSegment h ss (psegPlace (length f) a) a ∷ [])) a
 unfolding added
 grown f h ss a ok right agreed =
     record {
       kept = λ p.
-          served-append _ ss (newSegment (psegPlace (length f) a) a ∷ []) p
-          ∙ rw (served-kept f (added a) ss p (place-inside f h ss ok p), new-served a right f);
-      noShorter = never-shorter ss (newSegment (psegPlace (length f) a) a ∷ []) agreed;
+          served-append _ ss (newSegment h ss (psegPlace (length f) a) a ∷ []) p
+          ∙ rw (served-kept f (added a) ss p (place-inside f h ss ok p), new-served h ss a right f);
+      noShorter = never-shorter ss (newSegment h ss (psegPlace (length f) a) a ∷ []) agreed;
     }

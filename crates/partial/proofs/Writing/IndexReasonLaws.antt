@@ -28,12 +28,12 @@ module _ (limit : ℕ) (buffer : List ℕ) (n : ℕ) (a : Addition) (k : ℕ) (o
   abbrev NotIt : ℕ → Type 0
   NotIt m = m ≡ k → ⊥
 
-  abbrev new : Segment
-  new = newSegment (psegPlace n a) a
+  abbrev new : Heading → List Segment → Segment
+  new h ss = newSegment h ss (psegPlace n a) a
 
   -- 36 to 39 of an addition to a file that append takes are those of the index beside the new segment
   beside-new : {ss : List Segment} → earlierSegments limit (take n buffer) ≡ given ss → appended limit buffer n a ≡ refused k
-      → (h : Heading) × (heading (take n buffer) ≡ given h) × (indexed limit (take n buffer) h (ss ++ (new ∷ [])) ≡ refused k)
+      → (h : Heading) × (heading (take n buffer) ≡ given h) × (indexed limit (take n buffer) h (ss ++ (new h ss ∷ [])) ≡ refused k)
   unfolding appended
   beside-new {ss} before e =
       let f : List ℕ = take n buffer in
@@ -48,8 +48,8 @@ module _ (limit : ℕ) (buffer : List ℕ) (n : ℕ) (a : Addition) (k : ℕ) (o
       let (_, e5) = passed 35 (outsideRight h a) _ (λ same. omega arith) e4 in
       let (ts, admitted-there, e6) = passed-on (admission limit h us n a) _ (admission-only NotIt known (λ same. omega arith) limit h us n a) e5 in
       let told = refused-first (indexed limit f h ts) _ e6 (λ _. only-held NotIt 33 (leb size (length buffer)) _ (λ same. omega arith) (only-given NotIt size)) in
-      let there : indexed limit f h (us ++ (new ∷ [])) ≡ refused k = ap (indexed limit f h) (sym (admits limit h us n a admitted-there .1)) ∙ told in
-      (h, head, subst (λ (vs : List Segment). indexed limit f h (vs ++ (new ∷ [])) ≡ refused k) (given-same (sym read ∙ before)) there)
+      let there : indexed limit f h (us ++ (new h us ∷ [])) ≡ refused k = ap (indexed limit f h) (sym (admits limit h us n a admitted-there .1)) ∙ told in
+      (h, head, subst (λ (vs : List Segment). indexed limit f h (vs ++ (new h vs ∷ [])) ≡ refused k) (given-same (sym read ∙ before)) there)
 
   pub by-index : appended limit buffer n a ≡ refused k
       → (reading limit (take n buffer) ≡ refused k) ⊎ ((reading limit (take n buffer) ≡ refused 12) × (k ≡ 38 → ⊥))
@@ -65,9 +65,9 @@ module _ (limit : ℕ) (buffer : List ℕ) (n : ℕ) (a : Addition) (k : ℕ) (o
       own same (given ss) before =
           let (h, head, told) = beside-new before e in
           let (is, r) = reading-known limit (take n buffer) head (same ∙ before) in
-          absurd (not-both (sym told ∙ indexed-more limit (take n buffer) h new (no-index-new (psegPlace n a) a) ss (r .told)))
+          absurd (not-both (sym told ∙ indexed-more limit (take n buffer) h (new h ss) (no-index-new h ss (psegPlace n a) a) ss (r .told)))
 
       begun : earlierSegments limit (take n buffer) ≡ given [] → k ≡ 38 → ⊥
       begun before =
           let (h, head, told) = beside-new before e in
-          no-38 limit (take n buffer) h new (no-index-new (psegPlace n a) a) k told
+          no-38 limit (take n buffer) h (new h []) (no-index-new h [] (psegPlace n a) a) k told

@@ -19,10 +19,12 @@ use Rattle.boxes.proofs.KindLaws.{first-is, one-right, firstOf-those, is-eqb, b
 use Rattle.partial.specs.Limits.{chunkLimit}
 use Rattle.partial.specs.Sequences.{allOf, sum}
 use Rattle.partial.specs.Segments.{Segment, endOf, chunksOf}
-use Rattle.partial.specs.Heading.{Heading}
+use Rattle.partial.specs.Heading.{Heading, urlsIn}
+use Rattle.partial.specs.Sources.{urlsFor, sourceBeside}
 use Rattle.partial.specs.Reading.{pshdRight, segment, pshdFields}
 use Rattle.partial.specs.Addition.{items, Addition, flagsFor, sizeOf, dataSize, dataRight, goesOut}
 use Rattle.partial.specs.Append.{stored, plocBody, pshdBody, added, newChunks, newInner, newSegment, Placed, placed, psegBody, psegPlace}
+use Rattle.partial.proofs.Reading.HeadingAppendLaws.{withBoxes}
 use Rattle.partial.proofs.Writing.DataLaws.{sizes-split}
 use Rattle.partial.proofs.Writing.PlacedLaws.{formed, sizes-placed, length-placed, OutLie, placed-tell, offsets-eight}
 use Rattle.partial.proofs.Writing.StandsLaws.{Stands, stands-behind, stands-right}
@@ -42,19 +44,32 @@ unfolding newChunks
 sizes-chunks at start [] = refl
 sizes-chunks at start (p ∷ ps) = ap (λ (ns : List ℕ). p .size ∷ ns) (sizes-chunks at (start + p .size) ps)
 
-module _ (at : ℕ) (a : Addition) where
-  pub length-new : length (newSegment at a .chunks) ≡ length (items (a .list))
+module _ (h : Heading) (ss : List Segment) (at : ℕ) (a : Addition) where
+  pub length-new : length (newSegment h ss at a .chunks) ≡ length (items (a .list))
   unfolding newSegment
   length-new = length-chunks at (a .sourceOffset) (placed (a .outside) (items (a .list))) ∙ length-placed (a .outside) (items (a .list))
 
-  pub end-new : endOf (newSegment at a) ≡ a .sourceOffset + sum (map (λ i. i .size) (items (a .list)))
+  pub end-new : endOf (newSegment h ss at a) ≡ a .sourceOffset + sum (map (λ i. i .size) (items (a .list)))
   unfolding newSegment endOf
   end-new = rw (sizes-chunks at (a .sourceOffset) (placed (a .outside) (items (a .list))), sizes-placed (a .outside) (items (a .list)))
 
-  -- a new segment has no index
-  pub no-index-new : those fidx (newSegment at a .inner) ≡ []
+  -- a new segment has no URLs of its own and no index
+  pub urls-new : newSegment h ss at a .urls ≡ h .urls
+  unfolding newSegment
+  urls-new = refl
+
+  pub source-new : newSegment h ss at a .source ≡ sourceBeside ss (h .urls)
+  unfolding newSegment
+  source-new = refl
+
+  pub no-index-new : those fidx (newSegment h ss at a .inner) ≡ []
   unfolding newSegment newInner
   no-index-new = neither fidx _ _ (is-eqb fidx _) (is-eqb fidx _)
+
+  -- it is the same with more boxes in the heading
+  pub new-longer : (more : List Box) → newSegment (withBoxes h more) ss at a ≡ newSegment h ss at a
+  unfolding newSegment
+  new-longer more = refl
 
 -- what the fields of an addition have to be for its bytes to say them
 pub record Sayable (a : Addition) : Type 0 where
@@ -103,9 +118,9 @@ module _ (limit : ℕ) (g : List ℕ) (h : Heading) (before : List Segment) (a :
       → InLie h at a
       → OutLie h at (a .outside) (items (a .list))
       → segment limit g h before (boxedAt at (pseg .code) (length (psegBody a)))
-      ≡ (hold 22 (leb (length (chunksOf before) + length (newSegment at a .chunks)) chunkLimit)
-      >>= λ _. hold 23 (leb (endOf (newSegment at a)) limit) >>= λ _. given (newSegment at a))
-  unfolding segment newSegment newInner psegBody placed
+      ≡ (hold 22 (leb (length (chunksOf before) + length (newSegment h before at a .chunks)) chunkLimit)
+      >>= λ _. hold 23 (leb (endOf (newSegment h before at a)) limit) >>= λ _. given (newSegment h before at a))
+  unfolding segment newSegment newInner psegBody placed urlsIn urlsFor
   segment-at says listed small stands data-low data-small lie outer =
       let list = items (a .list) in
       let ps = placed (a .outside) list in
@@ -126,7 +141,7 @@ module _ (limit : ℕ) (g : List ℕ) (h : Heading) (before : List Segment) (a :
       (offsets-held ps (offsets-eight (a .outside) list data-small)) in
       let sizes = sizes-placed (a .outside) list in
       let count = length-placed (a .outside) list in
-      rw (length-new at a, end-new at a, ← sizes, ← count)
+      rw (length-new h before at a, end-new h before at a, ← sizes, ← count)
       (elim (decLe (a .sourceOffset) limit) [
         | yes low ↦
             rw (boxes, right-header, one-right Pseg ploc inners refl (ap length only-location), no-source, first-location, head, first-header, fields, le-leb (a .sourceOffset) limit low, chunks low, long)
@@ -140,13 +155,15 @@ module _ (limit : ℕ) (g : List ℕ) (h : Heading) (before : List Segment) (a :
           → (hold 22 few >>= λ _. hold 23 low >>= (λ _. given (newChunks at (a .sourceOffset) (placed (a .outside) (items (a .list))))) >>= λ cs. given (record {
             place = at;
             inner = newInner at a;
+            urls = h .urls;
+            source = sourceBeside before (h .urls);
             sourceOffset = a .sourceOffset;
             flags = flagsFor (a .last);
             repairTime = a .repairTime;
             headerPlace = at + frontSize + frontSize;
             headerLength = length (pshdBody a);
             chunks = cs;
-          })) ≡ (hold 22 few >>= λ _. hold 23 low >>= λ _. given (newSegment at a))
+          })) ≡ (hold 22 few >>= λ _. hold 23 low >>= λ _. given (newSegment h before at a))
       both-tests true true = refl
       both-tests true false = refl
       both-tests false low = refl
@@ -163,8 +180,8 @@ pub new-segment : (limit : ℕ) (f : List ℕ) (h : Heading) (before : List Segm
     → InLie h (psegPlace (length f) a) a
     → OutLie h (psegPlace (length f) a) (a .outside) (items (a .list))
     → segment limit (f ++ added a) h before (boxedAt (psegPlace (length f) a) (pseg .code) (length (psegBody a)))
-    ≡ (hold 22 (leb (length (chunksOf before) + length (newSegment (psegPlace (length f) a) a .chunks)) chunkLimit)
-    >>= λ _. hold 23 (leb (endOf (newSegment (psegPlace (length f) a) a)) limit) >>= λ _. given (newSegment (psegPlace (length f) a) a))
+    ≡ (hold 22 (leb (length (chunksOf before) + length (newSegment h before (psegPlace (length f) a) a .chunks)) chunkLimit)
+    >>= λ _. hold 23 (leb (endOf (newSegment h before (psegPlace (length f) a) a)) limit) >>= λ _. given (newSegment h before (psegPlace (length f) a) a))
 unfolding added psegPlace
 new-segment limit f h before a says listed small right data-small lie outer =
     let at : ℕ = length f + length (stored a) in

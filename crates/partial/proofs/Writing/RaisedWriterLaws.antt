@@ -36,7 +36,7 @@ module _ (low high : ℕ) (raised : low ≤ high) where
       same-after (hold 1 (leb (n + length (added a)) fileLimit)) _ _
       (λ _.
       same-after (hold 6 (leb (length (h .boxes) + addedBoxes a) boxLimit)) _ _
-      (λ _. admitted-same ss (newSegment (psegPlace n a) a)))
+      (λ _. admitted-same ss (newSegment h ss (psegPlace n a) a)))
 
   appended-same : (buffer : List ℕ) (n : ℕ) (a : Addition) → Same (appended low buffer n a) (appended high buffer n a)
   unfolding appended

@@ -22,7 +22,7 @@ use Rattle.partial.specs.Sequences.{allOf, sum}
 use Rattle.partial.specs.Segments.{Segment, endOf, chunksOf}
 use Rattle.partial.specs.Heading.{Heading, heading, fileBoxes}
 use Rattle.partial.specs.Mixed.{allowed}
-use Rattle.partial.specs.Meaning.{agree}
+use Rattle.partial.specs.Sources.{agreed}
 use Rattle.partial.specs.Index.{Indexed, indexed}
 use Rattle.partial.specs.Reading.{segment, segmentsFrom, segments, reading, earlierSegments, admitted}
 use Rattle.partial.specs.Memory.{after, filled}
@@ -41,7 +41,7 @@ use Rattle.partial.proofs.Writing.FieldsBackLaws.{sizes-eight}
 use Rattle.partial.proofs.Writing.WholeLaws.{allowed-other, filled-row, row-starts}
 use Rattle.partial.proofs.Writing.AddedBoxesLaws.{segmentBox, newBoxes, boxes-added, added-moved, those-new, data-low, length-added}
 use Rattle.partial.proofs.Writing.AddedBoxesLaws.{added-many, lie-longer, lie-new, out-lie}
-use Rattle.partial.proofs.Writing.NewSegmentLaws.{Sayable, length-new, new-segment, end-new, no-index-new}
+use Rattle.partial.proofs.Writing.NewSegmentLaws.{Sayable, new-longer, length-new, new-segment, end-new, no-index-new}
 
 -- segments are read box by box
 module _ (limit : ℕ) (f : List ℕ) (h : Heading) where
@@ -64,8 +64,8 @@ pub record Offered (limit : ℕ) (f : List ℕ) (h : Heading) (ss : List Segment
 -- and one that is admitted, beside an index that is told
 pub record Taken (limit : ℕ) (f : List ℕ) (h : Heading) (ss : List Segment) (a : Addition) : Type 0 where
   pub offered : Offered limit f h ss a
-  pub admits : admission limit h ss (length f) a ≡ given (ss ++ (newSegment (psegPlace (length f) a) a ∷ []))
-  pub index : (is : List Indexed) × (indexed limit f h (ss ++ (newSegment (psegPlace (length f) a) a ∷ [])) ≡ given is)
+  pub admits : admission limit h ss (length f) a ≡ given (ss ++ (newSegment h ss (psegPlace (length f) a) a ∷ []))
+  pub index : (is : List Indexed) × (indexed limit f h (ss ++ (newSegment h ss (psegPlace (length f) a) a ∷ [])) ≡ given is)
 
 -- what admission tests
 pub record Admits (limit : ℕ) (h : Heading) (ss : List Segment) (n : ℕ) (a : Addition) : Type 0 where
@@ -74,40 +74,40 @@ pub record Admits (limit : ℕ) (h : Heading) (ss : List Segment) (n : ℕ) (a :
   pub few : length ss + 1 ≤ segmentLimit
   pub chunks : length (chunksOf ss) + length (items (a .list)) ≤ chunkLimit
   pub low : a .sourceOffset + sum (map (λ i. i .size) (items (a .list))) ≤ limit
-  pub agreed : agree (ss ++ (newSegment (psegPlace n a) a ∷ [])) ≡ true
+  pub agreed : agreed (ss ++ (newSegment h ss (psegPlace n a) a ∷ [])) ≡ true
 
 module _ (limit : ℕ) (h : Heading) (ss : List Segment) (n : ℕ) (a : Addition) where
-  pub admits : {ts : List Segment} → admission limit h ss n a ≡ given ts → Admits limit h ss n a × (ts ≡ ss ++ (newSegment (psegPlace n a) a ∷ []))
+  pub admits : {ts : List Segment} → admission limit h ss n a ≡ given ts → Admits limit h ss n a × (ts ≡ ss ++ (newSegment h ss (psegPlace n a) a ∷ []))
   unfolding admission admitted
   admits e =
-      let new : Segment = newSegment (psegPlace n a) a in
+      let new : Segment = newSegment h ss (psegPlace n a) a in
       let (small, e6) = held 1 (leb (n + length (added a)) fileLimit) _ e in
       let (boxes, e7) = held 6 (leb (length (h .boxes) + addedBoxes a) boxLimit) _ e6 in
       let (few, e8) = held 13 (leb (length ss + 1) segmentLimit) _ e7 in
       let (chunks, e9) = held 22 (leb (length (chunksOf ss) + length (new .chunks)) chunkLimit) _ e8 in
       let (low, e10) = held 23 (leb (endOf new) limit) _ e9 in
-      let (agreed, e11) = held 25 (agree (ss ++ (new ∷ []))) _ e10 in (
+      let (agreed, e11) = held 25 (agreed (ss ++ (new ∷ []))) _ e10 in (
         record {
           small = leb-true (n + length (added a)) fileLimit small;
           boxes = leb-true (length (h .boxes) + addedBoxes a) boxLimit boxes;
           few = leb-true (length ss + 1) segmentLimit few;
-          chunks = rw (length-new (psegPlace n a) a) at (leb-true (length (chunksOf ss) + length (new .chunks)) chunkLimit chunks);
-          low = rw (end-new (psegPlace n a) a) at (leb-true (endOf new) limit low);
+          chunks = rw (length-new h ss (psegPlace n a) a) at (leb-true (length (chunksOf ss) + length (new .chunks)) chunkLimit chunks);
+          low = rw (end-new h ss (psegPlace n a) a) at (leb-true (endOf new) limit low);
           agreed = agreed;
         },
         sym (given-same e11),
       )
 
-  pub admission-of : Admits limit h ss n a → admission limit h ss n a ≡ given (ss ++ (newSegment (psegPlace n a) a ∷ []))
+  pub admission-of : Admits limit h ss n a → admission limit h ss n a ≡ given (ss ++ (newSegment h ss (psegPlace n a) a ∷ []))
   unfolding admission admitted
   admission-of t =
       rw (
         le-leb (n + length (added a)) fileLimit (t .small),
         le-leb (length (h .boxes) + addedBoxes a) boxLimit (t .boxes),
         le-leb (length ss + 1) segmentLimit (t .few),
-        length-new (psegPlace n a) a,
+        length-new h ss (psegPlace n a) a,
         le-leb (length (chunksOf ss) + length (items (a .list))) chunkLimit (t .chunks),
-        end-new (psegPlace n a) a,
+        end-new h ss (psegPlace n a) a,
         le-leb (a .sourceOffset + sum (map (λ i. i .size) (items (a .list)))) limit (t .low),
         t .agreed,
       )
@@ -119,7 +119,7 @@ admitted-given limit ss s e =
     let (_, e1) = held 13 (leb (length ss + 1) segmentLimit) _ e in
     let (_, e2) = held 22 (leb (length (chunksOf ss) + length (s .chunks)) chunkLimit) _ e1 in
     let (_, e3) = held 23 (leb (endOf s) limit) _ e2 in
-    sym (given-same (held 25 (agree (ss ++ (s ∷ []))) _ e3 .1))
+    sym (given-same (held 25 (agreed (ss ++ (s ∷ []))) _ e3 .1))
 
 -- an accepted addition is one to a file that append takes, and there is room for it
 pub taken-any : (limit : ℕ) (buffer : List ℕ) (n : ℕ) (a : Addition) (size : ℕ) → appended limit buffer n a ≡ given size
@@ -216,7 +216,7 @@ module _ (limit : ℕ) (f : List ℕ) (h : Heading) (ss : List Segment) (a : Add
           (rw moved-there (none-new ftyp refl refl (λ b free. allowed-other b free .0))) (rw moved-there (none-new pfil refl refl (λ b free. allowed-other b free .1)))))
 
       -- nothing of its index changes, with the new segment beside the others
-      index-added : let ts = ss ++ (newSegment (psegPlace (length f) a) a ∷ []) in
+      index-added : let ts = ss ++ (newSegment h ss (psegPlace (length f) a) a ∷ []) in
           indexed limit (f ++ added a) grownHeading ts ≡ indexed limit f h ts
       unfolding segments allOf
       index-added =
@@ -224,38 +224,39 @@ module _ (limit : ℕ) (f : List ℕ) (h : Heading) (ss : List Segment) (a : Add
           let old : List Box = those pseg (h .boxes) in
           let (_, e1) = held 13 (leb (length old) segmentLimit) _ (earlier-read limit f (t .headed) (t .before)) in
           let (us, read, e2) = both-given (segmentsFrom limit f h [] old) _ e1 in
-          let (_, e3) = held 25 (agree us) _ e2 in
+          let (_, e3) = held 25 (agreed us) _ e2 in
           let head = headed f h (t .headed) in
           let lie = those-all pseg (lies n) (h .boxes) (boxes-lie File f 0 n (h .boxes) (head .boxes)) in
-          let new : Segment = newSegment (psegPlace n a) a in
-          indexed-kept f (added a) limit h grownHeading refl new (no-index-new (psegPlace n a) a) ss (inner-lie f h head) (segments-inside limit f h old [] lie refl (read ∙ e3))
+          let new : Segment = newSegment h ss (psegPlace n a) a in
+          indexed-kept f (added a) limit h grownHeading refl new (no-index-new h ss (psegPlace n a) a) ss (inner-lie f h head) (segments-inside limit f h old [] lie refl (read ∙ e3))
 
       segments-added : Sayable a
-          → segments limit (f ++ added a) grownHeading ≡ admitted limit ss (newSegment (psegPlace (length f) a) a)
+          → segments limit (f ++ added a) grownHeading ≡ admitted limit ss (newSegment h ss (psegPlace (length f) a) a)
       unfolding segments segmentsFrom admitted
       segments-added says =
           let n = length f in
-          let new : Segment = newSegment (psegPlace n a) a in
+          let new : Segment = newSegment h ss (psegPlace n a) a in
           let old : List Box = those pseg (h .boxes) in
           let (enough, e1) = held 13 (leb (length old) segmentLimit) _ (earlier-read limit f (t .headed) (t .before)) in
           let (us, read, e2) = both-given (segmentsFrom limit f h [] old) _ e1 in
-          let (agreed, e3) = held 25 (agree us) _ e2 in
+          let (agreed, e3) = held 25 (agreed us) _ e2 in
           let before : segmentsFrom limit f h [] old ≡ given ss = read ∙ e3 in
           let framed = headed f h (t .headed) .boxes in
           let lie = those-all pseg (lies n) (h .boxes) (boxes-lie File f 0 n (h .boxes) framed) in
           let first = row-starts 0 n (h .boxes) (filled-row (omega arith) (boxes-filled File f 0 n framed)) n (omega arith) in
-          let kept = segments-kept f (added a) h grownHeading (lie-longer h (newBoxes n a)) limit old [] ss lie before in
+          let kept = segments-kept f (added a) h grownHeading refl (lie-longer h (newBoxes n a)) limit old [] ss lie before in
           let many = segments-many limit f h old [] before in
           let long : length (old ++ (newBox ∷ [])) ≡ length ss + 1 = length-append old (newBox ∷ []) ∙ omega arith in
           let size = length-added a in
-          let read-new = new-segment limit f grownHeading ss a says (list-formed (a .list) (t .list)) (omega arith) (t .carried) (omega (arith, data-low a (t .carried))) (lie-new h n a (t .carried)) (out-lie h a (t .list) (t .carried) (t .outside) n first) in
+          let longer = new-longer h ss (psegPlace n a) a (newBoxes n a) in
+          let read-new = rw longer at (new-segment limit f grownHeading ss a says (list-formed (a .list) (t .list)) (omega arith) (t .carried) (omega (arith, data-low a (t .carried))) (lie-new h n a (t .carried)) (out-lie h a (t .list) (t .carried) (t .outside) n first)) in
           rw (psegs-added, long, segments-on limit (f ++ added a) grownHeading old (newBox ∷ []) [] kept, read-new)
           (go (leb (length ss + 1) segmentLimit) (leb (length (chunksOf ss) + length (new .chunks)) chunkLimit) (leb (endOf new) limit))
         where
           go : (few chunks low : Bool)
               → (hold 13 few
-              >>= λ _. (hold 22 chunks >>= λ _. hold 23 low >>= λ _. given (newSegment (psegPlace (length f) a) a)) >>= (λ s. given (ss ++ (s ∷ []))) >>= λ ts. hold 25 (agree ts) >>= λ _. given ts)
-              ≡ (hold 13 few >>= λ _. hold 22 chunks >>= λ _. hold 23 low >>= λ _. hold 25 (agree (ss ++ (newSegment (psegPlace (length f) a) a ∷ []))) >>= λ _. given (ss ++ (newSegment (psegPlace (length f) a) a ∷ [])))
+              >>= λ _. (hold 22 chunks >>= λ _. hold 23 low >>= λ _. given (newSegment h ss (psegPlace (length f) a) a)) >>= (λ s. given (ss ++ (s ∷ []))) >>= λ ts. hold 25 (agreed ts) >>= λ _. given ts)
+              ≡ (hold 13 few >>= λ _. hold 22 chunks >>= λ _. hold 23 low >>= λ _. hold 25 (agreed (ss ++ (newSegment h ss (psegPlace (length f) a) a ∷ []))) >>= λ _. given (ss ++ (newSegment h ss (psegPlace (length f) a) a ∷ [])))
           go true true true = refl
           go true true false = refl
           go true false low = refl
@@ -277,9 +278,9 @@ module _ (limit : ℕ) (f : List ℕ) (h : Heading) (ss : List Segment) (a : Add
                 | yes room ↦
                     reading-some limit (f ++ added a) (heading-added small room) pseg-there
                     ∙ rw (segments-added small says, le-leb size fileLimit small, le-leb many boxLimit room)
-                    (then-known (admitted limit ss (newSegment (psegPlace (length f) a) a)) _ _ (λ ts e.
-                    let same = admitted-given limit ss (newSegment (psegPlace (length f) a) a) e in
-                    rw same (ap (λ (x : Answer (List Indexed)). x >>= λ _. given (ss ++ (newSegment (psegPlace (length f) a) a ∷ []))) (index-added small))))
+                    (then-known (admitted limit ss (newSegment h ss (psegPlace (length f) a) a)) _ _ (λ ts e.
+                    let same = admitted-given limit ss (newSegment h ss (psegPlace (length f) a) a) e in
+                    rw same (ap (λ (x : Answer (List Indexed)). x >>= λ _. given (ss ++ (newSegment h ss (psegPlace (length f) a) a ∷ []))) (index-added small))))
               ]
         ]
 
@@ -290,7 +291,7 @@ taken-sayable limit f h ss a t below time =
     record { offset = omega arith; time = time; sizes = sizes-eight (placed (a .outside) (items (a .list))) (rw sizes-placed (omega arith)); count = omega arith }
 
 pub reading-added : (limit : ℕ) (f : List ℕ) (h : Heading) (ss : List Segment) (a : Addition) → Taken limit f h ss a → Sayable a
-    → reading limit (f ++ added a) ≡ given (ss ++ (newSegment (psegPlace (length f) a) a ∷ []))
+    → reading limit (f ++ added a) ≡ given (ss ++ (newSegment h ss (psegPlace (length f) a) a ∷ []))
 reading-added limit f h ss a t says = reading-result limit f h ss a (t .offered) says ∙ rw (t .admits, t .index .1)
 
 -- the file that an accepted addition leaves
@@ -303,13 +304,15 @@ file-after limit buffer n a size e long total =
     rw e (take-at (take n buffer ++ added a) (drop (length (take n buffer ++ added a)) buffer) size whole)
 
 -- a segment that our writer adds reads back with its fields and chunks
-pub reads-back : (limit : ℕ) → limit < 2 ^ 64 → (buffer : List ℕ) (n : ℕ) (a : Addition) (size : ℕ) (ss : List Segment)
+pub reads-back : (limit : ℕ) → limit < 2 ^ 64 → (buffer : List ℕ) (n : ℕ) (a : Addition) (size : ℕ) (h : Heading) (ss : List Segment)
     → a .repairTime < 2 ^ 64
+    → heading (fileIn (lent buffer n)) ≡ given h
     → earlierSegments limit (fileIn (lent buffer n)) ≡ given ss
     → appended limit buffer n a ≡ given size
-    → reading limit (fileIn (append limit (lent buffer n) a)) ≡ given (ss ++ (newSegment (psegPlace n a) a ∷ []))
+    → reading limit (fileIn (append limit (lent buffer n) a)) ≡ given (ss ++ (newSegment h ss (psegPlace n a) a ∷ []))
 unfolding fileIn
-reads-back limit below buffer n a size ss time before e =
-    let (h, t, long, total) = taken limit buffer n a size ss before e in
+reads-back limit below buffer n a size h ss time head before e =
+    let (h′, t′, long, total) = taken limit buffer n a size ss before e in
+    let t : Taken limit (take n buffer) h ss a = subst (λ (k : Heading). Taken limit (take n buffer) k ss a) (given-same (sym (t′ .offered .headed) ∙ head)) t′ in
     rw (file-after limit buffer n a size e long total)
-    (reading-added limit (take n buffer) h ss a t (taken-sayable limit (take n buffer) h ss a t below time) ∙ ap (λ (m : ℕ). given (ss ++ (newSegment (psegPlace m a) a ∷ []))) (sym long))
+    (reading-added limit (take n buffer) h ss a t (taken-sayable limit (take n buffer) h ss a t below time) ∙ ap (λ (m : ℕ). given (ss ++ (newSegment h ss (psegPlace m a) a ∷ []))) (sym long))

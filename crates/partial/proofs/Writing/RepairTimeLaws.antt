@@ -5,7 +5,7 @@ use mathlib.Core.Bool.{Bool, true, false, not, _&&_, _||_}
 use mathlib.Core.List.{List, [], _∷_, _++_}
 use mathlib.Core.Logic.{inl, inr}
 use mathlib.Core.Option.{Option, none, some}
-use mathlib.Core.Path.{_≡_, refl, ap, ap₂, _∙_}
+use mathlib.Core.Path.{_≡_, refl, sym, ap, ap₂, _∙_}
 use lib.Dec.{leb, eqb}
 use lib.ListN.{length}
 use Rattle.numerals.specs.Numbers.{bytesOf}
@@ -18,13 +18,15 @@ use Rattle.partial.specs.Sequences.{allOf}
 use Rattle.partial.specs.Segments.{Segment, isOpen, endOf, chunksOf}
 use Rattle.partial.specs.Heading.{Heading}
 use Rattle.partial.specs.Meaning.{givesSize, knownSize, agree}
+use Rattle.partial.specs.Sources.{ofSource, agreed}
 use Rattle.partial.specs.Index.{indexed}
 use Rattle.partial.specs.Reading.{offsetWidth, admitted}
 use Rattle.partial.specs.Addition.{items, Addition, flagsFor, dataRight, outsideRight}
 use Rattle.partial.specs.Append.{insideData, outsideData, anyInside, dataBox, stored, addedBoxes, placed, plocBody, versionFor}
 use Rattle.partial.specs.Append.{pshdBody, psegBody, added, psegPlace, newSegment, admission}
 use Rattle.partial.specs.Carried.{carried}
-use Rattle.partial.proofs.Meaning.SequenceLaws.{which, all-append}
+use Rattle.partial.proofs.Meaning.SequenceLaws.{which, all-append, all-same}
+use Rattle.partial.proofs.Meaning.SourceLaws.{of-append}
 use Rattle.partial.proofs.Reading.IndexedLaws.{indexed-alike}
 use Rattle.partial.proofs.Writing.NewSegmentLaws.{no-index-new}
 use Rattle.partial.proofs.Writing.ReadsBackLaws.{Offered, Taken, Admits, admission-of, admits}
@@ -33,8 +35,8 @@ use Rattle.partial.proofs.Writing.ReadsBackLaws.{Offered, Taken, Admits
 abbrev fits : ℕ → Segment → Bool
 fits n s = leb (endOf s) n && (not (givesSize s) || eqb (endOf s) n)
 
--- sizes agree by what a last segment ends at and whether it gives a size
-module _ (s t : Segment) (ends : endOf s ≡ endOf t) (gives : givesSize s ≡ givesSize t) where
+-- sizes agree by the source of a last segment, what it ends at and whether it gives a size
+module _ (s t : Segment) (source : s .source ≡ t .source) (ends : endOf s ≡ endOf t) (gives : givesSize s ≡ givesSize t) where
   known-same : (ss : List Segment) → knownSize (ss ++ (s ∷ [])) ≡ knownSize (ss ++ (t ∷ []))
   unfolding knownSize
   known-same [] = ap₂ (λ (given-there : Bool) (end : ℕ). elim given-there as (λ _. Option ℕ) [ true ↦ some end | false ↦ none ]) gives ends
@@ -52,6 +54,25 @@ module _ (s t : Segment) (ends : endOf s ≡ endOf t) (gives : givesSize s ≡ g
           → _≡_ {A = Bool} (elim known [ some n ↦ allOf (fits n) (ss ++ (s ∷ [])) | none ↦ true ]) (elim known [ some n ↦ allOf (fits n) (ss ++ (t ∷ [])) | none ↦ true ])
       go none = refl
       go (some n) = rw (all-append (fits n) ss (s ∷ []), all-append (fits n) ss (t ∷ []), ends, gives)
+
+  -- so do those of each source
+  of-same : (ss : List Segment) (n : ℕ) → agree (ofSource n (ss ++ (s ∷ []))) ≡ agree (ofSource n (ss ++ (t ∷ [])))
+  unfolding ofSource
+  of-same ss n =
+      rw (of-append n ss (s ∷ []), of-append n ss (t ∷ []))
+      (elim (which (eqb (t .source) n)) [
+        | inl e ↦ rw (ofSource, source, e) (agree-same (ofSource n ss))
+        | inr e ↦ rw (ofSource, source, e)
+      ])
+
+  agreed-same : (ss : List Segment) → agreed (ss ++ (s ∷ [])) ≡ agreed (ss ++ (t ∷ []))
+  unfolding agreed allOf
+  agreed-same ss =
+      let test : Segment → Bool = λ x. agree (ofSource (x .source) (ss ++ (s ∷ []))) in
+      let other : Segment → Bool = λ x. agree (ofSource (x .source) (ss ++ (t ∷ []))) in
+      all-append test ss (s ∷ [])
+      ∙ ap₂ (λ (b c : Bool). b && (c && true)) (all-same test other (λ x. of-same ss (x .source)) ss) (of-same ss (s .source) ∙ ap (λ (n : ℕ). agree (ofSource n (ss ++ (t ∷ [])))) source)
+      ∙ sym (all-append other ss (t ∷ []))
 
 -- an addition with as much of its repair time as is written
 abbrev pub cut : Addition → Addition
@@ -82,33 +103,33 @@ module _ (a : Addition) where
   unfolding addedBoxes anyInside outsideData
   boxes-cut = refl
 
-  agree-cut : (ss : List Segment) (at : ℕ) → agree (ss ++ (newSegment at (cut a) ∷ [])) ≡ agree (ss ++ (newSegment at a ∷ []))
+  agreed-cut : (h : Heading) (ss : List Segment) (at : ℕ) → agreed (ss ++ (newSegment h ss at (cut a) ∷ [])) ≡ agreed (ss ++ (newSegment h ss at a ∷ []))
   unfolding newSegment endOf givesSize isOpen
-  agree-cut ss at = agree-same (newSegment at (cut a)) (newSegment at a) refl refl ss
+  agreed-cut h ss at = agreed-same (newSegment h ss at (cut a)) (newSegment h ss at a) refl refl refl ss
 
   -- nor does the index, for which the size of the source is the same
   pub index-cut : (limit : ℕ) (f : List ℕ) (h : Heading) (ss : List Segment) (at : ℕ)
-      → indexed limit f h (ss ++ (newSegment at (cut a) ∷ [])) ≡ indexed limit f h (ss ++ (newSegment at a ∷ []))
+      → indexed limit f h (ss ++ (newSegment h ss at (cut a) ∷ [])) ≡ indexed limit f h (ss ++ (newSegment h ss at a ∷ []))
   unfolding newSegment endOf givesSize isOpen
   index-cut limit f h ss at =
-      indexed-alike limit f h ss (newSegment at (cut a)) (newSegment at a) (no-index-new at (cut a)) (no-index-new at a)
-      (known-same (newSegment at (cut a)) (newSegment at a) refl refl ss)
+      indexed-alike limit f h ss (newSegment h ss at (cut a)) (newSegment h ss at a) (no-index-new h ss at (cut a)) (no-index-new h ss at a)
+      (known-same (newSegment h ss at (cut a)) (newSegment h ss at a) refl refl refl ss)
 
 module _ (limit : ℕ) (h : Heading) (ss : List Segment) (n : ℕ) (a : Addition) where
   -- the same refusals, and whatever follows that tells the two segments not apart
   pub admission-cut : {C : Type 0} (rest : List Segment → Answer C)
-      → rest (ss ++ (newSegment (psegPlace n a) (cut a) ∷ [])) ≡ rest (ss ++ (newSegment (psegPlace n a) a ∷ []))
+      → rest (ss ++ (newSegment h ss (psegPlace n a) (cut a) ∷ [])) ≡ rest (ss ++ (newSegment h ss (psegPlace n a) a ∷ []))
       → (admission limit h ss n (cut a) >>= rest) ≡ (admission limit h ss n a >>= rest)
   unfolding admission admitted newSegment endOf
   admission-cut rest same =
       let at = psegPlace n a in
-      rw (added-cut a, boxes-cut a, place-cut a n, agree-cut a ss at)
+      rw (added-cut a, boxes-cut a, place-cut a n, agreed-cut a h ss at)
       (go (leb (n + length (added a)) fileLimit) (leb (length (h .boxes) + addedBoxes a) boxLimit) (leb (length ss + 1) segmentLimit)
-      (leb (length (chunksOf ss) + length (newSegment at a .chunks)) chunkLimit) (leb (endOf (newSegment at a)) limit) (agree (ss ++ (newSegment at a ∷ []))))
+      (leb (length (chunksOf ss) + length (newSegment h ss at a .chunks)) chunkLimit) (leb (endOf (newSegment h ss at a)) limit) (agreed (ss ++ (newSegment h ss at a ∷ []))))
     where
       go : (t1 t6 t13 t22 t23 t25 : Bool)
-          → (hold 1 t1 >>= (λ _. hold 6 t6 >>= λ _. hold 13 t13 >>= λ _. hold 22 t22 >>= λ _. hold 23 t23 >>= λ _. hold 25 t25 >>= λ _. given (ss ++ (newSegment (psegPlace n a) (cut a) ∷ []))) >>= rest)
-          ≡ (hold 1 t1 >>= (λ _. hold 6 t6 >>= λ _. hold 13 t13 >>= λ _. hold 22 t22 >>= λ _. hold 23 t23 >>= λ _. hold 25 t25 >>= λ _. given (ss ++ (newSegment (psegPlace n a) a ∷ []))) >>= rest)
+          → (hold 1 t1 >>= (λ _. hold 6 t6 >>= λ _. hold 13 t13 >>= λ _. hold 22 t22 >>= λ _. hold 23 t23 >>= λ _. hold 25 t25 >>= λ _. given (ss ++ (newSegment h ss (psegPlace n a) (cut a) ∷ []))) >>= rest)
+          ≡ (hold 1 t1 >>= (λ _. hold 6 t6 >>= λ _. hold 13 t13 >>= λ _. hold 22 t22 >>= λ _. hold 23 t23 >>= λ _. hold 25 t25 >>= λ _. given (ss ++ (newSegment h ss (psegPlace n a) a ∷ []))) >>= rest)
       go true true true true true true = same
       go true true true true true false = refl
       go true true true true false t25 = refl
@@ -125,7 +146,7 @@ module _ (limit : ℕ) (h : Heading) (ss : List Segment) (n : ℕ) (a : Addition
         few = t .few;
         chunks = t .chunks;
         low = t .low;
-        agreed = rw place-cut (agree-cut a ss (psegPlace n a) ∙ t .agreed);
+        agreed = rw place-cut (agreed-cut a h ss (psegPlace n a) ∙ t .agreed);
       }
 
 module _ (limit : ℕ) (f : List ℕ) (h : Heading) (ss : List Segment) (a : Addition) where

@@ -105,7 +105,7 @@ module _ (limit : ℕ) (buffer : List ℕ) (n : ℕ) (a : Addition) where
   too-many h ss fits head read list carried outer many =
       let over = lt-leb (length (chunksOf ss) + length (items (a .list))) chunkLimit (omega arith) in
       appended-offered h ss fits (record { headed = head; before = read; list = list; carried = carried; outside = outer })
-      ∙ rw (length-new (psegPlace n a) a, over)
+      ∙ rw (length-new h ss (psegPlace n a) a, over)
       (go _ (leb (n + length (added a)) fileLimit) (leb (length (h .boxes) + addedBoxes a) boxLimit) (leb (length ss + 1) segmentLimit))
     where
       go : (rest : List Segment → Answer ℕ) (t1 t6 t13 : Bool)

@@ -109,26 +109,26 @@ module _ (limit : ℕ) (f : List ℕ) (h : Heading) (ss : List Segment) (a : Add
       let row = new-row h a (t .offered .list) (t .offered .carried) (t .offered .outside) (omega arith) (length f) in
       row-beyond (length f) (length f + length (added a)) (newBoxes (length f) a) row (length f) (omega arith)
 
-  -- and its segment says what of it can be told
-  pub says-whole : (more : List ℕ) (k : Heading) (later : List Box) → k .boxes ≡ grownHeading limit f h ss a .boxes ++ later
+  -- and its segment, beside whatever others, says what of it can be told
+  pub says-whole : (more : List ℕ) (k : Heading) (later : List Box) (j : Heading) (us : List Segment) → k .boxes ≡ grownHeading limit f h ss a .boxes ++ later
       → allOf (beyond (length (f ++ added a))) later ≡ true
-      → again ((f ++ added a) ++ more) k (newSegment (psegPlace (length f) a) a) ≡ settled a
-  says-whole more k later boxes behind =
+      → again ((f ++ added a) ++ more) k (newSegment j us (psegPlace (length f) a) a) ≡ settled a
+  says-whole more k later j us boxes behind =
       let n = length f in
       let lie = boxes-lie File f 0 n (h .boxes) (headed f h (t .offered .headed) .boxes) in
-      same-again f more a k (t .offered .list) (t .offered .carried)
-      (rw boxes (outside-told h n a (t .offered .list) (t .offered .carried) (t .offered .outside) lie later (rw length-append at behind)))
+      same-again f more a k j us (t .offered .list) (t .offered .carried)
+      (rw boxes (outside-told h n a (t .offered .list) (t .offered .carried) (t .offered .outside) lie later (rw length-append at behind) j us))
 
 module _ (limit : ℕ) (below : limit < 2 ^ 64) where
   -- one addition more, before the others
   one-rewrite : (f : List ℕ) (h : Heading) (ss : List Segment) (a : Addition) (t : Taken limit f h ss a) (whole : List ℕ)
-      → Rewrites limit (f ++ added a) (grownHeading limit f h ss a) (ss ++ (newSegment (psegPlace (length f) a) a ∷ [])) whole
+      → Rewrites limit (f ++ added a) (grownHeading limit f h ss a) (ss ++ (newSegment h ss (psegPlace (length f) a) a ∷ [])) whole
       → Rewrites limit f h ss whole
   unfolding appendAll
   one-rewrite f h ss a t whole r =
-      let s = newSegment (psegPlace (length f) a) a in
+      let s = newSegment h ss (psegPlace (length f) a) a in
       let long = length-append f (added a) in
-      let says : again whole (r .heading′) s ≡ settled a = rw (r .longer) (says-whole limit f h ss a t (r .more) (r .heading′) (r .later) (r .boxes) (r .behind)) in
+      let says : again whole (r .heading′) s ≡ settled a = rw (r .longer) (says-whole limit f h ss a t (r .more) (r .heading′) (r .later) h ss (r .boxes) (r .behind)) in
       record {
         more = added a ++ r .more;
         longer = r .longer ∙ append-assoc f (added a) (r .more);
@@ -174,7 +174,7 @@ module _ (limit : ℕ) (below : limit < 2 ^ 64) where
           let (ok, _) = admits limit h ss (length f) c (u .admits) in
           let new-head = heading-added limit f h ss c (u .offered) (ok .small) (ok .boxes) in
           let new-read = takes limit (f ++ added c) .acceptable _ (reading-added limit f h ss c u (taken-sayable limit f h ss c u below (mod-lt (a .repairTime) (lit< tt)))) in
-          let ts = ss ++ (newSegment (psegPlace (length f) c) c ∷ []) in
+          let ts = ss ++ (newSegment h ss (psegPlace (length f) c) c ∷ []) in
           one-rewrite f h ss c u whole
           (subst (λ (g : List ℕ). Rewrites limit g k ts whole) same (rest k ts (rw same new-head) (rw same new-read)))
 

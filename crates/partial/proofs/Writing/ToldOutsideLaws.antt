@@ -12,7 +12,7 @@ use lib.ListN.{length}
 use Rattle.boxes.specs.Framing.{Box, frontSize}
 use Rattle.boxes.proofs.HeaderLaws.{moved}
 use Rattle.partial.specs.Sequences.{someOf, allOf}
-use Rattle.partial.specs.Segments.{good, present}
+use Rattle.partial.specs.Segments.{Segment, good, present}
 use Rattle.partial.specs.Heading.{Heading}
 use Rattle.partial.specs.Mixed.{allowed}
 use Rattle.partial.specs.Entries.{inData}
@@ -111,9 +111,9 @@ module _ (h : Heading) (n : ℕ) (a : Addition) (list : listRight (a .list) ≡ 
       )
 
   -- whether some good chunk lies outside `pdat` is whether one went there
-  pub outside-told : someOutside ((h .boxes ++ newBoxes n a) ++ more) (newSegment (psegPlace n a) a .chunks) ≡ someOf (goesOut (a .outside)) (items (a .list))
+  pub outside-told : (k : Heading) (ss : List Segment) → someOutside ((h .boxes ++ newBoxes n a) ++ more) (newSegment k ss (psegPlace n a) a .chunks) ≡ someOf (goesOut (a .outside)) (items (a .list))
   unfolding newSegment placed psegPlace
-  outside-told =
+  outside-told k ss =
       let all = data-low a carried in
       let sizes = sizes-split (a .outside) (items (a .list)) in
       told-with _ (psegPlace n a) (a .outside) _ (a .sourceOffset) (items (a .list)) (list-formed (a .list) list) (omega arith) (omega arith)
