@@ -35,6 +35,7 @@ ghost use Rattle.partial.specs.Answers.{writtenAnswer};
 ghost use Rattle.partial.specs.Heading.{Heading};
 ghost use Rattle.partial.specs.Meaning.{knownSize};
 ghost use Rattle.partial.specs.Segments.{Segment};
+ghost use Rattle.partial.specs.Sources.{sourceBeside};
 ghost use Rattle.gathering.specs.Gathered.{gatheredOf};
 ghost use Rattle.indexing.specs.Ends.{endOf};
 ghost use Rattle.adding.specs.Admission.{Tells, Known, indexedBeside, admittedBeside, admittedAnswer, Beside, Asked, admittedLength};
@@ -93,6 +94,7 @@ fn admitted(
 ) -> Verdict
     ensures { λ r. ⌜ ((h : Heading) (ss : List Segment) (s : Segment) → Known (now (file .entry)) h ss indexed
         → gathered ≡ gatheredOf ss → Tells s header counts → those fidx (s .inner) ≡ []
+        → s .urls ≡ h .urls → s .source ≡ sourceBeside ss (h .urls)
         → admittedAnswer r ≡ admittedBeside (now (file .entry)) h ss s) ⌝ }
 {
     let offset = header.offset;

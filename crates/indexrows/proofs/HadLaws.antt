@@ -19,7 +19,7 @@ use Rattle.partial.specs.Tables.{rangeRowLength, hadRows}
 use Rattle.partial.proofs.Meaning.EdgeLaws.{listed-few}
 use Rattle.partial.proofs.Meaning.ListingLaws.{listing}
 use Rattle.partial.proofs.Meaning.SequenceLaws.{which}
-use Rattle.partial.proofs.Reading.ReadingLaws.{accepted}
+use Rattle.partial.proofs.Reading.OneSourceLaws.{accepted}
 use Rattle.gathering.specs.Kept.{Kept}
 use Rattle.gathering.proofs.RowLaws.{put-filled}
 use Rattle.spans.specs.Chunks.{manyOf, SpansOf}

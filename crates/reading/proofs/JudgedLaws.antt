@@ -16,9 +16,11 @@ use Rattle.partial.specs.Heading.{Heading, heading}
 use Rattle.partial.specs.Index.{Indexed, hasIndex, indexed}
 use Rattle.partial.specs.Limits.{segmentLimit, sourceLimit}
 use Rattle.partial.specs.Meaning.{agree}
+use Rattle.partial.specs.Sources.{agreed}
 use Rattle.partial.specs.Reading.{segmentsFrom, segments, reading}
 use Rattle.partial.specs.Segments.{Segment}
 use Rattle.partial.proofs.Meaning.SequenceLaws.{which}
+use Rattle.partial.proofs.Reading.OneSourceLaws.{segments-plain, agreed-all}
 use Rattle.partial.proofs.Reading.ReadingLaws.{reading-segments}
 use Rattle.partial.proofs.Reading.RefusalLaws.{no-segments}
 use Rattle.heading.specs.Facts.{Facts, factsOf, factsBy, told, headedAnswer}
@@ -80,13 +82,17 @@ module _ (f : List ℕ) (h : Heading) where
     gathered-refused fault = rw (le-leb (length (those pseg (h .boxes))) segmentLimit few, fault)
 
     module _ {ss : List Segment} (read : segmentsBy f h ≡ given ss) where
+      -- all are of one source
+      sizes-all : agreed ss ≡ agree ss
+      sizes-all = agreed-all h ss (segments-plain sourceLimit f h (those pseg (h .boxes)) [] tt read)
+
       pub gathered-differ : agree ss ≡ false → gatheredIn f h ≡ refused 25
       unfolding gatheredIn segments
-      gathered-differ differ = rw (le-leb (length (those pseg (h .boxes))) segmentLimit few, read, differ)
+      gathered-differ differ = rw (le-leb (length (those pseg (h .boxes))) segmentLimit few, read, sizes-all ∙ differ)
 
       pub gathered-given : agree ss ≡ true → gatheredIn f h ≡ given (gatheredOf ss)
       unfolding gatheredIn segments
-      gathered-given same = rw (le-leb (length (those pseg (h .boxes))) segmentLimit few, read, same)
+      gathered-given same = rw (le-leb (length (those pseg (h .boxes))) segmentLimit few, read, sizes-all ∙ same)
 
 -- the segments, before they are held against each other
 pub segments-by : (f : List ℕ) (h : Heading) {ss : List Segment} → segments sourceLimit f h ≡ given ss → segmentsBy f h ≡ given ss
@@ -94,7 +100,7 @@ unfolding segments
 segments-by f h e =
     let (_, e) = held 13 (leb (length (those pseg (h .boxes))) segmentLimit) _ e in
     let (ss, read, e) = both-given (segmentsFrom sourceLimit f h [] (those pseg (h .boxes))) _ e in
-    let (_, same) = held 25 (agree ss) _ e in
+    let (_, same) = held 25 (agreed ss) _ e in
     read ∙ same
 
 -- what the pass over them told

@@ -18,7 +18,7 @@ use Rattle.partial.specs.Heading.{bytesIn}
 use Rattle.partial.specs.declared.answers.Asked.{Asked}
 use Rattle.partial.proofs.Meaning.SequenceLaws.{which}
 use Rattle.partial.proofs.Reading.PartLaws.{headed-read, tabled-read}
-use Rattle.partial.proofs.Reading.ReadingLaws.{read-mapped}
+use Rattle.partial.proofs.Reading.OneSourceLaws.{read-mapped}
 use Rattle.serving.specs.Calls.{servedCount, Serves, Asks}
 
 -- of the definitions: after a refusal, and by what is replied of an accepted file

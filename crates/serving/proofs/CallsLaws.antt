@@ -23,7 +23,7 @@ use Rattle.partial.proofs.Meaning.RunLaws.{missing-run}
 use Rattle.partial.proofs.Meaning.SequenceLaws.{which}
 use Rattle.partial.proofs.Meaning.ServingLaws.{beyond}
 use Rattle.partial.proofs.Reading.PartLaws.{headed-read, tabled-read}
-use Rattle.partial.proofs.Reading.ReadingLaws.{read-mapped}
+use Rattle.partial.proofs.Reading.OneSourceLaws.{read-mapped}
 use Rattle.reading.specs.Parts.{handed}
 use Rattle.reading.specs.Tables.{Reads}
 use Rattle.reading.proofs.JudgedLaws.{first-refused}

@@ -53,6 +53,10 @@ module _ (h : Heading) where
   pub agreed-all : (ss : List Segment) → OneSource h ss → agreed ss ≡ agree ss
   agreed-all ss one = agreed-one ss 0 (source-all ss one)
 
+  pub agreed-more : (ss : List Segment) (s : Segment) → OneSource h ss → s .urls ≡ h .urls → s .source ≡ sourceBeside ss (h .urls)
+      → agreed (ss ++ (s ∷ [])) ≡ agree (ss ++ (s ∷ []))
+  agreed-more ss s one urls number = agreed-all (ss ++ (s ∷ [])) (plain-more ss s one urls number)
+
 module _ (limit : ℕ) (f : List ℕ) (h : Heading) where
   -- a segment that is read has no URLs of its own
   segment-plain : (before : List Segment) (b : Box) {s : Segment} → segment limit f h before b ≡ given s

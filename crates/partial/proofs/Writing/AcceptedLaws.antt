@@ -20,7 +20,7 @@ use Rattle.partial.specs.Append.{added, newSegment, appended, psegPlace}
 use Rattle.partial.specs.Runs.{Lent, lent, fileIn, sizeAfter, append, appendAll}
 use Rattle.partial.specs.Carried.{carried}
 use Rattle.partial.specs.Demands.{Grown, Acceptable}
-use Rattle.partial.proofs.Reading.OneSourceLaws.{accepted, all-plain, plain-more, agreed-all}
+use Rattle.partial.proofs.Reading.OneSourceLaws.{accepted, all-plain, agreed-more}
 use Rattle.partial.proofs.Writing.GrownLaws.{grown}
 use Rattle.partial.proofs.Writing.NewSegmentLaws.{urls-new, source-new}
 use Rattle.partial.proofs.Writing.RepairTimeLaws.{cut, added-cut, taken-cut}
@@ -41,8 +41,8 @@ module _ (limit : ℕ) (f : List ℕ) (h : Heading) (ss : List Segment) (a : Add
       let read : reading limit (f ++ added a) ≡ given (ss ++ new) = rw same at (reading-added limit f h ss (cut a) cut-taken (taken-sayable limit f h ss (cut a) cut-taken below (mod-lt (a .repairTime) (lit< tt)))) in
       let before = earlier-read limit f (t .offered .headed) (t .offered .before) in
       let at = psegPlace (length f) (cut a) in
-      let one = plain-more h ss (newSegment h ss at (cut a)) (all-plain limit f h before) (urls-new h ss at (cut a)) (source-new h ss at (cut a)) in
-      let sizes = sym (agreed-all h (ss ++ new) one) ∙ admits limit h ss (length f) (cut a) (cut-taken .admits) .0 .agreed in
+      let one-size = agreed-more h ss (newSegment h ss at (cut a)) (all-plain limit f h before) (urls-new h ss at (cut a)) (source-new h ss at (cut a)) in
+      let sizes = sym one-size ∙ admits limit h ss (length f) (cut a) (cut-taken .admits) .0 .agreed in
       let grew : Grown f (f ++ added a) ss (ss ++ new) (cut a) = rw same at (grown f h ss (cut a) (accepted limit f h (t .offered .headed) before) (cut-taken .offered .carried) sizes) in
       (ss ++ new, read, record { kept = grew .kept; noShorter = grew .noShorter })
 

@@ -14,7 +14,7 @@ use Rattle.partial.specs.Append.{added}
 use Rattle.partial.specs.Heading.{Heading}
 use Rattle.partial.specs.Limits.{fileLimit}
 use Rattle.partial.specs.Segments.{Segment}
-use Rattle.partial.proofs.Writing.NewSegmentLaws.{no-index-new}
+use Rattle.partial.proofs.Writing.NewSegmentLaws.{urls-new, source-new, no-index-new}
 use Rattle.adding.specs.Admission.{Beside, Asked, admittedAnswer, admittedLength}
 use Rattle.adding.proofs.AdmissionLaws.{file-test, size-whole, box-test, tells-new, admission-1, admission-6, admission-by}
 use borrow.Author.Needs.{needs}
@@ -62,7 +62,7 @@ by-admitted c h ss a beside asked =
     let n = c .before .before .before .before .before .before .before .before .args .n in
     let met = c .before in
     let boxes = box-test n beside asked (met .before .before .added-boxes .ensures a (asked .sorted) (asked .whole)) (sym (not-false _ (met .if2 .left)) ∙ met .before .ends-by2 .ensures) in
-    ap (λ (x : Answer (Unit {0})). x >>= λ _. given (n + length (added a))) (c .admitted .ensures h ss _ (beside .file) (beside .segments) (tells-new n beside asked) (no-index-new _ a))
+    ap (λ (x : Answer (Unit {0})). x >>= λ _. given (n + length (added a))) (c .admitted .ensures h ss _ (beside .file) (beside .segments) (tells-new n beside asked) (no-index-new h ss _ a) (urls-new h ss _ a) (source-new h ss _ a))
     ∙ admission-by _ h ss n a (small-past c beside asked) boxes
 
 enum-known-k : tie.Need-enum-known-k

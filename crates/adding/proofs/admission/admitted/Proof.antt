@@ -13,7 +13,7 @@ use Rattle.partial.specs.Segments.{Segment, endOf, chunksOf}
 use Rattle.gathering.specs.Gathered.{gatheredOf}
 use Rattle.gathering.proofs.GatheredLaws.{gathered-segments, gathered-sizes}
 use Rattle.adding.specs.Admission.{Tells, admittedAnswer}
-use Rattle.adding.proofs.AdmissionLaws.{segments-full, segments-few, chunk-test, source-test, source-end}
+use Rattle.adding.proofs.AdmissionLaws.{segments-full, segments-few, chunk-test, source-test, source-end, sizes-all}
 use Rattle.adding.proofs.BesideLaws.{new-end}
 use Rattle.adding.proofs.AdmissionLaws.{admitted-13, admitted-22, admitted-23, admitted-25, admitted-by}
 use borrow.Author.Needs.{needs}
@@ -22,14 +22,14 @@ use Rattle.adding.proofs.admission.admitted.Tie as tie
 
 returns : tie.Need-returns
 unfolding admittedAnswer
-returns c = λ h ss s file known tells lacks. admitted-13 _ h ss s (segments-full ss known tells (c .if1 .taken))
+returns c = λ h ss s file known tells lacks urls number. admitted-13 _ h ss s (segments-full ss known tells (c .if1 .taken))
 
 ends-by-requires : tie.Need-ends-by-requires
 ends-by-requires c κs = search needs
 
 returns-2 : tie.Need-returns-2
 unfolding admittedAnswer
-returns-2 c = λ h ss s file known tells lacks.
+returns-2 c = λ h ss s file known tells lacks urls number.
     let few = segments-few ss known tells (c .before .before .if1 .left) in
     admitted-22 _ h ss s few (chunk-test ss known tells (sym (not-true _ (c .if2 .taken)) ∙ c .before .ends-by .ensures))
 
@@ -38,7 +38,7 @@ ends-by-requires-2 c κs = search needs
 
 returns-3 : tie.Need-returns-3
 unfolding admittedAnswer
-returns-3 c = λ h ss s file known tells lacks.
+returns-3 c = λ h ss s file known tells lacks urls number.
     let met = c .before .before in
     let few = segments-few ss known tells (met .before .before .if1 .left) in
     let chunks = chunk-test ss known tells (sym (not-false _ (met .if2 .left)) ∙ met .before .ends-by .ensures) in
@@ -81,19 +81,19 @@ sizes-agree c ss s known tells =
 
 returns-4 : tie.Need-returns-4
 unfolding admittedAnswer
-returns-4 c = λ h ss s file known tells lacks. admitted-25 _ h ss s (few-past (c .before .before .before .before .before .before .before .before) ss known tells) (chunks-past (c .before .before .before .before .before .before .before .before) ss known tells) (low-past (c .before .before .before .before .before .before .before .before) ss known tells) (sym (not-true _ (c .if4 .taken)) ∙ sizes-agree (c .before) ss s known tells)
+returns-4 c = λ h ss s file known tells lacks urls number. admitted-25 _ h ss s (few-past (c .before .before .before .before .before .before .before .before) ss known tells) (chunks-past (c .before .before .before .before .before .before .before .before) ss known tells) (low-past (c .before .before .before .before .before .before .before .before) ss known tells) (sym (not-true _ (c .if4 .taken)) ∙ sizes-agree (c .before) ss s known tells ∙ sizes-all ss file s urls number)
 
 index-beside-requires : tie.Need-index-beside-requires
 index-beside-requires c κs = search needs
 
 returns-5 : tie.Need-returns-5
-returns-5 c = λ h ss s file known tells lacks.
+returns-5 c = λ h ss s file known tells lacks urls number.
     let left = c .before in
     let past = left .before .before .before .before .before .before .before .before in
     let gives = left .before .before .before .before .before .before .gives-size .ensures s (tells .flags) (tells .items) in
     let ends = source-end ss known tells (sym (not-false _ (past .if3 .left)) ∙ past .before .ends-by2 .ensures) in
     c .index-beside .ensures h ss s file (gathered-segments ss known) lacks (new-end s gives ends)
-    ∙ admitted-by _ h ss s (few-past past ss known tells) (chunks-past past ss known tells) (low-past past ss known tells) (sym (not-false _ (left .if4 .left)) ∙ sizes-agree (left .before) ss s known tells)
+    ∙ admitted-by _ h ss s (few-past past ss known tells) (chunks-past past ss known tells) (low-past past ss known tells) (sym (not-false _ (left .if4 .left)) ∙ sizes-agree (left .before) ss s known tells ∙ sizes-all ss file s urls number)
 
 pub admitted-spec : {M : Type 1} → statement M
 admitted-spec =

@@ -6,7 +6,7 @@ use Rattle.gathering.proofs.GatheredLaws.{gathered-segments, gathered-chunks, g
 use Rattle.partial.specs.Limits.{sourceLimit}
 use Rattle.partial.proofs.Reading.LimitLaws.{segments-limited, chunks-few, described-low}
 use Rattle.partial.proofs.Reading.PrintedLaws.{printed}
-use Rattle.partial.proofs.Reading.ReadingLaws.{accepted as in-order}
+use Rattle.partial.proofs.Reading.OneSourceLaws.{accepted as in-order}
 use Rattle.reading.proofs.JudgedLaws.{accepted, read-refused, read-given, judgement-refused, judgement-given}
 use Rattle.reading.proofs.TableLaws.{accepted-kept}
 use Rattle.mapping.specs.Outline.{textOf}
