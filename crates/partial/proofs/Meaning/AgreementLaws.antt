@@ -11,7 +11,7 @@ use lib.Dec.{leb, eqb}
 use Rattle.partial.specs.Sequences.{allOf}
 use Rattle.partial.specs.Segments.{Segment, endOf}
 use Rattle.partial.specs.Meaning.{givesSize, knownSize, agree}
-use Rattle.partial.specs.Demands.{InAgreement}
+use Rattle.partial.specs.ReadingDemands.{InAgreement}
 use Rattle.partial.proofs.Meaning.SequenceLaws.{which, both, passes}
 
 -- a known size is the end of a segment that makes it known
