@@ -6,7 +6,7 @@ import shutil
 import subprocess
 
 TOP = os.path.dirname(os.path.dirname(os.path.abspath(__file__)))
-OURS = ["numerals", "boxes", "partial"]
+OURS = ["numerals", "boxes", "partial", "additions"]
 LISTS = """use Prim.Native.Nat.{ℕ, zero, suc}
 use mathlib.Core.Bool.{Bool, true, false}
 use mathlib.Core.List.{List, [], _∷_, _++_}
@@ -23,6 +23,7 @@ use lib.Dec.{leb, eqb}
 use Rattle.boxes.specs.Answer.{Answer, refused, given}
 use Rattle.numerals.specs.Numbers.{bytesOf}
 use Rattle.partial.specs.Limits.{programLimit, sourceLimit}
+use Rattle.partial.specs.Sequences.{orElse}
 use Rattle.partial.specs.Segments.{Segment}
 use Rattle.partial.specs.Heading.{url, mime, heading}
 use Rattle.partial.specs.Reading.{reading, earlierSegments}
@@ -36,13 +37,13 @@ use Rattle.partial.specs.Tables.{indexTabled, indexTable, indexCount}
 use Rattle.partial.specs.Map.{mapText, missmapText}
 use Rattle.partial.specs.BoxList.{boxesText}
 use Rattle.partial.specs.declared.brand.Brand.{Brand}
-use Rattle.partial.specs.Begin.{beginning, begun}
-use Rattle.partial.specs.Addition.{Addition}
-use Rattle.partial.specs.Append.{appended, psegPlace, newSegment, result}
-use Rattle.partial.specs.Runs.{lent, fileIn, append}
-use Rattle.partial.specs.Again.{again, settled, writeAgain}
-use Rattle.partial.specs.Carried.{carried, orElse}
-use Rattle.partial.proofs.Computing.{computing}
+use Rattle.additions.specs.Begin.{beginning, begun}
+use Rattle.additions.specs.Addition.{Addition}
+use Rattle.additions.specs.Append.{appended, psegPlace, newSegment, result}
+use Rattle.additions.specs.Runs.{lent, fileIn, append}
+use Rattle.additions.specs.Again.{again, settled, writeAgain}
+use Rattle.additions.specs.Carried.{carried}
+use Rattle.additions.proofs.Computing.{computing}
 
 answered : {A : Type 0} → (A → List ℕ) → Answer A → List ℕ
 answered values (refused n) = 0 ∷ n ∷ []

@@ -13,20 +13,19 @@ use lib.ListN.{length}
 use Rattle.boxes.specs.Answer.{Answer, refused, given, _>>=_}
 use Rattle.boxes.proofs.AnswerLaws.{then-then}
 use Rattle.boxes.specs.Framing.{boxLimit}
-use Rattle.partial.specs.Addition.{Addition, items, flagsFor}
-use Rattle.partial.specs.Append.{added, addedBoxes, newSegment, psegPlace, admission}
+use Rattle.additions.specs.Addition.{Addition, items, flagsFor}
+use Rattle.additions.specs.Append.{added, addedBoxes, newSegment, psegPlace, admission, admitted}
 use Rattle.partial.specs.Heading.{Heading}
 use Rattle.partial.specs.Index.{indexed}
 use Rattle.partial.specs.Limits.{fileLimit, segmentLimit, chunkLimit, sourceLimit}
 use Rattle.partial.specs.Meaning.{agree}
-use Rattle.partial.specs.Reading.{admitted}
 use Rattle.partial.specs.Segments.{Segment, isLast, endOf, chunksOf}
 use Rattle.partial.specs.Sequences.{sum}
 use Rattle.partial.specs.Sources.{sourceBeside, agreed}
-use Rattle.partial.specs.declared.header.SegmentHeader.{SegmentHeader}
 use Rattle.partial.proofs.Reading.OneSourceLaws.{all-plain, agreed-more}
 use Rattle.partial.proofs.Reading.RefusalLaws.{earlier-read}
-use Rattle.partial.proofs.Writing.NewSegmentLaws.{length-new, end-new}
+use Rattle.additions.specs.declared.header.SegmentHeader.{SegmentHeader}
+use Rattle.additions.proofs.NewSegmentLaws.{length-new, end-new}
 use Rattle.gathering.specs.Gathered.{gatheredOf}
 use Rattle.gathering.specs.declared.gathered.Gathered.{Gathered}
 use Rattle.gathering.proofs.GatheredLaws.{gathered-segments, gathered-chunks}

@@ -6,7 +6,7 @@ use mathlib.Core.Path.{_≡_, sym, _∙_}
 use denote.Ref.{now}
 use Rattle.partial.proofs.Determined.{written-told}
 use Rattle.numerals.proofs.Determined.{OneResult, OneKnown}
-use Rattle.partial.specs.Addition.{Addition, items}
+use Rattle.additions.specs.Addition.{Addition, items}
 use Rattle.partial.specs.Heading.{Heading}
 use Rattle.partial.specs.Segments.{Segment}
 use Rattle.outside.specs.Chunks.{outsideOf}

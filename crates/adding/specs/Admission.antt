@@ -6,15 +6,15 @@ use mathlib.Core.List.{List, [], _∷_, _++_, map}
 use mathlib.Core.Path.{_≡_}
 use lib.ListN.{length}
 use Rattle.boxes.specs.Answer.{Answer, refused, given, _>>=_}
-use Rattle.partial.specs.Addition.{Addition}
-use Rattle.partial.specs.Append.{added, admission}
+use Rattle.additions.specs.Addition.{Addition}
+use Rattle.additions.specs.Append.{added, admission, admitted}
 use Rattle.partial.specs.Heading.{Heading, heading}
 use Rattle.partial.specs.Index.{hasIndex, indexed}
 use Rattle.partial.specs.Limits.{sourceLimit}
-use Rattle.partial.specs.Reading.{earlierSegments, admitted}
+use Rattle.partial.specs.Reading.{earlierSegments}
 use Rattle.partial.specs.Segments.{Segment, isLast}
 use Rattle.partial.specs.Sequences.{sum}
-use Rattle.partial.specs.declared.header.SegmentHeader.{SegmentHeader}
+use Rattle.additions.specs.declared.header.SegmentHeader.{SegmentHeader}
 use Rattle.gathering.specs.Gathered.{gatheredOf}
 use Rattle.outside.specs.declared.chunks.Outside.{Outside}
 use Rattle.reading.specs.declared.judging.Judged.{Judged}

@@ -1,6 +1,7 @@
 // Whether a file takes an addition: 35, and then 1, 6, 13, 22, 23, 25, 36, 37 or 39 if the result would have it.
 use crate::counts::Counts;
 use crate::layout::Layout;
+use additions::header::SegmentHeader;
 use boxes::limits::BOX_LIMIT;
 use boxes::refusals::TOO_MANY_BOXES;
 use ends::sizes::gives_size;
@@ -11,7 +12,6 @@ use numerals::order::sum_of;
 use outside::chunks::Outside;
 use partial::answers::Counted;
 use partial::answers::Written;
-use partial::header::SegmentHeader;
 use partial::limits::CHUNK_LIMIT;
 use partial::limits::FILE_LIMIT;
 use partial::limits::SEGMENT_LIMIT;
@@ -29,8 +29,8 @@ ghost use mathlib.Core.List.{List, [], _∷_};
 ghost use mathlib.Core.Path.{_≡_};
 ghost use lib.ListN.{length};
 ghost use Rattle.boxes.specs.Kinds.{fidx, those};
-ghost use Rattle.partial.specs.Addition.{Addition, items, outsideRight};
-ghost use Rattle.partial.specs.Append.{addedBoxes};
+ghost use Rattle.additions.specs.Addition.{Addition, items, outsideRight};
+ghost use Rattle.additions.specs.Append.{addedBoxes};
 ghost use Rattle.partial.specs.Answers.{writtenAnswer};
 ghost use Rattle.partial.specs.Heading.{Heading};
 ghost use Rattle.partial.specs.Meaning.{knownSize};

@@ -11,7 +11,7 @@ use Rattle.boxes.specs.Framing.{Box, boxesIn}
 use Rattle.boxes.specs.declared.kinds.Container.the-variants.{File, Pseg}
 use Rattle.boxes.specs.Kinds.{pseg, pshd, ploc, surl, is, right, those, boxAt, firstOf}
 use Rattle.partial.specs.Limits.{segmentLimit, chunkLimit}
-use Rattle.partial.specs.Segments.{Segment, chunksOf, endOf}
+use Rattle.partial.specs.Segments.{Segment, chunksOf}
 use Rattle.partial.specs.Heading.{Heading, heading, urlsIn}
 use Rattle.partial.specs.Entries.{plocHead, chunksFrom}
 use Rattle.partial.specs.Sources.{urlsFor, sourceBeside, agreed}
@@ -104,12 +104,3 @@ unfoldable pub earlierSegments : ℕ → List ℕ → Answer (List Segment)
 earlierSegments limit f = do
   h ← heading f
   elim (right File pseg (h .boxes)) [ true ↦ reading limit f | false ↦ given [] ]
-
--- 13, 22, 23, 25: a segment beside those before it; the segments with it
-unfoldable pub admitted : ℕ → List Segment → Segment → Answer (List Segment)
-admitted limit before s = do
-  _ ← hold 13 (leb (length before + 1) segmentLimit)
-  _ ← hold 22 (leb (length (chunksOf before) + length (s .chunks)) chunkLimit)
-  _ ← hold 23 (leb (endOf s) limit)
-  _ ← hold 25 (agreed (before ++ (s ∷ [])))
-  given (before ++ (s ∷ []))

@@ -2,7 +2,7 @@
 use Prim.Native.Nat.{ℕ, _+_, _%_}
 use mathlib.Core.Bool.{Bool, true, false, _&&_, _||_}
 use mathlib.Core.List.{List, [], _∷_, _++_, map}
-use lib.Dec.{leb, ltb, eqb}
+use lib.Dec.{ltb, eqb}
 use Rattle.boxes.specs.Framing.{Box}
 use Rattle.partial.specs.Sequences.{sum}
 
@@ -18,10 +18,6 @@ damaged = 1
 
 abbrev pub lost : ℕ
 lost = 0
-
--- there is no state above 3
-unfoldable pub isState : ℕ → Bool
-isState n = leb n elsewhere
 
 -- the states of the bit present: good, and damaged but kept
 unfoldable pub present : ℕ → Bool

@@ -14,25 +14,26 @@ use Rattle.boxes.specs.Kinds.{pseg, right}
 use Rattle.boxes.specs.declared.kinds.Container.the-variants.{File}
 use Rattle.boxes.proofs.AnswerLaws.{not-both, refused-same, given-same, both-given}
 use Rattle.numerals.proofs.StoredLaws.{stored-room}
-use Rattle.partial.specs.Addition.{Addition, asks, items, listRight, dataSize, dataRight, outsideRight}
+use Rattle.additions.specs.Addition.{Addition, asks, items, listRight, dataSize, dataRight, outsideRight}
 use Rattle.partial.specs.Answers.{writtenAnswer}
-use Rattle.partial.specs.Append.{added, admission, appended, result}
+use Rattle.additions.specs.Append.{added, admission, appended, result}
 use Rattle.partial.specs.Heading.{Heading, heading}
 use Rattle.partial.specs.Index.{Indexed, indexed}
 use Rattle.partial.specs.Limits.{fileLimit, sourceLimit}
 use Rattle.partial.specs.Memory.{after, filled}
 use Rattle.partial.specs.Reading.{earlierSegments}
-use Rattle.partial.specs.Segments.{Segment, isState}
+use Rattle.partial.specs.Segments.{Segment}
+use Rattle.additions.specs.Addition.{isState}
 use Rattle.partial.specs.Sequences.{allOf}
 use Rattle.partial.specs.declared.answers.Written.{Written}
 use Rattle.partial.specs.declared.answers.Written.the-variants as Written
-use Rattle.partial.specs.declared.header.SegmentHeader.{SegmentHeader}
+use Rattle.additions.specs.declared.header.SegmentHeader.{SegmentHeader}
 use Rattle.partial.proofs.Meaning.SequenceLaws.{which}
 use Rattle.partial.proofs.Reading.RefusalLaws.{earlier-headless, earlier-some, earlier-none}
-use Rattle.partial.proofs.Writing.AddedBoxesLaws.{data-low, length-added}
-use Rattle.partial.proofs.Writing.ReadsBackLaws.{Offered, Admits, admits}
-use Rattle.partial.proofs.Writing.ReasonLaws.{list-wrong, data-wrong, outside-wrong}
-use Rattle.partial.proofs.Writing.ResultLaws.{appended-offered}
+use Rattle.additions.proofs.AddedBoxesLaws.{data-low, length-added}
+use Rattle.additions.proofs.ReadsBackLaws.{Offered, Admits, admits}
+use Rattle.additions.proofs.ReasonLaws.{list-wrong, data-wrong, outside-wrong}
+use Rattle.additions.proofs.ResultLaws.{appended-offered}
 use Rattle.heading.specs.Facts.{factsOf, factsBy}
 use Rattle.filling.specs.Rows.{Put}
 use Rattle.gathering.specs.Gathered.{gatheredOf}

@@ -20,7 +20,7 @@ use Rattle.partial.specs.Heading.{Heading}
 use Rattle.partial.specs.Mixed.{allowed, fillUp, wholeBoxes}
 use Rattle.partial.specs.Entries.{inData, mayLie}
 use Rattle.partial.specs.Meaning.{agree, supplier, supplied, placeOfByte, served, covers, chunkFor, chunkNo}
-use Rattle.partial.specs.Demands.{InData, Whole, Serving, Mapped}
+use Rattle.partial.specs.ReadingDemands.{InData, Whole, Serving, Mapped}
 use Rattle.partial.proofs.Meaning.SequenceLaws.{which, both, passes, all-at, some-at, within-true}
 use Rattle.partial.proofs.Meaning.AgreementLaws.{agrees-one}
 use Rattle.partial.proofs.Meaning.SupplyLaws.{supply, supplier-good, supplier-covers, beside}

@@ -19,7 +19,7 @@ use Rattle.partial.specs.Meaning.{agree, describedLength, covers, suppli
 use Rattle.partial.specs.Meaning.{servedFor, notBelow, placeOfByte, served, chunkFor}
 use Rattle.partial.specs.Tables.{nowhere, servedPart}
 use Rattle.partial.specs.Heading.{bytesIn}
-use Rattle.partial.specs.Demands.{Missing}
+use Rattle.partial.specs.ReadingDemands.{Missing}
 use Rattle.partial.proofs.Meaning.SequenceLaws.{within-true}
 use Rattle.partial.proofs.Meaning.StretchLaws.{First, stretch-first}
 use Rattle.partial.proofs.Meaning.SupplyLaws.{supplier-covers, uncovered}

@@ -15,7 +15,7 @@ use Rattle.partial.specs.Sequences.{allOf, largest}
 use Rattle.partial.specs.Segments.{Chunk, Segment, chunksOf}
 use Rattle.partial.specs.Meaning.{agree}
 use Rattle.partial.specs.Sources.{sameText, sameUrls, sourceCount, sourceAmong, sourceBeside, ofSource, agreed}
-use Rattle.partial.specs.Demands.{InAgreement}
+use Rattle.partial.specs.ReadingDemands.{InAgreement}
 use Rattle.partial.proofs.Meaning.SequenceLaws.{which, both, all-append, member-passes, all-members}
 use Rattle.partial.proofs.Meaning.AgreementLaws.{OneSize, one-agrees, agrees-one}
 use Rattle.partial.proofs.Meaning.DescribedLaws.{InOrder}

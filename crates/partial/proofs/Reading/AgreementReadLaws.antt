@@ -21,7 +21,7 @@ use Rattle.partial.specs.Heading.{Heading, heading}
 use Rattle.partial.specs.Sources.{agreed}
 use Rattle.partial.specs.Index.{Indexed, indexed}
 use Rattle.partial.specs.Reading.{segmentsFrom, segments, reading}
-use Rattle.partial.specs.Demands.{beforeAgreement, ofIndex, InAgreement, Reaches25}
+use Rattle.partial.specs.ReadingDemands.{beforeAgreement, ofIndex, InAgreement, Reaches25}
 use Rattle.partial.proofs.Meaning.SequenceLaws.{which, passes, past, within-true}
 use Rattle.partial.proofs.Meaning.SourceLaws.{in-agreement, agreement}
 use Rattle.partial.proofs.Reading.IndexGivenLaws.{indexed-only}

@@ -19,7 +19,7 @@ use Rattle.partial.specs.Heading.{Heading, heading, urlsIn}
 use Rattle.partial.specs.Meaning.{agree}
 use Rattle.partial.specs.Sources.{urlsFor, sameUrls, sourceCount, sourceAmong, sourceBeside, ofSource, agreed}
 use Rattle.partial.specs.Reading.{segment, segmentsFrom, segments, reading}
-use Rattle.partial.specs.Demands.{Mapped}
+use Rattle.partial.specs.ReadingDemands.{Mapped}
 use Rattle.partial.proofs.Meaning.SequenceLaws.{Each, each-append, each-member}
 use Rattle.partial.proofs.Meaning.MappedLaws.{Accepted}
 use Rattle.partial.proofs.Meaning.SourceLaws.{urls-same, of-one, agreed-one}

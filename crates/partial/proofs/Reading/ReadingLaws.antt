@@ -22,7 +22,7 @@ use Rattle.partial.specs.Entries.{Ploc, Entry, entry, mayLie, offsetPlac
 use Rattle.partial.specs.Sources.{ofSource, agreed}
 use Rattle.partial.specs.Index.{Indexed, indexed}
 use Rattle.partial.specs.Reading.{segment, segmentsFrom, segments, reading}
-use Rattle.partial.specs.Demands.{Mapped}
+use Rattle.partial.specs.ReadingDemands.{Mapped}
 use Rattle.partial.proofs.Reading.HeadingAppendLaws.{headed}
 use Rattle.partial.proofs.Reading.KeptLaws.{stepped}
 use Rattle.partial.proofs.Meaning.SequenceLaws.{which, all-append}

@@ -15,7 +15,7 @@ use Rattle.boxes.specs.Kinds.{pseg, those, boxAt}
 use Rattle.boxes.specs.declared.kinds.Container.the-variants.{File}
 use Rattle.boxes.proofs.AnswerLaws.{given-same, both-given, held}
 use Rattle.boxes.proofs.ContainerLaws.{boxes-standing}
-use Rattle.partial.specs.Demands.{InData, Whole}
+use Rattle.partial.specs.ReadingDemands.{InData, Whole}
 use Rattle.partial.specs.Entries.{Ploc, Entry, state, stateOf, entry, placeOf, Cursor, chunkStep, chunksFrom}
 use Rattle.partial.specs.Heading.{Heading, heading}
 use Rattle.partial.specs.Limits.{fileLimit, segmentLimit}

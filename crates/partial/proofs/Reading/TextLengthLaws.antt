@@ -22,7 +22,7 @@ use Rattle.partial.specs.Map.{ascii, decimal, line, rangeLine, rangeLine
 use Rattle.partial.specs.Map.{mapOf, missmapOf, textFor}
 use Rattle.partial.specs.Reading.{reading}
 use Rattle.partial.specs.Sequences.{someOf}
-use Rattle.partial.specs.Demands.{ofStages, NeverShort}
+use Rattle.partial.specs.ReadingDemands.{ofStages, NeverShort}
 use Rattle.partial.proofs.Meaning.SequenceLaws.{which, both, passes, past, Each}
 use Rattle.partial.proofs.Meaning.DescribedLaws.{InOrder}
 use Rattle.partial.proofs.Meaning.ListingLaws.{listing}

@@ -8,13 +8,13 @@ use borrow.Author.Tests.{leb-true, not-true, not-false}
 use lib.Dec.{leb}
 use lib.ListN.{length}
 use Rattle.boxes.specs.Answer.{Answer, given, _>>=_}
-use Rattle.partial.specs.Addition.{Addition}
+use Rattle.additions.specs.Addition.{Addition}
 use Rattle.partial.specs.Answers.{writtenAnswer}
-use Rattle.partial.specs.Append.{added}
+use Rattle.additions.specs.Append.{added}
 use Rattle.partial.specs.Heading.{Heading}
 use Rattle.partial.specs.Limits.{fileLimit}
 use Rattle.partial.specs.Segments.{Segment}
-use Rattle.partial.proofs.Writing.NewSegmentLaws.{urls-new, source-new, no-index-new}
+use Rattle.additions.proofs.NewSegmentLaws.{no-index-new, urls-new, source-new}
 use Rattle.adding.specs.Admission.{Beside, Asked, admittedAnswer, admittedLength}
 use Rattle.adding.proofs.AdmissionLaws.{file-test, size-whole, box-test, tells-new, admission-1, admission-6, admission-by}
 use borrow.Author.Needs.{needs}

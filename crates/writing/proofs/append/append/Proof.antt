@@ -5,7 +5,7 @@ use native.Mathlib.Omega.{arith}
 use borrow.Author.Needs.{needs}
 use lib.Seq.{length-take-le}
 use Rattle.partial.specs.Limits.{sourceLimit}
-use Rattle.partial.proofs.Writing.ReasonLaws.{length-over, file-refused}
+use Rattle.additions.proofs.ReasonLaws.{length-over, file-refused}
 use Rattle.reading.proofs.JudgedLaws.{judgement-refused, judgement-given}
 use Rattle.writing.proofs.AppendLaws.{appends-refused, earlier-refused}
 use Rattle.writing.proofs.append.append.Statement.{statement}

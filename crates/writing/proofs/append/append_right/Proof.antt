@@ -5,8 +5,8 @@ use native.Mathlib.Omega.{arith}
 use borrow.Author.Needs.{needs}
 use lib.ListN.{length}
 use lib.Seq.{length-take-le}
-use Rattle.partial.specs.Addition.{asks}
-use Rattle.partial.specs.Append.{added}
+use Rattle.additions.specs.Addition.{asks}
+use Rattle.additions.specs.Append.{added}
 use Rattle.adding.specs.Layout.{Laid}
 use Rattle.writing.proofs.AppendLaws.{appends-refused, appends-given, put-result, earlier}
 use Rattle.writing.proofs.AppendLaws.{not-admitted, new-length, added-small, items-fit, too-short, appended-given}

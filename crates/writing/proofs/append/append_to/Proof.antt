@@ -6,7 +6,7 @@ use borrow.Author.Needs.{needs}
 use borrow.Author.Tests.{not-true, not-false}
 use lib.ListN.{take}
 use Rattle.boxes.specs.Answer.{given}
-use Rattle.partial.specs.Addition.{asks, listRight, outsideRight}
+use Rattle.additions.specs.Addition.{asks, listRight, outsideRight}
 use Rattle.partial.specs.Heading.{Heading, heading}
 use Rattle.adding.specs.Counts.{Sorted}
 use Rattle.adding.proofs.OutsideLaws.{data-counted}
