@@ -22,7 +22,8 @@ use Rattle.partial.specs.Meaning.{describedLength, isClosed, served}
 use Rattle.partial.specs.Reading.{reading}
 use Rattle.partial.specs.Memory.{after}
 use Rattle.partial.specs.Tables.{missingRows, tabled, summary, segmentRows, chunkRows, servedPart, textOf}
-use Rattle.partial.specs.Segments.{Segment}
+use Rattle.partial.specs.Segments.{Segment, lost}
+use Rattle.partial.specs.Sources.{sourceBeside, agreed}
 use Rattle.partial.specs.Map.{ascii, sourceLine, mapText, missmapText, textFor, refusedLine}
 use Rattle.partial.specs.BoxList.{boxesText}
 use Rattle.partial.specs.Lesson.{begunBytes, firstBytes, secondBytes}
@@ -433,6 +434,48 @@ servedFar =
       paper = pos 82 ∷ [];
     }
 
+-- a segment of a source with these URLs and that number, of so many lost bytes from 0 on, with flags
+abbrev segmentWith : List (List ℕ) → ℕ → ℕ → ℕ → Segment
+segmentWith urls source flags size =
+    record {
+      place = 0;
+      inner = [];
+      urls = urls;
+      source = source;
+      sourceOffset = 0;
+      flags = flags;
+      repairTime = 0;
+      headerPlace = 0;
+      headerLength = 0;
+      chunks = record { start = 0; size = size; state = lost; place = 0 } ∷ [];
+    }
+
+-- the numbers of the sources of segments with these lists of URLs, each beside those before it
+abbrev numbersOf : List Segment → List (List (List ℕ)) → List ℤ
+numbersOf before [] = map (λ s. pos (s .source)) before
+numbersOf before (us ∷ more) = numbersOf (before ++ (segmentWith us (sourceBeside before us) 0 0 ∷ [])) more
+
+-- document 02, [8]: numbers in order of first appearance, by whole lists of whole URLs
+abbrev sourcesNumbered : Example
+sourcesNumbered =
+    let a = ascii "a" in
+    let b = ascii "b" in
+    record {
+      defined = numbersOf [] ((a ∷ []) ∷ (b ∷ a ∷ []) ∷ (a ∷ []) ∷ (b ∷ []) ∷ (a ∷ b ∷ []) ∷ (ascii "ab" ∷ []) ∷ (b ∷ []) ∷ []);
+      paper = map pos (0 ∷ 1 ∷ 0 ∷ 2 ∷ 3 ∷ 4 ∷ 2 ∷ []);
+    }
+
+-- a source may end above the known size of another, and not above its own
+abbrev sizesPerSource : Example
+sizesPerSource =
+    let a = ascii "a" ∷ [] in
+    let b = ascii "b" ∷ [] in
+    let others = segmentWith a 0 1 4 ∷ segmentWith b 1 1 9 ∷ [] in
+    record {
+      defined = map (λ ss. elim (agreed ss) [ true ↦ pos 1 | false ↦ pos 0 ]) (others ∷ (others ++ (segmentWith b 1 0 10 ∷ [])) ∷ []);
+      paper = pos 1 ∷ pos 0 ∷ [];
+    }
+
 unfoldable pub table : List Example
 table =
     P1 ∷ P2 ∷ P3 ∷ P4 ∷ P5 ∷ P6 ∷ P7 ∷ P9 ∷ P10 ∷ P11 ∷ P12 ∷
@@ -440,7 +483,8 @@ table =
     vendorForms ∷ largeVendorForms ∷ boxes3 ∷ brokenBoxes ∷
     wholeServed ∷ notWhole ∷ byBrand ∷ elsewhereRead ∷ elsewhereMissing ∷
     highestRead ∷ bothForms ∷ servedFar ∷
-    map10 ∷ mapNamed ∷ mapUnder ∷ []
+    map10 ∷ mapNamed ∷ mapUnder ∷
+    sourcesNumbered ∷ sizesPerSource ∷ []
 
 -- at every row the definitions say what the paper says
 abbrev pub AsThePaperSays : Type 0
