@@ -2,11 +2,11 @@
 -- 0, what is said of a source's segments is said of all, and 25 is the agreement of all sizes.
 use Prim.Native.Nat.{ℕ}
 use mathlib.Core.Bool.{true}
-use mathlib.Core.List.{List, [], _∷_, _++_, map, List·Memᴰ}
-use mathlib.Core.Path.{_≡_, refl, sym, ap, subst, _∙_}
+use mathlib.Core.List.{List, [], _∷_, _++_}
+use mathlib.Core.Path.{_≡_, refl, subst, _∙_}
 use borrow.Author.Tests.{eqb-true}
 use native.Mathlib.Omega.{arith}
-use lib.Dec.{leb, eqb}
+use lib.Dec.{leb}
 use lib.ListN.{length, drop-of-length-le}
 use Rattle.boxes.specs.Answer.{given}
 use Rattle.boxes.specs.Framing.{Box}
@@ -24,7 +24,7 @@ use Rattle.partial.proofs.Meaning.SequenceLaws.{Each, each-append, each
 use Rattle.partial.proofs.Meaning.MappedLaws.{Accepted}
 use Rattle.partial.proofs.Meaning.SourceLaws.{urls-same, of-one, agreed-one}
 use Rattle.partial.proofs.Reading.KeptLaws.{stepped}
-use Rattle.partial.proofs.Reading.ReadingLaws.{accepted-of, reading-read, reading-segments, mapped-of}
+use Rattle.partial.proofs.Reading.ReadingLaws.{accepted-of, reading-read, mapped-of}
 
 -- a segment that uses the list in `pfil`, of the one source
 pub record Plain (h : Heading) (s : Segment) : Type 0 where
@@ -36,18 +36,18 @@ OneSource h = Each (Plain h)
 
 module _ (h : Heading) where
   -- that list has number 0 beside such segments
-  pub beside-plain : (ss : List Segment) → OneSource h ss → sourceBeside ss (h .urls) ≡ 0
+  beside-plain : (ss : List Segment) → OneSource h ss → sourceBeside ss (h .urls) ≡ 0
   unfolding sourceBeside sourceCount sourceAmong largest
   beside-plain [] one = refl
   beside-plain (s ∷ ss) (plain, one) =
       let same : sameUrls (h .urls) (s .urls) ≡ true = rw (plain .urls) (urls-same (h .urls)) in
       rw (sourceAmong, same) (plain .first)
 
-  -- and so has one more of them
-  pub plain-more : (ss : List Segment) (s : Segment) → OneSource h ss → s .urls ≡ h .urls → s .source ≡ sourceBeside ss (h .urls) → OneSource h (ss ++ (s ∷ []))
+  -- and one more that uses it has that too
+  plain-more : (ss : List Segment) (s : Segment) → OneSource h ss → s .urls ≡ h .urls → s .source ≡ sourceBeside ss (h .urls) → OneSource h (ss ++ (s ∷ []))
   plain-more ss s one urls number = each-append (Plain h) ss (s ∷ []) one (record { urls = urls; first = number ∙ beside-plain ss one }, tt)
 
-  pub source-all : (ss : List Segment) → OneSource h ss → ofSource 0 ss ≡ ss
+  source-all : (ss : List Segment) → OneSource h ss → ofSource 0 ss ≡ ss
   source-all ss one = of-one 0 ss (λ s there. each-member (Plain h) ss one s there .first)
 
   pub agreed-all : (ss : List Segment) → OneSource h ss → agreed ss ≡ agree ss
