@@ -14,9 +14,10 @@ use Rattle.boxes.proofs.ToldLaws.{box-fields}
 use Rattle.partial.specs.Limits.{fileLimit}
 use Rattle.partial.specs.Heading.{ftypRight, brandRight, pfilRight, pfhdRight, surlRight, url, mime, urlsIn, fileBoxes, judged, heading}
 use Rattle.partial.specs.Index.{hasIndex}
+use Rattle.surls.specs.Parts.{partOf}
 use Rattle.heading.specs.declared.answers.Head.{Head}
 use Rattle.heading.specs.declared.answers.Headed.the-variants.{Found}
-use Rattle.heading.specs.Facts.{factsOf, partOf, headedAnswer}
+use Rattle.heading.specs.Facts.{factsOf, headedAnswer}
 use Rattle.heading.specs.Steps.{Fronted}
 
 module _ (f : List ℕ) where

@@ -12,7 +12,6 @@ use Rattle.boxes.specs.Answer.{given}
 use Rattle.boxes.proofs.ToldLaws.{Tells}
 use Rattle.gathering.specs.Numbers.{numbersOf}
 use Rattle.gathering.proofs.Determined.{one-put}
-use Rattle.heading.specs.Facts.{partOf}
 use Rattle.heading.proofs.Determined.{head-told}
 use Rattle.partial.specs.Answers.{readAnswer, countedAnswer}
 use Rattle.partial.specs.Heading.{Part, Heading, heading}
@@ -22,6 +21,7 @@ use Rattle.partial.specs.Segments.{Segment}
 use Rattle.partial.specs.Tables.{Summary, segmentRows}
 use Rattle.partial.specs.declared.answers.Counted.the-variants as Counted
 use Rattle.partial.specs.declared.answers.Read.the-variants as Read
+use Rattle.surls.specs.Parts.{partOf}
 use Rattle.reading.specs.Judged.{Judged, judgedBy, judgedAnswer}
 use Rattle.reading.specs.Parts.{HandedBack, locatedAnswer}
 use Rattle.reading.specs.Staged.{HasIndexes}

@@ -8,7 +8,7 @@ use lib.ListN.{length}
 use Rattle.boxes.specs.Answer.{Answer, refused, given}
 use Rattle.partial.specs.Heading.{Part, bytesIn}
 use Rattle.partial.specs.Tables.{nowhere}
-use Rattle.heading.specs.Facts.{partOf}
+use Rattle.surls.specs.Parts.{partOf}
 use Rattle.reading.specs.declared.parts.Located.{Located}
 use Rattle.reading.specs.declared.parts.Located.the-variants.{Refused, At}
 

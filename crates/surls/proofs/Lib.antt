@@ -1,0 +1,8 @@
+pub mod BothLaws
+pub mod Determined
+pub mod FormLaws
+pub mod NextLaws
+pub mod SameLaws
+pub mod TextLaws
+pub mod UrlLaws
+pub mod WithinLaws
