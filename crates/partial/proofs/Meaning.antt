@@ -9,6 +9,7 @@ pub mod MappedLaws
 pub mod NamingLaws
 pub mod RangeLaws
 pub mod RunLaws
+pub mod SameLaws
 pub mod SequenceLaws
 pub mod ServingLaws
 pub mod SourceLaws

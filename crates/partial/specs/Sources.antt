@@ -13,19 +13,20 @@ unfoldable pub urlsFor : List (List ℕ) → List (List ℕ) → List (List ℕ)
 urlsFor [] inPfil = inPfil
 urlsFor (u ∷ us) inPfil = u ∷ us
 
--- byte-equal texts
-unfoldable pub sameText : List ℕ → List ℕ → Bool
-sameText [] [] = true
-sameText [] (_ ∷ _) = false
-sameText (_ ∷ _) [] = false
-sameText (a ∷ rest) (b ∷ others) = eqb a b && sameText rest others
+-- whether two lists are equal in the same order, by a test of what stands in them; one that ends before the other is not
+unfoldable pub sameList : {A : Type 0} → (A → A → Bool) → List A → List A → Bool
+sameList same [] [] = true
+sameList same [] (y ∷ ys) = false
+sameList same (x ∷ xs) [] = false
+sameList same (x ∷ xs) (y ∷ ys) = same x y && sameList same xs ys
 
--- byte-equal URLs in the same order
+-- whether two texts are byte-equal
+unfoldable pub sameText : List ℕ → List ℕ → Bool
+sameText = sameList eqb
+
+-- whether two lists of URLs are
 unfoldable pub sameUrls : List (List ℕ) → List (List ℕ) → Bool
-sameUrls [] [] = true
-sameUrls [] (_ ∷ _) = false
-sameUrls (_ ∷ _) [] = false
-sameUrls (u ∷ us) (v ∷ vs) = sameText u v && sameUrls us vs
+sameUrls = sameList sameText
 
 -- how many sources segments have: their numbers are given from 0 on
 unfoldable pub sourceCount : List Segment → ℕ

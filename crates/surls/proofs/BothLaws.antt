@@ -12,9 +12,10 @@ use Rattle.boxes.specs.declared.walk.Walk.{Walk}
 use Rattle.boxes.proofs.WalkLaws.{walk-boxes}
 use Rattle.numerals.specs.declared.place.Place.{Place}
 use Rattle.partial.specs.Heading.{url}
-use Rattle.partial.specs.Tables.{bytesIn}
+use Rattle.partial.specs.Heading.{bytesIn}
 use Rattle.surls.specs.Next.{Meets, Spent, Broken, Decides, Leaves, Follows, Compares}
-use Rattle.surls.specs.Urls.{urlsIn, sameText, sameUrls}
+use Rattle.partial.specs.Heading.{urlsIn}
+use Rattle.partial.specs.Sources.{sameText, sameUrls}
 use Rattle.surls.specs.declared.urls.Both.{Both}
 use Rattle.surls.specs.declared.urls.Both.the-variants.{Equal, Ended, Differ}
 use Rattle.surls.proofs.UrlLaws.{both-none, first-none, second-none, first-differs, first-same}

@@ -2,7 +2,6 @@ pub mod BothLaws
 pub mod Determined
 pub mod FormLaws
 pub mod NextLaws
-pub mod SameLaws
 pub mod TextLaws
 pub mod UrlLaws
 pub mod WithinLaws

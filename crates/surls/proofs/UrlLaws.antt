@@ -10,12 +10,13 @@ use Rattle.boxes.specs.Framing.{Box, boxOf}
 use Rattle.boxes.specs.Kinds.{surl, those}
 use Rattle.boxes.specs.declared.framing.Framed.{Framed}
 use Rattle.partial.specs.Heading.{Part, url, text}
-use Rattle.partial.specs.Tables.{bytesIn}
+use Rattle.partial.specs.Heading.{bytesIn}
 use Rattle.surls.specs.Parts.{partOf, Within}
-use Rattle.surls.specs.Urls.{urlsIn, sameList, sameText, sameUrls}
+use Rattle.partial.specs.Heading.{urlsIn}
+use Rattle.partial.specs.Sources.{sameList, sameText, sameUrls}
 use Rattle.surls.specs.declared.part.Part as Stated
 use Rattle.surls.proofs.FormLaws.{url-text}
-use Rattle.surls.proofs.SameLaws.{text-exact, unequal}
+use Rattle.partial.proofs.Meaning.SameLaws.{text-exact, unequal}
 use Rattle.surls.proofs.TextLaws.{text-most}
 
 -- ---- the bytes of a part that lies in the file

@@ -11,7 +11,8 @@ use Rattle.boxes.specs.declared.walk.Step.{Step}
 use Rattle.boxes.specs.declared.walk.Step.the-variants as Step
 use Rattle.boxes.specs.declared.walk.Walk.{Walk}
 use Rattle.surls.specs.Parts.{Within}
-use Rattle.surls.specs.Urls.{urlsIn, sameUrls}
+use Rattle.partial.specs.Heading.{urlsIn}
+use Rattle.partial.specs.Sources.{sameUrls}
 use Rattle.surls.specs.declared.urls.Both.{Both}
 use Rattle.surls.specs.declared.urls.Both.the-variants.{Equal, Ended, Differ}
 

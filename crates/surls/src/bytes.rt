@@ -3,9 +3,9 @@ use crate::part::Part;
 ghost use Prim.Native.Nat.{_-_, _≤_};
 ghost use mathlib.Core.Path.{_≡_};
 ghost use lib.ListN.{length};
-ghost use Rattle.partial.specs.Tables.{bytesIn};
+ghost use Rattle.partial.specs.Heading.{bytesIn};
 ghost use Rattle.surls.specs.Parts.{partOf};
-ghost use Rattle.surls.specs.Urls.{sameText};
+ghost use Rattle.partial.specs.Sources.{sameText};
 
 // Whether they hold the same bytes.
 pub(crate) fn same_bytes(file: &[u8], a: Part, b: Part) -> bool

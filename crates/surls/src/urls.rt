@@ -13,7 +13,8 @@ ghost use Rattle.boxes.specs.Answer.{given};
 ghost use Rattle.boxes.specs.Framing.{Box, boxesIn};
 ghost use Rattle.boxes.specs.Walk.{walkOver};
 ghost use Rattle.surls.specs.Next.{Compares};
-ghost use Rattle.surls.specs.Urls.{urlsIn, sameUrls};
+ghost use Rattle.partial.specs.Heading.{urlsIn};
+ghost use Rattle.partial.specs.Sources.{sameUrls};
 
 // What the next URLs of two walks say: they are equal, with both walks after them; neither walk has one; or the lists
 // are not equal.

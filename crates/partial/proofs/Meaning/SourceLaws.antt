@@ -17,38 +17,10 @@ use Rattle.partial.specs.Meaning.{agree}
 use Rattle.partial.specs.Sources.{sameText, sameUrls, sourceCount, sourceAmong, sourceBeside, ofSource, agreed}
 use Rattle.partial.specs.ReadingDemands.{InAgreement}
 use Rattle.partial.proofs.Meaning.SequenceLaws.{which, both, all-append, member-passes, all-members}
+use Rattle.partial.proofs.Meaning.SameLaws.{urls-equal, urls-same}
 use Rattle.partial.proofs.Meaning.AgreementLaws.{OneSize, one-agrees, agrees-one}
 use Rattle.partial.proofs.Meaning.DescribedLaws.{InOrder}
 use Rattle.partial.proofs.Meaning.KnownLaws.{largest-both}
-
--- texts and lists of URLs are the same exactly if they are equal
-pub same-text : (xs ys : List ℕ) → sameText xs ys ≡ true → xs ≡ ys
-unfolding sameText
-same-text [] [] e = refl
-same-text [] (y ∷ ys) e = absurd (let z : _≡_ {A = ℕ} 0 1 = cc in omega arith)
-same-text (x ∷ xs) [] e = absurd (let z : _≡_ {A = ℕ} 0 1 = cc in omega arith)
-same-text (x ∷ xs) (y ∷ ys) e =
-    let (here, rest) = both (eqb x y) (sameText xs ys) e in
-    ap₂ (λ (n : ℕ) (ns : List ℕ). n ∷ ns) (eqb-true x y here) (same-text xs ys rest)
-
-pub text-same : (xs : List ℕ) → sameText xs xs ≡ true
-unfolding sameText
-text-same [] = refl
-text-same (x ∷ xs) = rw (eq-eqb x x refl) (text-same xs)
-
-pub same-urls : (us vs : List (List ℕ)) → sameUrls us vs ≡ true → us ≡ vs
-unfolding sameUrls
-same-urls [] [] e = refl
-same-urls [] (v ∷ vs) e = absurd (let z : _≡_ {A = ℕ} 0 1 = cc in omega arith)
-same-urls (u ∷ us) [] e = absurd (let z : _≡_ {A = ℕ} 0 1 = cc in omega arith)
-same-urls (u ∷ us) (v ∷ vs) e =
-    let (here, rest) = both (sameText u v) (sameUrls us vs) e in
-    ap₂ (λ (x : List ℕ) (xs : List (List ℕ)). x ∷ xs) (same-text u v here) (same-urls us vs rest)
-
-pub urls-same : (us : List (List ℕ)) → sameUrls us us ≡ true
-unfolding sameUrls
-urls-same [] = refl
-urls-same (u ∷ us) = rw (text-same u) (urls-same us)
 
 -- the segments of a source
 module _ (n : ℕ) where
@@ -166,12 +138,12 @@ unfolding sourceAmong
 among-found next [] us = inr (λ s there. absurd (List·Memᴰ·not-nil there), refl)
 among-found next (t ∷ ss) us =
     elim (which (sameUrls us (t .urls))) [
-      | inl e ↦ inl (t, List·Memᴰ·head refl, sym (same-urls us (t .urls) e), rw (sourceAmong, e))
+      | inl e ↦ inl (t, List·Memᴰ·head refl, sym (urls-equal us (t .urls) e), rw (sourceAmong, e))
       | inr e ↦
           ⊎-elim (λ found. inl (found .0, List·Memᴰ·tail (found .1), found .2, rw (sourceAmong, e) (found .3)))
           (λ none. inr (
             λ s there same.
-                ⊎-elim (λ here. true≢false (sym (urls-same us) ∙ ap (sameUrls us) (sym same ∙ ap (λ (x : Segment). x .urls) here) ∙ e)) (λ rest. none .0 s rest same) (List·Memᴰ·cases-cons there),
+                ⊎-elim (λ here. true≢false (sym (urls-same us us refl) ∙ ap (sameUrls us) (sym same ∙ ap (λ (x : Segment). x .urls) here) ∙ e)) (λ rest. none .0 s rest same) (List·Memᴰ·cases-cons there),
             rw (sourceAmong, e) (none .1),
           )) (among-found next ss us)
     ]

@@ -5,8 +5,8 @@ use mathlib.Core.List.{List, [], _∷_}
 use mathlib.Core.Path.{_≡_, refl, sym, ap, ap₂, subst, _∙_}
 use borrow.Author.Tests.{eq-eqb, eqb-true}
 use lib.Dec.{eqb}
 use Rattle.partial.proofs.Meaning.SequenceLaws.{both}
-use Rattle.surls.specs.Urls.{sameList, sameText, sameUrls}
+use Rattle.partial.specs.Sources.{sameList, sameText, sameUrls}
 
 -- a test passes exactly two that are equal
 pub record Exact {A : Type 0} (same : A → A → Bool) : Type 0 where
