@@ -22,7 +22,8 @@ use Rattle.partial.specs.Reading.{segment, segmentsFrom, segments, readi
 use Rattle.partial.specs.ReadingDemands.{Mapped}
 use Rattle.partial.proofs.Meaning.SequenceLaws.{Each, each-append, each-member}
 use Rattle.partial.proofs.Meaning.MappedLaws.{Accepted}
-use Rattle.partial.proofs.Meaning.SourceLaws.{urls-same, of-one, agreed-one}
+use Rattle.partial.proofs.Meaning.SameLaws.{urls-same}
+use Rattle.partial.proofs.Meaning.SourceLaws.{of-one, agreed-one}
 use Rattle.partial.proofs.Reading.KeptLaws.{stepped}
 use Rattle.partial.proofs.Reading.ReadingLaws.{accepted-of, reading-read, mapped-of}
 
@@ -40,7 +41,7 @@ module _ (h : Heading) where
   unfolding sourceBeside sourceCount sourceAmong largest
   beside-plain [] one = refl
   beside-plain (s ∷ ss) (plain, one) =
-      let same : sameUrls (h .urls) (s .urls) ≡ true = rw (plain .urls) (urls-same (h .urls)) in
+      let same : sameUrls (h .urls) (s .urls) ≡ true = rw (plain .urls) (urls-same (h .urls) (h .urls) refl) in
       rw (sourceAmong, same) (plain .first)
 
   -- and one more that uses it has that too
