@@ -116,7 +116,7 @@ module _ (f : List ℕ) (h : Heading) (ss : List Segment) (s : Segment) where
 -- ---- an addition to a file
 
 -- the tests, by what the code has at hand
-module _ {f : List ℕ} {h : Heading} {ss : List Segment} {j : Judged} {a : Addition} {header : SegmentHeader} {c : Counts} {o : Outside} {l : Layout} (n : ℕ) (beside : Beside f h ss j) (asked : Asked a header c o l) where
+module _ {f : List ℕ} {h : Heading} {ss : List Segment} {j : Judged} {z : List ℕ} {a : Addition} {header : SegmentHeader} {c : Counts} {o : Outside} {l : Layout} (n : ℕ) (beside : Beside f h ss j z) (asked : Asked a header c o l) where
   pub file-test : {b : Bool} → b ≡ leb (n + l .added) fileLimit → b ≡ leb (n + length (added a)) fileLimit
   file-test test =
       test

@@ -26,6 +26,7 @@ use Rattle.partial.specs.Tables.{segmentRowLength, segmentRow}
 use Rattle.partial.proofs.Meaning.SequenceLaws.{both}
 use Rattle.fields.specs.Fields.{valuesOf}
 use Rattle.fields.specs.declared.fields.Fields.{Fields}
+use Rattle.ends.specs.Table.{Holds}
 use Rattle.segment.specs.declared.chunk.Cursor.{Cursor}
 use Rattle.filling.specs.Rows.{Put}
 use Rattle.filling.proofs.RowLaws.{put-same}
@@ -163,19 +164,21 @@ module _ (f : List ℕ) (h : Heading) (ss : List Segment) (b : Framed) where
         pub segment-read : {cs : List Chunk} → chunksBy f h (b .at .0) (p .location) first ≡ given cs → segment sourceLimit f h ss (boxOf b) ≡ given (built f h ss (b .at .0) (inside .0) (partsOf p) cs)
         segment-read e = by-chunks ∙ rw e
 
-        pub segment-told : {before g : Gathered} {numbered : Bool} {t₀ t u₀ u : List ℕ} {cs : List Chunk} {c : Cursor} → before ≡ gatheredOf ss
+        pub segment-told : {before g : Gathered} {numbered : Bool} {t₀ t u₀ u z : List ℕ} {cs : List Chunk} {c : Cursor} → before ≡ gatheredOf ss
             → chunksBy f h (b .at .0) (p .location) first ≡ given cs → length cs ≡ p .location .count → Ran f (h .boxes) first before numbered u₀ cs c u
             → Put t₀ (segmentRowLength * before .segments) (rowBy (b .at .0) (p .fields) (p .location .count) (boxOf (p .header))) t
-            → ((s : Segment) → p .fields .flags ≡ s .flags → p .location .count ≡ length (s .chunks) → c .start .0 ≡ endOf s → p .indexed ≡ hasIndex (s .inner) → g ≡ gatheredOf (ss ++ (s ∷ [])))
-            → Segmented f h ss (boxOf b) numbered t₀ t u₀ u (Given g (c .last))
+            → ((s : Segment) → p .location .count ≡ length (s .chunks) → p .indexed ≡ hasIndex (s .inner) → g ≡ gatheredOf (ss ++ (s ∷ [])))
+            → ((s : Segment) → p .fields .flags ≡ s .flags → p .location .count ≡ length (s .chunks) → c .start .0 ≡ endOf s → Holds z 0 (ss ++ (s ∷ [])))
+            → Segmented f h ss (boxOf b) numbered t₀ t u₀ u z (Given g (c .last))
         unfolding Segmented endOf segmentRow
-        segment-told {numbered = numbered} {cs = cs} so-far e many ran put gathers =
+        segment-told {numbered = numbered} {cs = cs} so-far e many ran put gathers ends =
             let s = built f h ss (b .at .0) (inside .0) (partsOf p) cs in
             let number = gathered-segments ss so-far in (
               s,
               segment-read e,
-              gathers s refl (sym many) (ran .ends) flagged,
+              gathers s (sym many) flagged,
               ran .known,
               put-same (ap (λ (n : ℕ). segmentRowLength * n) number) (ap (λ (n : ℕ). rowBy (b .at .0) (p .fields) n (boxOf (p .header))) (sym many)) put,
               put-same (ap (λ (n : ℕ). formLength numbered * n) (gathered-chunks ss so-far)) (ap (λ (n : ℕ). putsOf numbered n cs) number) (ran .rows),
+              ends s refl (sym many) (ran .ends),
             )

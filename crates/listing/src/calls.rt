@@ -1,6 +1,9 @@
 // Listing into the two lent lists, after reading into the two lent tables.
 use crate::lists::Totals;
 use crate::lists::put_lists;
+use ends::table::ALL_SIZES;
+use ends::table::ONE_SOURCE;
+use ends::table::sizes_at;
 use fields::state::GOOD;
 use filling::rows::put_row;
 use gathering::kept::fill_rows;
@@ -71,12 +74,12 @@ pub fn list(
     // What is kept goes into tables of the call's own, so that the file is judged and kept in one pass.
     let mut rows = [0; ALL_SEGMENT_ROWS];
     let mut numbers = [0; ALL_NUMBERS];
-    match judge_into(file, &mut rows, &mut numbers) {
+    let mut sizes = [0; ALL_SIZES];
+    match judge_into(file, &mut rows, &mut numbers, &mut sizes) {
         Judgement::Refused(n) => Listed::Refused(n),
         Judgement::Given(judged) => {
             let gathered = judged.gathered;
-            let sizes = gathered.sizes;
-            let end = sizes.described();
+            let end = sizes_at(&sizes, ONE_SOURCE).described();
             let mut spans = [0; ALL_SPANS];
             let n = file_spans(GOOD, &rows, gathered.segments, &numbers, end, &mut spans);
             if segments.len() as u64 / SEGMENT_ROW < gathered.segments {

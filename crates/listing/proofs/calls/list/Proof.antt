@@ -8,7 +8,7 @@ use lib.Seq.{length-take-le}
 use Rattle.partial.specs.Segments.{good, chunksOf}
 use Rattle.partial.specs.Tables.{segmentRowLength, chunkRowLength}
 use Rattle.filling.proofs.RowLaws.{put-stored, put-same}
-use Rattle.gathering.proofs.GatheredLaws.{gathered-segments, gathered-chunks, gathered-sizes}
+use Rattle.gathering.proofs.GatheredLaws.{gathered-segments, gathered-chunks}
 use Rattle.reading.proofs.JudgedLaws.{accepted, read-refused, read-given, judgement-refused, judgement-given}
 use Rattle.reading.proofs.TableLaws.{tabled-refused, segments-short, chunks-short, tabled-given, segments-filled, chunks-filled, accepted-few, accepted-rows, accepted-kept}
 use Rattle.spans.proofs.ChunkLaws.{many-few}
@@ -35,6 +35,9 @@ enum-known-n c = search needs
 enum-known-judged : tie.Need-enum-known-judged
 enum-known-judged c = search needs
 
+sizes-at-requires : tie.Need-sizes-at-requires
+sizes-at-requires c κs = search needs
+
 described-requires : tie.Need-described-requires
 described-requires c κs = search needs
 
@@ -46,25 +49,25 @@ file-spans-requires c κs = search needs
 
 returns : tie.Need-returns
 returns c =
-    let met = c .before .before .before .before .before .before .before .before .before .before .before in
+    let met = c .before .before .before .before .before .before .before .before .before .before .before .before in
     let a = accepted _ (judgement-given (met .before .before .before .before .judge-into .ensures .0) (met .judged .given .1)) in
     lists-refused _ _ _ _ _ (listed-refused _ _ _ _ _ (segments-short _ _ _ (a .ss) (read-given _ a) (omega (arith, gathered-segments (a .ss) (a .gathered)))))
 
 returns-2 : tie.Need-returns-2
 returns-2 c =
-    let met = c .before .before .before .before .before .before .before .before .before .before .before .before .before in
+    let met = c .before .before .before .before .before .before .before .before .before .before .before .before .before .before in
     let a = accepted _ (judgement-given (met .before .before .before .before .judge-into .ensures .0) (met .judged .given .1)) in
     lists-refused _ _ _ _ _ (listed-refused _ _ _ _ _ (chunks-short _ _ _ (a .ss) (read-given _ a) (omega (arith, gathered-chunks (a .ss) (a .gathered)))))
 
 add-most : tie.Need-add-most
 add-most c =
-    let met = c .before .before .before .before .before .before .before .before .before .before .before .before .before .before in
+    let met = c .before .before .before .before .before .before .before .before .before .before .before .before .before .before .before in
     let a = accepted _ (judgement-given (met .before .before .before .before .judge-into .ensures .0) (met .judged .given .1)) in
     omega (arith, accepted-few a (met .before .before .before .before .judge-into .ensures .1) (omega arith))
 
 add-most-2 : tie.Need-add-most-2
 add-most-2 c =
-    let met = c .before .before .before .before .before .before .before .before .before .before .before .before .before .before .before in
+    let met = c .before .before .before .before .before .before .before .before .before .before .before .before .before .before .before .before in
     let a = accepted _ (judgement-given (met .before .before .before .before .judge-into .ensures .0) (met .judged .given .1)) in
     let kept = accepted-kept a (met .before .before .before .before .judge-into .ensures .1) (omega arith) (omega arith) in
     omega (arith, accepted-few a (met .before .before .before .before .judge-into .ensures .1) (omega arith), gathered-chunks (a .ss) (a .gathered), kept .chunks)
@@ -77,11 +80,12 @@ have-room-requires c κs = search needs
 
 returns-3 : tie.Need-returns-3
 returns-3 c =
-    let met = c .before .before .before .before .before .before .before .before .before .before .before .before .before .before .before .before .before .before in
+    let met = c .before .before .before .before .before .before .before .before .before .before .before .before .before .before .before .before .before .before .before in
     let a = accepted _ (judgement-given (met .before .before .before .before .judge-into .ensures .0) (met .judged .given .1)) in
     let kept = accepted-kept a (met .before .before .before .before .judge-into .ensures .1) (omega arith) (omega arith) in
     let (ordered, all) = c .before .before .before .before .before .before .before .before .before .before .file-spans .ensures in
-    let long = c .before .before .before .before .before .before .before .before .before .before .before .before .before .before .described .ensures (a .ss) (gathered-sizes (a .ss) (a .gathered)) in
+    let said = c .before .before .before .before .before .before .before .before .before .before .before .before .before .before .before .sizes-at .ensures ∙ met .before .before .before .before .judge-into .ensures .2 (a .ss) (read-given _ a) in
+    let long = c .before .before .before .before .before .before .before .before .before .before .before .before .before .before .described .ensures (a .ss) said in
     let spanned = spanned-by long (all (a .ss) kept (omega (arith, many-few good (chunksOf (a .ss)), kept .chunks))) in
     let room =
     c .before .have-room .ensures ordered (a .ss) spanned (omega (arith, had-few a, gathered-segments (a .ss) (a .gathered), gathered-chunks (a .ss) (a .gathered)))
@@ -90,13 +94,13 @@ returns-3 c =
 
 mul-rows-end : tie.Need-mul-rows-end
 mul-rows-end c =
-    let met = c .before .before .before .before .before .before .before .before .before .before .before .before .before .before .before .before .before .before .before in
+    let met = c .before .before .before .before .before .before .before .before .before .before .before .before .before .before .before .before .before .before .before .before in
     let a = accepted _ (judgement-given (met .before .before .before .before .judge-into .ensures .0) (met .judged .given .1)) in
     omega (arith, accepted-few a (met .before .before .before .before .judge-into .ensures .1) (omega arith))
 
 array-share-prefix-rows : tie.Need-array-share-prefix-rows
 array-share-prefix-rows c =
-    let met = c .before .before .before .before .before .before .before .before .before .before .before .before .before .before .before .before .before .before .before .before in
+    let met = c .before .before .before .before .before .before .before .before .before .before .before .before .before .before .before .before .before .before .before .before .before in
     let a = accepted _ (judgement-given (met .before .before .before .before .judge-into .ensures .0) (met .judged .given .1)) in
     omega (arith, accepted-few a (met .before .before .before .before .judge-into .ensures .1) (omega arith))
 
@@ -132,16 +136,17 @@ same-length-4 c = search needs
 
 returns-5 : tie.Need-returns-5
 returns-5 c =
-    let met = c .before .before .before .before .before .before .before .before .before .before .before .before .before .before .before .before .before .before .before .before .before .before .before .before .before .before .before .before .before .before .before .before .before .before .before .before .before .before in
+    let met = c .before .before .before .before .before .before .before .before .before .before .before .before .before .before .before .before .before .before .before .before .before .before .before .before .before .before .before .before .before .before .before .before .before .before .before .before .before .before .before in
     let a = accepted _ (judgement-given (met .before .before .before .before .judge-into .ensures .0) (met .judged .given .1)) in
     let kept = accepted-kept a (met .before .before .before .before .judge-into .ensures .1) (omega arith) (omega arith) in
     let (ordered, all) = c .before .before .before .before .before .before .before .before .before .before .before .before .before .before .before .before .before .before .before .before .before .before .before .before .before .before .before .before .before .before .file-spans .ensures in
-    let long = c .before .before .before .before .before .before .before .before .before .before .before .before .before .before .before .before .before .before .before .before .before .before .before .before .before .before .before .before .before .before .before .before .before .before .described .ensures (a .ss) (gathered-sizes (a .ss) (a .gathered)) in
+    let said = c .before .before .before .before .before .before .before .before .before .before .before .before .before .before .before .before .before .before .before .before .before .before .before .before .before .before .before .before .before .before .before .before .before .before .before .sizes-at .ensures ∙ met .before .before .before .before .judge-into .ensures .2 (a .ss) (read-given _ a) in
+    let long = c .before .before .before .before .before .before .before .before .before .before .before .before .before .before .before .before .before .before .before .before .before .before .before .before .before .before .before .before .before .before .before .before .before .before .described .ensures (a .ss) said in
     let spanned = spanned-by long (all (a .ss) kept (omega (arith, many-few good (chunksOf (a .ss)), kept .chunks))) in
     let room =
     c .before .before .before .before .before .before .before .before .before .before .before .before .before .before .before .before .before .before .before .before .before .have-room .ensures ordered (a .ss) spanned (omega (arith, had-few a, gathered-segments (a .ss) (a .gathered), gathered-chunks (a .ss) (a .gathered)))
     (omega (arith, missing-few a, gathered-segments (a .ss) (a .gathered), gathered-chunks (a .ss) (a .gathered))) in
-    let args = c .before .before .before .before .before .before .before .before .before .before .before .before .before .before .before .before .before .before .before .before .before .before .before .before .before .before .before .before .before .before .before .before .before .before .before .before .before .before .before .before .before .before .before .before .before .before .before .before .before .before .args in
+    let args = c .before .before .before .before .before .before .before .before .before .before .before .before .before .before .before .before .before .before .before .before .before .before .before .before .before .before .before .before .before .before .before .before .before .before .before .before .before .before .before .before .before .before .before .before .before .before .before .before .before .before .before .args in
     let segments : segmentRowLength * length (a .ss) ≤ length (args .segments .now) = omega (arith, gathered-segments (a .ss) (a .gathered), c .before .before .before .before .before .before .before .before .before .before .before .before .before .before .before .before .before .before .before .before .before .before .before .before .before .before .before .if1 .left) in
     let chunks : chunkRowLength * length (chunksOf (a .ss)) ≤ length (args .chunks .now) = omega (arith, gathered-chunks (a .ss) (a .gathered), c .before .before .before .before .before .before .before .before .before .before .before .before .before .before .before .before .before .before .before .before .before .before .before .before .before .if2 .left) in
     let (had, missing) = lists-room (a .ss) (args .had .now) (args .missing .now) (sym room ∙ not-false _ (c .before .before .before .before .before .before .before .before .before .before .before .before .before .before .before .before .before .before .before .before .if3 .left)) in
@@ -161,6 +166,7 @@ list-spec =
     judge-into-requires
     enum-known-n
     enum-known-judged
+    sizes-at-requires
     described-requires
     slice-aggregate-file-spans
     file-spans-requires
