@@ -1,4 +1,4 @@
--- `partial::header::SegmentHeader::writable` meets its contract: on each way the flags are those for `last`.
+-- `additions::header::SegmentHeader::writable` meets its contract: on each way the flags are those for `last`.
 use Rattle.additions.proofs.header.SegmentHeader.writable.Statement.{statement}
 use Rattle.additions.proofs.header.SegmentHeader.writable.Tie as tie
 
