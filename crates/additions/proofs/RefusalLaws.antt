@@ -1,4 +1,5 @@
--- Demand 1: every refusal has a number that the paper has for the call, and after it all lent memory holds what it held.
+-- Demand 1: every refusal has a number that the paper has for the call, and after it all lent memory holds what it
+-- held.
 use Prim.Native.Nat.{ℕ, _+_}
 use mathlib.Core.Bool.{_&&_, _||_}
 use mathlib.Core.List.{List, [], _∷_, _++_}

@@ -1,5 +1,5 @@
 -- Document 01, "Numbers to hold against it" and "Errors this trade makes": worked examples of begin and append as one
--- table with one statement, computed over the definitions. P8 to P10 are the paper's; the others are a case of each
+-- table with one statement, computed over the definitions. P8 to P11 are the paper's; the others are a case of each
 -- error that no P shows, and those of document 02. What is read of files stands in the examples of `partial`.
 use Prim.Native.Nat.{ℕ}
 use mathlib.Core.Bool.{Bool, true, false}
@@ -12,7 +12,8 @@ use Rattle.boxes.specs.Framing.{boxed}
 use Rattle.boxes.specs.Kinds.{pdat}
 use Rattle.partial.specs.declared.brand.Brand.{Brand}
 use Rattle.partial.specs.declared.brand.Brand.the-variants.{Paff, Pmff}
-use Rattle.partial.specs.Limits.{sourceLimit}
+use Rattle.partial.specs.Limits.{programLimit, sourceLimit}
+use Rattle.partial.specs.Map.{ascii, missmapText}
 use Rattle.partial.specs.Lesson.{begunBytes, firstBytes, secondBytes}
 use Rattle.partial.specs.Examples.{Example, says, missingIn}
 use Rattle.additions.specs.Addition.{Addition}
@@ -65,6 +66,14 @@ P10 =
     record {
       defined = map pos (grownBy (begunBytes ++ firstBytes) (segmentAt 2 false (5 ∷ 2 ∷ []) (21 ∷ 22 ∷ 23 ∷ 24 ∷ 25 ∷ [])));
       paper = map pos (begunBytes ++ (firstBytes ++ secondBytes));
+    }
+
+-- P11: one open segment at 100: described length 100, missing (0, 100), open
+abbrev P11 : Example
+P11 =
+    record {
+      defined = map pos (missmapText sourceLimit programLimit (grownBy begunBytes (segmentAt 100 false [] [])));
+      paper = map pos (ascii "source\t100\topen\nmiss\t0\t100\ntotal\t0\t100\n");
     }
 
 -- a last segment of that size, one that is not last, and an open one at that offset
@@ -213,7 +222,7 @@ writersForm =
 
 unfoldable pub table : List Example
 table =
-    P8 ∷ P9 ∷ P10 ∷ sizesDiffer ∷ sizesAgree ∷ begunMixed ∷ storedOutside ∷ outsideWrong ∷ elsewhereStored ∷ elsewhereWrong ∷
+    P8 ∷ P9 ∷ P10 ∷ P11 ∷ sizesDiffer ∷ sizesAgree ∷ begunMixed ∷ storedOutside ∷ outsideWrong ∷ elsewhereStored ∷ elsewhereWrong ∷
     highestAdded ∷ writersForm ∷ []
 
 -- at every row the definitions say what the paper says

@@ -1,5 +1,5 @@
--- Document 02, [7]: worked examples of additions to files with an index, computed over the definitions, as one table with
--- one statement.
+-- Document 02, [7]: worked examples of additions to files with an index, computed over the definitions, as one table
+-- with one statement.
 use mathlib.Core.Bool.{Bool, true, false}
 use mathlib.Core.List.{List, [], _∷_, _++_, map}
 use mathlib.Core.Path.{_≡_}

@@ -47,8 +47,8 @@ ofIndex n = within 36 4 n
 abbrev pub ofStages : ℕ → Bool
 ofStages n = beforeAgreement n || (eqb n 25 || ofIndex n)
 
--- a number that no call of reading answers, and that no line of a text tells: those of the map are the reader's, those of
--- the box list the framing's
+-- a number that no call of reading answers, and that no line of a text tells: those of the map are the reader's, those
+-- of the box list the framing's
 pub record NeverRead (limit n : ℕ) : Type 0 where
   pub read : (f a b : List ℕ) → tabled limit f a b ≡ refused n → ⊥
   pub ask : (f a b : List ℕ) (p : ℕ) → asked (tabled limit f a b) p ≡ refused n → ⊥
@@ -58,8 +58,8 @@ pub record NeverRead (limit n : ℕ) : Type 0 where
   pub mapped : (input : List ℕ) → reading limit input ≡ refused n → ⊥
   pub boxes : (input : List ℕ) → boxesIn File input 0 (length input) ≡ refused n → ⊥
 
--- demand 1, of reading: any bytes get either their tables or one numbered refusal; after a refusal all lent memory holds
--- what it held
+-- demand 1, of reading: any bytes get either their tables or one numbered refusal; after a refusal all lent memory
+-- holds what it held
 pub record Demand1OfReading (limit : ℕ) : Type 0 where
   -- one numbered refusal, of those that the paper has for the call
   pub readNumbers : (f a b : List ℕ) (n : ℕ) → tabled limit f a b ≡ refused n → T (ofStages n || oneOf (12 ∷ 26 ∷ []) n)

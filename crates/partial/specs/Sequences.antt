@@ -1,5 +1,5 @@
--- What is said of a list, or of numbers in a row: some or all pass a test, a sum, the largest, how many in a row; and of
--- two numbers that may be there, the first.
+-- What is said of a list, or of numbers in a row: some or all pass a test, a sum, the largest, how many in a row; and
+-- of two numbers that may be there, the first.
 use Prim.Native.Nat.{ℕ, zero, suc, _+_, max}
 use mathlib.Core.Bool.{Bool, true, false, _&&_, _||_}
 use mathlib.Core.List.{List, [], _∷_}
