@@ -16,7 +16,7 @@ use Rattle.partial.proofs.Meaning.DescribedLaws.{InOrder}
 use Rattle.partial.proofs.Meaning.EdgeLaws.{listed-few}
 use Rattle.partial.proofs.Meaning.RangeLaws.{Cut, done, next, cut, ordered}
 use Rattle.partial.proofs.Meaning.SequenceLaws.{which}
-use Rattle.partial.proofs.Reading.ReadingLaws.{accepted}
+use Rattle.partial.proofs.Reading.OneSourceLaws.{accepted}
 use Rattle.reading.specs.Judged.{Judged}
 use Rattle.reading.proofs.JudgedLaws.{Accepted}
 
