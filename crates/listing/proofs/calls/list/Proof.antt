@@ -146,7 +146,7 @@ returns-5 c =
     let room =
     c .before .before .before .before .before .before .before .before .before .before .before .before .before .before .before .before .before .before .before .before .before .have-room .ensures ordered (a .ss) spanned (omega (arith, had-few a, gathered-segments (a .ss) (a .gathered), gathered-chunks (a .ss) (a .gathered)))
     (omega (arith, missing-few a, gathered-segments (a .ss) (a .gathered), gathered-chunks (a .ss) (a .gathered))) in
-    let args = c .before .before .before .before .before .before .before .before .before .before .before .before .before .before .before .before .before .before .before .before .before .before .before .before .before .before .before .before .before .before .before .before .before .before .before .before .before .before .before .before .before .before .before .before .before .before .before .before .before .before .before .args in
+    let args = c .before .before .before .before .before .before .before .before .before .before .before .before .before .before .before .before .before .before .before .before .before .before .before .before .before .before .before .before .before .before .before .before .before .before .before .before .before .before .before .before .before .before .before .before .before .before .before .before .before .before .before .before .args in
     let segments : segmentRowLength * length (a .ss) ≤ length (args .segments .now) = omega (arith, gathered-segments (a .ss) (a .gathered), c .before .before .before .before .before .before .before .before .before .before .before .before .before .before .before .before .before .before .before .before .before .before .before .before .before .before .before .if1 .left) in
     let chunks : chunkRowLength * length (chunksOf (a .ss)) ≤ length (args .chunks .now) = omega (arith, gathered-chunks (a .ss) (a .gathered), c .before .before .before .before .before .before .before .before .before .before .before .before .before .before .before .before .before .before .before .before .before .before .before .before .before .if2 .left) in
     let (had, missing) = lists-room (a .ss) (args .had .now) (args .missing .now) (sym room ∙ not-false _ (c .before .before .before .before .before .before .before .before .before .before .before .before .before .before .before .before .before .before .before .before .if3 .left)) in
