@@ -14,7 +14,7 @@ ghost use Rattle.boxes.specs.Framing.{Box, boxesIn};
 ghost use Rattle.boxes.specs.Kinds.{rules};
 ghost use Rattle.tallying.specs.Rules.{countsOf, CountedBy, tallyOf};
 
-// Where the table is cut in two: the compiler writes a loop over it out only where that has at most ten turns.
+// Where the table is cut in two: a loop over all its rows is too long for the compiler to write out.
 const HALF: usize = 7;
 
 // The counts after one more box, of that type, by the rows of the table from one up to another.
