@@ -25,14 +25,14 @@ use Rattle.numerals.specs.Numbers.{bytesOf}
 use Rattle.partial.specs.Limits.{programLimit, sourceLimit}
 use Rattle.partial.specs.Sequences.{orElse}
 use Rattle.partial.specs.Segments.{Segment}
-use Rattle.partial.specs.Heading.{url, mime, heading}
+use Rattle.partial.specs.Heading.{bytesIn, url, mime, heading}
 use Rattle.partial.specs.Reading.{reading, earlierSegments}
 use Rattle.partial.specs.Meaning.{Reply, servedFor, missingFor, notBelow, describedLength, supplied, served}
 use Rattle.partial.specs.Ranges.{hadList, missingList, total}
 use Rattle.partial.specs.Ranges.{among, apart, inRow, rangesOf}
 use Rattle.partial.specs.Naming.{namedRanges, heldList, lostList}
 use Rattle.partial.specs.Memory.{after, written}
-use Rattle.partial.specs.Tables.{segmentRows, chunkRows, hadRows, missingRows, tabled, listed, summary, totals, bytesIn, servedPart, asked, textOf}
+use Rattle.partial.specs.Tables.{segmentRows, chunkRows, hadRows, missingRows, tabled, listed, summary, totals, servedPart, asked, textOf}
 use Rattle.partial.specs.Tables.{indexTabled, indexTable, indexCount}
 use Rattle.partial.specs.Map.{mapText, missmapText}
 use Rattle.partial.specs.BoxList.{boxesText}
@@ -146,16 +146,21 @@ demandsOf buffer n offset repair last outside list bytes ps =
     let a : Addition = record { sourceOffset = offset; repairTime = repair; last = last; outside = outside; list = list; bytes = bytes } in
     let f = fileIn (lent buffer n) in
     let g = fileIn (append sourceLimit (lent buffer n) a) in
-    elim (earlierSegments sourceLimit f)
+    elim (heading f)
     [ refused k ↦ 0 ∷ k ∷ []
-    | given ss ↦
-        elim (reading sourceLimit g)
+    | given h ↦
+        elim (earlierSegments sourceLimit f)
         [ refused k ↦ 0 ∷ k ∷ []
-        | given ts ↦
-            flag (sameSegments ts (ss ++ (newSegment (psegPlace n a) a ∷ [])))
-            ∷ flag (elim (heading g) [ refused k ↦ false | given h ↦ sameAddition (again g h (newSegment (psegPlace n a) a)) (settled a) ])
-            ∷ flag (leb (describedLength ss) (describedLength ts))
-            ∷ keptAt f g ss ts a ps
+        | given ss ↦
+            elim (reading sourceLimit g)
+            [ refused k ↦ 0 ∷ k ∷ []
+            | given ts ↦
+                let new = newSegment h ss (psegPlace n a) a in
+                flag (sameSegments ts (ss ++ (new ∷ [])))
+                ∷ flag (elim (heading g) [ refused k ↦ false | given grown ↦ sameAddition (again g grown new) (settled a) ])
+                ∷ flag (leb (describedLength ss) (describedLength ts))
+                ∷ keptAt f g ss ts a ps
+            ]
         ]
     ]
 
