@@ -6,7 +6,7 @@ import shutil
 import subprocess
 
 TOP = os.path.dirname(os.path.dirname(os.path.abspath(__file__)))
-OURS = ["numerals", "boxes", "partial"]
+OURS = ["numerals", "boxes", "partial", "additions"]
 LISTS = """use Prim.Native.Nat.{ℕ, zero, suc}
 use mathlib.Core.Bool.{Bool, true, false}
 use mathlib.Core.List.{List, [], _∷_, _++_}
@@ -23,26 +23,27 @@ use lib.Dec.{leb, eqb}
 use Rattle.boxes.specs.Answer.{Answer, refused, given}
 use Rattle.numerals.specs.Numbers.{bytesOf}
 use Rattle.partial.specs.Limits.{programLimit, sourceLimit}
+use Rattle.partial.specs.Sequences.{orElse}
 use Rattle.partial.specs.Segments.{Segment}
-use Rattle.partial.specs.Heading.{url, mime, heading}
+use Rattle.partial.specs.Heading.{bytesIn, url, mime, heading}
 use Rattle.partial.specs.Reading.{reading, earlierSegments}
 use Rattle.partial.specs.Meaning.{Reply, servedFor, missingFor, notBelow, describedLength, supplied, served}
 use Rattle.partial.specs.Ranges.{hadList, missingList, total}
 use Rattle.partial.specs.Ranges.{among, apart, inRow, rangesOf}
 use Rattle.partial.specs.Naming.{namedRanges, heldList, lostList}
 use Rattle.partial.specs.Memory.{after, written}
-use Rattle.partial.specs.Tables.{segmentRows, chunkRows, hadRows, missingRows, tabled, listed, summary, totals, bytesIn, servedPart, asked, textOf}
+use Rattle.partial.specs.Tables.{segmentRows, chunkRows, hadRows, missingRows, tabled, listed, summary, totals, servedPart, asked, textOf}
 use Rattle.partial.specs.Tables.{indexTabled, indexTable, indexCount}
 use Rattle.partial.specs.Map.{mapText, missmapText}
 use Rattle.partial.specs.BoxList.{boxesText}
 use Rattle.partial.specs.declared.brand.Brand.{Brand}
-use Rattle.partial.specs.Begin.{beginning, begun}
-use Rattle.partial.specs.Addition.{Addition}
-use Rattle.partial.specs.Append.{appended, psegPlace, newSegment, result}
-use Rattle.partial.specs.Runs.{lent, fileIn, append}
-use Rattle.partial.specs.Again.{again, settled, writeAgain}
-use Rattle.partial.specs.Carried.{carried, orElse}
-use Rattle.partial.proofs.Computing.{computing}
+use Rattle.additions.specs.Begin.{beginning, begun}
+use Rattle.additions.specs.Addition.{Addition}
+use Rattle.additions.specs.Append.{appended, psegPlace, newSegment, result}
+use Rattle.additions.specs.Runs.{lent, fileIn, append}
+use Rattle.additions.specs.Again.{again, settled, writeAgain}
+use Rattle.additions.specs.Carried.{carried}
+use Rattle.additions.proofs.Computing.{computing}
 
 answered : {A : Type 0} → (A → List ℕ) → Answer A → List ℕ
 answered values (refused n) = 0 ∷ n ∷ []
@@ -145,16 +146,21 @@ demandsOf buffer n offset repair last outside list bytes ps =
     let a : Addition = record { sourceOffset = offset; repairTime = repair; last = last; outside = outside; list = list; bytes = bytes } in
     let f = fileIn (lent buffer n) in
     let g = fileIn (append sourceLimit (lent buffer n) a) in
-    elim (earlierSegments sourceLimit f)
+    elim (heading f)
     [ refused k ↦ 0 ∷ k ∷ []
-    | given ss ↦
-        elim (reading sourceLimit g)
+    | given h ↦
+        elim (earlierSegments sourceLimit f)
         [ refused k ↦ 0 ∷ k ∷ []
-        | given ts ↦
-            flag (sameSegments ts (ss ++ (newSegment (psegPlace n a) a ∷ [])))
-            ∷ flag (elim (heading g) [ refused k ↦ false | given h ↦ sameAddition (again g h (newSegment (psegPlace n a) a)) (settled a) ])
-            ∷ flag (leb (describedLength ss) (describedLength ts))
-            ∷ keptAt f g ss ts a ps
+        | given ss ↦
+            elim (reading sourceLimit g)
+            [ refused k ↦ 0 ∷ k ∷ []
+            | given ts ↦
+                let new = newSegment h ss (psegPlace n a) a in
+                flag (sameSegments ts (ss ++ (new ∷ [])))
+                ∷ flag (elim (heading g) [ refused k ↦ false | given grown ↦ sameAddition (again g grown new) (settled a) ])
+                ∷ flag (leb (describedLength ss) (describedLength ts))
+                ∷ keptAt f g ss ts a ps
+            ]
         ]
     ]
 

@@ -13,23 +13,25 @@ use lib.ListN.{length}
 use Rattle.boxes.specs.Answer.{Answer, refused, given, _>>=_}
 use Rattle.boxes.proofs.AnswerLaws.{then-then}
 use Rattle.boxes.specs.Framing.{boxLimit}
-use Rattle.partial.specs.Addition.{Addition, items, flagsFor}
-use Rattle.partial.specs.Append.{added, addedBoxes, newSegment, psegPlace, admission}
+use Rattle.additions.specs.Addition.{Addition, items, flagsFor}
+use Rattle.additions.specs.Append.{added, addedBoxes, newSegment, psegPlace, admission, admitted}
 use Rattle.partial.specs.Heading.{Heading}
 use Rattle.partial.specs.Index.{indexed}
 use Rattle.partial.specs.Limits.{fileLimit, segmentLimit, chunkLimit, sourceLimit}
 use Rattle.partial.specs.Meaning.{agree}
-use Rattle.partial.specs.Reading.{admitted}
 use Rattle.partial.specs.Segments.{Segment, isLast, endOf, chunksOf}
 use Rattle.partial.specs.Sequences.{sum}
-use Rattle.partial.specs.declared.header.SegmentHeader.{SegmentHeader}
-use Rattle.partial.proofs.Writing.NewSegmentLaws.{length-new, end-new}
+use Rattle.partial.specs.Sources.{sourceBeside, agreed}
+use Rattle.partial.proofs.Reading.OneSourceLaws.{all-plain, agreed-more}
+use Rattle.partial.proofs.Reading.RefusalLaws.{earlier-read}
+use Rattle.additions.specs.declared.header.SegmentHeader.{SegmentHeader}
+use Rattle.additions.proofs.NewSegmentLaws.{length-new, end-new}
 use Rattle.gathering.specs.Gathered.{gatheredOf}
 use Rattle.gathering.specs.declared.gathered.Gathered.{Gathered}
 use Rattle.gathering.proofs.GatheredLaws.{gathered-segments, gathered-chunks}
 use Rattle.outside.specs.declared.chunks.Outside.{Outside}
 use Rattle.reading.specs.declared.judging.Judged.{Judged}
-use Rattle.adding.specs.Admission.{Tells, indexedBeside, admittedBeside, Beside, Asked, admittedLength}
+use Rattle.adding.specs.Admission.{Tells, Known, indexedBeside, admittedBeside, Beside, Asked, admittedLength}
 use Rattle.adding.specs.Counts.{capped}
 use Rattle.adding.specs.declared.counts.Counts.{Counts}
 use Rattle.adding.specs.declared.layout.Layout.{Layout}
@@ -52,9 +54,9 @@ flags-last flags false e = even (flags % 2) (mod-lt flags (lit< tt)) (eqb-false 
     even : (m : ℕ) → m < 2 → (m ≡ 1 → ⊥) → m ≡ 0
     even m small other = omega (arith, other)
 
--- the segment that an addition to a file of n bytes makes
-abbrev pub new : ℕ → Addition → Segment
-new n a = newSegment (psegPlace n a) a
+-- the segment that an addition to a file of n bytes makes beside those of the file
+abbrev pub new : Heading → List Segment → ℕ → Addition → Segment
+new h ss n a = newSegment h ss (psegPlace n a) a
 
 -- ---- a segment beside those before it
 
@@ -80,6 +82,11 @@ module _ (ss : List Segment) {s : Segment} {g : Gathered} {header : SegmentHeade
   unfolding endOf
   source-end test = omega (arith, leb-true (header .offset .0 + c .sum) sourceLimit (sym test), tells .offset, tells .sum)
 
+-- 25 of segments of one source, and of one more that has no URLs of its own
+pub sizes-all : {f : List ℕ} {h : Heading} (ss : List Segment) {inPfil : Bool} → Known f h ss inPfil → (s : Segment) → s .urls ≡ h .urls → s .source ≡ sourceBeside ss (h .urls)
+    → agree (ss ++ (s ∷ [])) ≡ agreed (ss ++ (s ∷ []))
+sizes-all {f} {h} ss file s urls number = sym (agreed-more h ss s (all-plain sourceLimit f h (earlier-read sourceLimit f (file .head) (file .read))) urls number)
+
 -- the answer, by the first test that fails
 module _ (f : List ℕ) (h : Heading) (ss : List Segment) (s : Segment) where
   pub admitted-13 : leb (length ss + 1) segmentLimit ≡ false → refused 13 ≡ admittedBeside f h ss s
@@ -97,19 +104,19 @@ module _ (f : List ℕ) (h : Heading) (ss : List Segment) (s : Segment) where
       admitted-23 over = rw (few, ← chunks, ← over)
 
       module _ (low : true ≡ leb (endOf s) sourceLimit) where
-        pub admitted-25 : false ≡ agree (ss ++ (s ∷ [])) → refused 25 ≡ admittedBeside f h ss s
+        pub admitted-25 : false ≡ agreed (ss ++ (s ∷ [])) → refused 25 ≡ admittedBeside f h ss s
         unfolding admittedBeside admitted
         admitted-25 differ = rw (few, ← chunks, ← low, ← differ)
 
         -- and else by the index
-        pub admitted-by : true ≡ agree (ss ++ (s ∷ [])) → indexedBeside f h ss s ≡ admittedBeside f h ss s
+        pub admitted-by : true ≡ agreed (ss ++ (s ∷ [])) → indexedBeside f h ss s ≡ admittedBeside f h ss s
         unfolding admittedBeside admitted indexedBeside
         admitted-by same = rw (few, ← chunks, ← low, ← same)
 
 -- ---- an addition to a file
 
 -- the tests, by what the code has at hand
-module _ {f : List ℕ} {h : Heading} {ss : List Segment} {j : Judged} {a : Addition} {header : SegmentHeader} {c : Counts} {o : Outside} {l : Layout} (n : ℕ) (beside : Beside f h ss j) (asked : Asked a header c o l) where
+module _ {f : List ℕ} {h : Heading} {ss : List Segment} {j : Judged} {z : List ℕ} {a : Addition} {header : SegmentHeader} {c : Counts} {o : Outside} {l : Layout} (n : ℕ) (beside : Beside f h ss j z) (asked : Asked a header c o l) where
   pub file-test : {b : Bool} → b ≡ leb (n + l .added) fileLimit → b ≡ leb (n + length (added a)) fileLimit
   file-test test =
       test
@@ -124,17 +131,17 @@ module _ {f : List ℕ} {h : Heading} {ss : List Segment} {j : Judged} {a : Addi
   box-test more test = test ∙ ap₂ (λ (n m : ℕ). leb (n + m) 512) (beside .boxes) more ∙ capped-ends (length (h .boxes)) (addedBoxes a) 512 (2 ^ 64 - 1) (omega arith)
 
   -- the segment that it makes is told of
-  sizes-new : sum (map (λ c. c .size) (new n a .chunks)) ≡ sum (map (λ i. i .size) (items (a .list)))
+  sizes-new : sum (map (λ c. c .size) (new h ss n a .chunks)) ≡ sum (map (λ i. i .size) (items (a .list)))
   unfolding endOf newSegment
-  sizes-new = omega (arith, end-new (psegPlace n a) a)
+  sizes-new = omega (arith, end-new h ss (psegPlace n a) a)
 
-  pub tells-new : Tells (new n a) header c
+  pub tells-new : Tells (new h ss n a) header c
   unfolding newSegment
   tells-new =
       record {
         offset = asked .offset;
         flags = flags-last (header .flags) (a .last) (asked .last);
-        items = counted-items (items (a .list)) (asked .sorted .counted .items .counts) ∙ sym (length-new (psegPlace n a) a);
+        items = counted-items (items (a .list)) (asked .sorted .counted .items .counts) ∙ sym (length-new h ss (psegPlace n a) a);
         sum = counted-sum (items (a .list)) (asked .sorted .counted .items .counts) ∙ ap capped (sym sizes-new);
       }
 
@@ -151,10 +158,10 @@ module _ (f : List ℕ) (h : Heading) (ss : List Segment) (n : ℕ) (a : Additio
 
     module _ (boxes : true ≡ leb (length (h .boxes) + addedBoxes a) boxLimit) where
       -- and else by whether its segment is admitted
-      pub admission-by : (admittedBeside f h ss (new n a) >>= λ _. given (n + length (added a))) ≡ admittedLength f h ss n a
+      pub admission-by : (admittedBeside f h ss (new h ss n a) >>= λ _. given (n + length (added a))) ≡ admittedLength f h ss n a
       unfolding admittedLength admission admittedBeside
       admission-by =
-          rw (← small, ← boxes) (go (admitted sourceLimit ss (new n a)))
+          rw (← small, ← boxes) (go (admitted sourceLimit ss (new h ss n a)))
         where
           go : (x : Answer (List Segment))
               → (_>>=_ {B = Unit {0}} x (λ ts. indexed sourceLimit f h ts >>= λ _. given tt) >>= λ _. given (n + length (added a)))

@@ -8,8 +8,8 @@ use borrow.Author.Tests.{le-leb, lt-leb, eq-eqb, ne-eqb}
 use lib.Dec.{eqb}
 use lib.ListN.{length, take, drop, getD, length-append, length-take, length-drop, take-append-drop}
 use lib.Seq.{take-suc}
-use Rattle.partial.specs.Addition.{Item, items, dataSize}
-use Rattle.partial.specs.Segments.{isState, present}
+use Rattle.additions.specs.Addition.{Item, items, dataSize, isState}
+use Rattle.partial.specs.Segments.{present}
 use Rattle.partial.specs.Sequences.{allOf, largest, sum}
 use Rattle.partial.proofs.Meaning.SequenceLaws.{all-append}
 use Rattle.partial.proofs.Meaning.KnownLaws.{largest-both}

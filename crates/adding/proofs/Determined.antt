@@ -6,7 +6,7 @@ use mathlib.Core.Path.{_≡_, sym, _∙_}
 use denote.Ref.{now}
 use Rattle.partial.proofs.Determined.{written-told}
 use Rattle.numerals.proofs.Determined.{OneResult, OneKnown}
-use Rattle.partial.specs.Addition.{Addition, items}
+use Rattle.additions.specs.Addition.{Addition, items}
 use Rattle.partial.specs.Heading.{Heading}
 use Rattle.partial.specs.Segments.{Segment}
 use Rattle.outside.specs.Chunks.{outsideOf}
@@ -40,5 +40,5 @@ layout-of-result κs args a (sorted, at) x y after after′ p q = one-layout a x
 outside-right-result : OneKnown outside-right.Post (λ κs args ((h, a) : Heading × Addition). (args .0 ≡ h .mixed) × (args .1 .0 ≡ outsideOf (a .outside) (items (a .list)) (a .bytes)))
 outside-right-result κs args (h, a) (mixed, sorted) x y after after′ p q = p h a mixed sorted ∙ sym (q h a mixed sorted)
 
-admission-result : OneKnown admission.Post (λ κs args ((h, ss, a) : Heading × List Segment × Addition). Beside (now (args .0)) h ss (args .1 .0) × Asked a (args .1 .1 .1 .0) (args .1 .1 .1 .1 .0) (args .1 .1 .1 .1 .1 .0) (args .1 .1 .1 .1 .1 .1 .0))
+admission-result : OneKnown admission.Post (λ κs args ((h, ss, a) : Heading × List Segment × Addition). Beside (now (args .0)) h ss (args .1 .0) (now (args .1 .1 .0)) × Asked a (args .1 .1 .1 .1 .0) (args .1 .1 .1 .1 .1 .0) (args .1 .1 .1 .1 .1 .1 .0) (args .1 .1 .1 .1 .1 .1 .1 .0))
 admission-result κs args (h, ss, a) (beside, asked) x y after after′ p q = written-told x y (p h ss a beside asked ∙ sym (q h ss a beside asked))

@@ -17,11 +17,11 @@ use Rattle.partial.specs.Sequences.{sum}
 use Rattle.partial.specs.Segments.{present}
 use Rattle.partial.specs.Limits.{fileLimit}
 use Rattle.partial.specs.Reading.{offsetWidth}
-use Rattle.partial.specs.Addition.{Addition, Item, items, sizeOf, goesOut}
-use Rattle.partial.specs.Append.{Placed, placedWith, placed, flagByte, entryBytes, lengthSize, offsetSize, plocBody, versionFor, psegBody}
+use Rattle.additions.specs.Addition.{Addition, Item, items, sizeOf, goesOut}
+use Rattle.additions.specs.Append.{Placed, placedWith, placed, flagByte, entryBytes, lengthSize, offsetSize, plocBody, versionFor, psegBody}
 use Rattle.partial.proofs.Meaning.SequenceLaws.{which}
-use Rattle.partial.proofs.Writing.FieldsBackLaws.{length-pshd}
-use Rattle.partial.proofs.Writing.PlacedLaws.{length-placed}
+use Rattle.additions.proofs.FieldsBackLaws.{length-pshd}
+use Rattle.additions.proofs.PlacedLaws.{length-placed}
 use Rattle.adding.specs.Counts.{presentOf, Whole}
 use Rattle.adding.specs.declared.counts.Counts.{Counts}
 use Rattle.adding.proofs.CountLaws.{present-most, counted-items, counted-present}

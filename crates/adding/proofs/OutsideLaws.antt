@@ -11,14 +11,14 @@ use lib.ListN.{length}
 use Rattle.boxes.specs.Framing.{boxed}
 use Rattle.boxes.specs.Kinds.{pdat}
 use Rattle.boxes.proofs.BoxedLaws.{front-size, length-boxed}
-use Rattle.partial.specs.Addition.{Addition, items, dataRight, goesOut, goesIn, boxesFor, outsideRight}
-use Rattle.partial.specs.Append.{insideData, outsideData, anyInside, dataBox, stored, addedBoxes}
+use Rattle.additions.specs.Addition.{Addition, items, dataRight, goesOut, goesIn, boxesFor, outsideRight}
+use Rattle.additions.specs.Append.{insideData, outsideData, anyInside, dataBox, stored, addedBoxes}
 use Rattle.partial.specs.Heading.{Heading}
 use Rattle.partial.specs.Mixed.{boxesMany}
 use Rattle.partial.specs.Sequences.{someOf}
 use Rattle.partial.proofs.Meaning.SequenceLaws.{which, both}
-use Rattle.partial.proofs.Writing.AddedBoxesLaws.{length-stored}
-use Rattle.partial.proofs.Writing.DataLaws.{sizes-split, none-sized, data-length, length-inside, length-outside}
+use Rattle.additions.proofs.AddedBoxesLaws.{length-stored}
+use Rattle.additions.proofs.DataLaws.{sizes-split, none-sized, data-length, length-inside, length-outside}
 use Rattle.outside.specs.Chunks.{many, outsideOf}
 use Rattle.outside.specs.declared.chunks.Outside.{Outside}
 use Rattle.outside.proofs.ChunkLaws.{outside-right, outside-chunks, outside-boxes, none-boxes}

@@ -13,10 +13,10 @@ use Rattle.numerals.proofs.NumberLaws.{power-pos}
 use Rattle.numerals.proofs.WidthLaws.{leastWidth-same, below-holds, over-holds, holds-below}
 use Rattle.partial.specs.Sequences.{allOf, largest}
 use Rattle.partial.specs.Reading.{offsetWidth}
-use Rattle.partial.specs.Addition.{Item, sizeOf, goesOut}
-use Rattle.partial.specs.Append.{placedWith, placed, lengthSize, offsetSize, versionFor}
+use Rattle.additions.specs.Addition.{Item, sizeOf, goesOut}
+use Rattle.additions.specs.Append.{placedWith, placed, lengthSize, offsetSize, versionFor}
 use Rattle.partial.proofs.Meaning.SequenceLaws.{which}
-use Rattle.partial.proofs.Writing.PlacedLaws.{offsets-hold}
+use Rattle.additions.proofs.PlacedLaws.{offsets-hold}
 use Rattle.adding.specs.Counts.{Whole, countsOf}
 use Rattle.adding.specs.declared.counts.Counts.{Counts}
 

@@ -6,15 +6,17 @@ use mathlib.Core.List.{List, [], _∷_, _++_, map}
 use mathlib.Core.Path.{_≡_}
 use lib.ListN.{length}
 use Rattle.boxes.specs.Answer.{Answer, refused, given, _>>=_}
-use Rattle.partial.specs.Addition.{Addition}
-use Rattle.partial.specs.Append.{added, admission}
+use Rattle.additions.specs.Addition.{Addition}
+use Rattle.additions.specs.Append.{added, admission, admitted}
 use Rattle.partial.specs.Heading.{Heading, heading}
 use Rattle.partial.specs.Index.{hasIndex, indexed}
 use Rattle.partial.specs.Limits.{sourceLimit}
-use Rattle.partial.specs.Reading.{earlierSegments, admitted}
+use Rattle.partial.specs.Reading.{earlierSegments}
 use Rattle.partial.specs.Segments.{Segment, isLast}
 use Rattle.partial.specs.Sequences.{sum}
-use Rattle.partial.specs.declared.header.SegmentHeader.{SegmentHeader}
+use Rattle.additions.specs.declared.header.SegmentHeader.{SegmentHeader}
+use Rattle.ends.specs.Sizes.{sizesOf}
+use Rattle.ends.specs.Table.{sizesIn}
 use Rattle.gathering.specs.Gathered.{gatheredOf}
 use Rattle.outside.specs.declared.chunks.Outside.{Outside}
 use Rattle.reading.specs.declared.judging.Judged.{Judged}
@@ -56,11 +58,13 @@ unfoldable pub admittedAnswer : Verdict → Answer (Unit {0})
 admittedAnswer (Refused n) = refused n
 admittedAnswer Taken = given tt
 
--- what was read of a file: how many boxes it has, what its segments say together, and whether its `pfil` has an index
-pub record Beside (f : List ℕ) (h : Heading) (ss : List Segment) (j : Judged) : Type 0 where
+-- what was read of a file: how many boxes it has, what its segments say together, what their ends say in a table, and
+-- whether its `pfil` has an index
+pub record Beside (f : List ℕ) (h : Heading) (ss : List Segment) (j : Judged) (z : List ℕ) : Type 0 where
   pub file : Known f h ss (j .head .indexed)
   pub boxes : j .head .boxes ≡ length (h .boxes)
   pub segments : j .gathered ≡ gatheredOf ss
+  pub sizes : sizesIn z 0 ≡ sizesOf ss
 
 -- what is asked of append, by the header, the counts of the chunk list, what goes outside, each chunk whole boxes, and
 -- the layout

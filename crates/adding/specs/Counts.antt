@@ -5,8 +5,8 @@ use mathlib.Core.List.{List, map}
 use mathlib.Core.Path.{_≡_}
 use lib.Dec.{eqb}
 use lib.ListN.{length}
-use Rattle.partial.specs.Addition.{Addition, Item, items, dataSize}
-use Rattle.partial.specs.Segments.{isState, present}
+use Rattle.additions.specs.Addition.{Addition, Item, items, dataSize, isState}
+use Rattle.partial.specs.Segments.{present}
 use Rattle.partial.specs.Sequences.{allOf, largest, sum}
 use Rattle.outside.specs.Chunks.{outsideOf}
 use Rattle.outside.specs.declared.chunks.Outside.{Outside}

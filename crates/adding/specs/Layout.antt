@@ -5,8 +5,8 @@ use mathlib.Core.Bool.{Bool}
 use mathlib.Core.List.{List}
 use mathlib.Core.Path.{_≡_}
 use lib.ListN.{length}
-use Rattle.partial.specs.Addition.{Addition, Item, items}
-use Rattle.partial.specs.Append.{placed, lengthSize, offsetSize, plocBody, versionFor, psegBody, added}
+use Rattle.additions.specs.Addition.{Addition, Item, items}
+use Rattle.additions.specs.Append.{placed, lengthSize, offsetSize, plocBody, versionFor, psegBody, added}
 use Rattle.partial.specs.Limits.{fileLimit}
 use Rattle.partial.specs.Reading.{offsetWidth}
 use Rattle.adding.specs.declared.layout.Layout.{Layout}

@@ -1,9 +1,13 @@
 // Whether a file takes an addition: 35, and then 1, 6, 13, 22, 23, 25, 36, 37 or 39 if the result would have it.
 use crate::counts::Counts;
 use crate::layout::Layout;
+use additions::header::SegmentHeader;
 use boxes::limits::BOX_LIMIT;
 use boxes::refusals::TOO_MANY_BOXES;
 use ends::sizes::gives_size;
+use ends::table::ALL_SIZES;
+use ends::table::ONE_SOURCE;
+use ends::table::sizes_at;
 use gathering::gathered::Gathered;
 use indexing::end::End;
 use numerals::order::ends_by;
@@ -11,7 +15,6 @@ use numerals::order::sum_of;
 use outside::chunks::Outside;
 use partial::answers::Counted;
 use partial::answers::Written;
-use partial::header::SegmentHeader;
 use partial::limits::CHUNK_LIMIT;
 use partial::limits::FILE_LIMIT;
 use partial::limits::SEGMENT_LIMIT;
@@ -29,12 +32,15 @@ ghost use mathlib.Core.List.{List, [], _∷_};
 ghost use mathlib.Core.Path.{_≡_};
 ghost use lib.ListN.{length};
 ghost use Rattle.boxes.specs.Kinds.{fidx, those};
-ghost use Rattle.partial.specs.Addition.{Addition, items, outsideRight};
-ghost use Rattle.partial.specs.Append.{addedBoxes};
+ghost use Rattle.additions.specs.Addition.{Addition, items, outsideRight};
+ghost use Rattle.additions.specs.Append.{addedBoxes};
 ghost use Rattle.partial.specs.Answers.{writtenAnswer};
 ghost use Rattle.partial.specs.Heading.{Heading};
 ghost use Rattle.partial.specs.Meaning.{knownSize};
 ghost use Rattle.partial.specs.Segments.{Segment};
+ghost use Rattle.partial.specs.Sources.{sourceBeside};
+ghost use Rattle.ends.specs.Sizes.{sizesOf};
+ghost use Rattle.ends.specs.Table.{sizesIn};
 ghost use Rattle.gathering.specs.Gathered.{gatheredOf};
 ghost use Rattle.indexing.specs.Ends.{endOf};
 ghost use Rattle.adding.specs.Admission.{Tells, Known, indexedBeside, admittedBeside, admittedAnswer, Beside, Asked, admittedLength};
@@ -83,16 +89,20 @@ fn index_beside(file: &[u8], indexed: bool, segments: u64, size: End) -> Verdict
     }
 }
 
-// 13, 22, 23 and 25 of the new segment, by what was gathered of those before it, and then the index beside it.
+// 13, 22, 23 and 25 of the new segment, by what was gathered of those before it and what their ends say, and then the
+// index beside it.
 fn admitted(
     file: &[u8],
     indexed: bool,
     gathered: Gathered,
+    sizes: &[u64; ALL_SIZES],
     header: SegmentHeader,
     counts: Counts,
 ) -> Verdict
     ensures { λ r. ⌜ ((h : Heading) (ss : List Segment) (s : Segment) → Known (now (file .entry)) h ss indexed
-        → gathered ≡ gatheredOf ss → Tells s header counts → those fidx (s .inner) ≡ []
+        → gathered ≡ gatheredOf ss → sizesIn (now (sizes .entry)) 0 ≡ sizesOf ss
+        → Tells s header counts → those fidx (s .inner) ≡ []
+        → s .urls ≡ h .urls → s .source ≡ sourceBeside ss (h .urls)
         → admittedAnswer r ≡ admittedBeside (now (file .entry)) h ss s) ⌝ }
 {
     let offset = header.offset;
@@ -106,9 +116,9 @@ fn admitted(
         return Verdict::Refused(SOURCE_TOO_LONG);
     }
     let gives = gives_size(header.flags as u64 % 2, counts.items);
-    let sizes = gathered.sizes;
+    let said = sizes_at(sizes, ONE_SOURCE);
     let end = offset.0 + counts.sum;
-    let with = sizes.with(Position(end), gives);
+    let with = said.with(Position(end), gives);
     if !with.agree() {
         return Verdict::Refused(SIZES_DIFFER);
     }
@@ -123,13 +133,14 @@ fn admitted(
 pub fn admission(
     file: &[u8],
     judged: Judged,
+    sizes: &[u64; ALL_SIZES],
     n: u64,
     header: SegmentHeader,
     counts: Counts,
     outside: Outside,
     layout: Layout,
 ) -> Written
-    ensures { λ r. ⌜ ((h : Heading) (ss : List Segment) (a : Addition) → Beside (now (file .entry)) h ss judged
+    ensures { λ r. ⌜ ((h : Heading) (ss : List Segment) (a : Addition) → Beside (now (file .entry)) h ss judged (now (sizes .entry))
         → Asked a header counts outside layout → writtenAnswer r ≡ admittedLength (now (file .entry)) h ss n a) ⌝ }
 {
     let head = judged.head;
@@ -139,7 +150,7 @@ pub fn admission(
     if !ends_by(head.boxes, added_boxes(counts, outside), BOX_LIMIT) {
         return Written::Refused(TOO_MANY_BOXES);
     }
-    match admitted(file, head.indexed, judged.gathered, header, counts) {
+    match admitted(file, head.indexed, judged.gathered, sizes, header, counts) {
         Verdict::Refused(k) => Written::Refused(k),
         Verdict::Taken => Written::Length(n + layout.added),
     }

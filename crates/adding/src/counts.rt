@@ -8,8 +8,7 @@ ghost use mathlib.Core.Bool.{not, _&&_};
 ghost use mathlib.Core.List.{List, [], _∷_, _++_};
 ghost use mathlib.Core.Path.{_≡_};
 ghost use lib.Dec.{eqb};
-ghost use Rattle.partial.specs.Addition.{Item, items};
-ghost use Rattle.partial.specs.Segments.{isState};
+ghost use Rattle.additions.specs.Addition.{Item, items, isState};
 ghost use Rattle.adding.specs.Counts.{countsOf};
 
 // Whether no size is 0 and every state is one; how many items there are, and how many of them are present; the largest

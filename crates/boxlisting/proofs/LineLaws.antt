@@ -17,7 +17,7 @@ use Rattle.filling.specs.Rows.{Puts}
 use Rattle.filling.proofs.PutsLaws.{puts-more}
 use Rattle.partial.specs.BoxList.{hex, shown, each, typeBytes, userBytes, boxLine, faultLine}
 use Rattle.partial.specs.Map.{decimal, line}
-use Rattle.partial.specs.Tables.{bytesIn}
+use Rattle.partial.specs.Heading.{bytesIn}
 use Rattle.texts.specs.Pieces.{PutsPiece}
 use Rattle.texts.proofs.TextLaws.{piece-puts}
 use Rattle.boxlisting.specs.Fields.{userField}

@@ -1,6 +1,6 @@
 // What the ends of segments say of the size of the source, gathered segment by segment.
 use numerals::order::larger;
-use partial::header::SegmentHeader;
+use partial::flags::LAST_SEGMENT;
 use partial::position::Position;
 ghost use mathlib.Core.List.{List, [], _∷_, _++_};
 ghost use mathlib.Core.Path.{_≡_};
@@ -22,7 +22,7 @@ pub struct Sizes {
 pub fn gives_size(flags: u64, count: u64) -> bool
     ensures { λ r. ⌜ ((s : Segment) → flags ≡ s .flags → count ≡ length (s .chunks) → r ≡ givesSize s) ⌝ }
 {
-    if flags % 2 != SegmentHeader::LAST_SEGMENT as u64 {
+    if flags % 2 != LAST_SEGMENT as u64 {
         return false;
     }
     count != 0

@@ -15,7 +15,7 @@ use Rattle.boxes.proofs.AnswerLaws.{not-both, both-given, held, given-same}
 use Rattle.boxes.proofs.KindLaws.{first-is}
 use Rattle.partial.specs.Heading.{Heading}
 use Rattle.partial.specs.Limits.{segmentLimit, sourceLimit}
-use Rattle.partial.specs.Meaning.{agree}
+use Rattle.partial.specs.Sources.{agreed}
 use Rattle.partial.specs.Reading.{pshdFields, pshdRight, segment, segmentsFrom, segments}
 use Rattle.partial.specs.Segments.{Segment}
 use Rattle.partial.proofs.Meaning.SequenceLaws.{both}
@@ -62,7 +62,7 @@ module _ (f : List ℕ) where
     segments-known e =
         let (_, e1) = held 13 (leb (length (those pseg (h .boxes))) segmentLimit) _ e in
         let (ss, read, e2) = both-given (segmentsFrom sourceLimit f h [] (those pseg (h .boxes))) _ e1 in
-        let (_, same) = held 25 (agree ss) _ e2 in
+        let (_, same) = held 25 (agreed ss) _ e2 in
         let (new, all, known) = from-known (those pseg (h .boxes)) [] read in
         subst (SegmentsOf f (those pseg (h .boxes))) (all ∙ given-same same) known
 

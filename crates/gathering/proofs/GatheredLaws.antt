@@ -2,7 +2,7 @@
 use Prim.Native.Nat.{ℕ, _+_}
 use mathlib.Core.Bool.{Bool, false, _||_, or-false}
 use mathlib.Core.List.{List, [], _∷_, _++_}
-use mathlib.Core.Path.{_≡_, ap}
+use mathlib.Core.Path.{_≡_, refl, ap}
 use native.Mathlib.Omega.{arith}
 use lib.ListN.{length, length-append}
 use Rattle.partial.specs.Index.{hasIndex}
@@ -10,14 +10,12 @@ use Rattle.partial.specs.Segments.{Segment, chunksOf}
 use Rattle.partial.specs.Sequences.{someOf}
 use Rattle.partial.proofs.Meaning.SequenceLaws.{some-append}
 use Rattle.partial.proofs.Meaning.SupplyLaws.{chunks-append}
-use Rattle.ends.specs.Sizes.{sizesOf}
-use Rattle.ends.specs.declared.sizes.Sizes.{Sizes}
 use Rattle.gathering.specs.Gathered.{gatheredOf}
 use Rattle.gathering.specs.declared.gathered.Gathered.{Gathered}
 
-pub gathered-none : (x : Sizes) → x ≡ sizesOf [] → record { segments = 0; chunks = 0; sizes = x; indexed = false } ≡ gatheredOf []
+pub gathered-none : record { segments = 0; chunks = 0; indexed = false } ≡ gatheredOf []
 unfolding gatheredOf chunksOf someOf
-gathered-none x e = λ i. record { segments = 0; chunks = 0; sizes = e i; indexed = false }
+gathered-none = refl
 
 -- how many chunks there are with one segment more
 pub chunks-last : (ss : List Segment) (s : Segment) → length (chunksOf (ss ++ (s ∷ []))) ≡ length (chunksOf ss) + length (s .chunks)
@@ -34,19 +32,15 @@ module _ {g : Gathered} (ss : List Segment) (e : g ≡ gatheredOf ss) where
   unfolding gatheredOf
   gathered-chunks = ap (λ g. g .chunks) e
 
-  pub gathered-sizes : g .sizes ≡ sizesOf ss
-  unfolding gatheredOf
-  gathered-sizes = ap (λ g. g .sizes) e
-
   pub gathered-indexed : g .indexed ≡ someOf (λ s. hasIndex (s .inner)) ss
   unfolding gatheredOf
   gathered-indexed = ap (λ g. g .indexed) e
 
-  pub gathered-more : (s : Segment) {count : ℕ} {x : Sizes} {indexed : Bool} → count ≡ length (s .chunks) → x ≡ sizesOf (ss ++ (s ∷ [])) → indexed ≡ hasIndex (s .inner)
-      → record { segments = g .segments + 1; chunks = g .chunks + count; sizes = x; indexed = g .indexed || indexed } ≡ gatheredOf (ss ++ (s ∷ []))
+  pub gathered-more : (s : Segment) {count : ℕ} {indexed : Bool} → count ≡ length (s .chunks) → indexed ≡ hasIndex (s .inner)
+      → record { segments = g .segments + 1; chunks = g .chunks + count; indexed = g .indexed || indexed } ≡ gatheredOf (ss ++ (s ∷ []))
   unfolding gatheredOf someOf
-  gathered-more s {count} {x} {indexed} many sizes flag =
+  gathered-more s {count} {indexed} many flag =
       let segments : g .segments + 1 ≡ length (ss ++ (s ∷ [])) = omega (arith, gathered-segments, length-append ss (s ∷ [])) in
       let chunks : g .chunks + count ≡ length (chunksOf (ss ++ (s ∷ []))) = omega (arith, gathered-chunks, chunks-last ss s) in
       let last : (g .indexed || indexed) ≡ someOf (λ s. hasIndex (s .inner)) (ss ++ (s ∷ [])) = rw (gathered-indexed, flag, some-append, or-false) in
-      λ i. record { segments = segments i; chunks = chunks i; sizes = sizes i; indexed = last i }
+      λ i. record { segments = segments i; chunks = chunks i; indexed = last i }

@@ -71,7 +71,7 @@ pub record NextSegment (rows numbers : List ℕ) (ss : List Segment) (k at : ℕ
   pub ahead : SegmentsKept rows numbers (k + 1) (at + getD rows (segmentRowLength * k + 4) 0) (drop (k + 1) ss)
 
 noSegment : Segment
-noSegment = record { place = 0; inner = []; sourceOffset = 0; flags = 0; repairTime = 0; headerPlace = 0; headerLength = 0; chunks = [] }
+noSegment = record { place = 0; inner = []; urls = []; source = 0; sourceOffset = 0; flags = 0; repairTime = 0; headerPlace = 0; headerLength = 0; chunks = [] }
 
 -- those that were taken have no more chunks than all
 taken-few : (ss : List Segment) (k : ℕ) → length (chunksOf (take k ss)) ≤ length (chunksOf ss)

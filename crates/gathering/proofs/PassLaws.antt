@@ -25,6 +25,8 @@ use Rattle.partial.specs.Reading.{segment, segmentsFrom}
 use Rattle.partial.specs.Segments.{Segment, chunksOf}
 use Rattle.partial.specs.Tables.{segmentRowLength, segmentRow, segmentRows}
 use Rattle.segment.specs.Data.{Searched}
+use Rattle.ends.specs.Sizes.{sizesOf}
+use Rattle.ends.specs.Table.{sizesIn, Cleared, Holds}
 use Rattle.filling.specs.Rows.{Put}
 use Rattle.filling.proofs.RowLaws.{put-none, put-more, put-same}
 use Rattle.gathering.specs.Forms.{formLength, putsOf, allPuts}
@@ -62,7 +64,7 @@ module _ (ss : List Segment) (s : Segment) where
       put-same refl (sym (all-puts-last numbered ss s)) (put-more 0 (allPuts numbered ss) _ p (put-same here refl q))
 
 -- the segments before were read, and the boxes that are left decide
-pub record Midway (f : List ℕ) (h : Heading) (numbered : Bool) (t₀ u₀ t u : List ℕ) (w : Walk) (g : Gathered) (last : Framed) : Type 0 where
+pub record Midway (f : List ℕ) (h : Heading) (numbered : Bool) (t₀ u₀ t u z : List ℕ) (w : Walk) (g : Gathered) (last : Framed) : Type 0 where
   pub before : List Segment
   pub rest : List Box
   pub left : ahead f w ≡ given rest
@@ -71,17 +73,29 @@ pub record Midway (f : List ℕ) (h : Heading) (numbered : Bool) (t₀ u₀ t u 
   pub known : Searched f (boxOf last) (h .boxes)
   pub segments : Put t₀ 0 (segmentRows before) t
   pub chunks : Put u₀ 0 (allPuts numbered before) u
+  pub sizes : Holds z 0 before
 
 module _ (f : List ℕ) (h : Heading) (numbered : Bool) (t₀ u₀ : List ℕ) where
-  pub midway-none : {w : Walk} {g : Gathered} {last : Framed} → ahead f w ≡ given (h .boxes) → g ≡ gatheredOf [] → Searched f (boxOf last) (h .boxes)
-      → Midway f h numbered t₀ u₀ t₀ u₀ w g last
+  pub midway-none : {z : List ℕ} {w : Walk} {g : Gathered} {last : Framed} → ahead f w ≡ given (h .boxes) → g ≡ gatheredOf [] → Searched f (boxOf last) (h .boxes)
+      → Cleared z
+      → Midway f h numbered t₀ u₀ t₀ u₀ z w g last
   unfolding segmentRows
-  midway-none all nothing known =
-      record { before = []; rest = h .boxes; left = all; decide = refl; gathered = nothing; known = known; segments = put-none t₀ 0; chunks = put-same refl (sym (all-puts-none numbered)) (put-none u₀ 0) }
+  midway-none all nothing known clear =
+      record {
+        before = [];
+        rest = h .boxes;
+        left = all;
+        decide = refl;
+        gathered = nothing;
+        known = known;
+        segments = put-none t₀ 0;
+        chunks = put-same refl (sym (all-puts-none numbered)) (put-none u₀ 0);
+        sizes = record { long = clear .long; said = clear .none 0 };
+      }
 
-  module _ {t u : List ℕ} {w : Walk} {g : Gathered} {last : Framed} (m : Midway f h numbered t₀ u₀ t u w g last) where
+  module _ {t u z : List ℕ} {w : Walk} {g : Gathered} {last : Framed} (m : Midway f h numbered t₀ u₀ t u z w g last) where
     module _ {b : Box} {w′ : Walk} (step : stepped f w ≡ given (some (b, w′))) where
-      pub midway-other : is pseg b ≡ false → Midway f h numbered t₀ u₀ t u w′ g last
+      pub midway-other : is pseg b ≡ false → Midway f h numbered t₀ u₀ t u z w′ g last
       midway-other other =
           let (more, after, split) = known-next f w (m .left) step in
           record {
@@ -93,6 +107,7 @@ module _ (f : List ℕ) (h : Heading) (numbered : Bool) (t₀ u₀ : List ℕ) w
             known = m .known;
             segments = m .segments;
             chunks = m .chunks;
+            sizes = m .sizes;
           }
 
       module _ (kind : is pseg b ≡ true) where
@@ -105,10 +120,11 @@ module _ (f : List ℕ) (h : Heading) (numbered : Bool) (t₀ u₀ : List ℕ) w
         unfolding segmentsFrom
         midway-refused fault = next .2 ∙ rw fault
 
-        pub midway-more : {t′ u′ : List ℕ} {g′ : Gathered} {last′ : Framed} → Segmented f h (m .before) b numbered t t′ u u′ (SegmentRead.Given g′ last′) → Midway f h numbered t₀ u₀ t′ u′ w′ g′ last′
+        pub midway-more : {t′ u′ z′ : List ℕ} {g′ : Gathered} {last′ : Framed} → Segmented f h (m .before) b numbered t t′ u u′ z′ (SegmentRead.Given g′ last′)
+            → Midway f h numbered t₀ u₀ t′ u′ z′ w′ g′ last′
         unfolding Segmented segmentsFrom
         midway-more told =
-            let (s, read, gathered, known, segment-row, chunk-rows) = told in
+            let (s, read, gathered, known, segment-row, chunk-rows, sizes) = told in
             let (more, after, decide) = next in
             record {
               before = m .before ++ (s ∷ []);
@@ -119,22 +135,26 @@ module _ (f : List ℕ) (h : Heading) (numbered : Bool) (t₀ u₀ : List ℕ) w
               known = known;
               segments = segments-put (m .before) s (m .segments) segment-row;
               chunks = chunks-put (m .before) s numbered (m .chunks) chunk-rows;
+              sizes = sizes;
             }
 
-    pub midway-end : stepped f w ≡ given none → Gathers f h numbered t₀ t u₀ u (Given g)
+    pub midway-end : stepped f w ≡ given none → Gathers f h numbered t₀ t u₀ u z (Given g)
     unfolding Gathers segmentsFrom
     midway-end step =
         let over = ap (λ (bs : List Box). segmentsFrom sourceLimit f h (m .before) bs) (ap (those pseg) (known-end f w (m .left) step) ∙ those-nil pseg) in
-        (m .before, m .decide ∙ over, m .gathered, m .segments, m .chunks)
+        (m .before, m .decide ∙ over, m .gathered, m .segments, m .chunks, m .sizes .said)
 
     pub midway-sound : {n : ℕ} → stepped f w ≡ refused n → ⊥
     midway-sound step = known-sound f w (m .left) step
 
--- the pass over a file whose segments are known puts their rows
-pub rows-put : (f : List ℕ) (h : Heading) (numbered : Bool) {t₀ t u₀ u : List ℕ} (r : Passed) {ss : List Segment} → Gathers f h numbered t₀ t u₀ u r → segmentsBy f h ≡ given ss
-    → Put t₀ 0 (segmentRows ss) t × Put u₀ 0 (allPuts numbered ss) u
+-- the pass over a file whose segments are known puts their rows and what their ends say
+pub rows-put : (f : List ℕ) (h : Heading) (numbered : Bool) {t₀ t u₀ u : List ℕ} (z : List ℕ) (r : Passed) {ss : List Segment} → Gathers f h numbered t₀ t u₀ u z r → segmentsBy f h ≡ given ss
+    → Put t₀ 0 (segmentRows ss) t × Put u₀ 0 (allPuts numbered ss) u × (sizesIn z 0 ≡ sizesOf ss)
 unfolding Gathers
-rows-put f h numbered (Refused n) fault read = absurd (not-both (sym fault ∙ read))
-rows-put f h numbered {t₀ = t₀} {t = t} {u₀ = u₀} {u = u} (Given g) (ss, read′, _, one, two) read =
-    let same = given-same (sym read′ ∙ read) in
-    (subst (λ (ss : List Segment). Put t₀ 0 (segmentRows ss) t) same one, subst (λ (ss : List Segment). Put u₀ 0 (allPuts numbered ss) u) same two)
+rows-put f h numbered z (Refused n) fault read = absurd (not-both (sym fault ∙ read))
+rows-put f h numbered {t₀ = t₀} {t = t} {u₀ = u₀} {u = u} z (Given g) (ss, read′, _, one, two, said) read =
+    let same = given-same (sym read′ ∙ read) in (
+      subst (λ (ss : List Segment). Put t₀ 0 (segmentRows ss) t) same one,
+      subst (λ (ss : List Segment). Put u₀ 0 (allPuts numbered ss) u) same two,
+      said ∙ ap sizesOf same,
+    )

@@ -16,15 +16,17 @@ use Rattle.boxes.proofs.AnswerLaws.{refused-same, both-given, held, given-same}
 use Rattle.boxes.proofs.KindLaws.{first-is}
 use Rattle.boxes.proofs.ToldLaws.{box-fields}
 use Rattle.partial.specs.Entries.{Ploc, plocHead, chunksFrom}
-use Rattle.partial.specs.Heading.{Heading}
+use Rattle.partial.specs.Heading.{Heading, urlsIn}
 use Rattle.partial.specs.Index.{hasIndex}
 use Rattle.partial.specs.Limits.{chunkLimit, sourceLimit}
 use Rattle.partial.specs.Reading.{pshdRight, pshdFields, segment}
 use Rattle.partial.specs.Segments.{Chunk, Segment, chunksOf, endOf}
+use Rattle.partial.specs.Sources.{urlsFor, sourceBeside}
 use Rattle.partial.specs.Tables.{segmentRowLength, segmentRow}
 use Rattle.partial.proofs.Meaning.SequenceLaws.{both}
 use Rattle.fields.specs.Fields.{valuesOf}
 use Rattle.fields.specs.declared.fields.Fields.{Fields}
+use Rattle.ends.specs.Table.{Holds}
 use Rattle.segment.specs.declared.chunk.Cursor.{Cursor}
 use Rattle.filling.specs.Rows.{Put}
 use Rattle.filling.proofs.RowLaws.{put-same}
@@ -56,12 +58,14 @@ header-whole f b {p} e =
     let same : b ≡ p .header = sym (first-is pshd (lit< tt) inner kind) ∙ ap (λ (x : Box × Fields). x .0) (given-same given-header) ∙ ap (λ p. p .header) (given-same e) in
     subst (λ (b : Box). b .body ≤ b .end) same whole
 
--- a segment of these boxes, parts and chunks, whose box stands at a place
-abbrev pub built : ℕ → List Box → Parts → List Chunk → Segment
-built at inner p cs =
+-- a segment of these boxes, parts and chunks, beside those before it, whose box stands at a place
+abbrev pub built : List ℕ → Heading → List Segment → ℕ → List Box → Parts → List Chunk → Segment
+built f h before at inner p cs =
     record {
       place = at;
       inner = inner;
+      urls = urlsFor (urlsIn f inner) (h .urls);
+      source = sourceBeside before (urlsFor (urlsIn f inner) (h .urls));
       sourceOffset = p .fields .offset .0;
       flags = p .fields .flags;
       repairTime = p .fields .repair;
@@ -76,7 +80,7 @@ judged limit f h before at inner p = do
   _ ← hold 22 (leb (length (chunksOf before) + p .location .count) chunkLimit)
   _ ← hold 23 (leb (p .fields .offset .0) limit)
   cs ← chunksFrom limit f h at (p .location) (p .location .count) (record { at = p .location .first; start = p .fields .offset .0 })
-  given (built at inner p cs)
+  given (built f h before at inner p cs)
 
 -- the same tests, grouped as the parts of a segment's box are
 regrouped : (header : Box × Fields) (indexed : Bool) (next : Parts → Answer Segment) (x y z : Bool) (w : Answer Ploc)
@@ -151,28 +155,30 @@ module _ (f : List ℕ) (h : Heading) (ss : List Segment) (b : Framed) where
         abbrev first : Cursor
         first = record { at = p .location .first; start = p .fields .offset; last = last }
 
-        by-chunks : segment sourceLimit f h ss (boxOf b) ≡ (chunksBy f h (b .at .0) (p .location) first >>= λ cs. given (built (b .at .0) (inside .0) (partsOf p) cs))
+        by-chunks : segment sourceLimit f h ss (boxOf b) ≡ (chunksBy f h (b .at .0) (p .location) first >>= λ cs. given (built f h ss (b .at .0) (inside .0) (partsOf p) cs))
         by-chunks = by-parts ∙ rw (le-leb (length (chunksOf ss) + p .location .count) chunkLimit few, le-leb (p .fields .offset .0) sourceLimit near)
 
         pub segment-cut : {n : ℕ} → chunksBy f h (b .at .0) (p .location) first ≡ refused n → segment sourceLimit f h ss (boxOf b) ≡ refused n
         segment-cut e = by-chunks ∙ rw e
 
-        pub segment-read : {cs : List Chunk} → chunksBy f h (b .at .0) (p .location) first ≡ given cs → segment sourceLimit f h ss (boxOf b) ≡ given (built (b .at .0) (inside .0) (partsOf p) cs)
+        pub segment-read : {cs : List Chunk} → chunksBy f h (b .at .0) (p .location) first ≡ given cs → segment sourceLimit f h ss (boxOf b) ≡ given (built f h ss (b .at .0) (inside .0) (partsOf p) cs)
         segment-read e = by-chunks ∙ rw e
 
-        pub segment-told : {before g : Gathered} {numbered : Bool} {t₀ t u₀ u : List ℕ} {cs : List Chunk} {c : Cursor} → before ≡ gatheredOf ss
+        pub segment-told : {before g : Gathered} {numbered : Bool} {t₀ t u₀ u z : List ℕ} {cs : List Chunk} {c : Cursor} → before ≡ gatheredOf ss
             → chunksBy f h (b .at .0) (p .location) first ≡ given cs → length cs ≡ p .location .count → Ran f (h .boxes) first before numbered u₀ cs c u
             → Put t₀ (segmentRowLength * before .segments) (rowBy (b .at .0) (p .fields) (p .location .count) (boxOf (p .header))) t
-            → ((s : Segment) → p .fields .flags ≡ s .flags → p .location .count ≡ length (s .chunks) → c .start .0 ≡ endOf s → p .indexed ≡ hasIndex (s .inner) → g ≡ gatheredOf (ss ++ (s ∷ [])))
-            → Segmented f h ss (boxOf b) numbered t₀ t u₀ u (Given g (c .last))
+            → ((s : Segment) → p .location .count ≡ length (s .chunks) → p .indexed ≡ hasIndex (s .inner) → g ≡ gatheredOf (ss ++ (s ∷ [])))
+            → ((s : Segment) → p .fields .flags ≡ s .flags → p .location .count ≡ length (s .chunks) → c .start .0 ≡ endOf s → Holds z 0 (ss ++ (s ∷ [])))
+            → Segmented f h ss (boxOf b) numbered t₀ t u₀ u z (Given g (c .last))
         unfolding Segmented endOf segmentRow
-        segment-told {numbered = numbered} {cs = cs} so-far e many ran put gathers =
-            let s = built (b .at .0) (inside .0) (partsOf p) cs in
+        segment-told {numbered = numbered} {cs = cs} so-far e many ran put gathers ends =
+            let s = built f h ss (b .at .0) (inside .0) (partsOf p) cs in
             let number = gathered-segments ss so-far in (
               s,
               segment-read e,
-              gathers s refl (sym many) (ran .ends) flagged,
+              gathers s (sym many) flagged,
               ran .known,
               put-same (ap (λ (n : ℕ). segmentRowLength * n) number) (ap (λ (n : ℕ). rowBy (b .at .0) (p .fields) n (boxOf (p .header))) (sym many)) put,
               put-same (ap (λ (n : ℕ). formLength numbered * n) (gathered-chunks ss so-far)) (ap (λ (n : ℕ). putsOf numbered n cs) number) (ran .rows),
+              ends s refl (sym many) (ran .ends),
             )

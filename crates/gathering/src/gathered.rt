@@ -1,8 +1,10 @@
-// What is gathered of the segments of a file, one after another.
-use ends::sizes::Sizes;
+// What is gathered of the segments of a file, one after another, beside a table of what their ends say.
 use ends::sizes::gives_size;
+use ends::table::ALL_SIZES;
+use ends::table::put_sizes;
+use ends::table::sizes_at;
 use partial::position::Position;
-ghost use Prim.Native.Nat.{_+_, _≤_};
+ghost use Prim.Native.Nat.{_+_, _≤_, _<_};
 ghost use mathlib.Core.List.{List, [], _∷_, _++_};
 ghost use mathlib.Core.Path.{_≡_};
 ghost use lib.ListN.{length};
@@ -10,14 +12,13 @@ ghost use Rattle.boxes.specs.Framing.{boxLimit};
 ghost use Rattle.partial.specs.Index.{hasIndex};
 ghost use Rattle.partial.specs.Limits.{chunkLimit};
 ghost use Rattle.partial.specs.Segments.{Segment, endOf};
+ghost use Rattle.ends.specs.Table.{sources, Holds};
 ghost use Rattle.gathering.specs.Gathered.{gatheredOf};
 
-// How many segments there are, how many chunks they have, what their ends say of the size of the source, and whether
-// some segment has an index.
+// How many segments there are, how many chunks they have, and whether some segment has an index.
 pub struct Gathered {
     pub segments: u64,
     pub chunks: u64,
-    pub sizes: Sizes,
     pub indexed: bool,
 }
 
@@ -29,24 +30,36 @@ impl Gathered {
         Gathered {
             segments: 0,
             chunks: 0,
-            sizes: Sizes::none(),
             indexed: false,
         }
     }
 
-    // With one segment more, of these flags and so many chunks, that ends there and has an index or none.
-    pub(crate) fn with(self, flags: u64, count: u64, end: Position, indexed: bool) -> Self
+    // With one segment more, of so many chunks, that has an index or none.
+    pub(crate) fn with(self, count: u64, indexed: bool) -> Self
         requires { ⌜ (self .segments ≤ boxLimit) × (self .chunks + count ≤ chunkLimit) ⌝ }
         ensures { λ r. ⌜ (r .segments ≡ self .segments + 1) × (r .chunks ≡ self .chunks + count)
-            × ((ss : List Segment) (s : Segment) → self ≡ gatheredOf ss → flags ≡ s .flags
-            → count ≡ length (s .chunks) → end .0 ≡ endOf s → indexed ≡ hasIndex (s .inner) → r ≡ gatheredOf (ss ++ (s ∷ []))) ⌝ }
+            × ((ss : List Segment) (s : Segment) → self ≡ gatheredOf ss → count ≡ length (s .chunks)
+            → indexed ≡ hasIndex (s .inner) → r ≡ gatheredOf (ss ++ (s ∷ []))) ⌝ }
     {
-        let sizes = self.sizes;
         Gathered {
             segments: self.segments + 1,
             chunks: self.chunks + count,
-            sizes: sizes.with(end, gives_size(flags, count)),
             indexed: self.indexed | indexed,
         }
     }
+}
+
+// Puts the end of a segment of a source, of these flags and so many chunks, to those that the table holds of it.
+pub(crate) fn add_end(
+    sizes: &mut [u64; ALL_SIZES],
+    source: u64,
+    flags: u64,
+    count: u64,
+    end: Position,
+)
+    ensures { λ _. ⌜ ((ss : List Segment) (s : Segment) → source < sources → Holds (now (sizes .entry)) source ss
+        → flags ≡ s .flags → count ≡ length (s .chunks) → end .0 ≡ endOf s → Holds (now (sizes .exit)) source (ss ++ (s ∷ []))) ⌝ }
+{
+    let before = sizes_at(sizes, source);
+    put_sizes(sizes, source, before.with(end, gives_size(flags, count)));
 }

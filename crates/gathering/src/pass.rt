@@ -6,6 +6,8 @@ use boxes::kinds::Container;
 use boxes::kinds::PSEG;
 use boxes::walk::Step;
 use boxes::walk::Walk;
+use ends::table::ALL_SIZES;
+use ends::table::clear_sizes;
 use numerals::place::Place;
 use segment::tops::NO_TOP;
 use segment::tops::TOPS;
@@ -26,20 +28,24 @@ pub enum Passed {
 }
 
 // Judges the segments of a file, which is mixed or not, in their order, and puts their rows and the numbers or the
-// rows of their chunks into the tables that have room for them all.
+// rows of their chunks into the tables that have room for them all, and what their ends say into the caller's own
+// table, which may hold anything after a refusal.
 pub fn pass(
     file: &[u8],
     mixed: bool,
     numbered: bool,
     segments: &mut [u64],
     chunks: &mut [u64],
+    sizes: &mut [u64; ALL_SIZES],
 ) -> Passed
     ensures { λ r. ⌜ ((h : Heading)
         → boxesIn File (now (file .entry)) 0 (length (now (file .entry))) ≡ given (h .boxes) → mixed ≡ h .mixed
-        → Gathers (now (file .entry)) h numbered (now (segments .entry)) (now (segments .exit)) (now (chunks .entry)) (now (chunks .exit)) r) ⌝ }
+        → Gathers (now (file .entry)) h numbered (now (segments .entry)) (now (segments .exit)) (now (chunks .entry)) (now (chunks .exit))
+        (now (sizes .exit)) r) ⌝ }
 {
     let mut tops = [NO_TOP; TOPS];
     tops_of(file, &mut tops);
+    clear_sizes(sizes);
     let mut walk = Walk::new(Container::File, Place(0), Place(file.len() as u64));
     let mut gathered = Gathered::none();
     // No box held a chunk before the first.
@@ -59,6 +65,7 @@ pub fn pass(
                         numbered,
                         segments,
                         chunks,
+                        sizes,
                     ) {
                         SegmentRead::Refused(n) => return Passed::Refused(n),
                         SegmentRead::Given(more, held) => {

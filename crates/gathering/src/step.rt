@@ -2,10 +2,13 @@
 use crate::chunks::ChunksRead;
 use crate::chunks::chunks_of;
 use crate::gathered::Gathered;
+use crate::gathered::add_end;
 use crate::parts::PartsRead;
 use crate::parts::parts_of;
 use crate::rows::put_segment;
 use boxes::framing::Framed;
+use ends::table::ALL_SIZES;
+use ends::table::ONE_SOURCE;
 use partial::limits::CHUNK_LIMIT;
 use partial::limits::SOURCE_LIMIT;
 use partial::refusals::SOURCE_TOO_LONG;
@@ -19,6 +22,7 @@ ghost use Rattle.boxes.specs.Framing.{boxLimit, boxOf};
 ghost use Rattle.partial.specs.Heading.{Heading};
 ghost use Rattle.partial.specs.Limits.{chunkLimit};
 ghost use Rattle.partial.specs.Segments.{Segment};
+ghost use Rattle.ends.specs.Table.{Holds};
 ghost use Rattle.segment.specs.Data.{Searched};
 ghost use Rattle.segment.specs.Tops.{Tops};
 ghost use Rattle.gathering.specs.Gathered.{gatheredOf};
@@ -41,13 +45,14 @@ pub(crate) fn segment_of(
     numbered: bool,
     segments: &mut [u64],
     chunks: &mut [u64],
+    sizes: &mut [u64; ALL_SIZES],
 ) -> SegmentRead
     requires { ⌜ (before .segments ≤ boxLimit) × (before .chunks ≤ chunkLimit) ⌝ }
     ensures { λ r. ⌜ Counted before r × ((h : Heading) (ss : List Segment) → mixed ≡ h .mixed
         → Searched (now (file .entry)) (boxOf last) (h .boxes) → Tops (h .boxes) (now (tops .entry))
-        → before ≡ gatheredOf ss
+        → before ≡ gatheredOf ss → Holds (now (sizes .entry)) 0 ss
         → Segmented (now (file .entry)) h ss (boxOf b) numbered (now (segments .entry)) (now (segments .exit))
-        (now (chunks .entry)) (now (chunks .exit)) r) ⌝ }
+        (now (chunks .entry)) (now (chunks .exit)) (now (sizes .exit)) r) ⌝ }
 {
     let place = b.at;
     match parts_of(file, b) {
@@ -56,7 +61,6 @@ pub(crate) fn segment_of(
             let fields = p.fields;
             let location = p.location;
             let header = p.header;
-            let indexed = p.indexed;
             let at = location.first;
             let count = location.count;
             let start = fields.offset;
@@ -81,9 +85,9 @@ pub(crate) fn segment_of(
                 ChunksRead::Refused(n) => SegmentRead::Refused(n),
                 ChunksRead::Given(cursor) => {
                     put_segment(segments, before.segments, place, fields, count, header);
-                    let end = cursor.start;
+                    add_end(sizes, ONE_SOURCE, fields.flags, count, cursor.start);
                     let held = cursor.last;
-                    SegmentRead::Given(before.with(fields.flags, count, end, indexed), held)
+                    SegmentRead::Given(before.with(count, p.indexed), held)
                 }
             }
         }

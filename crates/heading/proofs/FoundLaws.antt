@@ -2,7 +2,6 @@
 use Prim.Native.Nat.{ℕ, _+_, _-_, _≤_, zero-le}
 use mathlib.Core.Bool.{true}
 use mathlib.Core.List.{List, [], _∷_}
-use mathlib.Core.Option.{some}
 use mathlib.Core.Path.{_≡_, ap, _∙_}
 use native.Mathlib.Decide.{decLe}
 use native.Mathlib.Omega.{arith}
@@ -12,32 +11,15 @@ use lib.ListN.{length, List·getD-eq-default}
 use Rattle.boxes.specs.Answer.{given}
 use Rattle.boxes.specs.Framing.{Box, boxesIn, boxOf}
 use Rattle.boxes.specs.Kinds.{those, noBox, boxAt, firstOf}
-use Rattle.boxes.specs.Walk.{stepped}
 use Rattle.boxes.specs.declared.framing.Framed.{Framed}
 use Rattle.boxes.specs.declared.kinds.Container.{Container}
 use Rattle.boxes.specs.declared.kinds.Kind.{Kind}
-use Rattle.boxes.specs.declared.walk.Walk.{Walk}
 use Rattle.boxes.proofs.KindLaws.{boxAt-getD, boxAt-second, firstOf-those}
 use Rattle.boxes.proofs.ToldLaws.{box-fields}
-use Rattle.boxes.proofs.WalkLaws.{met}
 use Rattle.partial.specs.Sequences.{allOf}
 use Rattle.partial.proofs.Meaning.SequenceLaws.{both}
 use Rattle.partial.proofs.Reading.HeadingAppendLaws.{lies, boxes-lie, all-boxAt, those-all}
-use Rattle.heading.specs.Steps.{Within}
-
--- what lies before an end lies before one further on
-pub further-within : {end end′ : ℕ} {b : Framed} → end ≤ end′ → Within end b → Within end′ b
-further-within on within = record { whole = within .whole; ends = omega arith }
-
--- a box that was met lies in the container, which ends where it did
-module _ (s : List ℕ) (w : Walk) (b : Framed) {w′ : Walk} (step : stepped s w ≡ given (some (boxOf b, w′))) where
-  pub met-within : Within (w .end .0) b
-  met-within =
-      let inside = rw (box-fields b) at (met s w step .inside) in
-      record { whole = inside .whole; ends = inside .ends }
-
-  pub end-kept : w′ .end ≡ w .end
-  end-kept = ap (λ w. w .end) (met s w step .onward)
+use Rattle.surls.specs.Parts.{Within}
 
 -- ---- the box of a number
 

@@ -3,4 +3,3 @@ pub mod Determined
 pub mod FormLaws
 pub mod FoundLaws
 pub mod StageLaws
-pub mod TextLaws

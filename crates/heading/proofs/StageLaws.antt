@@ -12,11 +12,12 @@ use Rattle.boxes.specs.declared.framing.Framed.{Framed}
 use Rattle.boxes.specs.declared.kinds.Container.the-variants.{File, Pfil}
 use Rattle.boxes.proofs.ToldLaws.{box-fields}
 use Rattle.partial.specs.Limits.{fileLimit}
-use Rattle.partial.specs.Heading.{ftypRight, brandRight, pfilRight, pfhdRight, surlRight, url, mime, fileBoxes, judged, heading}
+use Rattle.partial.specs.Heading.{ftypRight, brandRight, pfilRight, pfhdRight, surlRight, url, mime, urlsIn, fileBoxes, judged, heading}
 use Rattle.partial.specs.Index.{hasIndex}
+use Rattle.surls.specs.Parts.{partOf}
 use Rattle.heading.specs.declared.answers.Head.{Head}
 use Rattle.heading.specs.declared.answers.Headed.the-variants.{Found}
-use Rattle.heading.specs.Facts.{factsOf, partOf, headedAnswer}
+use Rattle.heading.specs.Facts.{factsOf, headedAnswer}
 use Rattle.heading.specs.Steps.{Fronted}
 
 module _ (f : List ℕ) where
@@ -61,7 +62,7 @@ module _ (f : List ℕ) where
         unfolding judged
         surl-refused pfhd wrong = rw (t .ftyp, t .brand, t .pfil, ← same, box-fields b, inner, pfhd, wrong)
 
-        pub all-right : pfhdRight f is ≡ true → surlRight f is ≡ true → judged f bs ≡ given (record { boxes = bs; inner = is; mixed = mixed })
+        pub all-right : pfhdRight f is ≡ true → surlRight f is ≡ true → judged f bs ≡ given (record { boxes = bs; inner = is; urls = urlsIn f is; mixed = mixed })
         unfolding judged
         all-right pfhd surl = rw (t .ftyp, t .brand, t .pfil, ← same, box-fields b, inner, pfhd, surl, ← (t .brands))
 
@@ -70,7 +71,7 @@ module _ (f : List ℕ) where
       → h .indexed ≡ hasIndex is
       → partOf (h .url) ≡ url f (firstOf surl is)
       → partOf (h .mime) ≡ mime f (firstOf surl is)
-      → headedAnswer (Found h) ≡ given (factsOf f (record { boxes = bs; inner = is; mixed = h .mixed }))
+      → headedAnswer (Found h) ≡ given (factsOf f (record { boxes = bs; inner = is; urls = urlsIn f is; mixed = h .mixed }))
   unfolding headedAnswer factsOf
   found-told bs is h boxes segments indexed url mime =
       λ i. given (record { boxes = boxes i; segments = segments i; mixed = h .mixed; indexed = indexed i; url = url i; mime = mime i })

@@ -7,7 +7,7 @@ use Rattle.boxes.specs.Answer.{Answer, refused, given, _>>=_}
 use Rattle.boxes.specs.Kinds.{surl, pseg, those, firstOf}
 use Rattle.partial.specs.Heading.{Part, Heading, url, mime}
 use Rattle.partial.specs.Index.{hasIndex}
-use Rattle.heading.specs.declared.answers.Part as Stated
+use Rattle.surls.specs.Parts.{partOf}
 use Rattle.heading.specs.declared.answers.Head.{Head}
 use Rattle.heading.specs.declared.answers.Headed.{Headed}
 use Rattle.heading.specs.declared.answers.Headed.the-variants.{Refused, Found}
@@ -30,10 +30,6 @@ factsOf f h =
 -- what is told of a heading, or its refusal
 abbrev pub told : List ℕ → Answer Heading → Answer Facts
 told f answer = answer >>= λ h. given (factsOf f h)
-
--- what a part that was found says
-abbrev pub partOf : Stated.Part → Part
-partOf p = record { place = p .place .0; size = p .size }
 
 -- what a head that was found says
 abbrev pub factsBy : Head → Facts

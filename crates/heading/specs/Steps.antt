@@ -1,16 +1,10 @@
 -- What a step of reading a heading takes from those before it.
-use Prim.Native.Nat.{ℕ, _≤_}
+use Prim.Native.Nat.{ℕ}
 use mathlib.Core.Bool.{Bool, true}
 use mathlib.Core.List.{List}
 use mathlib.Core.Path.{_≡_}
 use Rattle.boxes.specs.Framing.{Box}
-use Rattle.boxes.specs.declared.framing.Framed.{Framed}
 use Rattle.partial.specs.Heading.{ftypRight, branded, pmff, brandRight, pfilRight}
-
--- a box that was read lies before an end
-pub record Within (end : ℕ) (b : Framed) : Type 0 where
-  pub whole : b .body .0 ≤ b .end .0
-  pub ends : b .end .0 ≤ end
 
 -- stages 7 to 9 are passed, and whether the file is mixed is known
 pub record Fronted (f : List ℕ) (mixed : Bool) (bs : List Box) : Type 0 where

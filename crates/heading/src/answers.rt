@@ -1,11 +1,5 @@
 // The answer of the heading's call.
-use numerals::place::Place;
-
-// A part of the file: its place and its size.
-pub struct Part {
-    pub place: Place,
-    pub size: u64,
-}
+use surls::part::Part;
 
 // How many boxes the file has, how many of them are `pseg`, whether it is mixed, whether its `pfil` has an index, and
 // the URL and the MIME text of the first `surl`.

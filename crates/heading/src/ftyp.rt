@@ -16,7 +16,7 @@ ghost use Rattle.boxes.specs.Framing.{Box, boxOf};
 ghost use Rattle.boxes.specs.Kinds.{boxAt};
 ghost use Rattle.tallying.specs.Rules.{tallyOf};
 ghost use Rattle.partial.specs.Heading.{ftypRight, branded, pmff, brandRight};
-ghost use Rattle.heading.specs.Steps.{Within};
+ghost use Rattle.surls.specs.Parts.{Within};
 
 // The bytes of the major brand and the minor version, which stand before the compatible brands.
 const BRANDS_FROM: u64 = 8;

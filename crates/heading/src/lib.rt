@@ -4,4 +4,3 @@ pub mod find;
 mod ftyp;
 mod pfil;
 pub mod stages;
-mod surl;

@@ -1,9 +1,6 @@
 // Refusals 9 to 11: the `pfil` box, the framing of its body, and the `pfhd` and the `surl` boxes in it.
 use crate::answers::Head;
 use crate::answers::Headed;
-use crate::surl::mime_of;
-use crate::surl::surl_formed;
-use crate::surl::url_of;
 use boxes::framing::Framed;
 use boxes::kinds::Container;
 use boxes::kinds::FIDX;
@@ -11,12 +8,13 @@ use boxes::kinds::PFHD;
 use boxes::kinds::PFIL;
 use boxes::kinds::PSEG;
 use boxes::kinds::SURL;
-use boxes::walk::Step;
-use boxes::walk::Walk;
 use numerals::numbers::unsigned;
 use numerals::place::Place;
 use partial::refusals::PFHD_WRONG;
 use partial::refusals::SURL_WRONG;
+use surls::formed::surls_formed;
+use surls::texts::mime_of;
+use surls::texts::url_of;
 use tallying::counting::tally;
 use tallying::find::first_of;
 use tallying::rules::keeps;
@@ -27,13 +25,13 @@ ghost use mathlib.Core.Path.{_≡_};
 ghost use lib.ListN.{length};
 ghost use Rattle.boxes.specs.Answer.{given};
 ghost use Rattle.boxes.specs.Framing.{Box, boxesIn, boxOf};
-ghost use Rattle.boxes.specs.Kinds.{pfhd, surl, those, boxAt, firstOf};
+ghost use Rattle.boxes.specs.Kinds.{pfhd, boxAt, firstOf};
 ghost use Rattle.boxes.specs.declared.kinds.Container.the-variants.{Pfil};
 ghost use Rattle.tallying.specs.Rules.{tallyOf};
-ghost use Rattle.partial.specs.Heading.{pfilRight, pfhdFormed, pfhdRight, surlFormed, surlRight, judged};
-ghost use Rattle.partial.specs.Sequences.{allOf};
+ghost use Rattle.partial.specs.Heading.{pfilRight, pfhdFormed, pfhdRight, surlRight, judged};
 ghost use Rattle.heading.specs.Facts.{told, headedAnswer};
-ghost use Rattle.heading.specs.Steps.{Within, Fronted};
+ghost use Rattle.surls.specs.Parts.{Within};
+ghost use Rattle.heading.specs.Steps.{Fronted};
 
 // Whether the second box of the file is `pfil`, and the only one.
 pub(crate) fn pfil_right(b: Framed, boxes: Tally) -> bool
@@ -68,28 +66,6 @@ fn pfhd_right(file: &[u8], b: Framed, inner: Tally) -> bool
     pfhd_formed(file, b)
 }
 
-// Whether each `surl` of a `pfil` whose body starts and ends at these places is well-formed.
-fn surls_formed(file: &[u8], start: Place, end: Place) -> bool
-    requires { ⌜ end .0 ≤ length (now file) ⌝ }
-    ensures { λ r. ⌜ ((bs : List Box) → boxesIn Pfil (now (file .entry)) (start .0) (end .0) ≡ given bs → r ≡ allOf (surlFormed (now (file .entry))) (those surl bs)) ⌝ }
-{
-    let mut walk = Walk::new(Container::Pfil, start, end);
-    loop {
-        match walk.step(file) {
-            Step::Next(b, next) => {
-                walk = next;
-                if b.kind == SURL.code {
-                    if !surl_formed(file, b) {
-                        return false;
-                    }
-                }
-            }
-            Step::End => return true,
-            Step::Refused(_) => return false,
-        }
-    }
-}
-
 // Whether `pfil` has one `surl` or more, each well-formed.
 fn surl_right(file: &[u8], start: Place, end: Place, inner: Tally) -> bool
     requires { ⌜ end .0 ≤ length (now file) ⌝ }
@@ -98,7 +74,7 @@ fn surl_right(file: &[u8], start: Place, end: Place, inner: Tally) -> bool
     if !keeps(Container::Pfil, SURL, inner.of(SURL)) {
         return false;
     }
-    surls_formed(file, start, end)
+    surls_formed(file, Container::Pfil, start, end)
 }
 
 // What the heading tells of a file that passed stages 1 to 9, or the refusal that its `pfil` has.

@@ -1,10 +1,8 @@
 -- Laws of the list had of a file whose segments are kept: it is the file's, and has room where it is put.
 use Prim.Native.Nat.{ℕ, _*_, _≤_}
-use mathlib.Core.List.{List, [], _∷_, _++_}
-use mathlib.Core.Logic.{inl, inr}
+use mathlib.Core.List.{List, _++_}
 use mathlib.Core.Path.{_≡_, sym, ap, _∙_}
 use native.Mathlib.Omega.{arith}
-use lib.Dec.{eqb}
 use lib.ListN.{length, drop, length-append}
 use lib.Seq.{drop-append-seam}
 use Rattle.boxes.specs.Answer.{given}
@@ -12,14 +10,12 @@ use Rattle.partial.specs.Heading.{Heading, heading}
 use Rattle.partial.specs.Limits.{chunkLimit, sourceLimit}
 use Rattle.partial.specs.Meaning.{describedLength}
 use Rattle.partial.specs.Memory.{filled}
-use Rattle.partial.specs.Ranges.{Range, had, rangesOf, ofClass, hadList}
+use Rattle.partial.specs.Ranges.{had, hadList}
 use Rattle.partial.specs.Reading.{segments}
 use Rattle.partial.specs.Segments.{Segment, good, chunksOf}
 use Rattle.partial.specs.Tables.{rangeRowLength, hadRows}
-use Rattle.partial.proofs.Meaning.EdgeLaws.{listed-few}
 use Rattle.partial.proofs.Meaning.ListingLaws.{listing}
-use Rattle.partial.proofs.Meaning.SequenceLaws.{which}
-use Rattle.partial.proofs.Reading.ReadingLaws.{accepted}
+use Rattle.partial.proofs.Reading.OneSourceLaws.{accepted}
 use Rattle.gathering.specs.Kept.{Kept}
 use Rattle.gathering.proofs.RowLaws.{put-filled}
 use Rattle.spans.specs.Chunks.{manyOf, SpansOf}
@@ -30,6 +26,7 @@ use Rattle.listing.specs.Lists.{Lists}
 use Rattle.listing.specs.declared.lists.Totals.{Totals}
 use Rattle.listing.proofs.CallsLaws.{of-file}
 use Rattle.listing.proofs.ListLaws.{range-rows-long}
+use Rattle.listing.proofs.ManyLaws.{class-few}
 use Rattle.indexrows.specs.Marking.{rangeLimit, AcceptedIn}
 use Rattle.indexrows.specs.Serving.{HadIn}
 
@@ -40,15 +37,6 @@ starts-filled rows t₀ e =
     e ∙ ap (λ (rest : List ℕ). rows ++ rest) (sym (ap (drop (length rows)) e ∙ drop-append-seam rows (drop (length rows) t₀)))
 
 -- ---- an accepted file
-
-class-few : (c : ℕ) (rs : List Range) → length (ofClass c rs) ≤ length rs
-unfolding ofClass
-class-few c [] = omega arith
-class-few c (r ∷ rs) =
-    elim (which (eqb (r .class) c)) [
-      | inl here ↦ rw (ofClass, here) (omega (arith, class-few c rs))
-      | inr other ↦ rw (ofClass, other) (omega (arith, class-few c rs))
-    ]
 
 -- its lists are as they should be, and it has no more ranges than it may
 pub accepted-in : (f : List ℕ) (h : Heading) {rows : List ℕ} {many : ℕ} {numbers : List ℕ} {end : ℕ} {ss : List Segment} → heading f ≡ given h → segments sourceLimit f h ≡ given ss
@@ -61,7 +49,7 @@ accepted-in f h {ss = ss} head all kept described =
       kept = kept;
       described = described;
       lists = listing ss (ok .agreed) (ok .order);
-      few = omega (arith, class-few had (rangesOf ss), listed-few ss (ok .order), kept .few, kept .chunks);
+      few = omega (arith, class-few had ss (ok .order), kept .few, kept .chunks);
     }
 
 module _ {rows : List ℕ} {many : ℕ} {numbers : List ℕ} {end : ℕ} {ss : List Segment} (a : AcceptedIn rows many numbers end ss) where

@@ -10,7 +10,7 @@ use native.Mathlib.Omega.{arith}
 use borrow.Author.Tests.{leb-true, leb-false, ltb-true}
 use lib.Dec.{T, leb, ltb}
 use lib.ListN.{length, getD, drop}
-use Rattle.partial.specs.Demands.{Listing}
+use Rattle.partial.specs.ReadingDemands.{Listing}
 use Rattle.partial.specs.Index.{servedOf}
 use Rattle.partial.specs.Meaning.{supplied, describedLength}
 use Rattle.partial.specs.Memory.{filled}

@@ -1,5 +1,8 @@
 // The index of a file: its rows, with what is served of each box.
 use crate::marking::mark_by;
+use ends::table::ALL_SIZES;
+use ends::table::ONE_SOURCE;
+use ends::table::sizes_at;
 use fileindex::file::index_of;
 use indexing::end::End;
 use partial::answers::Counted;
@@ -18,7 +21,8 @@ pub fn index(file: &[u8], table: &mut [u64]) -> Counted
     // What is kept goes into tables of the call's own, by which the rows are marked.
     let mut rows = [0; ALL_SEGMENT_ROWS];
     let mut numbers = [0; ALL_NUMBERS];
-    match judge_into(file, &mut rows, &mut numbers) {
+    let mut sizes = [0; ALL_SIZES];
+    match judge_into(file, &mut rows, &mut numbers, &mut sizes) {
         Judgement::Refused(n) => Counted::Refused(n),
         Judgement::Given(judged) => {
             let count = judged.index;
@@ -29,14 +33,14 @@ pub fn index(file: &[u8], table: &mut [u64]) -> Counted
                 return Counted::Rows(0);
             }
             let gathered = judged.gathered;
-            let sizes = gathered.sizes;
-            let at = sizes.size;
+            let said = sizes_at(&sizes, ONE_SOURCE);
+            let at = said.size;
             let size = End {
-                known: sizes.known,
+                known: said.known,
                 at,
             };
             index_of(file, size, table);
-            let end = sizes.described();
+            let end = said.described();
             mark_by(&rows, gathered.segments, &numbers, end, count, table);
             Counted::Rows(count)
         }

@@ -1,11 +1,13 @@
 -- Laws of listing: the lists of a file's chunks are those of the file, what each test decides, and what is left in the
 -- tables and lists.
-use Prim.Native.Nat.{ℕ, _*_, _<_, _≤_}
-use mathlib.Core.Bool.{and-false}
+use Prim.Native.Nat.{ℕ, _*_, _/_, _<_, _≤_}
+use mathlib.Core.Bool.{true, false, _&&_, and-false}
 use mathlib.Core.List.{List}
+use mathlib.Core.Logic.{inl, inr}
 use mathlib.Core.Path.{_≡_, refl, ap, _∙_}
 use native.Mathlib.Omega.{arith}
-use borrow.Author.Tests.{le-leb, lt-leb}
+use borrow.Author.Tests.{leb-true, leb-false, le-leb, lt-leb}
+use lib.Dec.{leb}
 use lib.ListN.{length}
 use Rattle.boxes.specs.Answer.{refused, given}
 use Rattle.partial.specs.Answers.{listedAnswer}
@@ -16,6 +18,7 @@ use Rattle.partial.specs.Segments.{Segment}
 use Rattle.partial.specs.Tables.{rangeRowLength, tabled, listed, segmentRows, chunkRows, hadRows, missingRows, totals}
 use Rattle.partial.specs.declared.answers.Listed.{Listed}
 use Rattle.partial.specs.declared.answers.Listed.the-variants as Listed
+use Rattle.partial.proofs.Meaning.SequenceLaws.{which, both}
 use Rattle.filling.specs.Rows.{Put}
 use Rattle.gathering.proofs.RowLaws.{put-filled}
 use Rattle.spans.specs.Files.{Spanned}
@@ -62,19 +65,38 @@ missing-long : (ss : List Segment) → length (missingRows ss) ≡ rangeRowLengt
 unfolding missingRows
 missing-long ss = range-rows-long (missingList ss)
 
+-- both lists have room for as many rows as they have ranges
+pub lists-room : (ss : List Segment) (c d : List ℕ)
+    → (leb (length (hadList ss)) (length c / rangeRowLength) && leb (length (missingList ss)) (length d / rangeRowLength)) ≡ true
+    → (rangeRowLength * length (hadList ss) ≤ length c) × (rangeRowLength * length (missingList ss) ≤ length d)
+lists-room ss c d e =
+    let (one, two) = both (leb (length (hadList ss)) (length c / rangeRowLength)) (leb (length (missingList ss)) (length d / rangeRowLength)) e in (
+      omega (arith, leb-true (length (hadList ss)) (length c / rangeRowLength) one),
+      omega (arith, leb-true (length (missingList ss)) (length d / rangeRowLength) two),
+    )
+
 module _ (f a b c d : List ℕ) where
   pub listed-refused : {n : ℕ} → tabled sourceLimit f a b ≡ refused n → listed sourceLimit f a b c d ≡ refused n
   unfolding listed
   listed-refused e = rw e
 
   module _ (ss : List Segment) (read : tabled sourceLimit f a b ≡ given ss) where
-    pub had-short : length c < rangeRowLength * length (hadList ss) → listed sourceLimit f a b c d ≡ refused 26
+    had-short : length c < rangeRowLength * length (hadList ss) → listed sourceLimit f a b c d ≡ refused 26
     unfolding listed fits
     had-short short = rw (read, lt-leb (length (hadRows ss)) (length c) (omega (arith, had-long ss)))
 
-    pub missing-short : length d < rangeRowLength * length (missingList ss) → listed sourceLimit f a b c d ≡ refused 26
+    missing-short : length d < rangeRowLength * length (missingList ss) → listed sourceLimit f a b c d ≡ refused 26
     unfolding listed fits
     missing-short short = rw (read, lt-leb (length (missingRows ss)) (length d) (omega (arith, missing-long ss)), and-false)
+
+    -- where one of them has no room for as many rows as it has ranges
+    pub lists-short : (leb (length (hadList ss)) (length c / rangeRowLength) && leb (length (missingList ss)) (length d / rangeRowLength)) ≡ false
+        → listed sourceLimit f a b c d ≡ refused 26
+    lists-short e =
+        elim (which (leb (length (hadList ss)) (length c / rangeRowLength))) [
+          | inl room ↦ missing-short (omega (arith, leb-false (length (missingList ss)) (length d / rangeRowLength) (rw room at e)))
+          | inr short ↦ had-short (omega (arith, leb-false (length (hadList ss)) (length c / rangeRowLength) short))
+        ]
 
     pub listed-given : rangeRowLength * length (hadList ss) ≤ length c → rangeRowLength * length (missingList ss) ≤ length d → listed sourceLimit f a b c d ≡ given ss
     unfolding listed fits

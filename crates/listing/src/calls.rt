@@ -1,9 +1,13 @@
 // Listing into the two lent lists, after reading into the two lent tables.
 use crate::lists::Totals;
 use crate::lists::put_lists;
+use ends::table::ALL_SIZES;
+use ends::table::ONE_SOURCE;
+use ends::table::sizes_at;
 use fields::state::GOOD;
 use filling::rows::put_row;
 use gathering::kept::fill_rows;
+use numerals::order::smaller;
 use partial::answers::Listed;
 use partial::position::Position;
 use partial::refusals::TABLE_TOO_SHORT;
@@ -16,7 +20,13 @@ use reading::judging::Judgement;
 use reading::judging::judge_into;
 use spans::chunks::ALL_SPANS;
 use spans::files::file_spans;
+ghost use Prim.Native.Nat.{_≤_};
+ghost use mathlib.Core.Bool.{_&&_};
 ghost use mathlib.Core.List.{List};
+ghost use mathlib.Core.Path.{_≡_};
+ghost use lib.Dec.{leb};
+ghost use lib.ListN.{length};
+ghost use Rattle.partial.specs.Ranges.{hadList, missingList};
 ghost use Rattle.partial.specs.Segments.{Segment};
 ghost use Rattle.spans.specs.Files.{Spanned};
 ghost use Rattle.spans.specs.Spans.{Ordered};
@@ -30,6 +40,23 @@ fn counted(spans: &[u64], n: usize, end: Position) -> Totals
     let mut no_had = [0; 1];
     let mut no_missing = [0; 1];
     put_lists(spans, n, end, &mut no_had, &mut no_missing)
+}
+
+// Whether two lists with so many rows each have room for their ranges, of which neither has more than `most`. These are
+// counted only where a list has fewer rows than that.
+fn have_room(spans: &[u64], n: usize, end: Position, most: u64, had: u64, missing: u64) -> bool
+    ensures { λ r. ⌜ (Ordered (now (spans .entry)) n (end .0) → (ss : List Segment) → Spanned ss (now (spans .entry)) n (end .0)
+        → length (hadList ss) ≤ most → length (missingList ss) ≤ most
+        → r ≡ (leb (length (hadList ss)) had && leb (length (missingList ss)) missing)) ⌝ }
+{
+    if most <= smaller(had, missing) {
+        return true;
+    }
+    let totals = counted(spans, n, end);
+    if had < totals.had {
+        return false;
+    }
+    totals.missing <= missing
 }
 
 // Lists the ranges of positions that a file has and of those that are missing, and reads it into both tables. After a
@@ -47,31 +74,31 @@ pub fn list(
     // What is kept goes into tables of the call's own, so that the file is judged and kept in one pass.
     let mut rows = [0; ALL_SEGMENT_ROWS];
     let mut numbers = [0; ALL_NUMBERS];
-    match judge_into(file, &mut rows, &mut numbers) {
+    let mut sizes = [0; ALL_SIZES];
+    match judge_into(file, &mut rows, &mut numbers, &mut sizes) {
         Judgement::Refused(n) => Listed::Refused(n),
         Judgement::Given(judged) => {
             let gathered = judged.gathered;
-            let sizes = gathered.sizes;
-            let end = sizes.described();
+            let end = sizes_at(&sizes, ONE_SOURCE).described();
             let mut spans = [0; ALL_SPANS];
             let n = file_spans(GOOD, &rows, gathered.segments, &numbers, end, &mut spans);
-            let totals = counted(&spans, n, end);
             if segments.len() as u64 / SEGMENT_ROW < gathered.segments {
                 return Listed::Refused(TABLE_TOO_SHORT);
             }
             if chunks.len() as u64 / CHUNK_ROW < gathered.chunks {
                 return Listed::Refused(TABLE_TOO_SHORT);
             }
-            if had.len() as u64 / RANGE_ROW < totals.had {
-                return Listed::Refused(TABLE_TOO_SHORT);
-            }
-            if missing.len() as u64 / RANGE_ROW < totals.missing {
+            // Ranges had and missing take turns, and there are no more than one, and one for each segment and chunk.
+            let most = (2 + gathered.segments + gathered.chunks) / 2;
+            let had_rows = had.len() as u64 / RANGE_ROW;
+            let missing_rows = missing.len() as u64 / RANGE_ROW;
+            if !have_room(&spans, n, end, most, had_rows, missing_rows) {
                 return Listed::Refused(TABLE_TOO_SHORT);
             }
             let rows_end = (SEGMENT_ROW * gathered.segments) as usize;
             put_row(segments, 0, &rows[..rows_end]);
             fill_rows(&rows, gathered.segments, &numbers, chunks);
-            put_lists(&spans, n, end, had, missing);
+            let totals = put_lists(&spans, n, end, had, missing);
             Listed::Lists {
                 had: totals.had,
                 missing: totals.missing,

@@ -4,6 +4,9 @@ use crate::lines::put_total;
 use crate::outline::Outline;
 use crate::outline::outline_of;
 use crate::ranges::put_ranges;
+use ends::table::ALL_SIZES;
+use ends::table::ONE_SOURCE;
+use ends::table::sizes_at;
 use partial::answers::Written;
 use partial::refusals::BUFFER_TOO_SHORT;
 use partial::refusals::INPUT_TOO_LONG;
@@ -87,14 +90,23 @@ fn write_map(file: &[u8], most: u64, buffer: &mut [u8], named: bool) -> Written
     }
     let mut rows = [0; ALL_SEGMENT_ROWS];
     let mut numbers = [0; ALL_NUMBERS];
-    match judge_into(file, &mut rows, &mut numbers) {
+    let mut sizes = [0; ALL_SIZES];
+    match judge_into(file, &mut rows, &mut numbers, &mut sizes) {
         Judgement::Refused(n) => write_refused(buffer, n),
         Judgement::Given(judged) => {
             let gathered = judged.gathered;
-            let sizes = gathered.sizes;
-            let end = sizes.described();
+            let said = sizes_at(&sizes, ONE_SOURCE);
+            let end = said.described();
             let mut spans = [0; ALL_SPANS];
-            let o = outline_of(&rows, &numbers, gathered, end, named, &mut spans);
+            let o = outline_of(
+                &rows,
+                &numbers,
+                gathered,
+                end,
+                said.known,
+                named,
+                &mut spans,
+            );
             write_outline(buffer, &spans, o)
         }
     }

@@ -27,14 +27,15 @@ pub struct Outline {
     pub named: bool,
 }
 
-// The outline of a file by what is kept of it and gathered. Ranges part only where a segment starts or a chunk ends. A
-// chunk is good or damaged or neither, so that a table with room for a span of each chunk has room for both kinds, the
-// damaged ones behind the good ones.
+// The outline of a file by what is kept of it and gathered, its described length, and whether its size is known. Ranges
+// part only where a segment starts or a chunk ends. A chunk is good or damaged or neither, so that a table with room for
+// a span of each chunk has room for both kinds, the damaged ones behind the good ones.
 pub(crate) fn outline_of(
     rows: &[u64; ALL_SEGMENT_ROWS],
     numbers: &[u64; ALL_NUMBERS],
     gathered: Gathered,
     end: Position,
+    closed: bool,
     named: bool,
     spans: &mut [u64],
 ) -> Outline
@@ -42,7 +43,7 @@ pub(crate) fn outline_of(
     ensures { λ o. ⌜ Drawn (now (spans .exit)) (behind (now (spans .exit)) (o .good)) o × (o .named ≡ named)
         × ((ss : List Segment) → 2 * chunkLimit ≤ length (now (spans .entry))
         → Kept (now (rows .entry)) (gathered .segments) (now (numbers .entry)) ss
-        → length (rangesFor named ss) ≤ gathered .segments + gathered .chunks + 1 → end .0 ≡ describedLength ss → gathered .sizes .known ≡ isClosed ss
+        → length (rangesFor named ss) ≤ gathered .segments + gathered .chunks + 1 → end .0 ≡ describedLength ss → closed ≡ isClosed ss
         → Outlined ss (now (spans .exit)) (behind (now (spans .exit)) (o .good)) o) ⌝ }
 {
     let many = gathered.segments;
@@ -50,13 +51,12 @@ pub(crate) fn outline_of(
     let good = file_spans(GOOD, rows, many, numbers, end, spans);
     let behind = 2 * good;
     let damaged = file_damage(rows, many, numbers, end, named, &mut spans[behind..]);
-    let sizes = gathered.sizes;
     Outline {
         good,
         damaged,
         most,
         end,
-        closed: sizes.known,
+        closed,
         named,
     }
 }

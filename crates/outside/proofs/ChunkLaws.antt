@@ -7,7 +7,7 @@ use mathlib.Core.Path.{_≡_, refl, sym, ap, _∙_}
 use native.Mathlib.Nat.{add-assoc}
 use native.Mathlib.Omega.{arith}
 use lib.ListN.{length, take, drop, length-take, length-drop, length-append}
-use Rattle.partial.specs.Addition.{Item, items, dataSize, goesOut, dataFor, boxesFor}
+use Rattle.additions.specs.Addition.{Item, items, dataSize, goesOut, dataFor, boxesFor}
 use Rattle.partial.specs.Mixed.{areBoxes, boxesMany}
 use Rattle.partial.specs.Sequences.{someOf, sum}
 use Rattle.partial.proofs.Meaning.SequenceLaws.{which, both}

@@ -9,12 +9,12 @@ use native.Mathlib.Nat.{zero-add}
 use native.Mathlib.Omega.{arith}
 use lib.ListN.{length, take, drop, getD, length-take, length-drop, drop-of-length-le}
 use lib.Seq.{drop-cons, drop-drop, take-all}
-use Rattle.partial.specs.Addition.{Item, items, dataSize, goesOut, goesIn, dataFor, boxesFor}
+use Rattle.additions.specs.Addition.{Item, items, dataSize, goesOut, goesIn, dataFor, boxesFor}
 use Rattle.partial.specs.Mixed.{areBoxes}
 use Rattle.partial.specs.Segments.{present}
 use Rattle.partial.specs.Sequences.{someOf, sum}
 use Rattle.partial.proofs.Meaning.SequenceLaws.{which}
-use Rattle.partial.proofs.Writing.DataLaws.{outside, inside, nowhere, goes}
+use Rattle.additions.proofs.DataLaws.{outside, inside, nowhere, goes}
 use Rattle.outside.specs.Chunks.{many}
 
 module _ (list : List ℕ) (i : ℕ) where

@@ -3,7 +3,7 @@ use Prim.Native.Nat.{ℕ, _+_}
 use mathlib.Core.Bool.{Bool, true, false, _&&_}
 use mathlib.Core.List.{List, [], _∷_, map}
 use lib.ListN.{length, take, drop}
-use Rattle.partial.specs.Addition.{Item, dataSize, goesOut}
+use Rattle.additions.specs.Addition.{Item, dataSize, goesOut}
 use Rattle.partial.specs.Mixed.{areBoxes, boxesMany}
 use Rattle.partial.specs.Sequences.{sum}
 use Rattle.outside.specs.declared.chunks.Outside.{Outside}

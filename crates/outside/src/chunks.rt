@@ -7,7 +7,7 @@ use crate::whole::whole_of;
 ghost use Prim.Native.Nat.{_+_, _<_, _^_};
 ghost use mathlib.Core.Path.{_≡_};
 ghost use lib.ListN.{length};
-ghost use Rattle.partial.specs.Addition.{items};
+ghost use Rattle.additions.specs.Addition.{items};
 ghost use Rattle.outside.specs.Chunks.{noChunk, chunkOf, together, outsideOf};
 
 // Whether each chunk is whole allowed boxes; how many chunks there are, how many bytes they have, and how many boxes

@@ -5,7 +5,7 @@ use fields::state::present;
 ghost use Prim.Native.Nat.{ℕ, _+_, min};
 ghost use mathlib.Core.List.{[], _∷_};
 ghost use mathlib.Core.Path.{_≡_};
-ghost use Rattle.partial.specs.Addition.{dataSize, goesOut};
+ghost use Rattle.additions.specs.Addition.{dataSize, goesOut};
 
 // How many bytes of data an item has.
 pub fn data_of(size: u64, state: u64) -> u64

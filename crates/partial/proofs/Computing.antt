@@ -8,6 +8,7 @@ use Rattle.partial.specs.Heading
 use Rattle.partial.specs.Mixed
 use Rattle.partial.specs.Entries
 use Rattle.partial.specs.Meaning
+use Rattle.partial.specs.Sources
 use Rattle.partial.specs.Index
 use Rattle.partial.specs.Reading
 use Rattle.partial.specs.Ranges
@@ -16,12 +17,6 @@ use Rattle.partial.specs.Memory
 use Rattle.partial.specs.Tables
 use Rattle.partial.specs.Map
 use Rattle.partial.specs.BoxList
-use Rattle.partial.specs.Begin
-use Rattle.partial.specs.Addition
-use Rattle.partial.specs.Append
-use Rattle.partial.specs.Runs
-use Rattle.partial.specs.Again
-use Rattle.partial.specs.Carried
 
 unfoldable pub computing : Unit {0}
 unfolding
@@ -31,17 +26,18 @@ unfolding
     Framing.boxesIn Framing.boxOf
     Framing.headerAnswer Framing.frontSize Framing.front Framing.boxed
     Kinds.is Kinds.those Kinds.keeps Kinds.rightCount Kinds.right Kinds.boxAt Kinds.firstOf
-    Sequences.someOf Sequences.allOf Sequences.sum Sequences.largest Sequences.within Sequences.stretch
-    Segments.isState Segments.present Segments.corrupted Segments.hasPlace Segments.isOpen Segments.isLast Segments.endOf
+    Sequences.someOf Sequences.allOf Sequences.sum Sequences.largest Sequences.within Sequences.stretch Sequences.orElse
+    Segments.present Segments.corrupted Segments.hasPlace Segments.isOpen Segments.isLast Segments.endOf
     Segments.chunksOf
-    Heading.ftypRight Heading.brandsFrom Heading.brands Heading.branded Heading.brandRight Heading.pfilRight
+    Heading.bytesIn Heading.ftypRight Heading.brandsFrom Heading.brands Heading.branded Heading.brandRight Heading.pfilRight
     Heading.pfhdFormed Heading.pfhdRight Heading.text Heading.url Heading.mime Heading.surlFormed Heading.surlRight
-    Heading.fileBoxes Heading.judged Heading.heading
+    Heading.urlsIn Heading.fileBoxes Heading.judged Heading.heading
     Mixed.allowed Mixed.fillUp Mixed.wholeBoxes Mixed.boxesOf Mixed.areBoxes Mixed.boxesMany
     Entries.plocHead Entries.state Entries.stateOf Entries.entry Entries.inData Entries.mayLie Entries.offsetPlace Entries.placeOf
     Entries.chunkStep Entries.chunksFrom
+    Sources.urlsFor Sources.sameList Sources.sameText Sources.sameUrls Sources.sourceCount Sources.sourceAmong Sources.sourceBeside Sources.ofSource Sources.agreed
     Reading.offsetWidth Reading.pshdFields Reading.pshdRight Reading.segment Reading.segmentsFrom Reading.segments Reading.reading
-    Reading.earlierSegments Reading.admitted
+    Reading.earlierSegments
     Meaning.givesSize Meaning.knownSize Meaning.describedLength Meaning.isClosed Meaning.agree Meaning.covers Meaning.supplier
     Meaning.supplied Meaning.placeOfByte Meaning.served Meaning.onward Meaning.servedRun Meaning.missingRun Meaning.reply
     Index.sizeBy Index.frontBy Index.indexFields Index.isKnown Index.endFrom Index.wherever Index.endRight Index.frontPart Index.listFramed
@@ -51,19 +47,10 @@ unfolding
     Ranges.among Ranges.apart Ranges.inRow
     Memory.fits Memory.filled Memory.after Memory.textWritten
     Tables.segmentRow Tables.segmentRows Tables.chunkRow Tables.chunkRowsOf Tables.chunkRowsFrom Tables.chunkRows Tables.rangeRows
-    Tables.hadRows Tables.missingRows Tables.tabled Tables.listed Tables.summary Tables.totals Tables.bytesIn Tables.nowhere
+    Tables.hadRows Tables.missingRows Tables.tabled Tables.listed Tables.summary Tables.totals Tables.nowhere
     Tables.servedPart Tables.asked Tables.textOf Tables.indexTabled
     Naming.damagedAt Naming.namedClass Naming.namedRanges Naming.heldList Naming.lostList
     Map.ascii Map.decimal Map.line Map.refusedLine Map.sourceLine Map.rangeLine Map.rangeLines Map.totalLine Map.mapWord Map.mapOf Map.missWord Map.missmapOf
     Map.textFor Map.mapText Map.missmapText
     BoxList.hex BoxList.prints BoxList.shown BoxList.each BoxList.typeBytes BoxList.userBytes BoxList.boxLine BoxList.faultLine BoxList.walkLines BoxList.boxesText
-    Begin.brandCode Begin.beginning Begin.isText Begin.begun
-    Addition.asks Addition.items Addition.listRight Addition.dataSize Addition.dataRight Addition.goesOut Addition.goesIn Addition.dataFor Addition.boxesFor
-    Addition.outsideRight Addition.sayable
-    Append.insideData Append.outsideData Append.anyInside Append.dataBox Append.stored Append.addedBoxes Append.back Append.placedWith Append.placed Append.lengthSize Append.offsetSize Append.flagByte Append.entryBytes
-    Append.plocBody Append.versionFor Append.pshdBody Append.psegBody Append.added Append.psegPlace Append.newChunks
-    Append.newInner Append.newSegment Append.admission Append.appended Append.result
-    Runs.bufferIn Runs.fileIn Runs.sizeAfter Runs.begin Runs.append Runs.appendAll
-    Again.dataOf Again.listFor Again.someOutside Again.again Again.writeAgain
-    Carried.carriedBy Carried.carried Carried.orElse
 computing = tt

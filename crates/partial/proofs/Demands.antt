@@ -1,30 +1,31 @@
--- The three demands hold of the definitions, at the product's source limit; no map program answers 33; and what was
--- accepted under document 01's limit keeps its answers.
-use lib.Dec.{lit<, lit≤}
+-- What the demands say of reading holds of the definitions, at any source limit; and no map program answers 33.
+use Prim.Native.Nat.{ℕ}
 use Rattle.partial.specs.Limits.{sourceLimit, programBuffer}
 use Rattle.partial.specs.Map.{mapOf, missmapOf}
-use Rattle.partial.specs.Demands.{Demand1, Demand2, Demand3, NeverShort}
-use Rattle.partial.specs.Raised.{Raised}
-use Rattle.partial.proofs.Reading.RefusalLaws as RefusalLaws
+use Rattle.partial.specs.ReadingDemands.{NeverShort, Demand2OfReading}
+use Rattle.partial.proofs.Reading.AgreementReadLaws.{agrees, disagrees, index-refused}
+use Rattle.partial.proofs.Reading.IndexingLaws.{indexing}
+use Rattle.partial.proofs.Reading.PartLaws.{part-empty}
+use Rattle.partial.proofs.Reading.PrintedLaws.{printed}
+use Rattle.partial.proofs.Reading.OneSourceLaws.{one-source}
+use Rattle.partial.proofs.Reading.ReadingLaws.{mapped-of}
 use Rattle.partial.proofs.Reading.TextLengthLaws.{never-short, map-fits, missmap-fits}
-use Rattle.partial.proofs.Writing.AdditionLaws as AdditionLaws
-use Rattle.partial.proofs.Writing.RaisedWriterLaws.{raised-limit}
-use Rattle.partial.proofs.Writing.WriterLaws as WriterLaws
 
-pub demand1 : Demand1 sourceLimit
-demand1 = RefusalLaws.demand1 sourceLimit
-
-pub demand2 : Demand2 sourceLimit
-demand2 = WriterLaws.demand2 sourceLimit (lit< tt)
-
-pub demand3 : Demand3 sourceLimit
-demand3 = AdditionLaws.demand3 sourceLimit (lit< tt)
+pub demand2-of-reading : (limit : ℕ) → Demand2OfReading limit
+demand2-of-reading limit =
+    record {
+      mapped = λ f h ss head read. mapped-of limit f head read;
+      oneSource = λ f ss read. one-source limit f read;
+      agrees = agrees limit;
+      disagrees = disagrees limit;
+      indexRefused = index-refused limit;
+      indexing = λ f h ss is _ _ e. indexing limit f h ss is e;
+      partEmpty = part-empty limit;
+      printed = λ of. printed of limit;
+    }
 
 pub map-never-short : NeverShort mapOf sourceLimit programBuffer
 map-never-short = never-short mapOf map-fits
 
 pub missmap-never-short : NeverShort missmapOf sourceLimit programBuffer
 missmap-never-short = never-short missmapOf missmap-fits
-
-pub raised : Raised 4_294_967_295 sourceLimit
-raised = raised-limit 4_294_967_295 sourceLimit (lit≤ tt)

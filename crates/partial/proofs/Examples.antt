@@ -1,4 +1,4 @@
--- The worked examples: the definitions say what the paper says.
+-- The worked examples of reading: the definitions say what the paper says.
 use Prim.Native.Nat.{ℕ}
 use mathlib.Core.List.{List}
 use mathlib.Core.Path.{_≡_, refl, _∙_}

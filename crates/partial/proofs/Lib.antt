@@ -4,4 +4,3 @@ pub mod Determined
 pub mod Examples
 pub mod Meaning
 pub mod Reading
-pub mod Writing

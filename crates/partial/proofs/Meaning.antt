@@ -1,4 +1,4 @@
--- Laws of a list of segments: supply, the described length, the lists, serving and asking.
+-- Laws of a list of segments: supply, the described length, the lists, serving and asking, and its sources.
 pub mod AgreementLaws
 pub mod AlikeLaws
 pub mod DescribedLaws
@@ -9,7 +9,9 @@ pub mod MappedLaws
 pub mod NamingLaws
 pub mod RangeLaws
 pub mod RunLaws
+pub mod SameLaws
 pub mod SequenceLaws
 pub mod ServingLaws
+pub mod SourceLaws
 pub mod StretchLaws
 pub mod SupplyLaws

@@ -12,7 +12,7 @@ use Rattle.boxes.specs.Framing.{Box, Fault, Walked, uuid, walkedIn}
 use Rattle.boxes.specs.declared.kinds.Container.the-variants.{File}
 use Rattle.partial.specs.Limits.{fileLimit}
 use Rattle.partial.specs.Map.{ascii, decimal, line, refusedLine}
-use Rattle.partial.specs.Tables.{bytesIn}
+use Rattle.partial.specs.Heading.{bytesIn}
 
 -- a byte in two hex digits
 unfoldable pub hex : ℕ → List ℕ

@@ -1,8 +1,9 @@
--- Document 01, "Numbers to hold against it" and "Errors this trade makes": worked examples as one table with one
--- statement, computed over the definitions. P1 to P12 are the paper's; the others are the map and the rows of P10, a
--- case of each error that no P shows, and those of document 02.
+-- Document 01, "Numbers to hold against it" and "Errors this trade makes": worked examples of reading as one table with
+-- one statement, computed over the definitions. P1 to P7, P11 and P12 are the paper's, and P9 and P10 what it says of
+-- their files; the others are the maps and the rows of P10, a case of each error that no P shows, and those of document
+-- 02. The examples of begin and append stand in the crate `additions`.
 use Prim.Native.Nat.{ℕ, _-_}
-use mathlib.Core.Bool.{Bool, true, false}
+use mathlib.Core.Bool.{true, false}
 use mathlib.Core.List.{List, [], _∷_, _++_, map}
 use mathlib.Core.Option.{Option·getD}
 use mathlib.Core.Path.{_≡_}
@@ -14,21 +15,17 @@ use Rattle.boxes.specs.Framing.{uuid, header, boxed}
 use Rattle.boxes.specs.Kinds.{ftyp, pdat, pseg, pshd, ploc, is}
 use Rattle.boxes.specs.declared.kinds.Container.the-variants.{File, Pseg}
 use Rattle.numerals.specs.declared.numbers.Offset.the-variants.{Back}
-use Rattle.partial.specs.declared.brand.Brand.{Brand}
-use Rattle.partial.specs.declared.brand.Brand.the-variants.{Paff, Pmff}
 use Rattle.partial.specs.Limits.{programLimit, sourceLimit}
-use Rattle.partial.specs.Heading.{url, mime}
+use Rattle.partial.specs.Heading.{url, mime, bytesIn}
 use Rattle.partial.specs.Entries.{plocHead, entry}
 use Rattle.partial.specs.Meaning.{describedLength, isClosed, served}
 use Rattle.partial.specs.Reading.{reading}
 use Rattle.partial.specs.Memory.{after}
-use Rattle.partial.specs.Tables.{missingRows, tabled, summary, segmentRows, chunkRows, bytesIn, servedPart, textOf}
-use Rattle.partial.specs.Segments.{Segment}
+use Rattle.partial.specs.Tables.{missingRows, tabled, summary, segmentRows, chunkRows, servedPart, textOf}
+use Rattle.partial.specs.Segments.{Segment, lost}
+use Rattle.partial.specs.Sources.{sourceBeside, agreed}
 use Rattle.partial.specs.Map.{ascii, sourceLine, mapText, missmapText, textFor, refusedLine}
 use Rattle.partial.specs.BoxList.{boxesText}
-use Rattle.partial.specs.Addition.{Addition}
-use Rattle.partial.specs.Append.{pshdBody, added, appended}
-use Rattle.partial.specs.Runs.{lent, fileIn, begin, append}
 use Rattle.partial.specs.Lesson.{begunBytes, firstBytes, secondBytes}
 
 -- what the definitions say and what the paper says, each as numbers in a row
@@ -99,51 +96,14 @@ P6 = record { defined = widthBack 128; paper = pos 1 ∷ [] }
 abbrev P7 : Example
 P7 = record { defined = widthBack 129; paper = pos 2 ∷ [] }
 
--- a buffer's room past the file in it
-abbrev spare : List ℕ
-spare = replicate 100 255
-
--- the file that begin writes with a brand, URL `a` and empty MIME
-abbrev begunFile : Brand → List ℕ
-begunFile brand = fileIn (begin spare brand (97 ∷ []) [])
-
--- P8: it has 55 bytes, the last fifteen those of its `surl`
-abbrev P8 : Example
-P8 =
-    record {
-      defined = pos (length (begunFile Paff)) ∷ map pos (drop 40 (begunFile Paff));
-      paper = map pos (55 ∷ 0x00 ∷ 0x00 ∷ 0x00 ∷ 0x0f ∷ 0x73 ∷ 0x75 ∷ 0x72 ∷ 0x6c ∷ 0x00 ∷ 0x00 ∷ 0x00 ∷ 0x00 ∷ 0x61 ∷ 0x00 ∷ 0x00 ∷ []);
-    }
-
--- a segment with its good chunks outside `pdat` or not, at an offset, last or not, with a chunk list and data
-abbrev segmentWith : Bool → ℕ → Bool → List ℕ → List ℕ → Addition
-segmentWith outside offset last list bytes =
-    record { sourceOffset = offset; repairTime = 0; last = last; outside = outside; list = list; bytes = bytes }
-
-abbrev pub segmentAt : ℕ → Bool → List ℕ → List ℕ → Addition
-segmentAt = segmentWith false
-
--- the file that append makes of a file
-abbrev grownBy : List ℕ → Addition → List ℕ
-grownBy f a = fileIn (append sourceLimit (lent (f ++ spare) (length f)) a)
-
--- what it answers
-abbrev pub answerTo : List ℕ → Addition → List ℤ
-answerTo f a = says (appended sourceLimit (f ++ spare) (length f) a >>= λ size. given (pos size ∷ []))
-
-abbrev missingIn : List ℕ → Answer (List ℤ)
+abbrev pub missingIn : List ℕ → Answer (List ℤ)
 missingIn f = do
   ss ← reading sourceLimit f
   given (map pos (missingRows ss))
 
--- P9: offset 0, good 4, lost 6, last: missing is (4, 6)
+-- P9's file: missing is (4, 6)
 abbrev P9 : Example
-P9 =
-    let f = begunBytes ++ firstBytes in
-    record {
-      defined = map pos (grownBy begunBytes (segmentAt 0 true (4 ∷ 2 ∷ 6 ∷ 0 ∷ []) (11 ∷ 12 ∷ 13 ∷ 14 ∷ []))) ++ says (missingIn f);
-      paper = map pos f ++ (pos 4 ∷ pos 6 ∷ []);
-    }
+P9 = record { defined = says (missingIn (begunBytes ++ firstBytes)); paper = pos 4 ∷ pos 6 ∷ [] }
 
 -- the bytes served for positions 2 and 3
 abbrev servedIn : List ℕ → Answer (List ℤ)
@@ -151,16 +111,41 @@ servedIn f = do
   ss ← reading sourceLimit f
   given (map pos (Option·getD (served f ss 2) 0 ∷ Option·getD (served f ss 3) 0 ∷ []))
 
--- P10: P9 and then a segment at 2, good 5: positions 2 and 3 still come from the first; missing is (7, 3)
+-- P10's file, which has a segment at 2 besides: positions 2 and 3 still come from the first; missing is (7, 3)
 abbrev P10 : Example
 P10 =
     let f = begunBytes ++ (firstBytes ++ secondBytes) in
-    record {
-      defined =
-          map pos (grownBy (begunBytes ++ firstBytes) (segmentAt 2 false (5 ∷ 2 ∷ []) (21 ∷ 22 ∷ 23 ∷ 24 ∷ 25 ∷ [])))
-          ++ (says (servedIn f) ++ says (missingIn f));
-      paper = map pos f ++ (pos 13 ∷ pos 14 ∷ pos 7 ∷ pos 3 ∷ []);
-    }
+    record { defined = says (servedIn f) ++ says (missingIn f); paper = pos 13 ∷ pos 14 ∷ pos 7 ∷ pos 3 ∷ [] }
+
+-- the body of a `pshd` in its two forms, with flags and a source offset: version 0 with 32 bits for it, and version 1
+-- with 64
+abbrev pub version0 : ℕ → ℕ → List ℕ
+version0 flags start = 0 ∷ (bytesOf 3 flags ++ (bytesOf 4 start ++ bytesOf 8 0))
+
+abbrev version1 : ℕ → ℕ → List ℕ
+version1 flags start = 1 ∷ (bytesOf 3 flags ++ (bytesOf 8 start ++ bytesOf 8 0))
+
+-- a `pseg` as any writer makes it: the body of its `pshd`, so many chunks by entries with one byte for a size and one
+-- for an offset, and boxes behind its `ploc`
+abbrev psegOf : List ℕ → List ℕ → ℕ → List ℕ → List ℕ
+psegOf boxes header count entries =
+    boxed (pseg .code)
+    (boxed (pshd .code) header ++ (boxed (ploc .code) (bytesOf 4 0 ++ (0x11 ∷ (bytesOf 2 0 ++ (bytesOf 2 count ++ entries)))) ++ boxes))
+
+-- one chunk of a state and a size, with what follows that; and without boxes
+abbrev pub foreignWith : List ℕ → List ℕ → ℕ → ℕ → List ℕ → List ℕ
+foreignWith boxes header state size rest = psegOf boxes header 1 (state ∷ size ∷ rest)
+
+abbrev foreign : List ℕ → ℕ → ℕ → List ℕ → List ℕ
+foreign = foreignWith []
+
+-- an open segment
+abbrev openWith : List ℕ → List ℕ
+openWith header = psegOf [] header 0 []
+
+-- one chunk of some bytes, which lie in a `pdat` just before the segment
+abbrev carrying : List ℕ → ℕ → List ℕ → List ℕ
+carrying header state bytes = boxed (pdat .code) bytes ++ foreign header state (length bytes) ((256 - length bytes) ∷ [])
 
 -- the described length, 1 if the size is known and 0 if not, and what is missing
 abbrev lengthIn : List ℕ → Answer (List ℤ)
@@ -170,7 +155,7 @@ lengthIn f = do
 
 -- P11: one open segment at 100: described length 100, missing (0, 100), open
 abbrev P11 : Example
-P11 = record { defined = says (lengthIn (begunBytes ++ added (segmentAt 100 false [] []))); paper = pos 100 ∷ pos 0 ∷ pos 0 ∷ pos 100 ∷ [] }
+P11 = record { defined = says (lengthIn (begunBytes ++ openWith (version0 0 100))); paper = pos 100 ∷ pos 0 ∷ pos 0 ∷ pos 100 ∷ [] }
 
 -- P12: empty input: 7
 abbrev P12 : Example
@@ -187,7 +172,7 @@ missmap10 =
 abbrev missmap11 : Example
 missmap11 =
     record {
-      defined = map pos (missmapText sourceLimit programLimit (begunBytes ++ added (segmentAt 100 false [] [])));
+      defined = map pos (missmapText sourceLimit programLimit (begunBytes ++ openWith (version0 0 100)));
       paper = map pos (ascii "source\t100\topen\nmiss\t0\t100\ntotal\t0\t100\n");
     }
 
@@ -203,20 +188,19 @@ map10 =
 
 abbrev mapNamed : Example
 mapNamed =
-    let four = segmentAt 0 true (4 ∷ 2 ∷ 3 ∷ 1 ∷ 2 ∷ 3 ∷ 1 ∷ 0 ∷ []) (1 ∷ 2 ∷ 3 ∷ 4 ∷ 5 ∷ 6 ∷ 7 ∷ []) in
+    let four = psegOf [] (version0 1 0) 4 (0x40 ∷ 4 ∷ 249 ∷ 0xc0 ∷ 3 ∷ 253 ∷ 0x00 ∷ 2 ∷ 0x80 ∷ 1 ∷ []) in
+    let f = begunBytes ++ (foreign (version0 0 5) 0x80 2 [] ++ (boxed (pdat .code) (1 ∷ 2 ∷ 3 ∷ 4 ∷ 5 ∷ 6 ∷ 7 ∷ []) ++ four)) in
     record {
-      defined = map pos (mapText sourceLimit programLimit (begunBytes ++ (added (segmentAt 5 false (2 ∷ 0 ∷ []) []) ++ added four)));
+      defined = map pos (mapText sourceLimit programLimit f);
       paper = map pos (ascii "source\t10\tclosed\nhave\t0\t4\nheld\t4\t3\nlost\t7\t3\ntotal\t4\t3\t3\n");
     }
 
 -- a damaged chunk under a good one is not held there
 abbrev mapUnder : Example
 mapUnder =
+    let f = begunBytes ++ (carrying (version0 0 0) 0xc0 (1 ∷ 2 ∷ 3 ∷ 4 ∷ 5 ∷ 6 ∷ []) ++ carrying (version0 0 2) 0x40 (7 ∷ 8 ∷ [])) in
     record {
-      defined =
-          map pos
-          (mapText sourceLimit programLimit
-          (begunBytes ++ (added (segmentAt 0 false (6 ∷ 1 ∷ []) (1 ∷ 2 ∷ 3 ∷ 4 ∷ 5 ∷ 6 ∷ [])) ++ added (segmentAt 2 false (2 ∷ 2 ∷ []) (7 ∷ 8 ∷ [])))));
+      defined = map pos (mapText sourceLimit programLimit f);
       paper = map pos (ascii "source\t6\topen\nheld\t0\t2\nhave\t2\t2\nheld\t4\t2\ntotal\t2\t4\t0\n");
     }
 
@@ -257,25 +241,6 @@ rowsShort =
       paper = map pos (26 ∷ (replicate 31 9 ++ (26 ∷ replicate 31 9)));
     }
 
--- the body of a `pshd` in its two forms, with flags and a source offset: version 0 with 32 bits for it, and version 1
--- with 64
-abbrev pub version0 : ℕ → ℕ → List ℕ
-version0 flags start = 0 ∷ (bytesOf 3 flags ++ (bytesOf 4 start ++ bytesOf 8 0))
-
-abbrev version1 : ℕ → ℕ → List ℕ
-version1 flags start = 1 ∷ (bytesOf 3 flags ++ (bytesOf 8 start ++ bytesOf 8 0))
-
--- a `pseg` as another writer makes it: the body of its `pshd`, and one chunk of one byte's size, with what follows
--- that; and with boxes behind its `ploc`
-abbrev pub foreignWith : List ℕ → List ℕ → ℕ → ℕ → List ℕ → List ℕ
-foreignWith boxes header state size rest =
-    boxed (pseg .code)
-    (boxed (pshd .code) header
-    ++ (boxed (ploc .code) (bytesOf 4 0 ++ (0x11 ∷ (bytesOf 2 0 ++ (bytesOf 2 1 ++ (state ∷ size ∷ rest))))) ++ boxes))
-
-abbrev foreign : List ℕ → ℕ → ℕ → List ℕ → List ℕ
-foreign = foreignWith []
-
 -- a file with one such segment at 2, whose chunk of 2 is good, and data behind it
 abbrev dataBehind : ℕ → List ℕ
 dataBehind offset = begunBytes ++ (foreign (version0 0 2) 0x40 2 (offset ∷ []) ++ boxed (pdat .code) (31 ∷ 32 ∷ []))
@@ -291,50 +256,14 @@ overHeader = record { defined = says (missingIn (dataBehind 59)); paper = pos 24
 
 -- damaged bytes are missing, though they are present
 abbrev damagedBytes : Example
-damagedBytes =
-    record {
-      defined = says (missingIn (begunBytes ++ added (segmentAt 0 false (3 ∷ 1 ∷ []) (1 ∷ 2 ∷ 3 ∷ []))));
-      paper = pos 0 ∷ pos 3 ∷ [];
-    }
+damagedBytes = record { defined = says (missingIn (begunBytes ++ carrying (version0 0 0) 0xc0 (1 ∷ 2 ∷ 3 ∷ []))); paper = pos 0 ∷ pos 3 ∷ [] }
 
 -- an open last segment is not the end of the source
 abbrev openLast : Example
 openLast =
     record {
-      defined = says (lengthIn (begunBytes ++ (added (segmentAt 5 true [] []) ++ added (segmentAt 0 false (10 ∷ 0 ∷ []) []))));
+      defined = says (lengthIn (begunBytes ++ (openWith (version0 1 5) ++ foreign (version0 0 0) 0x80 10 [])));
       paper = pos 10 ∷ pos 0 ∷ pos 0 ∷ pos 10 ∷ [];
-    }
-
--- a last segment of that size, one that is not last, and an open one at that offset
-abbrev lastOf : ℕ → Addition
-lastOf size = segmentAt 0 true (size ∷ 0 ∷ []) []
-
-abbrev otherOf : ℕ → Addition
-otherOf size = segmentAt 0 false (size ∷ 0 ∷ []) []
-
-abbrev openAt : ℕ → Addition
-openAt offset = segmentAt offset false [] []
-
--- a last segment of ten and that one, in both orders: what append answers for the second
-abbrev besideTen : Addition → List ℤ
-besideTen a = answerTo (begunBytes ++ added (lastOf 10)) a ++ answerTo (begunBytes ++ added a) (lastOf 10)
-
--- "two known sizes differ, or a segment end or open offset lies above the known size": 25, whichever stands first
-abbrev sizesDiffer : Example
-sizesDiffer =
-    record {
-      defined = besideTen (lastOf 5) ++ (besideTen (otherOf 11) ++ besideTen (openAt 11));
-      paper = map pos (replicate 6 25);
-    }
-
--- the same size a second time, and an end and an open offset just there, are taken: to 55 bytes come two segments of
--- 51, or one and an open one of 49
-abbrev sizesAgree : Example
-sizesAgree =
-    record {
-      defined = besideTen (lastOf 10) ++ (besideTen (otherOf 10) ++ besideTen (openAt 10));
-      paper =
-          map pos (157 ∷ 157 ∷ 157 ∷ 157 ∷ 155 ∷ 155 ∷ []);
     }
 
 -- last_segment beside other flags is last_segment, and other flags alone are not
@@ -360,7 +289,7 @@ twoUrls =
 -- "The URL and the MIME text of the first `surl`"
 abbrev firstTexts : Example
 firstTexts =
-    let f = take 20 begunBytes ++ (twoUrls ++ added (openAt 0)) in
+    let f = take 20 begunBytes ++ (twoUrls ++ openWith (version0 0 0)) in
     record {
       defined = map pos (bytesIn f (textOf url sourceLimit f) ++ bytesIn f (textOf mime sourceLimit f));
       paper = map pos (ascii "onea/b");
@@ -413,15 +342,6 @@ brokenBoxes =
       paper = map pos (ascii "0\t8\tfree\n8\t8\tfree\n16\t4\n" ++ ascii "0\t5\n");
     }
 
--- document 02, [2]: what begin writes with the brand `pmff`, major and the one compatible; the rest is as in P8's file
-abbrev mixedBytes : List ℕ
-mixedBytes =
-    0x00 ∷ 0x00 ∷ 0x00 ∷ 0x14 ∷ 0x66 ∷ 0x74 ∷ 0x79 ∷ 0x70 ∷ 0x70 ∷ 0x6d ∷ 0x66 ∷ 0x66 ∷ 0x00 ∷ 0x00 ∷ 0x00 ∷ 0x00 ∷
-    0x70 ∷ 0x6d ∷ 0x66 ∷ 0x66 ∷ drop 20 begunBytes
-
-abbrev begunMixed : Example
-begunMixed = record { defined = map pos (begunFile Pmff); paper = map pos mixedBytes }
-
 -- a movie fragment: a `moof` of 10 bytes and an `mdat` of 11
 abbrev moof : List ℕ
 moof = 0x00 ∷ 0x00 ∷ 0x00 ∷ 0x0a ∷ 0x6d ∷ 0x6f ∷ 0x6f ∷ 0x66 ∷ 41 ∷ 42 ∷ []
@@ -466,55 +386,6 @@ byBrand =
       paper = map pos (8 ∷ 24 ∷ (mdat ++ mdat));
     }
 
--- a `free` of 8 bytes and an `mdat` of 16
-abbrev free : List ℕ
-free = 0x00 ∷ 0x00 ∷ 0x00 ∷ 0x08 ∷ 0x66 ∷ 0x72 ∷ 0x65 ∷ 0x65 ∷ []
-
-abbrev mdat16 : List ℕ
-mdat16 = 0x00 ∷ 0x00 ∷ 0x00 ∷ 0x10 ∷ 0x6d ∷ 0x64 ∷ 0x61 ∷ 0x74 ∷ 71 ∷ 72 ∷ 73 ∷ 74 ∷ 75 ∷ 76 ∷ 77 ∷ 78 ∷ []
-
--- what is added for good 8, damaged 3, good 16: the `pdat`, the two boxes, and the `pseg` with its `pshd` and `ploc`;
--- the chunks lie 24, 27 and 16 bytes before it
-abbrev outsideBytes : List ℕ
-outsideBytes =
-    0x00 ∷ 0x00 ∷ 0x00 ∷ 0x0b ∷ 0x70 ∷ 0x64 ∷ 0x61 ∷ 0x74 ∷ 61 ∷ 62 ∷ 63 ∷
-    0x00 ∷ 0x00 ∷ 0x00 ∷ 0x08 ∷ 0x66 ∷ 0x72 ∷ 0x65 ∷ 0x65 ∷
-    0x00 ∷ 0x00 ∷ 0x00 ∷ 0x10 ∷ 0x6d ∷ 0x64 ∷ 0x61 ∷ 0x74 ∷ 71 ∷ 72 ∷ 73 ∷ 74 ∷ 75 ∷ 76 ∷ 77 ∷ 78 ∷
-    0x00 ∷ 0x00 ∷ 0x00 ∷ 0x3a ∷ 0x70 ∷ 0x73 ∷ 0x65 ∷ 0x67 ∷
-    0x00 ∷ 0x00 ∷ 0x00 ∷ 0x18 ∷ 0x70 ∷ 0x73 ∷ 0x68 ∷ 0x64 ∷ 0x00 ∷ 0x00 ∷ 0x00 ∷ 0x00 ∷
-    0x00 ∷ 0x00 ∷ 0x00 ∷ 0x00 ∷ 0x00 ∷ 0x00 ∷ 0x00 ∷ 0x00 ∷ 0x00 ∷ 0x00 ∷ 0x00 ∷ 0x00 ∷
-    0x00 ∷ 0x00 ∷ 0x00 ∷ 0x1a ∷ 0x70 ∷ 0x6c ∷ 0x6f ∷ 0x63 ∷ 0x00 ∷ 0x00 ∷ 0x00 ∷ 0x00 ∷ 0x11 ∷ 0x00 ∷ 0x00 ∷ 0x00 ∷ 0x03 ∷
-    0x40 ∷ 0x08 ∷ 0xe8 ∷ 0xc0 ∷ 0x03 ∷ 0xe5 ∷ 0x40 ∷ 0x10 ∷ 0xf0 ∷ []
-
--- "append stores all its good chunks outside, in chunk order, after the `pdat` of damaged ones"; what is missing then
--- is the damaged one
-abbrev storedOutside : Example
-storedOutside =
-    let f = mixedBytes ++ outsideBytes in
-    record {
-      defined =
-          map pos (grownBy mixedBytes (segmentWith true 0 false (8 ∷ 2 ∷ 3 ∷ 1 ∷ 16 ∷ 2 ∷ []) (free ++ (61 ∷ 62 ∷ 63 ∷ mdat16)))) ++ says (missingIn f);
-      paper = map pos (f ++ (8 ∷ 3 ∷ []));
-    }
-
--- what append answers to a file of chunks at 0 whose good ones are to go outside
-abbrev answerOf : List ℕ → List ℕ → List ℕ → List ℤ
-answerOf f list bytes = answerTo f (segmentWith true 0 false list bytes)
-
--- "35, after 32, for a good chunk to go outside that isn't whole allowed boxes or whose file isn't `pmff`": a box and a
--- byte, a `pdat`, a `paff` file; a byte too many is 32. With no good chunk there is nothing to go outside: 55 bytes, a
--- `pdat` of 11 and a `pseg` of 52
-abbrev outsideWrong : Example
-outsideWrong =
-    record {
-      defined =
-          answerOf mixedBytes (9 ∷ 2 ∷ []) (free ++ (1 ∷ []))
-          ++ (answerOf mixedBytes (8 ∷ 2 ∷ []) (boxed (pdat .code) [])
-          ++ (answerOf begunBytes (8 ∷ 2 ∷ []) free
-          ++ (answerOf begunBytes (8 ∷ 2 ∷ []) (free ++ (1 ∷ [])) ++ answerOf begunBytes (3 ∷ 1 ∷ []) (61 ∷ 62 ∷ 63 ∷ []))));
-      paper = map pos (35 ∷ 35 ∷ 35 ∷ 32 ∷ 118 ∷ []);
-    }
-
 -- document 02, [4]: a chunk neither corrupted nor present is of state 3 and has no offset; a reserved bit beside it is
 -- 20
 abbrev elsewhereRead : Example
@@ -529,36 +400,6 @@ elsewhereRead =
 -- missing
 abbrev elsewhereMissing : Example
 elsewhereMissing = record { defined = says (lengthIn (begunBytes ++ foreign (version0 0 2) 0x00 7 [])); paper = map pos (9 ∷ 0 ∷ 0 ∷ 9 ∷ []) }
-
--- what is added for good 4, elsewhere 5, damaged 3: the `pdat`, and the `pseg` with its `pshd` and `ploc`
-abbrev elsewhereBytes : List ℕ
-elsewhereBytes =
-    0x00 ∷ 0x00 ∷ 0x00 ∷ 0x0f ∷ 0x70 ∷ 0x64 ∷ 0x61 ∷ 0x74 ∷ 11 ∷ 12 ∷ 13 ∷ 14 ∷ 61 ∷ 62 ∷ 63 ∷
-    0x00 ∷ 0x00 ∷ 0x00 ∷ 0x39 ∷ 0x70 ∷ 0x73 ∷ 0x65 ∷ 0x67 ∷
-    0x00 ∷ 0x00 ∷ 0x00 ∷ 0x18 ∷ 0x70 ∷ 0x73 ∷ 0x68 ∷ 0x64 ∷ 0x00 ∷ 0x00 ∷ 0x00 ∷ 0x00 ∷
-    0x00 ∷ 0x00 ∷ 0x00 ∷ 0x00 ∷ 0x00 ∷ 0x00 ∷ 0x00 ∷ 0x00 ∷ 0x00 ∷ 0x00 ∷ 0x00 ∷ 0x00 ∷
-    0x00 ∷ 0x00 ∷ 0x00 ∷ 0x19 ∷ 0x70 ∷ 0x6c ∷ 0x6f ∷ 0x63 ∷ 0x00 ∷ 0x00 ∷ 0x00 ∷ 0x00 ∷ 0x11 ∷ 0x00 ∷ 0x00 ∷ 0x00 ∷ 0x03 ∷
-    0x40 ∷ 0x04 ∷ 0xf9 ∷ 0x00 ∷ 0x05 ∷ 0xc0 ∷ 0x03 ∷ 0xfd ∷ []
-
--- "The writer accepts state 3 and stores no data for it"; what is missing then is (4, 8)
-abbrev elsewhereStored : Example
-elsewhereStored =
-    let f = begunBytes ++ elsewhereBytes in
-    record {
-      defined =
-          map pos (grownBy begunBytes (segmentAt 0 false (4 ∷ 2 ∷ 5 ∷ 3 ∷ 3 ∷ 1 ∷ []) (11 ∷ 12 ∷ 13 ∷ 14 ∷ 61 ∷ 62 ∷ 63 ∷ []))) ++ says (missingIn f);
-      paper = map pos (f ++ (4 ∷ 8 ∷ []));
-    }
-
--- "31 for states above 3"; data for state 3 is 32; without any there is no `pdat`: 55 bytes and a `pseg` of 51
-abbrev elsewhereWrong : Example
-elsewhereWrong =
-    record {
-      defined =
-          answerOf begunBytes (5 ∷ 4 ∷ []) []
-          ++ (answerOf begunBytes (5 ∷ 3 ∷ []) (1 ∷ 2 ∷ 3 ∷ 4 ∷ 5 ∷ []) ++ answerOf begunBytes (5 ∷ 3 ∷ []) []);
-      paper = map pos (31 ∷ 32 ∷ 106 ∷ []);
-    }
 
 -- document 02, [5]: the first line of the map of a file whose one segment, with that `pshd`, has a lost chunk of that
 -- size
@@ -576,17 +417,6 @@ highestRead =
       paper = map pos (ascii "source\t1099511627775\topen\nsource\t1099511627775\topen\n" ++ (23 ∷ 23 ∷ []));
     }
 
--- and so are additions, of a lost chunk and open: to 55 bytes comes a `pseg` of 55, or of 53 where it is open
-abbrev highestAdded : Example
-highestAdded =
-    let of : ℕ → List ℕ → List ℤ = λ offset list. answerTo begunBytes (segmentAt offset false list []) in
-    record {
-      defined =
-          of 1_099_511_627_770 (5 ∷ 0 ∷ [])
-          ++ (of 1_099_511_627_775 [] ++ (of 1_099_511_627_770 (6 ∷ 0 ∷ []) ++ of 1_099_511_627_776 []));
-      paper = map pos (110 ∷ 108 ∷ 23 ∷ 23 ∷ []);
-    }
-
 -- 5.1.4.2: the highest offset of 32 bits in both forms, and the next in 64 bits
 abbrev bothForms : Example
 bothForms =
@@ -595,36 +425,66 @@ bothForms =
       paper = map pos (ascii "source\t4294967295\tclosed\nsource\t4294967295\tclosed\nsource\t4294967296\tclosed\n");
     }
 
--- the writer's form: version 0 for the one, version 1 for the other
-abbrev writersForm : Example
-writersForm =
-    record {
-      defined = map pos (pshdBody (segmentAt 4_294_967_295 true [] []) ++ pshdBody (segmentAt 4_294_967_296 true [] []));
-      paper =
-          map pos
-          (0x00 ∷ 0x00 ∷ 0x00 ∷ 0x01 ∷ 0xff ∷ 0xff ∷ 0xff ∷ 0xff ∷ 0x00 ∷ 0x00 ∷ 0x00 ∷ 0x00 ∷ 0x00 ∷ 0x00 ∷ 0x00 ∷ 0x00 ∷
-          0x01 ∷ 0x00 ∷ 0x00 ∷ 0x01 ∷ 0x00 ∷ 0x00 ∷ 0x00 ∷ 0x01 ∷ 0x00 ∷ 0x00 ∷ 0x00 ∷ 0x00 ∷
-          0x00 ∷ 0x00 ∷ 0x00 ∷ 0x00 ∷ 0x00 ∷ 0x00 ∷ 0x00 ∷ 0x00 ∷ []);
-    }
-
 -- a byte past 4 GiB is served
 abbrev servedFar : Example
 servedFar =
-    let f = begunBytes ++ added (segmentAt 4_294_967_296 false (2 ∷ 2 ∷ []) (81 ∷ 82 ∷ [])) in
+    let f = begunBytes ++ carrying (version1 0 4_294_967_296) 0x40 (81 ∷ 82 ∷ []) in
     record {
       defined = says (reading sourceLimit f >>= λ ss. given (pos (Option·getD (served f ss 4_294_967_297) 0) ∷ []));
       paper = pos 82 ∷ [];
     }
 
+-- a segment of a source with these URLs and that number, of so many lost bytes from 0 on, with flags
+abbrev segmentWith : List (List ℕ) → ℕ → ℕ → ℕ → Segment
+segmentWith urls source flags size =
+    record {
+      place = 0;
+      inner = [];
+      urls = urls;
+      source = source;
+      sourceOffset = 0;
+      flags = flags;
+      repairTime = 0;
+      headerPlace = 0;
+      headerLength = 0;
+      chunks = record { start = 0; size = size; state = lost; place = 0 } ∷ [];
+    }
+
+-- the numbers of the sources of segments with these lists of URLs, each beside those before it
+abbrev numbersOf : List Segment → List (List (List ℕ)) → List ℤ
+numbersOf before [] = map (λ s. pos (s .source)) before
+numbersOf before (us ∷ more) = numbersOf (before ++ (segmentWith us (sourceBeside before us) 0 0 ∷ [])) more
+
+-- document 02, [8]: numbers in order of first appearance, by whole lists of whole URLs
+abbrev sourcesNumbered : Example
+sourcesNumbered =
+    let a = ascii "a" in
+    let b = ascii "b" in
+    record {
+      defined = numbersOf [] ((a ∷ []) ∷ (b ∷ a ∷ []) ∷ (a ∷ []) ∷ (b ∷ []) ∷ (a ∷ b ∷ []) ∷ (ascii "ab" ∷ []) ∷ (b ∷ []) ∷ []);
+      paper = map pos (0 ∷ 1 ∷ 0 ∷ 2 ∷ 3 ∷ 4 ∷ 2 ∷ []);
+    }
+
+-- a source may end above the known size of another, and not above its own
+abbrev sizesPerSource : Example
+sizesPerSource =
+    let a = ascii "a" ∷ [] in
+    let b = ascii "b" ∷ [] in
+    let others = segmentWith a 0 1 4 ∷ segmentWith b 1 1 9 ∷ [] in
+    record {
+      defined = map (λ ss. elim (agreed ss) [ true ↦ pos 1 | false ↦ pos 0 ]) (others ∷ (others ++ (segmentWith b 1 0 10 ∷ [])) ∷ []);
+      paper = pos 1 ∷ pos 0 ∷ [];
+    }
+
 unfoldable pub table : List Example
 table =
-    P1 ∷ P2 ∷ P3 ∷ P4 ∷ P5 ∷ P6 ∷ P7 ∷ P8 ∷ P9 ∷ P10 ∷ P11 ∷ P12 ∷
-    missmap10 ∷ missmap11 ∷ rowsFit ∷ rowsShort ∷ ahead ∷ overHeader ∷ damagedBytes ∷ openLast ∷ sizesDiffer ∷ sizesAgree ∷ otherFlags ∷ firstTexts ∷
+    P1 ∷ P2 ∷ P3 ∷ P4 ∷ P5 ∷ P6 ∷ P7 ∷ P9 ∷ P10 ∷ P11 ∷ P12 ∷
+    missmap10 ∷ missmap11 ∷ rowsFit ∷ rowsShort ∷ ahead ∷ overHeader ∷ damagedBytes ∷ openLast ∷ otherFlags ∷ firstTexts ∷
     vendorForms ∷ largeVendorForms ∷ boxes3 ∷ brokenBoxes ∷
-    begunMixed ∷ wholeServed ∷ notWhole ∷ byBrand ∷ storedOutside ∷ outsideWrong ∷
-    elsewhereRead ∷ elsewhereMissing ∷ elsewhereStored ∷ elsewhereWrong ∷
-    highestRead ∷ highestAdded ∷ bothForms ∷ writersForm ∷ servedFar ∷
-    map10 ∷ mapNamed ∷ mapUnder ∷ []
+    wholeServed ∷ notWhole ∷ byBrand ∷ elsewhereRead ∷ elsewhereMissing ∷
+    highestRead ∷ bothForms ∷ servedFar ∷
+    map10 ∷ mapNamed ∷ mapUnder ∷
+    sourcesNumbered ∷ sizesPerSource ∷ []
 
 -- at every row the definitions say what the paper says
 abbrev pub AsThePaperSays : Type 0

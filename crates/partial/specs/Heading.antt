@@ -1,8 +1,8 @@
 -- Document 01, refusals 1 to 11: the file's boxes, `ftyp` and `pfil`. Boxes of other kinds are passed over.
 use Prim.Native.Nat.{ℕ, zero, suc, _+_, _-_, _/_, _%_}
 use mathlib.Core.Bool.{Bool, not, _&&_, _||_}
-use mathlib.Core.List.{List, [], _∷_}
-use lib.ListN.{length, getD}
+use mathlib.Core.List.{List, [], _∷_, map}
+use lib.ListN.{length, getD, take, drop}
 use lib.Dec.{leb, eqb}
 use Rattle.boxes.specs.Answer.{Answer, given, _>>=_, hold}
 use Rattle.numerals.specs.Numbers.{number}
@@ -12,10 +12,13 @@ use Rattle.boxes.specs.declared.kinds.Container.the-variants.{File, Pfil}
 use Rattle.partial.specs.Limits.{fileLimit}
 use Rattle.partial.specs.Sequences.{someOf, allOf, stretch}
 
--- a part of the file
+-- a part of the file, and its bytes
 pub record Part : Type 0 where
   pub place : ℕ
   pub size : ℕ
+
+unfoldable pub bytesIn : List ℕ → Part → List ℕ
+bytesIn f part = take (part .size) (drop (part .place) f)
 
 -- 7: `ftyp` is first, its body at least 8 bytes and a multiple of 4, and there is no second
 unfoldable pub ftypRight : List Box → Bool
@@ -79,10 +82,15 @@ surlFormed f b = leb (b .body + 4) (b .end) && eqb (number f (b .body) 4) 0 && e
 unfoldable pub surlRight : List ℕ → List Box → Bool
 surlRight f bs = right Pfil surl bs && allOf (surlFormed f) (those surl bs)
 
--- the boxes of the file and those of its `pfil`; whether the file is mixed, whatever other brands it has
+-- the URLs of the `surl` boxes of a container, in their order
+unfoldable pub urlsIn : List ℕ → List Box → List (List ℕ)
+urlsIn f bs = map (λ b. bytesIn f (url f b)) (those surl bs)
+
+-- the boxes of the file, those of its `pfil` and the URLs there; whether the file is mixed, whatever other brands it has
 pub record Heading : Type 0 where
   pub boxes : List Box
   pub inner : List Box
+  pub urls : List (List ℕ)
   pub mixed : Bool
 
 -- stages 1 to 6: the file's boxes
@@ -100,7 +108,7 @@ judged f boxes = do
   inner ← boxesIn Pfil f (boxAt 1 boxes .body) (boxAt 1 boxes .end)
   _ ← hold 10 (pfhdRight f inner)
   _ ← hold 11 (surlRight f inner)
-  given (record { boxes = boxes; inner = inner; mixed = branded pmff f boxes })
+  given (record { boxes = boxes; inner = inner; urls = urlsIn f inner; mixed = branded pmff f boxes })
 
 -- stages 1 to 11
 unfoldable pub heading : List ℕ → Answer Heading

@@ -1,6 +1,6 @@
 -- Document 02, [7]: worked examples of the index, computed over the definitions, as one table with one statement.
 use Prim.Native.Nat.{ℕ, zero, suc, _+_, _-_}
-use mathlib.Core.Bool.{Bool, true, false}
+use mathlib.Core.Bool.{false}
 use mathlib.Core.List.{List, [], _∷_, _++_, map}
 use mathlib.Core.Option.{Option, none, some, Option·getD}
 use mathlib.Core.Path.{_≡_}
@@ -16,19 +16,17 @@ use Rattle.partial.specs.Segments.{Segment, lost}
 use Rattle.partial.specs.Index.{Indexed, indexIn, indexed}
 use Rattle.partial.specs.Reading.{reading}
 use Rattle.partial.specs.Tables.{indexTabled, indexTable}
-use Rattle.partial.specs.Addition.{Addition}
-use Rattle.partial.specs.Append.{added, appended}
 use Rattle.partial.specs.Lesson.{begunBytes}
-use Rattle.partial.specs.Examples.{Example, says, segmentAt, answerTo, version0, foreignWith}
+use Rattle.partial.specs.Examples.{Example, says, version0, foreignWith}
 
 -- the types of the boxes that are indexed, and that of an integrity box
-abbrev moov : ℕ
+abbrev pub moov : ℕ
 moov = 0x6d6f6f76
 
-abbrev trak : ℕ
+abbrev pub trak : ℕ
 trak = 0x7472616b
 
-abbrev mdat : ℕ
+abbrev pub mdat : ℕ
 mdat = 0x6d646174
 
 abbrev dint : ℕ
@@ -42,7 +40,7 @@ boxedLarge kind body = bytesOf 4 1 ++ (bytesOf 4 kind ++ (bytesOf 8 (16 + length
 abbrev fieldsOf : ℕ → ℕ → List ℕ → List ℕ
 fieldsOf size kind list = bytesOf 4 size ++ (bytesOf 4 kind ++ list)
 
-abbrev indexedAs : ℕ → ℕ → List ℕ → List ℕ
+abbrev pub indexedAs : ℕ → ℕ → List ℕ → List ℕ
 indexedAs size kind list = boxed (bidx .code) (fieldsOf size kind list)
 
 -- a front part of so many bytes
@@ -54,7 +52,7 @@ abbrev user : List ℕ
 user = replicate 16 7
 
 -- an index of these boxes
-abbrev index : List ℕ → List ℕ
+abbrev pub index : List ℕ → List ℕ
 index = boxedLarge (fidx .code)
 
 -- what is told of an index: each box as its level, place, end and type; an end that is not known is 0
@@ -183,6 +181,8 @@ segmentOf flags start size inner =
     record {
       place = 0;
       inner = inner;
+      urls = [];
+      source = 0;
       sourceOffset = start;
       flags = flags;
       repairTime = 0;
@@ -200,7 +200,7 @@ indexes flags inFile inFirst inSecond =
     (boxesIn Pfil f 0 (length inFile)
     >>= λ inner. boxesIn Pseg f (length inFile) (length inFile + length inFirst)
     >>= λ first. boxesIn Pseg f (length inFile + length inFirst) (length f)
-    >>= λ second. indexed sourceLimit f (record { boxes = []; inner = inner; mixed = false }) (segmentOf 0 4 4 first ∷ segmentOf flags 8 88 second ∷ []))
+    >>= λ second. indexed sourceLimit f (record { boxes = []; inner = inner; urls = []; mixed = false }) (segmentOf 0 4 4 first ∷ segmentOf flags 8 88 second ∷ []))
 
 -- boxes in boxes, each with a size of 0, on so many levels, with what the list of the last holds
 abbrev nested : ℕ → List ℕ → List ℕ
@@ -212,7 +212,7 @@ nested (suc more) list = indexedAs 0 moov (nested more list)
 abbrev toTheEnd : List ℕ
 toTheEnd = index (indexedAs 0 mdat [])
 
-abbrev wrongIndex : List ℕ
+abbrev pub wrongIndex : List ℕ
 wrongIndex = index (indexedAs 7 mdat [])
 
 abbrev deep : List ℕ
@@ -269,11 +269,11 @@ unknownEnd =
 -- ---- whole files
 
 -- P8's file with these boxes besides in its `pfil`
-abbrev begunWith : List ℕ → List ℕ
+abbrev pub begunWith : List ℕ → List ℕ
 begunWith boxes = take 20 begunBytes ++ boxed (pfil .code) (drop 28 begunBytes ++ boxes)
 
 -- the rows of a file's index with a lent table of so many numbers, or its refusal
-abbrev rowsOf : ℕ → List ℕ → List ℤ
+abbrev pub rowsOf : ℕ → List ℕ → List ℤ
 rowsOf many f = says (indexTabled sourceLimit f (replicate many 0) >>= λ told. given (map pos (indexTable told)))
 
 -- a file whose index is in its segment, of 8 lost bytes at 8: a row where that is last, and 26 for one number less;
@@ -286,40 +286,14 @@ inItsSegment =
       paper = map pos (1 ∷ 8 ∷ 8 ∷ mdat ∷ 0 ∷ 26 ∷ 39 ∷ []);
     }
 
--- a file just begun of 119 bytes answers 12. An addition of 77 that is not last leaves its index without an end, also
--- where the buffer is too short for it. One that is last gives it one: of a source of 24 bytes the first 15 are served,
--- so that all, some and none of the three boxes are
-abbrev begunToTheEnd : Example
-begunToTheEnd =
-    let f = begunWith (index (indexedAs 8 moov [] ++ (indexedAs 8 trak [] ++ indexedAs 0 mdat []))) in
-    let a : Bool → Addition = λ last. segmentAt 0 last (15 ∷ 2 ∷ 9 ∷ 0 ∷ []) (replicate 15 7) in
-    record {
-      defined =
-          rowsOf 15 f
-          ++ (answerTo f (a false)
-          ++ (says (appended sourceLimit f (length f) (a false) >>= λ _. given [])
-          ++ (answerTo f (a true) ++ rowsOf 15 (f ++ added (a true)))));
-      paper =
-          map pos (12 ∷ 39 ∷ 39 ∷ 196 ∷ 1 ∷ 0 ∷ 8 ∷ moov ∷ 2 ∷ 1 ∷ 8 ∷ 8 ∷ trak ∷ 1 ∷ 1 ∷ 16 ∷ 8 ∷ mdat ∷ 0 ∷ []);
-    }
-
--- one with a wrong index answers 12, too, and 36 to an addition, after 31, 32 and what the result would have before it
-abbrev begunWrong : Example
-begunWrong =
-    let f = begunWith wrongIndex in
-    record {
-      defined =
-          rowsOf 0 f
-          ++ (answerTo f (segmentAt 0 true (24 ∷ 0 ∷ []) [])
-          ++ (answerTo f (segmentAt 0 true (24 ∷ 4 ∷ []) [])
-          ++ (answerTo f (segmentAt 0 true (24 ∷ 0 ∷ []) (1 ∷ [])) ++ answerTo f (segmentAt sourceLimit true (24 ∷ 0 ∷ []) []))));
-      paper = map pos (12 ∷ 36 ∷ 31 ∷ 32 ∷ 23 ∷ []);
-    }
+-- a file just begun answers 12, whether its index has an end or is wrong
+abbrev justBegun : Example
+justBegun = record { defined = rowsOf 5 (begunWith toTheEnd) ++ rowsOf 5 (begunWith wrongIndex); paper = map pos (12 ∷ 12 ∷ []) }
 
 abbrev pub indexExamples : List Example
 indexExamples =
     twoLevels ∷ headers ∷ fromOffset ∷ rightIndexes ∷ wrongIndexes ∷ wrongInside ∷
-    inSegments ∷ faultsFirst ∷ depths ∷ inBoth ∷ unknownEnd ∷ inItsSegment ∷ begunToTheEnd ∷ begunWrong ∷ []
+    inSegments ∷ faultsFirst ∷ depths ∷ inBoth ∷ unknownEnd ∷ inItsSegment ∷ justBegun ∷ []
 
 -- the definitions say what the paper says
 abbrev pub IndexAsThePaperSays : Type 0

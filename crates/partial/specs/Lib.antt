@@ -5,6 +5,7 @@ pub mod Heading
 pub mod Mixed
 pub mod Entries
 pub mod Meaning
+pub mod Sources
 pub mod Index
 pub mod IndexShape
 pub mod Reading
@@ -14,15 +15,9 @@ pub mod Memory
 pub mod Tables
 pub mod Map
 pub mod BoxList
-pub mod Begin
-pub mod Addition
-pub mod Append
-pub mod Runs
-pub mod Again
-pub mod Carried
 pub mod Answers
 pub mod Lesson
 pub mod Examples
 pub mod IndexExamples
-pub mod Demands
-pub mod Raised
+pub mod ReadingDemands
+pub mod ReadingRaised

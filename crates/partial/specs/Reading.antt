@@ -11,10 +11,10 @@ use Rattle.boxes.specs.Framing.{Box, boxesIn}
 use Rattle.boxes.specs.declared.kinds.Container.the-variants.{File, Pseg}
 use Rattle.boxes.specs.Kinds.{pseg, pshd, ploc, surl, is, right, those, boxAt, firstOf}
 use Rattle.partial.specs.Limits.{segmentLimit, chunkLimit}
-use Rattle.partial.specs.Segments.{Segment, chunksOf, endOf}
-use Rattle.partial.specs.Heading.{Heading, heading}
+use Rattle.partial.specs.Segments.{Segment, chunksOf}
+use Rattle.partial.specs.Heading.{Heading, heading, urlsIn}
 use Rattle.partial.specs.Entries.{plocHead, chunksFrom}
-use Rattle.partial.specs.Meaning.{agree}
+use Rattle.partial.specs.Sources.{urlsFor, sourceBeside, agreed}
 use Rattle.partial.specs.Index.{indexed}
 
 -- 5.1.4.2: the bytes of `source_byte_offset`, 32 bits in version 0 and 64 in every other
@@ -54,6 +54,7 @@ segment limit f h before b = do
   _ ← hold 16 (eqb (length (those surl inner)) 0)
   l ← plocHead f (firstOf ploc inner)
   _ ← hold 22 (leb (length (chunksOf before) + l .count) chunkLimit)
+  let urls = urlsFor (urlsIn f inner) (h .urls)
   let header = firstOf pshd inner
   let fields = pshdFields f header
   _ ← hold 23 (leb (fields .sourceOffset) limit)
@@ -62,6 +63,8 @@ segment limit f h before b = do
       (record {
         place = b .at;
         inner = inner;
+        urls = urls;
+        source = sourceBeside before urls;
         sourceOffset = fields .sourceOffset;
         flags = fields .flags;
         repairTime = fields .repairTime;
@@ -83,7 +86,7 @@ segments limit f h = do
   let psegs = those pseg (h .boxes)
   _ ← hold 13 (leb (length psegs) segmentLimit)
   ss ← segmentsFrom limit f h [] psegs
-  _ ← hold 25 (agree ss)
+  _ ← hold 25 (agreed ss)
   given ss
 
 -- all stages: 1 to 25, then the index, which changes nothing of the segments
@@ -101,12 +104,3 @@ unfoldable pub earlierSegments : ℕ → List ℕ → Answer (List Segment)
 earlierSegments limit f = do
   h ← heading f
   elim (right File pseg (h .boxes)) [ true ↦ reading limit f | false ↦ given [] ]
-
--- 13, 22, 23, 25: a segment beside those before it; the segments with it
-unfoldable pub admitted : ℕ → List Segment → Segment → Answer (List Segment)
-admitted limit before s = do
-  _ ← hold 13 (leb (length before + 1) segmentLimit)
-  _ ← hold 22 (leb (length (chunksOf before) + length (s .chunks)) chunkLimit)
-  _ ← hold 23 (leb (endOf s) limit)
-  _ ← hold 25 (agree (before ++ (s ∷ [])))
-  given (before ++ (s ∷ []))

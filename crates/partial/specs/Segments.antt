@@ -2,7 +2,7 @@
 use Prim.Native.Nat.{ℕ, _+_, _%_}
 use mathlib.Core.Bool.{Bool, true, false, _&&_, _||_}
 use mathlib.Core.List.{List, [], _∷_, _++_, map}
-use lib.Dec.{leb, ltb, eqb}
+use lib.Dec.{ltb, eqb}
 use Rattle.boxes.specs.Framing.{Box}
 use Rattle.partial.specs.Sequences.{sum}
 
@@ -18,10 +18,6 @@ damaged = 1
 
 abbrev pub lost : ℕ
 lost = 0
-
--- there is no state above 3
-unfoldable pub isState : ℕ → Bool
-isState n = leb n elsewhere
 
 -- the states of the bit present: good, and damaged but kept
 unfoldable pub present : ℕ → Bool
@@ -46,11 +42,13 @@ pub record Chunk : Type 0 where
 abbrev pub noChunk : Chunk
 noChunk = record { start = 0; size = 0; state = lost; place = 0 }
 
--- a segment: the place of its box, the boxes inside, its source offset, flags and repair time, the place and length of
--- its `pshd` body, its chunks
+-- a segment: the place of its box, the boxes inside, the URLs of its source and the number of that, its source offset,
+-- flags and repair time, the place and length of its `pshd` body, its chunks
 pub record Segment : Type 0 where
   pub place : ℕ
   pub inner : List Box
+  pub urls : List (List ℕ)
+  pub source : ℕ
   pub sourceOffset : ℕ
   pub flags : ℕ
   pub repairTime : ℕ

@@ -1,7 +1,9 @@
--- What is said of a list, or of numbers in a row: some or all pass a test, a sum, the largest, how many in a row.
+-- What is said of a list, or of numbers in a row: some or all pass a test, a sum, the largest, how many in a row; and
+-- of two numbers that may be there, the first.
 use Prim.Native.Nat.{ℕ, zero, suc, _+_, max}
 use mathlib.Core.Bool.{Bool, true, false, _&&_, _||_}
 use mathlib.Core.List.{List, [], _∷_}
+use mathlib.Core.Option.{Option, none, some}
 use lib.Dec.{leb, ltb}
 
 module _ {A : Type 0} where
@@ -31,3 +33,8 @@ within first many n = leb first n && ltb n (first + many)
 unfoldable pub stretch : (ℕ → Bool) → ℕ → ℕ → ℕ
 stretch test zero at = 0
 stretch test (suc more) at = elim (test at) [ true ↦ suc (stretch test more (suc at)) | false ↦ 0 ]
+
+-- the first of two that is there
+unfoldable pub orElse : Option ℕ → Option ℕ → Option ℕ
+orElse none other = other
+orElse (some b) other = some b

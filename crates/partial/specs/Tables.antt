@@ -119,10 +119,6 @@ totals ss =
       missingTotal = total (missingList ss);
     }
 
--- the bytes of a part of the file
-unfoldable pub bytesIn : List ℕ → Part → List ℕ
-bytesIn f part = take (part .size) (drop (part .place) f)
-
 -- an empty part
 unfoldable pub nowhere : Part
 nowhere = record { place = 0; size = 0 }

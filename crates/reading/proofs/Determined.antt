@@ -1,7 +1,7 @@
 -- Each public call's contract determines its answer, and what it leaves in the lent tables: two that it allows of the
 -- same arguments are equal. A part of the lent file is determined by where it lies and by its bytes. What `judge_into`
--- leaves in a table is determined where the file is accepted and all of that fits, and the stages of an index where the
--- file's heading and segments are known and whether they have one.
+-- leaves in a table is determined where the file is accepted and all of that fits, what the ends of segments say where
+-- it is accepted, and the stages of an index where the file's heading and segments are known and whether they have one.
 use Prim.Native.Nat.{ℕ, _≤_}
 use mathlib.Core.List.{List}
 use mathlib.Core.Path.{_≡_, sym, ap, _∙_}
@@ -10,18 +10,19 @@ use lib.ListN.{length}
 use Rattle.numerals.proofs.Determined.{OneResult, OneKnown, OneLeft, OneLeftKnown}
 use Rattle.boxes.specs.Answer.{given}
 use Rattle.boxes.proofs.ToldLaws.{Tells}
+use Rattle.ends.specs.Table.{sizesIn}
 use Rattle.gathering.specs.Numbers.{numbersOf}
 use Rattle.gathering.proofs.Determined.{one-put}
-use Rattle.heading.specs.Facts.{partOf}
 use Rattle.heading.proofs.Determined.{head-told}
 use Rattle.partial.specs.Answers.{readAnswer, countedAnswer}
 use Rattle.partial.specs.Heading.{Part, Heading, heading}
 use Rattle.partial.specs.Limits.{sourceLimit}
-use Rattle.partial.specs.Reading.{segments, reading}
+use Rattle.partial.specs.Reading.{segments, reading, earlierSegments}
 use Rattle.partial.specs.Segments.{Segment}
 use Rattle.partial.specs.Tables.{Summary, segmentRows}
 use Rattle.partial.specs.declared.answers.Counted.the-variants as Counted
 use Rattle.partial.specs.declared.answers.Read.the-variants as Read
+use Rattle.surls.specs.Parts.{partOf}
 use Rattle.reading.specs.Judged.{Judged, judgedBy, judgedAnswer}
 use Rattle.reading.specs.Parts.{HandedBack, locatedAnswer}
 use Rattle.reading.specs.Staged.{HasIndexes}
@@ -92,7 +93,10 @@ index-stages-result : OneKnown index-stages.Post
 index-stages-result κs args (h, ss) (head, known, has) x y after after′ p q = counted-told x y (p h ss head known has ∙ sym (q h ss head known has))
 
 earlier-of-result : OneResult earlier-of.Post
-earlier-of-result κs args x y after after′ p q = judged-told x y (p ∙ sym q)
+earlier-of-result κs args x y after after′ p q = judged-told x y (p .0 ∙ sym (q .0))
+
+earlier-of-sizes : OneLeftKnown earlier-of.Post (λ κs args (ss : List Segment). earlierSegments sourceLimit (now (args .0)) ≡ given ss) (λ κs after. sizesIn (now (after .1 .0)) 0)
+earlier-of-sizes κs args ss read x y after after′ p q = p .1 ss read ∙ sym (q .1 ss read)
 
 judge-into-result : OneResult judge-into.Post
 judge-into-result κs args x y after after′ p q = judged-told x y (p .0 ∙ sym (q .0))
@@ -107,8 +111,14 @@ judge-into-numbers : OneLeftKnown judge-into.Post
     (λ κs after. now (after .1 .1 .0))
 judge-into-numbers κs args ss (read, room) x y after after′ p q = one-put room (p .1 ss read .1) (q .1 ss read .1)
 
+judge-into-sizes : OneLeftKnown judge-into.Post (λ κs args (ss : List Segment). reading sourceLimit (now (args .0)) ≡ given ss) (λ κs after. sizesIn (now (after .1 .1 .1 .0)) 0)
+judge-into-sizes κs args ss read x y after after′ p q = p .2 ss read ∙ sym (q .2 ss read)
+
 judge-result : OneResult judge.Post
-judge-result κs args x y after after′ p q = judged-told x y (p ∙ sym q)
+judge-result κs args x y after after′ p q = judged-told x y (p .0 ∙ sym (q .0))
+
+judge-sizes : OneLeftKnown judge.Post (λ κs args (ss : List Segment). reading sourceLimit (now (args .0)) ≡ given ss) (λ κs after. sizesIn (now (after .1 .0)) 0)
+judge-sizes κs args ss read x y after after′ p q = p .1 ss read ∙ sym (q .1 ss read)
 
 read-result : OneResult read.Post
 read-result κs args x y after after′ p q = read-told x y (p .answer ∙ sym (q .answer))

@@ -16,15 +16,19 @@ use Rattle.partial.specs.Heading.{Heading, heading}
 use Rattle.partial.specs.Index.{Indexed, hasIndex, indexed}
 use Rattle.partial.specs.Limits.{segmentLimit, sourceLimit}
 use Rattle.partial.specs.Meaning.{agree}
-use Rattle.partial.specs.Reading.{segmentsFrom, segments, reading}
+use Rattle.partial.specs.Sources.{agreed}
+use Rattle.partial.specs.Reading.{segmentsFrom, segments, reading, earlierSegments}
 use Rattle.partial.specs.Segments.{Segment}
 use Rattle.partial.proofs.Meaning.SequenceLaws.{which}
+use Rattle.partial.proofs.Reading.OneSourceLaws.{segments-plain, agreed-all}
 use Rattle.partial.proofs.Reading.ReadingLaws.{reading-segments}
-use Rattle.partial.proofs.Reading.RefusalLaws.{no-segments}
+use Rattle.partial.proofs.Reading.RefusalLaws.{no-segments, earlier-read}
 use Rattle.heading.specs.Facts.{Facts, factsOf, factsBy, told, headedAnswer}
 use Rattle.heading.specs.declared.answers.Head.{Head}
 use Rattle.heading.specs.declared.answers.Headed.{Headed}
 use Rattle.heading.specs.declared.answers.Headed.the-variants as Headed
+use Rattle.ends.specs.Sizes.{sizesOf}
+use Rattle.ends.specs.Table.{sizesIn}
 use Rattle.gathering.specs.Forms.{allPuts}
 use Rattle.gathering.specs.Gathered.{gatheredOf}
 use Rattle.gathering.specs.Pass.{segmentsBy, Gathers}
@@ -32,7 +36,7 @@ use Rattle.gathering.proofs.PassLaws.{rows-put}
 use Rattle.gathering.specs.declared.gathered.Gathered.{Gathered}
 use Rattle.gathering.specs.declared.pass.Passed.{Passed}
 use Rattle.gathering.specs.declared.pass.Passed.the-variants as Passed
-use Rattle.reading.specs.Judged.{Judged, gatheredIn, indexedTold, judgedIn, earlierTold, readingTold, gatheredAnswer, judgedBy, judgedAnswer, KeptIn}
+use Rattle.reading.specs.Judged.{Judged, gatheredIn, indexedTold, judgedIn, earlierTold, readingTold, gatheredAnswer, judgedBy, judgedAnswer, WhereRead, KeptIn, SizedIn}
 use Rattle.reading.specs.declared.judging.Judgement.{Judgement}
 use Rattle.reading.specs.declared.judging.Judgement.the-variants as Judgement
 use Rattle.reading.specs.declared.judging.Judged.{Judged as CodeJudged}
@@ -80,13 +84,17 @@ module _ (f : List ℕ) (h : Heading) where
     gathered-refused fault = rw (le-leb (length (those pseg (h .boxes))) segmentLimit few, fault)
 
     module _ {ss : List Segment} (read : segmentsBy f h ≡ given ss) where
+      -- all are of one source
+      sizes-all : agreed ss ≡ agree ss
+      sizes-all = agreed-all h ss (segments-plain sourceLimit f h (those pseg (h .boxes)) [] tt read)
+
       pub gathered-differ : agree ss ≡ false → gatheredIn f h ≡ refused 25
       unfolding gatheredIn segments
-      gathered-differ differ = rw (le-leb (length (those pseg (h .boxes))) segmentLimit few, read, differ)
+      gathered-differ differ = rw (le-leb (length (those pseg (h .boxes))) segmentLimit few, read, sizes-all ∙ differ)
 
       pub gathered-given : agree ss ≡ true → gatheredIn f h ≡ given (gatheredOf ss)
       unfolding gatheredIn segments
-      gathered-given same = rw (le-leb (length (those pseg (h .boxes))) segmentLimit few, read, same)
+      gathered-given same = rw (le-leb (length (those pseg (h .boxes))) segmentLimit few, read, sizes-all ∙ same)
 
 -- the segments, before they are held against each other
 pub segments-by : (f : List ℕ) (h : Heading) {ss : List Segment} → segments sourceLimit f h ≡ given ss → segmentsBy f h ≡ given ss
@@ -94,24 +102,29 @@ unfolding segments
 segments-by f h e =
     let (_, e) = held 13 (leb (length (those pseg (h .boxes))) segmentLimit) _ e in
     let (ss, read, e) = both-given (segmentsFrom sourceLimit f h [] (those pseg (h .boxes))) _ e in
-    let (_, same) = held 25 (agree ss) _ e in
+    let (_, same) = held 25 (agreed ss) _ e in
     read ∙ same
 
 -- what the pass over them told
-module _ (f : List ℕ) (h : Heading) (t₀ t u₀ u : List ℕ) (r : Passed) (gathers : Gathers f h true t₀ t u₀ u r) where
+module _ (f : List ℕ) (h : Heading) (t₀ t u₀ u z : List ℕ) (r : Passed) (gathers : Gathers f h true t₀ t u₀ u z r) where
   pub passed-refused : {n : ℕ} → r ≡ Passed.Refused n → segmentsBy f h ≡ refused n
   unfolding Gathers
-  passed-refused e = subst (Gathers f h true t₀ t u₀ u) e gathers
+  passed-refused e = subst (Gathers f h true t₀ t u₀ u z) e gathers
 
-  pub passed-given : {g : Gathered} → r ≡ Passed.Given g → (ss : List Segment) × (segmentsBy f h ≡ given ss) × (g ≡ gatheredOf ss)
+  pub passed-given : {g : Gathered} → r ≡ Passed.Given g → (ss : List Segment) × (segmentsBy f h ≡ given ss) × (g ≡ gatheredOf ss) × (sizesIn z 0 ≡ sizesOf ss)
   unfolding Gathers
   passed-given e =
-      let (ss, read, same, _, _) = subst (Gathers f h true t₀ t u₀ u) e gathers in
-      (ss, read, same)
+      let (ss, read, same, _, _, said) = subst (Gathers f h true t₀ t u₀ u z) e gathers in
+      (ss, read, same, said)
 
   pub passed-kept : KeptIn (segments sourceLimit f h) t₀ t u₀ u
   unfolding allPuts
-  passed-kept = λ ss all. rows-put f h true r gathers (segments-by f h all)
+  passed-kept = λ ss all.
+      let (rows, numbers, _) = rows-put f h true z r gathers (segments-by f h all) in
+      (rows, numbers)
+
+  pub passed-sized : SizedIn (segments sourceLimit f h) z
+  passed-sized = λ ss all. rows-put f h true z r gathers (segments-by f h all) .2
 
 -- what each answer about the segments says
 module _ {r : Passed} {x : Answer Gathered} (answer : gatheredAnswer r ≡ x) where
@@ -125,16 +138,20 @@ module _ {r : Passed} {x : Answer Gathered} (answer : gatheredAnswer r ≡ x) wh
 
 -- ---- what is kept, of which nothing is said after a refusal
 
-pub kept-refused : {read : Answer (List Segment)} {t₀ t u₀ u : List ℕ} {n : ℕ} → read ≡ refused n → KeptIn read t₀ t u₀ u
-kept-refused e = λ ss all. absurd (not-both (sym e ∙ all))
+pub kept-refused : (P : List Segment → Type 0) {read : Answer (List Segment)} {n : ℕ} → read ≡ refused n → WhereRead read P
+kept-refused P e = λ ss all. absurd (not-both (sym e ∙ all))
 
-module _ (f : List ℕ) (h : Heading) {t₀ t u₀ u : List ℕ} where
-  pub kept-ungathered : {n : ℕ} → gatheredIn f h ≡ refused n → KeptIn (segments sourceLimit f h) t₀ t u₀ u
+module _ (P : List Segment → Type 0) (f : List ℕ) (h : Heading) where
+  pub kept-ungathered : {n : ℕ} → gatheredIn f h ≡ refused n → WhereRead (segments sourceLimit f h) P
   unfolding gatheredIn
-  kept-ungathered e = kept-refused (first-refused (segments sourceLimit f h) gatheredOf e)
+  kept-ungathered e = kept-refused P (first-refused (segments sourceLimit f h) gatheredOf e)
 
-  pub kept-read : heading f ≡ given h → KeptIn (segments sourceLimit f h) t₀ t u₀ u → KeptIn (reading sourceLimit f) t₀ t u₀ u
-  kept-read known rows = λ ss all. rows ss (reading-segments sourceLimit f known all)
+module _ {P : List Segment → Type 0} (f : List ℕ) (h : Heading) where
+  pub kept-read : heading f ≡ given h → WhereRead (segments sourceLimit f h) P → WhereRead (reading sourceLimit f) P
+  kept-read known kept = λ ss all. kept ss (reading-segments sourceLimit f known all)
+
+  pub kept-earlier : heading f ≡ given h → WhereRead (segments sourceLimit f h) P → WhereRead (earlierSegments sourceLimit f) P
+  kept-earlier known kept = λ ss all. kept ss (earlier-read sourceLimit f known all)
 
 -- ---- the index
 

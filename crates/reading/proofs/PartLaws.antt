@@ -7,10 +7,10 @@ use borrow.Author.Tests.{le-leb}
 use lib.Dec.{leb}
 use lib.ListN.{length}
 use Rattle.boxes.specs.Answer.{given}
-use Rattle.heading.specs.Facts.{partOf}
-use Rattle.heading.specs.declared.answers.Part as Stated
 use Rattle.partial.specs.Heading.{Part}
 use Rattle.partial.specs.Tables.{nowhere}
+use Rattle.surls.specs.Parts.{partOf}
+use Rattle.surls.specs.declared.part.Part as Stated
 use Rattle.reading.specs.Parts.{HandedBack, locatedAnswer, handed}
 use Rattle.reading.specs.declared.parts.Located.{Located}
 use Rattle.reading.specs.declared.parts.Located.the-variants.{Refused, At}

@@ -40,7 +40,7 @@ use Rattle.heading.specs.Facts.{factsOf, factsBy}
 use Rattle.heading.specs.declared.answers.Head.{Head}
 use Rattle.gathering.specs.Gathered.{gatheredOf}
 use Rattle.gathering.specs.declared.gathered.Gathered.{Gathered}
-use Rattle.gathering.proofs.GatheredLaws.{gathered-sizes, gathered-indexed}
+use Rattle.gathering.proofs.GatheredLaws.{gathered-indexed}
 use Rattle.reading.specs.Judged.{indexedTold}
 use Rattle.reading.specs.Staged.{staged, HasIndexes}
 use Rattle.reading.proofs.JudgedLaws.{facts-indexed}
@@ -172,12 +172,13 @@ module _ (f : List ℕ) (h : Heading) (size : Option ℕ) (ss : List Segment) (t
       (is, read, marked .marks)
 
 -- the stages of a file by what its heading tells and what is gathered of its segments
-pub stages-given : (f : List ℕ) (h : Heading) (ss : List Segment) {head : Head} {g : Gathered} {x : Answer ℕ} → heading f ≡ given h → factsOf f h ≡ factsBy head
+pub stages-given : (f : List ℕ) (h : Heading) (ss : List Segment) {head : Head} {g : Gathered} {said : Sizes} {x : Answer ℕ} → heading f ≡ given h → factsOf f h ≡ factsBy head
     → segments sourceLimit f h ≡ given ss
     → g ≡ gatheredOf ss
+    → said ≡ sizesOf ss
     → ((h : Heading) (ss : List Segment) → heading f ≡ given h → segments sourceLimit f h ≡ given ss → HasIndexes h ss (head .indexed) (g .indexed)
-    → x ≡ staged (head .indexed && g .indexed) (indexBy f h (endOf (record { known = g .sizes .known; at = g .sizes .size })) ss))
+    → x ≡ staged (head .indexed && g .indexed) (indexBy f h (endOf (record { known = said .known; at = said .size })) ss))
     → x ≡ indexedTold f h ss
-stages-given f h ss {head} {g} headed facts all same answer =
+stages-given f h ss {head} {g} headed facts all same sizes answer =
     let has : HasIndexes h ss (head .indexed) (g .indexed) = record { pfil = facts-indexed f h head facts; segments = gathered-indexed ss same } in
-    answer h ss headed all has ∙ rw (known-end ss (gathered-sizes ss same)) (stages-told f h ss has)
+    answer h ss headed all has ∙ rw (known-end ss sizes) (stages-told f h ss has)

@@ -21,6 +21,7 @@ use Rattle.partial.specs.declared.position.Position.{Position}
 use Rattle.filling.specs.Rows.{Put}
 use Rattle.filling.proofs.RowLaws.{put-fills}
 use Rattle.ends.specs.Sizes.{sizesOf}
+use Rattle.ends.specs.declared.sizes.Sizes.{Sizes}
 use Rattle.gathering.specs.Kept.{Kept}
 use Rattle.gathering.specs.Gathered.{gatheredOf}
 use Rattle.gathering.specs.declared.gathered.Gathered.{Gathered}
@@ -72,11 +73,11 @@ module _ (f a b : List ℕ) where
   unfolding after
   reads-given ss e answer one two = record { answer = rw e answer; tables = rw e (record { segmentTable = one; chunkTable = two }) }
 
--- what is gathered of segments is what is answered of them
-pub answered : {g : Gathered} (ss : List Segment) → g ≡ gatheredOf ss → (described : Position) → described .0 ≡ describedLength ss
-    → readAnswer (Read.Tables (g .segments) (g .chunks) described (g .sizes .known)) ≡ given (summary ss)
+-- what is gathered of segments and what their ends say is what is answered of them
+pub answered : {g : Gathered} {x : Sizes} (ss : List Segment) → g ≡ gatheredOf ss → x ≡ sizesOf ss → (described : Position) → described .0 ≡ describedLength ss
+    → readAnswer (Read.Tables (g .segments) (g .chunks) described (x .known)) ≡ given (summary ss)
 unfolding readAnswer summary gatheredOf sizesOf
-answered ss e described length = λ i. given (record { segments = e i .segments; chunks = e i .chunks; described = length i; closed = e i .sizes .known })
+answered ss e said described length = λ i. given (record { segments = e i .segments; chunks = e i .chunks; described = length i; closed = said i .known })
 
 -- rows that fit fill a table
 pub segments-filled : (ss : List Segment) {a a′ : List ℕ} → Put a 0 (segmentRows ss) a′ → segmentRowLength * length ss ≤ length a → a′ ≡ filled (segmentRows ss) a

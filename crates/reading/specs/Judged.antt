@@ -15,6 +15,8 @@ use Rattle.partial.specs.Reading.{segments}
 use Rattle.partial.specs.Segments.{Segment}
 use Rattle.partial.specs.Tables.{segmentRows}
 use Rattle.filling.specs.Rows.{Put}
+use Rattle.ends.specs.Sizes.{sizesOf}
+use Rattle.ends.specs.Table.{sizesIn}
 use Rattle.heading.specs.Facts.{Facts, factsOf, factsBy}
 use Rattle.gathering.specs.Numbers.{numbersOf}
 use Rattle.gathering.specs.Gathered.{gatheredOf}
@@ -78,7 +80,14 @@ unfoldable pub judgedAnswer : Judgement → Answer Judged
 judgedAnswer (Refused n) = refused n
 judgedAnswer (Given j) = given (judgedBy j)
 
--- where segments were read, their rows and the numbers of their chunks were put into two tables; after a refusal these
--- may hold anything
+-- something is so of segments where they were read
+abbrev pub WhereRead : Answer (List Segment) → (List Segment → Type 0) → Type 0
+WhereRead read P = (ss : List Segment) → read ≡ given ss → P ss
+
+-- their rows and the numbers of their chunks were put into two tables; after a refusal these may hold anything
 abbrev pub KeptIn : Answer (List Segment) → List ℕ → List ℕ → List ℕ → List ℕ → Type 0
-KeptIn read t₀ t u₀ u = (ss : List Segment) → read ≡ given ss → Put t₀ 0 (segmentRows ss) t × Put u₀ 0 (numbersOf ss) u
+KeptIn read t₀ t u₀ u = WhereRead read (λ ss. Put t₀ 0 (segmentRows ss) t × Put u₀ 0 (numbersOf ss) u)
+
+-- what their ends say was put into a third
+abbrev pub SizedIn : Answer (List Segment) → List ℕ → Type 0
+SizedIn read z = WhereRead read (λ ss. sizesIn z 0 ≡ sizesOf ss)

@@ -6,9 +6,9 @@ use mathlib.Core.Path.{_≡_}
 use lib.Dec.{leb}
 use lib.ListN.{length}
 use Rattle.boxes.specs.Answer.{Answer, refused, given}
-use Rattle.partial.specs.Heading.{Part}
-use Rattle.partial.specs.Tables.{bytesIn, nowhere}
-use Rattle.heading.specs.Facts.{partOf}
+use Rattle.partial.specs.Heading.{Part, bytesIn}
+use Rattle.partial.specs.Tables.{nowhere}
+use Rattle.surls.specs.Parts.{partOf}
 use Rattle.reading.specs.declared.parts.Located.{Located}
 use Rattle.reading.specs.declared.parts.Located.the-variants.{Refused, At}
 

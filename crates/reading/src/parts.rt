@@ -1,6 +1,6 @@
 // Parts of a file: where one lies, and the bytes there.
-use heading::answers::Part;
 use numerals::order::ends_by;
+use surls::part::Part;
 ghost use denote.Ref.{ptr};
 ghost use Rattle.reading.specs.Parts.{HandedBack, locatedAnswer, handed};
 

@@ -3,6 +3,7 @@ use crate::judging::Judgement;
 use crate::judging::judge;
 use crate::parts::Located;
 use crate::parts::part_of;
+use ends::table::ALL_SIZES;
 ghost use denote.Ref.{ptr};
 ghost use mathlib.Core.Path.{_≡_};
 ghost use Rattle.partial.specs.Heading.{url, mime};
@@ -21,7 +22,8 @@ pub enum Text {
 pub fn text_at(file: &[u8], which: Text) -> Located
     ensures { λ r. ⌜ locatedAnswer r ≡ textLocated which (now (file .entry)) ⌝ }
 {
-    match judge(file) {
+    let mut sizes = [0; ALL_SIZES];
+    match judge(file, &mut sizes) {
         Judgement::Refused(n) => Located::Refused(n),
         Judgement::Given(judged) => {
             let head = judged.head;

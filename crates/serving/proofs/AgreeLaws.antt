@@ -13,11 +13,12 @@ use Rattle.partial.specs.Answers.{askedAnswer}
 use Rattle.partial.specs.Limits.{sourceLimit}
 use Rattle.partial.specs.Meaning.{supplied, describedLength, Reply, reply}
 use Rattle.partial.specs.Segments.{Segment}
-use Rattle.partial.specs.Tables.{tabled, servedPart, asked, bytesIn, nowhere}
+use Rattle.partial.specs.Tables.{tabled, servedPart, asked, nowhere}
+use Rattle.partial.specs.Heading.{bytesIn}
 use Rattle.partial.specs.declared.answers.Asked.{Asked}
 use Rattle.partial.proofs.Meaning.SequenceLaws.{which}
 use Rattle.partial.proofs.Reading.PartLaws.{headed-read, tabled-read}
-use Rattle.partial.proofs.Reading.ReadingLaws.{read-mapped}
+use Rattle.partial.proofs.Reading.OneSourceLaws.{read-mapped}
 use Rattle.serving.specs.Calls.{servedCount, Serves, Asks}
 
 -- of the definitions: after a refusal, and by what is replied of an accepted file

@@ -14,7 +14,8 @@ use Rattle.partial.specs.Limits.{sourceLimit}
 use Rattle.partial.specs.Meaning.{supplier, supplied, describedLength, chunkFor, placeOfByte, servedRun, onward, reply, servedFor, missingFor, notBelow}
 use Rattle.partial.specs.Memory.{after}
 use Rattle.partial.specs.Segments.{Chunk, noChunk, Segment, chunksOf}
-use Rattle.partial.specs.Tables.{tabled, chunkRows, summary, Summary, servedPart, asked, bytesIn, nowhere}
+use Rattle.partial.specs.Tables.{tabled, chunkRows, summary, Summary, servedPart, asked, nowhere}
+use Rattle.partial.specs.Heading.{bytesIn}
 use Rattle.partial.specs.declared.answers.Read.{Read}
 use Rattle.partial.specs.declared.answers.Read.the-variants as Read
 use Rattle.partial.specs.declared.position.Position.{Position}
@@ -22,7 +23,7 @@ use Rattle.partial.proofs.Meaning.RunLaws.{missing-run}
 use Rattle.partial.proofs.Meaning.SequenceLaws.{which}
 use Rattle.partial.proofs.Meaning.ServingLaws.{beyond}
 use Rattle.partial.proofs.Reading.PartLaws.{headed-read, tabled-read}
-use Rattle.partial.proofs.Reading.ReadingLaws.{read-mapped}
+use Rattle.partial.proofs.Reading.OneSourceLaws.{read-mapped}
 use Rattle.reading.specs.Parts.{handed}
 use Rattle.reading.specs.Tables.{Reads}
 use Rattle.reading.proofs.JudgedLaws.{first-refused}

@@ -1,5 +1,4 @@
 // Serving and asking of a position, each reading the file into the two lent tables first.
-use heading::answers::Part;
 use numerals::place::Place;
 use partial::answers::Asked;
 use partial::answers::Read;
@@ -9,6 +8,7 @@ use reading::parts::part_of;
 use reading::tables::read;
 use supplying::rows::chunk_at;
 use supplying::runs::run_at;
+use surls::part::Part;
 ghost use denote.Ref.{ptr};
 ghost use Rattle.serving.specs.Calls.{Locates, Serves, Asks};
 

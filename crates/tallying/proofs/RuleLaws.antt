@@ -6,6 +6,7 @@ use mathlib.Core.List.{List, [], _∷_, _++_, map}
 use mathlib.Core.Path.{_≡_, refl, sym, ap, subst, _∙_}
 use native.Mathlib.Nat.{add-zero}
 use native.Mathlib.Numerals.{add-one}
+use native.Mathlib.Decide.{decLe}
 use native.Mathlib.Omega.{arith}
 use borrow.Author.Count.{below-more}
 use borrow.Author.Tests.{eq-eqb, ne-eqb, eqb-true, eqb-false}
@@ -22,7 +23,7 @@ use Rattle.boxes.specs.declared.kinds.Kind.{Kind}
 use Rattle.boxes.specs.declared.kinds.Rule.{Rule}
 use Rattle.boxes.proofs.ContainerLaws.{boxes-numbers}
 use Rattle.boxes.proofs.KindLaws.{those-few, one-found, one-passed, right-count}
-use Rattle.tallying.specs.Rules.{countsOf, tallyOf, countIn, tallyFor}
+use Rattle.tallying.specs.Rules.{countsOf, rowAfter, CountedBy, tallyOf, countIn, tallyFor}
 use Rattle.tallying.specs.declared.tally.Tally.{Tally}
 
 -- ---- one box more
@@ -31,50 +32,61 @@ use Rattle.tallying.specs.declared.tally.Tally.{Tally}
 abbrev noRow : Rule
 noRow = rule ftyp File Any
 
--- the count of a row after a box of a type: one more where the row's kind has that type
-abbrev rowAfter : ℕ → Rule → ℕ → ℕ
-rowAfter code row n = elim (eqb code (row .kind .code)) [ true ↦ n + 1 | false ↦ n ]
-
 row-same : (code : ℕ) (row : Rule) (n : ℕ) → code ≡ row .kind .code → rowAfter code row n ≡ n + 1
 row-same code row n e = simp (rowAfter, eq-eqb code (row .kind .code) e)
 
 row-other : (code : ℕ) (row : Rule) (n : ℕ) → (code ≡ row .kind .code → ⊥) → rowAfter code row n ≡ n
 row-other code row n other = simp (rowAfter, ne-eqb code (row .kind .code) other)
 
--- so many rows of a table have counted a box of that type, and the others not yet
-pub record Rows (rs : List Rule) (code : ℕ) (before : List ℕ) (i : ℕ) (counts : List ℕ) : Type 0 where
-  pub long : length counts ≡ length before
-  pub passed : (k : ℕ) → k < i → getD counts k 0 ≡ rowAfter code (getD rs k noRow) (getD before k 0)
-  pub left : (k : ℕ) → i ≤ k → getD counts k 0 ≡ getD before k 0
+pub rows-none : (rs : List Rule) (code from : ℕ) (before : List ℕ) → CountedBy rs code from from before before
+rows-none rs code from before = record { long = refl; passed = λ k high low d. absurd (omega arith); left = λ k h. refl }
 
-pub rows-none : (rs : List Rule) (code : ℕ) (before : List ℕ) → Rows rs code before 0 before
-rows-none rs code before = record { long = refl; passed = λ k h. absurd (omega arith); left = λ k h. refl }
-
--- within a list it does not matter what stands past its end
-getD-any : (rs : List Rule) (i : ℕ) (d e : Rule) → i < length rs → getD rs i d ≡ getD rs i e
+-- within a table it does not matter what stands past its end
+pub getD-any : (rs : List Rule) (i : ℕ) (d e : Rule) → i < length rs → getD rs i d ≡ getD rs i e
 getD-any [] i d e h = absurd (omega arith)
 getD-any (r ∷ rs) zero d e h = refl
 getD-any (r ∷ rs) (suc i) d e h = getD-any rs i d e (omega arith)
 
-module _ {rs : List Rule} {code : ℕ} {before : List ℕ} {i : ℕ} {counts : List ℕ} (r : Rows rs code before i counts) (d : Rule) (there : i < length rs) where
-  pub rows-found : i < length counts → code ≡ getD rs i d .kind .code → Rows rs code before (i + 1) (set counts i (getD counts i 0 + 1))
-  rows-found inside e =
-      let same : getD counts i 0 ≡ getD before i 0 = r .left i (omega arith) in
+-- a row of a table stands before those behind it
+drop-row : (rs : List Rule) (i : ℕ) {row : Rule} → ((d : Rule) → row ≡ getD rs i d) → i < length rs → drop i rs ≡ row ∷ drop (suc i) rs
+drop-row rs i {row} here inside = drop-cons rs i row inside ∙ ap (λ r. r ∷ drop (suc i) rs) (sym (here row))
+
+-- the rows from one up to another, and the next one too
+module _ {rs : List Rule} {code from i : ℕ} {before counts : List ℕ} (r : CountedBy rs code from i before counts) (low : from ≤ i) {row : Rule} (here : (d : Rule) → row ≡ getD rs i d) where
+  as-before : getD counts i 0 ≡ getD before i 0
+  as-before = r .left i (λ h. omega arith)
+
+  pub rows-found : i < length counts → code ≡ row .kind .code → CountedBy rs code from (i + 1) before (set counts i (getD counts i 0 + 1))
+  rows-found inside same =
       record {
         long = rw length-set (r .long);
         passed =
-            below-more _ i (λ k h. getD-set-other counts i k (getD counts i 0 + 1) 0 (λ e. omega arith) ∙ r .passed k h)
-            (getD-set-same counts i (getD counts i 0 + 1) 0 inside ∙ ap (λ n. n + 1) same ∙ sym (row-same code (getD rs i noRow) (getD before i 0) (rw (getD-any rs i noRow d there) e)));
-        left = λ k h. getD-set-other counts i k (getD counts i 0 + 1) 0 (λ e. omega arith) ∙ r .left k (omega arith);
+            below-more _ i (λ k h from-on d. getD-set-other counts i k (getD counts i 0 + 1) 0 (λ e. omega arith) ∙ r .passed k h from-on d)
+            (λ from-on d. getD-set-same counts i (getD counts i 0 + 1) 0 inside ∙ ap (λ n. n + 1) as-before ∙ sym (rw (← here d) (row-same code row (getD before i 0) same)));
+        left = λ k h. getD-set-other counts i k (getD counts i 0 + 1) 0 (λ e. omega (arith, h (omega arith))) ∙ r .left k (λ l. omega (arith, h l));
       }
 
-  pub rows-passed : (code ≡ getD rs i d .kind .code → ⊥) → Rows rs code before (i + 1) counts
+  pub rows-passed : (code ≡ row .kind .code → ⊥) → CountedBy rs code from (i + 1) before counts
   rows-passed other =
       record {
         long = r .long;
-        passed = below-more _ i (r .passed) (r .left i (omega arith) ∙ sym (row-other code (getD rs i noRow) (getD before i 0) (rw (getD-any rs i noRow d there) other)));
-        left = λ k h. r .left k (omega arith);
+        passed = below-more _ i (r .passed) (λ from-on d. as-before ∙ sym (rw (← here d) (row-other code row (getD before i 0) other)));
+        left = λ k h. r .left k (λ l. omega (arith, h l));
       }
+
+-- the rows up to one, and then those from it on
+pub rows-both : {rs : List Rule} {code i j : ℕ} {before counts after : List ℕ} → i ≤ j → CountedBy rs code 0 i before counts → CountedBy rs code i j counts after
+    → CountedBy rs code 0 j before after
+rows-both {rs} {code} {i} {j} {before} {counts} {after} up one two =
+    record {
+      long = two .long ∙ one .long;
+      passed = λ k h low d.
+          elim (decLe i k) [
+            | no before-it ↦ two .left k (λ l. absurd (before-it l)) ∙ one .passed k (omega (arith, before-it)) low d
+            | yes from-on ↦ two .passed k h from-on d ∙ ap (rowAfter code (getD rs k d)) (one .left k (λ l. from-on))
+          ];
+      left = λ k h. two .left k (λ l. h (omega arith)) ∙ one .left k (λ l. omega (arith, h l));
+    }
 
 -- how many there are of the kind of each of some rows
 abbrev counted : List Rule → List Box → List ℕ
@@ -86,14 +98,14 @@ counted-at (r ∷ rs) bs zero h = refl
 counted-at (r ∷ rs) bs (suc k) h = counted-at rs bs k (omega arith)
 
 -- where all rows have counted the box, they are the counts with the box
-pub rows-all : (bs : List Box) (b : Box) {code : ℕ} {counts : List ℕ} → b .kind ≡ code → Rows rules code (countsOf bs) (length rules) counts
+pub rows-all : (bs : List Box) (b : Box) {code : ℕ} {counts : List ℕ} → b .kind ≡ code → CountedBy rules code 0 (length rules) (countsOf bs) counts
     → counts ≡ countsOf (bs ++ (b ∷ []))
 unfolding countsOf
 rows-all bs b {code} {counts} e r =
     ext-getD 0 counts (counted rules (bs ++ (b ∷ []))) (r .long)
     (λ k h.
     let inside : k < length rules = omega (arith, r .long) in
-    r .passed k inside ∙ row k inside (eqb code (getD rules k noRow .kind .code)) refl)
+    r .passed k inside (omega arith) noRow ∙ row k inside (eqb code (getD rules k noRow .kind .code)) refl)
   where
     row : (k : ℕ) → k < length rules → (t : Bool) → eqb code (getD rules k noRow .kind .code) ≡ t
         → (elim t as (λ _. ℕ) [ true ↦ getD (counted rules bs) k 0 + 1 | false ↦ getD (counted rules bs) k 0 ]) ≡ getD (counted rules (bs ++ (b ∷ []))) k 0
@@ -127,14 +139,14 @@ module _ (r : Rule) (rs : List Rule) (k : Kind) (counts : List ℕ) where
   count-later other = simp (countIn, ne-eqb (r .kind .code) (k .code) other)
 
 -- as a loop over a table looks for it
-module _ (rs : List Rule) (k : Kind) (counts : List ℕ) (i : ℕ) (d : Rule) (inside : i < length rs) where
-  pub count-found : getD rs i d .kind .code ≡ k .code → countIn (drop i rs) k (drop i counts) ≡ getD counts i 0
+module _ (rs : List Rule) (k : Kind) (counts : List ℕ) (i : ℕ) {row : Rule} (here : (d : Rule) → row ≡ getD rs i d) (inside : i < length rs) where
+  pub count-found : row .kind .code ≡ k .code → countIn (drop i rs) k (drop i counts) ≡ getD counts i 0
   count-found e =
-      rw (drop-cons rs i d inside) (count-first (getD rs i d) (drop (suc i) rs) k (drop i counts) e ∙ rw (getD-drop, add-zero))
+      rw (drop-row rs i here inside) (count-first row (drop (suc i) rs) k (drop i counts) e ∙ rw (getD-drop, add-zero))
 
-  pub count-passed : (getD rs i d .kind .code ≡ k .code → ⊥) → countIn (drop i rs) k (drop i counts) ≡ countIn (drop (i + 1) rs) k (drop (i + 1) counts)
+  pub count-passed : (row .kind .code ≡ k .code → ⊥) → countIn (drop i rs) k (drop i counts) ≡ countIn (drop (i + 1) rs) k (drop (i + 1) counts)
   count-passed other =
-      rw (drop-cons rs i d inside) (count-later (getD rs i d) (drop (suc i) rs) k (drop i counts) other ∙ rw (drop-drop, add-one))
+      rw (drop-row rs i here inside) (count-later row (drop (suc i) rs) k (drop i counts) other ∙ rw (drop-drop, add-one))
 
 -- whether a table has a kind
 abbrev pub has : List Rule → Kind → Bool
@@ -157,12 +169,12 @@ unfolding tallyFor countsOf
 tally-for k h bs = count-of rules k bs h
 
 -- ---- the rule at the row of a kind in a container, as a loop over a table looks for it
-module _ (rs : List Rule) (c : Container) (k : Kind) (i : ℕ) (d : Rule) (inside : i < length rs) where
-  pub rule-found : isRow c k (getD rs i d) ≡ true → ruleIn (drop i rs) c k ≡ getD rs i d .count
-  rule-found e = rw (drop-cons rs i d inside, e, ruleIn)
+module _ (rs : List Rule) (c : Container) (k : Kind) (i : ℕ) {row : Rule} (here : (d : Rule) → row ≡ getD rs i d) (inside : i < length rs) where
+  pub rule-found : isRow c k row ≡ true → ruleIn (drop i rs) c k ≡ row .count
+  rule-found e = rw (drop-row rs i here inside, ruleIn, e)
 
-  pub rule-passed : isRow c k (getD rs i d) ≡ false → ruleIn (drop i rs) c k ≡ ruleIn (drop (i + 1) rs) c k
-  rule-passed e = rw (drop-cons rs i d inside, e, ruleIn, add-one)
+  pub rule-passed : isRow c k row ≡ false → ruleIn (drop i rs) c k ≡ ruleIn (drop (i + 1) rs) c k
+  rule-passed e = rw (drop-row rs i here inside, ruleIn, e, add-one)
 
 -- ---- what a tally says
 

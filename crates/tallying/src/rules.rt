@@ -5,8 +5,19 @@ use boxes::kinds::Kind;
 use boxes::kinds::RULE_COUNT;
 use boxes::kinds::RULES;
 use boxes::kinds::Rule;
+ghost use Prim.Native.Nat.{_<_};
 ghost use mathlib.Core.Path.{_≡_};
+ghost use lib.ListN.{length, getD};
 ghost use Rattle.boxes.specs.Kinds.{rules, keeps, containerNo, isRow, ruleIn, rightCount};
+
+// A row of the table. Each loop takes its rows from here, so that the code's table is held against that of the
+// definitions once.
+pub(crate) fn row_at(i: usize) -> Rule
+    requires { ⌜ i < length rules ⌝ }
+    ensures { λ r. ⌜ ((d : Rule) → r ≡ getD rules i d) ⌝ }
+{
+    RULES[i]
+}
 
 // Whether so many keep a count rule.
 fn keeps_rule(count: Count, n: u64) -> bool
@@ -47,7 +58,7 @@ fn rule_of(container: Container, kind: Kind) -> Count
 {
     let mut i = 0;
     while i < RULE_COUNT {
-        let row = RULES[i];
+        let row = row_at(i);
         if is_row(container, kind, row) {
             return row.count;
         }

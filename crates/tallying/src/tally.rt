@@ -1,7 +1,7 @@
 // What one walk over a container tells of it.
+use crate::rules::row_at;
 use boxes::kinds::Kind;
 use boxes::kinds::RULE_COUNT;
-use boxes::kinds::RULES;
 ghost use mathlib.Core.Path.{_≡_};
 ghost use Rattle.tallying.specs.Rules.{tallyFor};
 
@@ -21,7 +21,7 @@ impl Tally {
         let counts = self.counts;
         let mut i = 0;
         while i < RULE_COUNT {
-            let row = RULES[i];
+            let row = row_at(i);
             if row.kind.code == kind.code {
                 return counts[i];
             }

@@ -4,9 +4,9 @@ use mathlib.Core.Bool.{Bool}
 use mathlib.Core.List.{List}
 use mathlib.Core.Path.{_≡_, subst}
 use Rattle.boxes.specs.Answer.{Answer, refused, given, _>>=_}
-use Rattle.partial.specs.Addition.{asks}
+use Rattle.additions.specs.Addition.{asks}
 use Rattle.partial.specs.declared.answers.Written.{Written}
-use Rattle.partial.specs.declared.header.SegmentHeader.{SegmentHeader}
+use Rattle.additions.specs.declared.header.SegmentHeader.{SegmentHeader}
 use Rattle.writing.specs.Append.{Appends}
 use Rattle.vrazhupa.specs.Says.{Says, numberOf, numbersAfter}
 

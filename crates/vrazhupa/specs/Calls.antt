@@ -4,9 +4,9 @@ use mathlib.Core.List.{List}
 use mathlib.Core.Path.{_≡_}
 use Rattle.boxes.specs.Answer.{given, _>>=_}
 use Rattle.boxes.specs.Framing.{Box}
-use Rattle.partial.specs.Addition.{Addition}
-use Rattle.partial.specs.Append.{appended, result}
-use Rattle.partial.specs.Begin.{begun, beginning}
+use Rattle.additions.specs.Addition.{Addition}
+use Rattle.additions.specs.Append.{appended, result}
+use Rattle.additions.specs.Begin.{begun, beginning}
 use Rattle.heading.specs.Facts.{told}
 use Rattle.partial.specs.Heading.{Part, heading}
 use Rattle.partial.specs.Limits.{sourceLimit}

@@ -1,13 +1,13 @@
 // The exported calls that write a file: begin and append.
 use crate::answers::say_written;
+use additions::header::SegmentHeader;
 use partial::brand::Brand;
-use partial::header::SegmentHeader;
 use partial::position::Position;
 use writing::append::append;
 use writing::begin::begin;
 ghost use mathlib.Core.Path.{_≡_};
-ghost use Rattle.partial.specs.Addition.{asks, writable};
-ghost use Rattle.partial.specs.Begin.{brandFor};
+ghost use Rattle.additions.specs.Addition.{asks, writable};
+ghost use Rattle.additions.specs.Begin.{brandFor};
 ghost use Rattle.vrazhupa.specs.Calls.{SaysBegun, SaysAppended};
 
 // The brand of a mixed file, or that of any other.

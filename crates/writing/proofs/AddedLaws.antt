@@ -14,18 +14,18 @@ use Rattle.boxes.proofs.BoxedLaws.{front-size, length-boxed}
 use Rattle.numerals.specs.Numbers.{bytesOf, holds, holdsOffset}
 use Rattle.numerals.proofs.NumberLaws.{length-bytesOf}
 use Rattle.numerals.proofs.WidthLaws.{below-holds, leastWidth-within}
-use Rattle.partial.specs.Addition.{asks, flagsFor, Item, items, sizeOf, goesOut, goesIn, dataFor}
-use Rattle.partial.specs.Append.{placed, lengthSize, offsetSize, flagByte, entryBytes, plocBody, versionFor, pshdBody, psegBody}
-use Rattle.partial.specs.Append.{insideData, outsideData, anyInside, dataBox, stored, added}
+use Rattle.additions.specs.Addition.{asks, flagsFor, Item, items, sizeOf, goesOut, goesIn, dataFor}
+use Rattle.additions.specs.Append.{placed, lengthSize, offsetSize, flagByte, entryBytes, plocBody, versionFor, pshdBody, psegBody}
+use Rattle.additions.specs.Append.{insideData, outsideData, anyInside, dataBox, stored, added}
 use Rattle.partial.specs.Limits.{fileLimit}
 use Rattle.partial.specs.Reading.{offsetWidth}
 use Rattle.partial.specs.Segments.{isLast, present, corrupted}
 use Rattle.partial.specs.Sequences.{allOf, sum}
-use Rattle.partial.specs.declared.header.SegmentHeader.{SegmentHeader}
+use Rattle.additions.specs.declared.header.SegmentHeader.{SegmentHeader}
 use Rattle.partial.proofs.Meaning.SequenceLaws.{which}
-use Rattle.partial.proofs.Writing.DataLaws.{sizes-split, length-inside, length-outside}
-use Rattle.partial.proofs.Writing.FieldsBackLaws.{length-pshd, sizes-eight, sizes-held, offsets-held}
-use Rattle.partial.proofs.Writing.PlacedLaws.{length-placed, sizes-placed, offsets-eight}
+use Rattle.additions.proofs.DataLaws.{sizes-split, length-inside, length-outside}
+use Rattle.additions.proofs.FieldsBackLaws.{length-pshd, sizes-eight, sizes-held, offsets-held}
+use Rattle.additions.proofs.PlacedLaws.{length-placed, sizes-placed, offsets-eight}
 use Rattle.outside.specs.declared.chunks.Outside.{Outside}
 use Rattle.outside.proofs.ChunkLaws.{outside-bytes}
 use Rattle.adding.specs.Counts.{Whole, Sorted}

@@ -14,29 +14,30 @@ use Rattle.boxes.specs.Kinds.{pseg, right}
 use Rattle.boxes.specs.declared.kinds.Container.the-variants.{File}
 use Rattle.boxes.proofs.AnswerLaws.{not-both, refused-same, given-same, both-given}
 use Rattle.numerals.proofs.StoredLaws.{stored-room}
-use Rattle.partial.specs.Addition.{Addition, asks, items, listRight, dataSize, dataRight, outsideRight}
+use Rattle.additions.specs.Addition.{Addition, asks, items, listRight, dataSize, dataRight, outsideRight}
 use Rattle.partial.specs.Answers.{writtenAnswer}
-use Rattle.partial.specs.Append.{added, admission, appended, result}
+use Rattle.additions.specs.Append.{added, admission, appended, result}
 use Rattle.partial.specs.Heading.{Heading, heading}
 use Rattle.partial.specs.Index.{Indexed, indexed}
 use Rattle.partial.specs.Limits.{fileLimit, sourceLimit}
 use Rattle.partial.specs.Memory.{after, filled}
 use Rattle.partial.specs.Reading.{earlierSegments}
-use Rattle.partial.specs.Segments.{Segment, isState}
+use Rattle.partial.specs.Segments.{Segment}
+use Rattle.additions.specs.Addition.{isState}
 use Rattle.partial.specs.Sequences.{allOf}
 use Rattle.partial.specs.declared.answers.Written.{Written}
 use Rattle.partial.specs.declared.answers.Written.the-variants as Written
-use Rattle.partial.specs.declared.header.SegmentHeader.{SegmentHeader}
+use Rattle.additions.specs.declared.header.SegmentHeader.{SegmentHeader}
 use Rattle.partial.proofs.Meaning.SequenceLaws.{which}
 use Rattle.partial.proofs.Reading.RefusalLaws.{earlier-headless, earlier-some, earlier-none}
-use Rattle.partial.proofs.Writing.AddedBoxesLaws.{data-low, length-added}
-use Rattle.partial.proofs.Writing.ReadsBackLaws.{Offered, Admits, admits}
-use Rattle.partial.proofs.Writing.ReasonLaws.{list-wrong, data-wrong, outside-wrong}
-use Rattle.partial.proofs.Writing.ResultLaws.{appended-offered}
+use Rattle.additions.proofs.AddedBoxesLaws.{data-low, length-added}
+use Rattle.additions.proofs.ReadsBackLaws.{Offered, Admits, admits}
+use Rattle.additions.proofs.ReasonLaws.{list-wrong, data-wrong, outside-wrong}
+use Rattle.additions.proofs.ResultLaws.{appended-offered}
 use Rattle.heading.specs.Facts.{factsOf, factsBy}
 use Rattle.filling.specs.Rows.{Put}
 use Rattle.gathering.specs.Gathered.{gatheredOf}
-use Rattle.reading.specs.Judged.{judgedBy, earlierTold}
+use Rattle.reading.specs.Judged.{judgedBy, earlierTold, SizedIn}
 use Rattle.reading.specs.declared.judging.Judged.{Judged}
 use Rattle.reading.proofs.JudgedLaws.{earlier-cases, accepted, read-refused, read-given}
 use Rattle.reading.proofs.JudgedLaws.{earlier-headless as told-headless}
@@ -136,18 +137,18 @@ earlier-refused f {k} e = go (heading f) refl
           | inr lacks ↦ absurd (not-both (sym e ∙ earlier-cases f head lacks))
         ]
 
--- a file that append takes: its heading and its segments, of which all is told
-pub record Earlier (f : List ℕ) (j : Judged) : Type 0 where
+-- a file that append takes: its heading and its segments, of which all is told, and what their ends say in a table
+pub record Earlier (f : List ℕ) (j : Judged) (z : List ℕ) : Type 0 where
   pub h : Heading
   pub ss : List Segment
   pub head : heading f ≡ given h
   pub read : earlierSegments sourceLimit f ≡ given ss
-  pub beside : Beside f h ss j
+  pub beside : Beside f h ss j z
   pub mixed : j .head .mixed ≡ h .mixed
 
-pub earlier : (f : List ℕ) (j : Judged) → earlierTold f ≡ given (judgedBy j) → Earlier f j
+pub earlier : (f : List ℕ) (j : Judged) (z : List ℕ) → earlierTold f ≡ given (judgedBy j) → SizedIn (earlierSegments sourceLimit f) z → Earlier f j z
 unfolding earlierTold factsOf
-earlier f j e =
+earlier f j z e sized =
     let (h, head, _) = both-given (heading f) _ e in
     elim (which (right File pseg (h .boxes))) [
       | inl some ↦
@@ -159,7 +160,7 @@ earlier f j e =
           of h [] head (earlier-none sourceLimit f head lacks) (ap (λ x. x .facts) told) (sym (ap (λ x. x .gathered) told))
     ]
   where
-    of : (h : Heading) (ss : List Segment) → heading f ≡ given h → earlierSegments sourceLimit f ≡ given ss → factsOf f h ≡ factsBy (j .head) → j .gathered ≡ gatheredOf ss → Earlier f j
+    of : (h : Heading) (ss : List Segment) → heading f ≡ given h → earlierSegments sourceLimit f ≡ given ss → factsOf f h ≡ factsBy (j .head) → j .gathered ≡ gatheredOf ss → Earlier f j z
     of h ss head read facts gathered =
         record {
           h = h;
@@ -170,17 +171,18 @@ earlier f j e =
             file = record { head = head; read = read; index = sym (ap (λ x. x .indexed) facts) };
             boxes = sym (ap (λ x. x .boxes) facts);
             segments = gathered;
+            sizes = sized ss read;
           };
           mixed = sym (ap (λ x. x .mixed) facts);
         }
 
 -- it has one heading
-pub headed-mixed : {f : List ℕ} {j : Judged} → Earlier f j → {h : Heading} → heading f ≡ given h → j .head .mixed ≡ h .mixed
+pub headed-mixed : {f : List ℕ} {j : Judged} {z : List ℕ} → Earlier f j z → {h : Heading} → heading f ≡ given h → j .head .mixed ≡ h .mixed
 headed-mixed file head = file .mixed ∙ ap (λ (h : Heading). h .mixed) (given-same (sym (file .head) ∙ head))
 
 -- ---- the tests, in their order
 
-module _ (buffer : List ℕ) (n : ℕ) (header : SegmentHeader) (o : Bool) (list bytes : List ℕ) (fits : n ≤ length buffer) (j : Judged) (file : Earlier (take n buffer) j) where
+module _ (buffer : List ℕ) (n : ℕ) (header : SegmentHeader) (o : Bool) (list bytes : List ℕ) (fits : n ≤ length buffer) (j : Judged) {z : List ℕ} (file : Earlier (take n buffer) j z) where
   pub wrong-list : listRight list ≡ false → appended sourceLimit buffer n (asks header o list bytes) ≡ refused 31
   unfolding asks
   wrong-list wrong = list-wrong sourceLimit buffer n (asks header o list bytes) fits (file .head) (file .read) wrong
@@ -219,7 +221,7 @@ module _ (buffer : List ℕ) (n : ℕ) (header : SegmentHeader) (o : Bool) (list
           }
 
       module _ (r : Written)
-          (answer : (h : Heading) (ss : List Segment) (a : Addition) → Beside (take n buffer) h ss j → Asked a header c x l → writtenAnswer r ≡ admittedLength (take n buffer) h ss n a) where
+          (answer : (h : Heading) (ss : List Segment) (a : Addition) → Beside (take n buffer) h ss j z → Asked a header c x l → writtenAnswer r ≡ admittedLength (take n buffer) h ss n a) where
         told : writtenAnswer r ≡ admittedLength (take n buffer) (file .h) (file .ss) n (asks header o list bytes)
         told = answer (file .h) (file .ss) (asks header o list bytes) (file .beside) asked
 

@@ -7,7 +7,7 @@ use borrow.Author.Tests.{le-leb, lt-leb}
 use lib.ListN.{length}
 use Rattle.boxes.specs.Answer.{refused, given}
 use Rattle.partial.specs.Answers.{writtenAnswer}
-use Rattle.partial.specs.Begin.{beginning, isText, begun}
+use Rattle.additions.specs.Begin.{beginning, isText, begun}
 use Rattle.partial.specs.Limits.{fileLimit}
 use Rattle.partial.specs.Memory.{after, filled}
 use Rattle.partial.specs.declared.answers.Written.the-variants as Written

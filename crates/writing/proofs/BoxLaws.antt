@@ -8,7 +8,7 @@ use lib.ListN.{length, length-append}
 use Rattle.numerals.specs.Numbers.{bytesOf}
 use Rattle.boxes.proofs.BoxedLaws.{front-size, length-boxed}
 use Rattle.numerals.proofs.NumberLaws.{length-bytesOf}
-use Rattle.partial.specs.Begin.{versionAndFlags, brandCode, beginning}
+use Rattle.additions.specs.Begin.{versionAndFlags, brandCode, beginning}
 use Rattle.partial.specs.declared.brand.Brand.{Brand}
 use Rattle.partial.specs.declared.brand.Brand.the-variants.{Paff, Pmff}
 use Rattle.writing.specs.Boxes.{ftypBox, pfhdBox, surlBox, pfilBox}

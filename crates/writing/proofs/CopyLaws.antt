@@ -5,7 +5,7 @@ use mathlib.Core.List.{List, [], _∷_, _++_}
 use mathlib.Core.Path.{_≡_, refl, sym, ap, ap₂, _∙_}
 use native.Mathlib.Omega.{arith}
 use lib.ListN.{length, take, drop}
-use Rattle.partial.specs.Addition.{Item, items, dataSize, goesOut, goesIn, dataFor}
+use Rattle.additions.specs.Addition.{Item, items, dataSize, goesOut, goesIn, dataFor}
 use Rattle.partial.specs.Segments.{present}
 use Rattle.outside.proofs.ItemLaws.{itemAt, itemsFrom, items-from, items-none, data-part, data-behind, data-chosen, data-passed}
 use Rattle.filling.specs.Rows.{Puts}

@@ -9,13 +9,13 @@ use Rattle.numerals.specs.Numbers.{bytesOf, twosComplement, holds, holdsOffset}
 use Rattle.numerals.specs.declared.numbers.Offset.{Offset}
 use Rattle.numerals.specs.declared.numbers.Offset.the-variants.{Ahead, Back}
 use Rattle.numerals.proofs.NumberLaws.{length-bytesOf}
-use Rattle.partial.specs.Addition.{Item, items, sizeOf, dataSize, goesOut, goesIn}
-use Rattle.partial.specs.Append.{back, placedWith, placed, flagByte, entryBytes}
+use Rattle.additions.specs.Addition.{Item, items, sizeOf, dataSize, goesOut, goesIn}
+use Rattle.additions.specs.Append.{back, placedWith, placed, flagByte, entryBytes}
 use Rattle.partial.specs.Segments.{present}
 use Rattle.partial.specs.Sequences.{allOf}
 use Rattle.partial.proofs.Meaning.SequenceLaws.{both}
-use Rattle.partial.proofs.Writing.DataLaws.{outside, inside, nowhere, goes, size-on, size-past, data-one, data-none, sizes-split}
-use Rattle.partial.proofs.Writing.PlacedLaws.{back-out}
+use Rattle.additions.proofs.DataLaws.{outside, inside, nowhere, goes, size-on, size-past, data-one, data-none, sizes-split}
+use Rattle.additions.proofs.PlacedLaws.{back-out}
 use Rattle.outside.proofs.ItemLaws.{itemAt, itemsFrom, items-from, items-none}
 use Rattle.filling.specs.Rows.{Puts}
 use Rattle.writing.specs.Append.{entryOf, Entry, Entries, Distances}

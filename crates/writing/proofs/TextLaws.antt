@@ -8,7 +8,7 @@ use borrow.Author.Tests.{eq-eqb, ne-eqb}
 use lib.Dec.{eqb}
 use lib.ListN.{length, getD, length-append}
 use Rattle.numerals.specs.Numbers.{bytesOf}
-use Rattle.partial.specs.Begin.{isText}
+use Rattle.additions.specs.Begin.{isText}
 use Rattle.filling.specs.Rows.{Puts}
 use Rattle.partial.proofs.Meaning.SequenceLaws.{which, all-at, all-by}
 

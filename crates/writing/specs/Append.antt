@@ -9,15 +9,15 @@ use Rattle.boxes.specs.Framing.{boxed}
 use Rattle.boxes.specs.Kinds.{pseg, pshd, ploc, pdat}
 use Rattle.numerals.specs.Numbers.{bytesOf, twosComplement, holds, holdsOffset}
 use Rattle.numerals.specs.declared.numbers.Offset.the-variants.{Back}
-use Rattle.partial.specs.Addition.{Addition, asks, Item, items, sizeOf, dataSize, goesOut, goesIn, dataFor}
+use Rattle.additions.specs.Addition.{Addition, asks, Item, items, sizeOf, dataSize, goesOut, goesIn, dataFor}
 use Rattle.partial.specs.Answers.{writtenAnswer}
-use Rattle.partial.specs.Append.{Placed, placed, flagByte, plocBody, pshdBody, psegBody, appended, result}
+use Rattle.additions.specs.Append.{Placed, placed, flagByte, plocBody, pshdBody, psegBody, appended, result}
 use Rattle.partial.specs.Limits.{sourceLimit}
 use Rattle.partial.specs.Memory.{written}
 use Rattle.partial.specs.Segments.{present}
 use Rattle.partial.specs.Sequences.{allOf, sum}
 use Rattle.partial.specs.declared.answers.Written.{Written}
-use Rattle.partial.specs.declared.header.SegmentHeader.{SegmentHeader}
+use Rattle.additions.specs.declared.header.SegmentHeader.{SegmentHeader}
 use Rattle.writing.specs.declared.ploc.Backs.{Backs}
 
 -- ---- the boxes

@@ -3,7 +3,7 @@ use Prim.Native.Nat.{ℕ}
 use mathlib.Core.List.{List}
 use mathlib.Core.Path.{_≡_}
 use Rattle.partial.specs.Answers.{writtenAnswer}
-use Rattle.partial.specs.Begin.{beginning, begun}
+use Rattle.additions.specs.Begin.{beginning, begun}
 use Rattle.partial.specs.Memory.{written}
 use Rattle.partial.specs.declared.answers.Written.{Written}
 use Rattle.partial.specs.declared.brand.Brand.{Brand}

@@ -4,7 +4,7 @@ use mathlib.Core.List.{List, [], _∷_, _++_}
 use Rattle.numerals.specs.Numbers.{bytesOf}
 use Rattle.boxes.specs.Framing.{boxed}
 use Rattle.boxes.specs.Kinds.{ftyp, pfil, pfhd, surl}
-use Rattle.partial.specs.Begin.{versionAndFlags, brandCode}
+use Rattle.additions.specs.Begin.{versionAndFlags, brandCode}
 use Rattle.partial.specs.declared.brand.Brand.{Brand}
 
 -- the brand as major, minor 0, the brand as the one compatible

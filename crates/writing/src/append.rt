@@ -8,11 +8,12 @@ use adding::counts::Counts;
 use adding::counts::counts_of;
 use adding::layout::Layout;
 use adding::layout::layout_of;
+use additions::header::SegmentHeader;
+use ends::table::ALL_SIZES;
 use numerals::place::Place;
 use outside::chunks::Outside;
 use outside::chunks::outside_of;
 use partial::answers::Written;
-use partial::header::SegmentHeader;
 use partial::refusals::BUFFER_TOO_SHORT;
 use partial::refusals::CHUNK_LIST_WRONG;
 use partial::refusals::DATA_WRONG;
@@ -26,11 +27,12 @@ ghost use mathlib.Core.Bool.{true};
 ghost use mathlib.Core.Path.{_≡_};
 ghost use lib.ListN.{length, take};
 ghost use Rattle.boxes.specs.Answer.{given};
-ghost use Rattle.partial.specs.Addition.{asks, items, listRight, outsideRight};
-ghost use Rattle.partial.specs.Append.{added};
+ghost use Rattle.additions.specs.Addition.{asks, items, listRight, outsideRight};
+ghost use Rattle.additions.specs.Append.{added};
 ghost use Rattle.partial.specs.Heading.{Heading, heading};
-ghost use Rattle.partial.specs.Limits.{fileLimit};
-ghost use Rattle.reading.specs.Judged.{judgedBy, earlierTold};
+ghost use Rattle.partial.specs.Limits.{fileLimit, sourceLimit};
+ghost use Rattle.partial.specs.Reading.{earlierSegments};
+ghost use Rattle.reading.specs.Judged.{judgedBy, earlierTold, SizedIn};
 ghost use Rattle.adding.specs.Counts.{Sorted};
 ghost use Rattle.adding.specs.Layout.{Laid};
 ghost use Rattle.filling.specs.Rows.{Puts};
@@ -75,6 +77,7 @@ fn append_right(
     buffer: &mut [u8],
     n: u64,
     judged: Judged,
+    sizes: &[u64; ALL_SIZES],
     header: SegmentHeader,
     outside: bool,
     counts: Counts,
@@ -84,6 +87,7 @@ fn append_right(
 ) -> Written
     requires { ⌜ (n ≤ length (now buffer))
         × (earlierTold (take n (now buffer)) ≡ given (judgedBy judged))
+        × SizedIn (earlierSegments sourceLimit (take n (now buffer))) (now sizes)
         × (listRight (now list) ≡ true) × Sorted (asks header outside (now list) (now bytes)) counts stored
         × ((h : Heading) → heading (take n (now buffer)) ≡ given h
         → outsideRight h (asks header outside (now list) (now bytes)) ≡ true) ⌝ }
@@ -93,6 +97,7 @@ fn append_right(
     match admission(
         &buffer[..n as usize],
         judged,
+        sizes,
         n,
         header,
         counts,
@@ -126,12 +131,14 @@ fn append_to(
     buffer: &mut [u8],
     n: u64,
     judged: Judged,
+    sizes: &[u64; ALL_SIZES],
     header: SegmentHeader,
     outside: bool,
     list: &[u64],
     bytes: &[u8],
 ) -> Written
-    requires { ⌜ (n ≤ length (now buffer)) × (earlierTold (take n (now buffer)) ≡ given (judgedBy judged)) ⌝ }
+    requires { ⌜ (n ≤ length (now buffer)) × (earlierTold (take n (now buffer)) ≡ given (judgedBy judged))
+        × SizedIn (earlierSegments sourceLimit (take n (now buffer))) (now sizes) ⌝ }
     ensures { λ r. ⌜ Appends (now (buffer .entry)) (now (buffer .exit)) n (asks header outside (now (list .entry)) (now (bytes .entry))) r ⌝ }
 {
     if list.len() % 2 != 0 {
@@ -153,6 +160,7 @@ fn append_to(
         buffer,
         n,
         judged,
+        sizes,
         header,
         outside,
         counts,
@@ -177,8 +185,11 @@ pub fn append(
     if (buffer.len() as u64) < length {
         return Written::Refused(LENGTH_OVER_BUFFER);
     }
-    match earlier_of(&buffer[..length as usize]) {
+    let mut sizes = [0; ALL_SIZES];
+    match earlier_of(&buffer[..length as usize], &mut sizes) {
         Judgement::Refused(n) => Written::Refused(n),
-        Judgement::Given(judged) => append_to(buffer, length, judged, header, outside, list, data),
+        Judgement::Given(judged) => {
+            append_to(buffer, length, judged, &sizes, header, outside, list, data)
+        }
     }
 }

@@ -15,7 +15,7 @@ ghost use Prim.Native.Nat.{_+_, min};
 ghost use mathlib.Core.List.{[]};
 ghost use mathlib.Core.Path.{_≡_};
 ghost use lib.ListN.{length};
-ghost use Rattle.partial.specs.Begin.{beginning};
+ghost use Rattle.additions.specs.Begin.{beginning};
 ghost use Rattle.partial.specs.Limits.{fileLimit};
 ghost use Rattle.partial.specs.declared.brand.Brand.{Brand};
 ghost use Rattle.writing.specs.Begin.{Begins};

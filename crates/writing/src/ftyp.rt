@@ -10,7 +10,7 @@ use partial::brand::PMFF;
 ghost use Prim.Native.Nat.{_+_, _≤_};
 ghost use mathlib.Core.Path.{_≡_};
 ghost use lib.ListN.{length};
-ghost use Rattle.partial.specs.Begin.{brandCode};
+ghost use Rattle.additions.specs.Begin.{brandCode};
 ghost use Rattle.writing.specs.Boxes.{ftypBox};
 ghost use Rattle.filling.specs.Rows.{Puts};
 

@@ -9,7 +9,7 @@ use outside::items::goes_out;
 ghost use Prim.Native.Nat.{ℕ, _+_, _≤_};
 ghost use mathlib.Core.Path.{_≡_};
 ghost use lib.ListN.{length};
-ghost use Rattle.partial.specs.Addition.{items, dataFor, goesIn};
+ghost use Rattle.additions.specs.Addition.{items, dataFor, goesIn};
 ghost use Rattle.partial.specs.Limits.{fileLimit};
 ghost use Rattle.filling.specs.Rows.{Puts};
 ghost use Rattle.writing.specs.Append.{chosen, dataPart};

@@ -2,13 +2,13 @@
 use crate::puts::put_field;
 use crate::puts::put_front;
 use adding::layout::Layout;
+use additions::header::SegmentHeader;
 use boxes::kinds::PSHD;
 use numerals::place::Place;
-use partial::header::SegmentHeader;
 ghost use Prim.Native.Nat.{ℕ, _+_, _≤_};
 ghost use mathlib.Core.Path.{_≡_};
 ghost use lib.ListN.{length};
-ghost use Rattle.partial.specs.Append.{versionFor};
+ghost use Rattle.additions.specs.Append.{versionFor};
 ghost use Rattle.partial.specs.Reading.{offsetWidth};
 ghost use Rattle.adding.specs.Layout.{PshdLaid};
 ghost use Rattle.filling.specs.Rows.{Puts};

@@ -6,7 +6,7 @@ ghost use Prim.Native.Nat.{_+_, _<_};
 ghost use mathlib.Core.List.{[], _∷_, _++_};
 ghost use mathlib.Core.Path.{_≡_};
 ghost use lib.ListN.{length};
-ghost use Rattle.partial.specs.Begin.{isText};
+ghost use Rattle.additions.specs.Begin.{isText};
 ghost use Rattle.filling.specs.Rows.{Puts};
 
 // Whether no byte is zero.

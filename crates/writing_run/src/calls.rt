@@ -5,10 +5,10 @@
 // data.
 use crate::list;
 use crate::report;
+use additions::header::SegmentHeader;
 use libc::STDIN_FILENO;
 use partial::answers::Written;
 use partial::brand::Brand;
-use partial::header::SegmentHeader;
 use partial::position::Position;
 use printing::records::eight;
 use printing::records::pair;

@@ -10,10 +10,9 @@ use native.Mathlib.Nat.{le-refl, le-trans}
 use native.Mathlib.Omega.{arith}
 use borrow.Author.Tests.{leb-true}
 use lib.Dec.{leb, eqb}
-use Rattle.partial.specs.Sequences.{someOf, allOf, sum, largest}
+use Rattle.partial.specs.Sequences.{someOf, allOf, sum, largest, orElse}
 use Rattle.partial.specs.Segments.{Chunk, Segment, endOf, chunksOf}
 use Rattle.partial.specs.Meaning.{supplies, givesSize, knownSize, describedLength, agree, covers, supplied}
-use Rattle.partial.specs.Carried.{orElse}
 use Rattle.partial.proofs.Meaning.SequenceLaws.{which, both, past, some-append, largest-most, largest-append}
 use Rattle.partial.proofs.Meaning.SupplyLaws.{supplied-some}
 

@@ -10,12 +10,11 @@ use native.Mathlib.Decide.{decLe}
 use native.Mathlib.Omega.{arith}
 use borrow.Author.Tests.{le-leb, lt-leb}
 use lib.Dec.{leb, eqb}
-use Rattle.partial.specs.Sequences.{allOf, largest}
+use Rattle.partial.specs.Sequences.{allOf, largest, orElse}
 use Rattle.partial.specs.Segments.{Segment, endOf}
 use Rattle.partial.specs.Meaning.{givesSize, knownSize, describedLength, isClosed, agree}
 use Rattle.partial.proofs.Meaning.SequenceLaws.{which}
 use Rattle.partial.proofs.Meaning.DescribedLaws.{known-append}
-use Rattle.partial.specs.Carried.{orElse}
 
 -- the largest of two lists
 pub largest-both : {A : Type 0} (of : A → ℕ) (xs ys : List A) → largest (map of (xs ++ ys)) ≡ max (largest (map of xs)) (largest (map of ys))

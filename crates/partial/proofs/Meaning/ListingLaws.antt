@@ -11,7 +11,7 @@ use Rattle.partial.specs.Segments.{Segment}
 use Rattle.partial.specs.Meaning.{agree, describedLength, supplied}
 use Rattle.partial.specs.Ranges.{classOf, missing, had, rangesOf, ofClass, hadList, missingList, among}
 use Rattle.partial.specs.Tables.{totals}
-use Rattle.partial.specs.Demands.{Listing}
+use Rattle.partial.specs.ReadingDemands.{Listing}
 use Rattle.partial.proofs.Meaning.SequenceLaws.{which, inside, past}
 use Rattle.partial.proofs.Meaning.RangeLaws.{among-ranges, among-all, ranges-apart, ranges-in-row, ranges-totals}
 use Rattle.partial.proofs.Meaning.DescribedLaws.{InOrder, none-supplied}

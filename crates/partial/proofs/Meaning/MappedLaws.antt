@@ -20,9 +20,9 @@ use Rattle.partial.specs.Heading.{Heading}
 use Rattle.partial.specs.Mixed.{allowed, fillUp, wholeBoxes}
 use Rattle.partial.specs.Entries.{inData, mayLie}
 use Rattle.partial.specs.Meaning.{agree, supplier, supplied, placeOfByte, served, covers, chunkFor, chunkNo}
-use Rattle.partial.specs.Demands.{InData, Whole, Serving, Mapped}
+use Rattle.partial.specs.ReadingDemands.{InData, Whole, Serving, Mapped}
 use Rattle.partial.proofs.Meaning.SequenceLaws.{which, both, passes, all-at, some-at, within-true}
-use Rattle.partial.proofs.Meaning.AgreementLaws.{agreement}
+use Rattle.partial.proofs.Meaning.AgreementLaws.{agrees-one}
 use Rattle.partial.proofs.Meaning.SupplyLaws.{supply, supplier-good, supplier-covers, beside}
 use Rattle.partial.proofs.Meaning.DescribedLaws.{InOrder}
 use Rattle.partial.proofs.Meaning.ListingLaws.{listing}
@@ -159,7 +159,7 @@ module _ (f : List ℕ) (h : Heading) (ss : List Segment) (ok : Accepted f h ss)
   pub mapped : Mapped f h ss
   mapped =
       record {
-        agreed = agreement ss (ok .agreed);
+        agreed = λ s t here there _. agrees-one ss (ok .agreed) s t here there;
         listing = listing ss (ok .agreed) (ok .order);
         naming = naming ss (listing ss (ok .agreed) (ok .order));
         serving = λ p e. serving p (passes _ e);

@@ -14,7 +14,7 @@ use Rattle.partial.specs.Segments.{Segment, noChunk, good, damaged, else
 use Rattle.partial.specs.Meaning.{describedLength, covers, coversAs, supplied, chunkNo}
 use Rattle.partial.specs.Ranges.{classOf, missing, had, rangesOf, ofClass, hadList, missingList, total, among}
 use Rattle.partial.specs.Naming.{held, lost, damagedAt, namedClass, namedRanges, heldList, lostList}
-use Rattle.partial.specs.Demands.{Listing, Naming}
+use Rattle.partial.specs.ReadingDemands.{Listing, Naming}
 use Rattle.partial.proofs.Meaning.SequenceLaws.{which, both, inside, some-at}
 use Rattle.partial.proofs.Meaning.RangeLaws.{among-ranges, ranges-apart, ranges-in-row}
 use Rattle.partial.proofs.Meaning.AlikeLaws.{count, count-both, ranges-alike, class-total}

@@ -1,7 +1,7 @@
 -- Laws of a test's two values, of `within`, and of what is said of a list: some or all pass a test, the largest.
 use Prim.Native.Nat.{ℕ, zero, suc, _+_, _≤_, _<_}
 use mathlib.Core.Bool.{Bool, true, false, _&&_, _||_, and-false, and-assoc, or-assoc, or-true, false≢true}
-use mathlib.Core.List.{List, [], _∷_, _++_, map, List·Memᴰ, List·Memᴰ·not-nil, List·Memᴰ·cases-cons}
+use mathlib.Core.List.{List, [], _∷_, _++_, map, List·Memᴰ, List·Memᴰ·head, List·Memᴰ·tail, List·Memᴰ·not-nil, List·Memᴰ·cases-cons}
 use mathlib.Core.Logic.{_⊎_, inl, inr, ⊎-elim}
 use mathlib.Core.Path.{_≡_, refl, sym, ap, subst, _∙_}
 use native.Mathlib.Omega.{arith}
@@ -67,6 +67,25 @@ module _ {A : Type 0} where
   unfolding allOf
   all-append test [] ys = refl
   all-append test (x ∷ xs) ys = ap (λ b. test x && b) (all-append test xs ys) ∙ sym (and-assoc (test x) (allOf test xs) (allOf test ys))
+
+  -- all pass a test exactly where each member does
+  pub member-passes : (test : A → Bool) (xs : List A) → allOf test xs ≡ true → (x : A) → List·Memᴰ x xs → test x ≡ true
+  unfolding allOf
+  member-passes test [] all x there = absurd (List·Memᴰ·not-nil there)
+  member-passes test (y ∷ ys) all x there =
+      let (here, others) = both (test y) (allOf test ys) all in
+      ⊎-elim (λ same. rw same here) (member-passes test ys others x) (List·Memᴰ·cases-cons there)
+
+  pub all-members : (test : A → Bool) (xs : List A) → ((x : A) → List·Memᴰ x xs → test x ≡ true) → allOf test xs ≡ true
+  unfolding allOf
+  all-members test [] each = refl
+  all-members test (x ∷ xs) each = rw (each x (List·Memᴰ·head refl)) (all-members test xs (λ y there. each y (List·Memᴰ·tail there)))
+
+  -- by a test that says the same
+  pub all-same : (test other : A → Bool) → ((x : A) → test x ≡ other x) → (xs : List A) → allOf test xs ≡ allOf other xs
+  unfolding allOf
+  all-same test other same [] = refl
+  all-same test other same (x ∷ xs) = rw (same x, all-same test other same xs)
 
   -- none passes a test where all pass one that rules it out
   pub none-by : (test other : A → Bool) → ((x : A) → other x ≡ true → test x ≡ false) → (xs : List A) → allOf other xs ≡ true → someOf test xs ≡ false

@@ -17,8 +17,9 @@ use Rattle.boxes.specs.Answer.{given}
 use Rattle.partial.specs.Segments.{Segment, chunksOf}
 use Rattle.partial.specs.Meaning.{agree, describedLength, covers, supplier, supplied, onward, servedRun, missingRun, reply}
 use Rattle.partial.specs.Meaning.{servedFor, notBelow, placeOfByte, served, chunkFor}
-use Rattle.partial.specs.Tables.{bytesIn, nowhere, servedPart}
-use Rattle.partial.specs.Demands.{Missing}
+use Rattle.partial.specs.Tables.{nowhere, servedPart}
+use Rattle.partial.specs.Heading.{bytesIn}
+use Rattle.partial.specs.ReadingDemands.{Missing}
 use Rattle.partial.proofs.Meaning.SequenceLaws.{within-true}
 use Rattle.partial.proofs.Meaning.StretchLaws.{First, stretch-first}
 use Rattle.partial.proofs.Meaning.SupplyLaws.{supplier-covers, uncovered}

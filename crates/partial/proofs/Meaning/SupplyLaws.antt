@@ -12,10 +12,9 @@ use borrow.Author.Tests.{ltb-true, ltb-false, lt-ltb, eqb-true, eq-eqb}
 use lib.Dec.{ltb, eqb, leb·suc-suc}
 use lib.ListN.{length, getD, length-append, List·getD-append}
 use lib.Seq.{getD-append-add}
-use Rattle.partial.specs.Sequences.{someOf}
+use Rattle.partial.specs.Sequences.{someOf, orElse}
 use Rattle.partial.specs.Segments.{Chunk, noChunk, Segment, good, chunksOf}
 use Rattle.partial.specs.Meaning.{covers, supplies, supplier, supplied, placeOfByte, served, chunkFor, chunkNo}
-use Rattle.partial.specs.Carried.{orElse}
 use Rattle.partial.proofs.Meaning.SequenceLaws.{which, both, inside, some-append}
 use Rattle.partial.proofs.Meaning.StretchLaws.{First, first-one}
 

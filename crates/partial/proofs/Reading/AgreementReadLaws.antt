@@ -18,12 +18,12 @@ use Rattle.partial.specs.Limits.{segmentLimit}
 use Rattle.partial.specs.Sequences.{within}
 use Rattle.partial.specs.Segments.{Segment}
 use Rattle.partial.specs.Heading.{Heading, heading}
-use Rattle.partial.specs.Meaning.{agree}
+use Rattle.partial.specs.Sources.{agreed}
 use Rattle.partial.specs.Index.{Indexed, indexed}
 use Rattle.partial.specs.Reading.{segmentsFrom, segments, reading}
-use Rattle.partial.specs.Demands.{beforeAgreement, ofIndex, InAgreement, Reaches25}
+use Rattle.partial.specs.ReadingDemands.{beforeAgreement, ofIndex, InAgreement, Reaches25}
 use Rattle.partial.proofs.Meaning.SequenceLaws.{which, passes, past, within-true}
-use Rattle.partial.proofs.Meaning.AgreementLaws.{in-agreement, agreement}
+use Rattle.partial.proofs.Meaning.SourceLaws.{in-agreement, agreement}
 use Rattle.partial.proofs.Reading.IndexGivenLaws.{indexed-only}
 use Rattle.partial.proofs.Reading.ReadingLaws.{laterStages, reading-some, reading-read}
 use Rattle.partial.proofs.Reading.RefusalLaws.{heading-only, segments-from-only, segments-only}
@@ -66,11 +66,11 @@ module _ (limit : ℕ) (f : List ℕ) where
       only-then P (indexed limit f h ss) _ (indexed-only P (λ z. omega arith) limit f (λ z. omega arith) (λ z. omega arith) (λ z. omega arith) h ss) (λ _. only-given P ss)
 
   -- a file that reaches 25 is judged by it and then by its index
-  reached : {ss : List Segment} (r : Reaches25 limit f ss) → reading limit f ≡ (hold 25 (agree ss) >>= λ _. indexed limit f (r .h) ss >>= λ _. given ss)
+  reached : {ss : List Segment} (r : Reaches25 limit f ss) → reading limit f ≡ (hold 25 (agreed ss) >>= λ _. indexed limit f (r .h) ss >>= λ _. given ss)
   unfolding segments
   reached {ss} r =
       reading-some limit f (r .headed) (some-right File pseg (r .h .boxes) refl (r .any))
-      ∙ rw (le-leb (length (those pseg (r .h .boxes))) segmentLimit (r .few), r .read) (go (agree ss))
+      ∙ rw (le-leb (length (those pseg (r .h .boxes))) segmentLimit (r .few), r .read) (go (agreed ss))
     where
       go : (t : Bool) → ((hold 25 t >>= λ _. given ss) >>= λ ts. indexed limit f (r .h) ts >>= λ _. given ts) ≡ (hold 25 t >>= λ _. indexed limit f (r .h) ss >>= λ _. given ss)
       go true = refl
@@ -83,10 +83,10 @@ module _ (limit : ℕ) (f : List ℕ) where
   segmented {h} {ss} head there e =
       let (few, e1) = held 13 (leb (length (those pseg (h .boxes))) segmentLimit) _ e in
       let (ts, read, e2) = both-given (segmentsFrom limit f h [] (those pseg (h .boxes))) _ e1 in
-      let (agreed, e3) = held 25 (agree ts) _ e2 in
+      let (agree, e3) = held 25 (agreed ts) _ e2 in
       let same : ts ≡ ss = given-same e3 in (
         (record { h = h; headed = head; any = right-some File pseg (h .boxes) refl there; few = leb-true _ segmentLimit few; read = read ∙ e3 }, refl),
-        agreement ss (subst (λ (us : List Segment). agree us ≡ true) same agreed),
+        agreement ss (subst (λ (us : List Segment). agreed us ≡ true) same agree),
       )
 
   pub agrees : (ss : List Segment)
@@ -97,8 +97,8 @@ module _ (limit : ℕ) (f : List ℕ) where
       forth : reading limit f ≡ given ss → (reached : Reaches25 limit f ss) × InAgreement ss × ((is : List Indexed) × (indexed limit f (reached .h) ss ≡ given is))
       forth e =
           let (h, is, r) = reading-read limit f e in
-          let ((reach, same), agreed) = segmented (r .headed) (r .there) (r .segmented) in
-          (reach, agreed, (is, rw same (r .told)))
+          let ((reach, same), agree) = segmented (r .headed) (r .there) (r .segmented) in
+          (reach, agree, (is, rw same (r .told)))
 
   -- a refusal that neither the heading nor 12 has comes behind them
   module _ {n : ℕ} (known : (k : ℕ) → T (beforeAgreement k) → k ≡ n → ⊥) (other : 12 ≡ n → ⊥) where
@@ -122,12 +122,12 @@ module _ (limit : ℕ) (f : List ℕ) where
           let (ss, read, e4) = passed-on (segmentsFrom limit f h [] bs) _ (segments-from-only (λ k. k ≡ 25 → ⊥) not-25 limit f h [] bs) e3 in (
             ss,
             record { h = h; headed = head; any = right-some File pseg (h .boxes) refl there; few = leb-true _ segmentLimit few; read = read },
-            λ agreed. not-both (sym (rw (in-agreement ss agreed) at e4)),
+            λ agree. not-both (sym (rw (in-agreement ss agree) at e4)),
           )
 
       back : (ss : List Segment) → Reaches25 limit f ss → (InAgreement ss → ⊥) → reading limit f ≡ refused 25
       back ss r differ =
-          elim (which (agree ss)) [
+          elim (which (agreed ss)) [
             | inl e ↦ absurd (differ (agreement ss e))
             | inr e ↦ reached r ∙ rw e
           ]
@@ -144,8 +144,8 @@ module _ (limit : ℕ) (f : List ℕ) where
           let last : 25 ≡ n → ⊥ = λ same. omega (arith, of-index n of .0) in
           let (h, head, there, e1) = headed-past known (λ same. omega (arith, of-index n of .0)) e in
           let (ss, parts, e2) = passed-on (segments limit f h) _ (segments-only (λ k. k ≡ n → ⊥) known last limit f h) e1 in
-          let ((reach, same), agreed) = segmented head there parts in
-          (ss, reach, agreed, rw same (refused-first (indexed limit f h ss) _ e2 (λ _. only-given (λ k. k ≡ n → ⊥) ss)))
+          let ((reach, same), agree) = segmented head there parts in
+          (ss, reach, agree, rw same (refused-first (indexed limit f h ss) _ e2 (λ _. only-given (λ k. k ≡ n → ⊥) ss)))
 
       back : (ss : List Segment) (r : Reaches25 limit f ss) → InAgreement ss → indexed limit f (r .h) ss ≡ refused n → (reading limit f ≡ refused n) × T (ofIndex n)
-      back ss r agreed e = (reached r ∙ rw (in-agreement ss agreed, e), indexed-only (λ k. T (ofIndex k)) tt limit f tt tt tt (r .h) ss n e)
+      back ss r agree e = (reached r ∙ rw (in-agreement ss agree, e), indexed-only (λ k. T (ofIndex k)) tt limit f tt tt tt (r .h) ss n e)

@@ -8,7 +8,7 @@ use Rattle.boxes.specs.Framing.{Box, followed, Walked, walkedIn, boxesIn}
 use Rattle.boxes.specs.declared.kinds.Container.the-variants.{File}
 use Rattle.boxes.proofs.FaultLaws.{no-fault, fault-met, fault-stands}
 use Rattle.partial.specs.Limits.{fileLimit}
-use Rattle.partial.specs.Demands.{BoxesPrinted}
+use Rattle.partial.specs.ReadingDemands.{BoxesPrinted}
 use Rattle.partial.specs.BoxList.{each, boxLine, faultLine, walkLines, boxesText}
 
 -- behind a box its line, and then those of what is met behind it

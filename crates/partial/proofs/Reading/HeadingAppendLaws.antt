@@ -1,13 +1,15 @@
 -- What is put behind a file changes nothing in its heading but the list of the file's boxes, which the new boxes
 -- follow.
-use Prim.Native.Nat.{ℕ, zero, suc, _+_, _-_, _*_, _/_, _%_, _≤_, _<_}
+use Prim.Native.Nat.{ℕ, zero, suc, _+_, _-_, _*_, _/_, _%_, _≤_, _<_, max}
 use mathlib.Core.Bool.{Bool, true, false, not, _&&_}
 use mathlib.Core.List.{List, [], _∷_, _++_, map}
-use mathlib.Core.Path.{_≡_, refl, ap, ap₂, subst, _∙_}
+use mathlib.Core.Path.{_≡_, refl, sym, ap, ap₂, subst, _∙_}
+use native.Mathlib.Decide.{decLe}
 use native.Mathlib.Omega.{arith}
 use borrow.Author.Tests.{le-leb, leb-true, eqb-true}
 use lib.Dec.{leb, eqb, lit<}
-use lib.ListN.{length, getD, List·getD-append}
+use lib.ListN.{length, getD, take, drop, length-drop, List·getD-append}
+use lib.Seq.{take-append-le, drop-append-le}
 use Rattle.boxes.specs.Answer.{given}
 use Rattle.numerals.specs.Numbers.{number}
 use Rattle.boxes.specs.Framing.{Box, boxesIn, boxLimit}
@@ -23,8 +25,9 @@ use Rattle.boxes.proofs.KindLaws.{boxAt-getD, is-there, firstOf-those, those-nt
 use Rattle.partial.specs.Limits.{fileLimit}
 use Rattle.partial.specs.Sequences.{allOf, stretch}
 use Rattle.partial.specs.Heading.{ftypRight, brandsFrom, brands, branded, pmff, brandRight, pfilRight, pfhdFormed, pfhdRight, text, url, mime}
-use Rattle.partial.specs.Heading.{surlFormed, surlRight, Heading, heading, fileBoxes, judged}
+use Rattle.partial.specs.Heading.{bytesIn, surlFormed, surlRight, urlsIn, Heading, heading, fileBoxes, judged}
 use Rattle.partial.proofs.Meaning.SequenceLaws.{both, all-by, all-at}
+use Rattle.partial.proofs.Meaning.StretchLaws.{stretch-first}
 
 -- whether a box lies before a place
 abbrev pub lies : ℕ → Box → Bool
@@ -130,6 +133,33 @@ module _ (f g : List ℕ) where
       let (some, formed) = both (right Pfil surl bs) (allOf (surlFormed f) (those surl bs)) h in
       rw (some, all-kept (surlFormed f) (lies (length f)) (surlFormed (f ++ g)) (surl-kept f g) (those surl bs) formed (those-all surl (lies (length f)) bs l))
 
+  -- of a container: its URLs
+  url-most : (b : Box) → url f b .place + url f b .size ≤ max (url f b .place) (b .end)
+  unfolding url text
+  url-most b = omega (arith, stretch-first (λ i. not (eqb (getD f i 0) 0)) (b .end - (b .body + 4)) (b .body + 4) .most)
+
+  url-bytes-kept : (b : Box) → b .end ≤ length f → bytesIn (f ++ g) (url (f ++ g) b) ≡ bytesIn f (url f b)
+  unfolding bytesIn
+  url-bytes-kept b ends = rw (url-kept f g b ends) (part-kept (url f b .place) (url f b .size) (url-most b))
+    where
+      part-kept : (place size : ℕ) → place + size ≤ max place (b .end) → take size (drop place (f ++ g)) ≡ take size (drop place f)
+      part-kept place size most =
+          elim (decLe place (length f)) [
+            | yes inside ↦
+                rw (drop-append-le place f g inside) (take-append-le size (drop place f) g (rw length-drop (omega arith)))
+            | no past ↦ let none : size ≡ 0 = omega arith in rw none
+          ]
+
+  pub urls-kept : (bs : List Box) → allOf (lies (length f)) bs ≡ true → urlsIn (f ++ g) bs ≡ urlsIn f bs
+  unfolding urlsIn allOf
+  urls-kept bs lie = go (those surl bs) (those-all surl (lies (length f)) bs lie)
+    where
+      go : (cs : List Box) → allOf (lies (length f)) cs ≡ true → map (λ b. bytesIn (f ++ g) (url (f ++ g) b)) cs ≡ map (λ b. bytesIn f (url f b)) cs
+      go [] all = refl
+      go (c ∷ cs) all =
+          let (here, there) = both (lies (length f) c) (allOf (lies (length f)) cs) all in
+          ap₂ (λ (u : List ℕ) (us : List (List ℕ)). u ∷ us) (url-bytes-kept c (lies-ends (length f) c here)) (go cs there)
+
 pub further-lie : (m n : ℕ) → m ≤ n → (bs : List Box) → allOf (lies m) bs ≡ true → allOf (lies n) bs ≡ true
 further-lie m n h bs l =
     all-kept (lies m) (lies m) (lies n)
@@ -145,6 +175,7 @@ pub record Headed (f : List ℕ) (h : Heading) : Type 0 where
   pub inner : boxesIn Pfil f (boxAt 1 (h .boxes) .body) (boxAt 1 (h .boxes) .end) ≡ given (h .inner)
   pub pfhd : pfhdRight f (h .inner) ≡ true
   pub surl : surlRight f (h .inner) ≡ true
+  pub urls : h .urls ≡ urlsIn f (h .inner)
   pub mixed : h .mixed ≡ branded pmff f (h .boxes)
 
 module _ (f : List ℕ) (h : Heading) where
@@ -160,15 +191,15 @@ module _ (f : List ℕ) (h : Heading) where
       let (pfhd, e10) = held 10 (pfhdRight f is) _ e6 in
       let (surl, e11) = held 11 (surlRight f is) _ e10 in
       subst (Headed f) (given-same e11)
-      (record { small = small; boxes = boxes; ftyp = ftyp; brand = brand; pfil = pfil; inner = inner; pfhd = pfhd; surl = surl; mixed = refl })
+      (record { small = small; boxes = boxes; ftyp = ftyp; brand = brand; pfil = pfil; inner = inner; pfhd = pfhd; surl = surl; urls = refl; mixed = refl })
 
   pub heading-of : Headed f h → heading f ≡ given h
   unfolding heading fileBoxes judged
-  heading-of t = rw (t .small, t .boxes, t .ftyp, t .brand, t .pfil, t .inner, t .pfhd, t .surl, ← (t .mixed))
+  heading-of t = rw (t .small, t .boxes, t .ftyp, t .brand, t .pfil, t .inner, t .pfhd, t .surl, ← (t .urls), ← (t .mixed))
 
 -- a heading with more boxes behind the file's
 abbrev pub withBoxes : Heading → List Box → Heading
-withBoxes h more = record { boxes = h .boxes ++ more; inner = h .inner; mixed = h .mixed }
+withBoxes h more = record { boxes = h .boxes ++ more; inner = h .inner; urls = h .urls; mixed = h .mixed }
 
 -- the second box of the file is its `pfil`, and what that holds lies in the file
 module _ (f : List ℕ) (h : Heading) (t : Headed f h) where
@@ -220,5 +251,6 @@ module _ (f g : List ℕ) (h : Heading) (cs : List Box) where
         inner = rw (boxAt-first bs ds 1 second) (boxes-kept f g (boxAt 1 bs .end) (pfil-ends f h t) Pfil (boxAt 1 bs .body) ∙ t .inner);
         pfhd = pfhdRight-kept f g (h .inner) (t .pfhd) inside;
         surl = surlRight-kept f g (h .inner) (t .surl) inside;
+        urls = t .urls ∙ sym (urls-kept f g (h .inner) inside);
         mixed = t .mixed ∙ rw (boxAt-first bs ds 0 first, brand-kept f g (boxAt 0 bs) room end-first);
       }

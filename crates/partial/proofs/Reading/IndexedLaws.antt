@@ -16,11 +16,10 @@ use Rattle.boxes.specs.declared.kinds.Container.{Container}
 use Rattle.boxes.specs.declared.kinds.Container.the-variants.{Pfil, Pseg, Fidx}
 use Rattle.boxes.proofs.AnswerLaws.{both-given, held, given-same, Only, only-then, only-held, only-given}
 use Rattle.boxes.proofs.KindLaws.{few-right}
-use Rattle.partial.specs.Sequences.{someOf, allOf}
+use Rattle.partial.specs.Sequences.{someOf, allOf, orElse}
 use Rattle.partial.specs.Segments.{Segment}
 use Rattle.partial.specs.Heading.{Heading}
 use Rattle.partial.specs.Meaning.{knownSize}
-use Rattle.partial.specs.Carried.{orElse}
 use Rattle.partial.specs.Index.{listFramed, Indexed, indexList, levelLimit, callLimit, indexIn, indexOfSegments, indexOf, hasIndex, indexed}
 use Rattle.partial.proofs.Meaning.SequenceLaws.{both, all-append}
 use Rattle.partial.proofs.Meaning.DescribedLaws.{known-append}

@@ -6,7 +6,7 @@ use Rattle.boxes.specs.Answer.{given}
 use Rattle.partial.specs.Segments.{Segment}
 use Rattle.partial.specs.Heading.{Heading}
 use Rattle.partial.specs.Index.{Indexed, indexed, indexedSize}
-use Rattle.partial.specs.Demands.{Indexing}
+use Rattle.partial.specs.ReadingDemands.{Indexing}
 use Rattle.partial.proofs.Meaning.SequenceLaws.{each-member}
 use Rattle.partial.proofs.Reading.IndexServedLaws.{served-as-said}
 use Rattle.partial.proofs.Reading.IndexShapeLaws.{indexed-order}

@@ -21,11 +21,12 @@ use Rattle.boxes.proofs.KindLaws.{is-there, right-one, first-is}
 use Rattle.partial.specs.Limits.{chunkLimit}
 use Rattle.partial.specs.Sequences.{allOf}
 use Rattle.partial.specs.Segments.{Chunk, Segment, present, chunksOf, hasPlace}
-use Rattle.partial.specs.Heading.{Heading}
+use Rattle.partial.specs.Heading.{Heading, urlsIn}
 use Rattle.partial.specs.Entries.{Ploc, Entry, plocHead, stateOf, entry, mayLie, offsetPlace, placeOf, chunksFrom, chunkStep, Cursor}
+use Rattle.partial.specs.Sources.{urlsFor, sourceBeside}
 use Rattle.partial.specs.Reading.{offsetWidth, pshdFields, pshdRight, segment, segmentsFrom}
 use Rattle.partial.proofs.Meaning.SequenceLaws.{both, all-append}
-use Rattle.partial.proofs.Reading.HeadingAppendLaws.{lies, lies-ends, boxes-lie, all-boxAt, further-lie, first-lies}
+use Rattle.partial.proofs.Reading.HeadingAppendLaws.{lies, lies-ends, boxes-lie, all-boxAt, further-lie, first-lies, urls-kept}
 
 -- what the step tests, of the boxes, the `ploc` and the chunks that it finds
 pub record Stepped (limit : ℕ) (f : List ℕ) (h : Heading) (before : List Segment) (b : Box) (inner : List Box) (l : Ploc) (cs : List Chunk) : Type 0 where
@@ -39,11 +40,13 @@ pub record Stepped (limit : ℕ) (f : List ℕ) (h : Heading) (before : List Seg
   pub chunks : chunksFrom limit f h (b .at) l (l .count) (record { at = l .first; start = pshdFields f (firstOf pshd inner) .sourceOffset }) ≡ given cs
 
 -- the segment that it then gives
-abbrev pub found : List ℕ → Box → List Box → List Chunk → Segment
-found f b inner cs =
+abbrev pub found : List ℕ → Heading → List Segment → Box → List Box → List Chunk → Segment
+found f h before b inner cs =
     record {
       place = b .at;
       inner = inner;
+      urls = urlsFor (urlsIn f inner) (h .urls);
+      source = sourceBeside before (urlsFor (urlsIn f inner) (h .urls));
       sourceOffset = pshdFields f (firstOf pshd inner) .sourceOffset;
       flags = pshdFields f (firstOf pshd inner) .flags;
       repairTime = pshdFields f (firstOf pshd inner) .repairTime;
@@ -53,12 +56,12 @@ found f b inner cs =
     }
 
 module _ (limit : ℕ) (f : List ℕ) (h : Heading) (before : List Segment) (b : Box) where
-  pub segment-of : {inner : List Box} {l : Ploc} {cs : List Chunk} → Stepped limit f h before b inner l cs → segment limit f h before b ≡ given (found f b inner cs)
+  pub segment-of : {inner : List Box} {l : Ploc} {cs : List Chunk} → Stepped limit f h before b inner l cs → segment limit f h before b ≡ given (found f h before b inner cs)
   unfolding segment
   segment-of t = rw (t .boxes, t .header, t .single, t .sourceless, t .head, t .few, t .low, t .chunks)
 
   pub stepped : {s : Segment} → segment limit f h before b ≡ given s
-      → (inner : List Box) × (l : Ploc) × (cs : List Chunk) × Stepped limit f h before b inner l cs × (found f b inner cs ≡ s)
+      → (inner : List Box) × (l : Ploc) × (cs : List Chunk) × Stepped limit f h before b inner l cs × (found f h before b inner cs ≡ s)
   unfolding segment
   stepped e =
       let (inner, boxes, e1) = both-given (boxesIn Pseg f (b .body) (b .end)) _ e in
@@ -70,7 +73,7 @@ module _ (limit : ℕ) (f : List ℕ) (h : Heading) (before : List Segment) (b :
       let start = pshdFields f (firstOf pshd inner) .sourceOffset in
       let (low, e7) = held 23 (leb start limit) _ e6 in
       let (cs, chunks, e8) = both-given (chunksFrom limit f h (b .at) l (l .count) (record { at = l .first; start = start })) _ e7 in
-      (inner, l, cs, record { boxes = boxes; header = header; single = single; sourceless = sourceless; head = head; few = few; low = low; chunks = chunks }, given-same {a = found f b inner cs} e8)
+      (inner, l, cs, record { boxes = boxes; header = header; single = single; sourceless = sourceless; head = head; few = few; low = low; chunks = chunks }, given-same {a = found f h before b inner cs} e8)
 
 module _ (f g : List ℕ) where
   -- the fields of a `pshd`
@@ -127,8 +130,8 @@ module _ (f g : List ℕ) where
       let room = leb-true (at + 1 + l .lengthSize + width) (l .end) fits in
       rw (more, List·getD-append f g 0 at (omega arith), read, fits, number-append f g (at + 1) (l .lengthSize) (omega arith), number-append f g (at + 1 + l .lengthSize) width (omega arith)) e3
 
-  -- where a chunk may lie, it may lie in the longer file
-  module _ (h k : Heading) (grows : (state place size : ℕ) → mayLie h state place size ≡ true → mayLie k state place size ≡ true) where
+  -- where a chunk may lie, it may lie in the longer file, which has the same URLs
+  module _ (h k : Heading) (urls-same : k .urls ≡ h .urls) (grows : (state place size : ℕ) → mayLie h state place size ≡ true → mayLie k state place size ≡ true) where
     place-kept : (pseg : ℕ) (x : Entry) (p : ℕ) → placeOf h pseg x ≡ given p → placeOf k pseg x ≡ given p
     unfolding placeOf
     place-kept pseg x p = by-test (hasPlace (x .state) (x .size))
@@ -193,7 +196,7 @@ module _ (f g : List ℕ) where
           low = rw same-fields (t .low);
           chunks = rw same-fields (chunks-kept limit (b .at) l (omega arith) (l .count) (record { at = l .first; start = pshdFields f (firstOf pshd inner) .sourceOffset }) cs (t .chunks));
         } in
-        segment-of limit (f ++ g) k before b there ∙ rw same-fields (ap given same)
+        segment-of limit (f ++ g) k before b there ∙ rw (same-fields, urls-kept f g inner lie, urls-same) (ap given same)
 
     -- the segments of boxes that lie in the file
     pub segments-kept : (limit : ℕ) (bs : List Box) (before ss : List Segment) → allOf (lies (length f)) bs ≡ true

@@ -18,7 +18,8 @@ use Rattle.boxes.proofs.AnswerLaws.{given-same, both-given, held}
 use Rattle.partial.specs.Entries.{Ploc, Cursor, entry, placeOf, chunkStep, chunksFrom}
 use Rattle.partial.specs.Heading.{Heading}
 use Rattle.partial.specs.Limits.{segmentLimit, chunkLimit}
-use Rattle.partial.specs.Meaning.{givesSize, knownSize, describedLength, isClosed, agree}
+use Rattle.partial.specs.Meaning.{givesSize, knownSize, describedLength, isClosed}
+use Rattle.partial.specs.Sources.{agreed}
 use Rattle.partial.specs.Reading.{segment, segmentsFrom, segments}
 use Rattle.partial.specs.Segments.{Chunk, Segment, chunksOf, endOf}
 use Rattle.partial.specs.Sequences.{largest, sum}
@@ -43,7 +44,7 @@ module _ (limit : ℕ) (f : List ℕ) (h : Heading) where
   segments-limited e =
       let (few, e) = held 13 (leb (length (those pseg (h .boxes))) segmentLimit) _ e in
       let (ss, read, e) = both-given (segmentsFrom limit f h [] (those pseg (h .boxes))) _ e in
-      let (_, same) = held 25 (agree ss) _ e in
+      let (_, same) = held 25 (agreed ss) _ e in
       omega (arith, leb-true (length (those pseg (h .boxes))) segmentLimit few, segments-many (those pseg (h .boxes)) [] read, ap length (given-same same))
 
 -- there are as many chunks as entries
@@ -81,7 +82,7 @@ unfolding segments chunksOf
 chunks-few limit f h e =
     let (_, e) = held 13 (leb (length (those pseg (h .boxes))) segmentLimit) _ e in
     let (ss, read, e) = both-given (segmentsFrom limit f h [] (those pseg (h .boxes))) _ e in
-    let (_, same) = held 25 (agree ss) _ e in
+    let (_, same) = held 25 (agreed ss) _ e in
     omega (arith, segments-few limit f h [] (those pseg (h .boxes)) (omega arith) read, ap (λ (ss : List Segment). length (chunksOf ss)) (given-same same))
 
 -- ---- no end is higher than the limit
@@ -148,6 +149,6 @@ unfolding segments largest
 described-low limit f h {ss = all} e =
     let (_, e) = held 13 (leb (length (those pseg (h .boxes))) segmentLimit) _ e in
     let (ss, read, e) = both-given (segmentsFrom limit f h [] (those pseg (h .boxes))) _ e in
-    let (_, same) = held 25 (agree ss) _ e in
+    let (_, same) = held 25 (agreed ss) _ e in
     let low = segments-low limit f h [] (those pseg (h .boxes)) (omega arith) read in
     omega (arith, low, described-most all, ap (λ (ss : List Segment). largest (map endOf ss)) (given-same same))

@@ -10,13 +10,14 @@ use lib.ListN.{length}
 use Rattle.boxes.specs.Answer.{Answer, refused, given}
 use Rattle.boxes.proofs.AnswerLaws.{both-given, held}
 use Rattle.partial.specs.Segments.{Segment}
-use Rattle.partial.specs.Heading.{Heading, heading}
+use Rattle.partial.specs.Heading.{Heading, heading, bytesIn}
 use Rattle.partial.specs.Meaning.{supplied}
 use Rattle.partial.specs.Reading.{reading}
 use Rattle.partial.specs.Memory.{fits}
-use Rattle.partial.specs.Tables.{segmentRows, chunkRows, tabled, bytesIn, nowhere, servedPart}
+use Rattle.partial.specs.Tables.{segmentRows, chunkRows, tabled, nowhere, servedPart}
 use Rattle.partial.proofs.Meaning.SequenceLaws.{which}
-use Rattle.partial.proofs.Reading.ReadingLaws.{reading-read, read-mapped}
+use Rattle.partial.proofs.Reading.OneSourceLaws.{read-mapped}
+use Rattle.partial.proofs.Reading.ReadingLaws.{reading-read}
 
 -- an accepted file's heading
 pub headed-read : (limit : ℕ) (f : List ℕ) {ss : List Segment} → reading limit f ≡ given ss → (h : Heading) × (heading f ≡ given h)

@@ -6,7 +6,7 @@ use lib.ListN.{length}
 use Rattle.partial.specs.Segments.{Segment}
 use Rattle.partial.specs.Map.{textFor}
 use Rattle.partial.specs.Memory.{fits, textWritten}
-use Rattle.partial.specs.Demands.{Printed}
+use Rattle.partial.specs.ReadingDemands.{Printed}
 
 pub printed : (of : List Segment → List ℕ) (limit most : ℕ) (input : List ℕ) → Printed of limit most input
 unfolding textFor fits textWritten

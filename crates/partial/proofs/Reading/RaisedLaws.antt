@@ -3,7 +3,7 @@ use Prim.Native.Nat.{ℕ, zero, suc, _+_, _≤_}
 use mathlib.Core.Bool.{Bool, true, false}
 use mathlib.Core.List.{List, [], _∷_, _++_}
 use mathlib.Core.Logic.{_⊎_, inl, inr, ⊎-elim}
-use mathlib.Core.Path.{_≡_, refl, sym, _∙_}
+use mathlib.Core.Path.{_≡_, refl, sym, ap, _∙_}
 use native.Mathlib.Omega.{arith}
 use borrow.Author.Tests.{leb-true, le-leb}
 use lib.Dec.{T, leb, eqb}
@@ -19,9 +19,9 @@ use Rattle.partial.specs.Heading.{Heading, heading, Part}
 use Rattle.partial.specs.Entries.{Ploc, Cursor, plocHead, entry, chunkStep, chunksFrom}
 use Rattle.partial.specs.Reading.{pshdFields, pshdRight, segment, segmentsFrom, segments, reading, earlierSegments}
 use Rattle.partial.specs.Index.{Indexed, indexOf, indexed}
-use Rattle.partial.specs.Tables.{tabled, listed, indexTabled, asked, textOf}
+use Rattle.partial.specs.Tables.{tabled, listed, indexTabled, servedPart, asked, textOf}
 use Rattle.partial.specs.Map.{refusedLine, textFor}
-use Rattle.partial.specs.Raised.{Kept, judgesLimit}
+use Rattle.partial.specs.ReadingRaised.{Kept, judgesLimit, RaisedReading}
 use Rattle.partial.proofs.Meaning.SequenceLaws.{which}
 use Rattle.partial.proofs.Reading.PrintedLaws.{printed}
 use Rattle.partial.proofs.Reading.IndexGivenLaws.{index-only, index-raised}
@@ -122,7 +122,7 @@ module _ (low high : ℕ) (raised : low ≤ high) where
         same-then (segments low f h) (segments high f h) _ _ segments-same
         (λ ss. same-then (indexed low f h ss) (indexed high f h ss) _ _ (indexed-same ss) (λ _. inl refl))
 
-  pub reading-same : (f : List ℕ) → Same (reading low f) (reading high f)
+  reading-same : (f : List ℕ) → Same (reading low f) (reading high f)
   unfolding reading
   reading-same f = same-after (heading f) _ _ (λ h. same-after (hold 12 (right File pseg (h .boxes))) _ _ (λ _. later-same f h))
 
@@ -130,15 +130,15 @@ module _ (low high : ℕ) (raised : low ≤ high) where
   unfolding earlierSegments
   earlier-same f = same-after (heading f) _ _ (λ h. same-either (right File pseg (h .boxes)) (given []) (reading-same f))
 
-  pub tabled-same : (f a b : List ℕ) → Same (tabled low f a b) (tabled high f a b)
+  tabled-same : (f a b : List ℕ) → Same (tabled low f a b) (tabled high f a b)
   unfolding tabled
   tabled-same f a b = same-then (reading low f) (reading high f) _ _ (reading-same f) (λ ss. inl refl)
 
-  pub listed-same : (f a b h m : List ℕ) → Same (listed low f a b h m) (listed high f a b h m)
+  listed-same : (f a b h m : List ℕ) → Same (listed low f a b h m) (listed high f a b h m)
   unfolding listed
   listed-same f a b h m = same-then (tabled low f a b) (tabled high f a b) _ _ (tabled-same f a b) (λ ss. inl refl)
 
-  pub index-tabled-same : (f table : List ℕ) → Same (indexTabled low f table) (indexTabled high f table)
+  index-tabled-same : (f table : List ℕ) → Same (indexTabled low f table) (indexTabled high f table)
   unfolding indexTabled
   index-tabled-same f table =
       same-then (reading low f) (reading high f) _ _ (reading-same f)
@@ -146,12 +146,12 @@ module _ (low high : ℕ) (raised : low ≤ high) where
       same-after (heading f) _ _
       (λ h. same-then (indexed low f h ss) (indexed high f h ss) _ _ (indexed-same f h ss) (λ is. inl refl)))
 
-  pub asked-same : (f a b : List ℕ) (p : ℕ) → Same (asked (tabled low f a b) p) (asked (tabled high f a b) p)
+  asked-same : (f a b : List ℕ) (p : ℕ) → Same (asked (tabled low f a b) p) (asked (tabled high f a b) p)
   unfolding asked
   asked-same f a b p = same-then (tabled low f a b) (tabled high f a b) _ _ (tabled-same f a b) (λ ss. inl refl)
 
   -- of a file that was accepted
-  pub texts-same : (text : List ℕ → Box → Part) (f : List ℕ) (ss : List Segment) → reading low f ≡ given ss → textOf text high f ≡ textOf text low f
+  texts-same : (text : List ℕ → Box → Part) (f : List ℕ) (ss : List Segment) → reading low f ≡ given ss → textOf text high f ≡ textOf text low f
   unfolding textOf
   texts-same text f ss e = rw (textOf, e, kept _ _ (reading-same f) .accepted ss e)
 
@@ -165,7 +165,7 @@ module _ (low high : ℕ) (raised : low ≤ high) where
     unfolding textFor
     text-by e = elim (which (leb (length input) most)) [ inl takes ↦ rw (textFor, takes, e) | inr over ↦ text-over over ]
 
-    pub maps-accepted : (ss : List Segment) → reading low input ≡ given ss → textFor of high most input ≡ textFor of low most input
+    maps-accepted : (ss : List Segment) → reading low input ≡ given ss → textFor of high most input ≡ textFor of low most input
     maps-accepted ss e = text-by (kept _ _ (reading-same input) .accepted ss e ∙ sym e)
 
     abbrev TextSame : Type 0
@@ -178,5 +178,19 @@ module _ (low high : ℕ) (raised : low ≤ high) where
           | inr over ↦ inl (text-over over)
         ]
 
-    pub maps-same : TextSame
+    maps-same : TextSame
     maps-same = ⊎-elim (λ same. inl (text-by same)) text-was (reading-same input)
+
+  pub raised-reading : RaisedReading low high
+  raised-reading =
+      record {
+        reads = λ f. kept _ _ (reading-same f);
+        tables = λ f a b. kept _ _ (tabled-same f a b);
+        lists = λ f a b h m. kept _ _ (listed-same f a b h m);
+        indexes = λ f table. kept _ _ (index-tabled-same f table);
+        asks = λ f a b p. kept _ _ (asked-same f a b p);
+        serves = λ f a b p ss e. ap (λ r. servedPart r p) (kept _ _ (tabled-same f a b) .accepted ss e ∙ sym e);
+        texts = texts-same;
+        maps = maps-accepted;
+        mapElseOver = maps-same;
+      }

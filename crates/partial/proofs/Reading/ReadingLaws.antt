@@ -19,16 +19,17 @@ use Rattle.partial.specs.Sequences.{allOf}
 use Rattle.partial.specs.Segments.{Chunk, Segment, chunksOf, hasPlace}
 use Rattle.partial.specs.Heading.{Heading, heading}
 use Rattle.partial.specs.Entries.{Ploc, Entry, entry, mayLie, offsetPlace, placeOf, chunksFrom, chunkStep, Cursor}
-use Rattle.partial.specs.Meaning.{agree}
+use Rattle.partial.specs.Sources.{ofSource, agreed}
 use Rattle.partial.specs.Index.{Indexed, indexed}
 use Rattle.partial.specs.Reading.{segment, segmentsFrom, segments, reading}
-use Rattle.partial.specs.Demands.{Mapped}
+use Rattle.partial.specs.ReadingDemands.{Mapped}
 use Rattle.partial.proofs.Reading.HeadingAppendLaws.{headed}
 use Rattle.partial.proofs.Reading.KeptLaws.{stepped}
 use Rattle.partial.proofs.Meaning.SequenceLaws.{which, all-append}
 use Rattle.partial.proofs.Meaning.SupplyLaws.{chunks-append}
 use Rattle.partial.proofs.Meaning.DescribedLaws.{Follow, InOrder, in-order-append}
 use Rattle.partial.proofs.Meaning.MappedLaws.{lies, Accepted, mapped}
+use Rattle.partial.proofs.Meaning.SourceLaws.{in-order-of, chunks-of, agreed-of}
 
 -- the boxes of a file end in it
 heading-inside : (f : List ℕ) {h : Heading} → heading f ≡ given h → (k : ℕ) → k < length (h .boxes) → boxAt k (h .boxes) .end ≤ length f
@@ -105,15 +106,21 @@ module _ (limit : ℕ) (f : List ℕ) (h : Heading) where
       let (s, read, g) = both-given (segment limit f h before b) _ g in
       segments-told (before ++ (s ∷ [])) bs (one-more before s all (segment-told before b read)) g
 
-  -- the segments that reading and appending go by
-  pub accepted : {ss : List Segment} → heading f ≡ given h → segments limit f h ≡ given ss → Accepted f h ss
+  -- the segments that reading and appending go by, of each source
+  pub accepted-of : {ss : List Segment} → heading f ≡ given h → segments limit f h ≡ given ss → (n : ℕ) → Accepted f h (ofSource n ss)
   unfolding segments allOf chunksOf
-  accepted head g =
+  accepted-of head g n =
       let (_, g) = held 13 (leb (length (those pseg (h .boxes))) segmentLimit) _ g in
       let (ss, read, g) = both-given (segmentsFrom limit f h [] (those pseg (h .boxes))) _ g in
-      let (agreed, g) = held 25 (agree ss) _ g in
+      let (agree, g) = held 25 (agreed ss) _ g in
       let all = segments-told [] (those pseg (h .boxes)) (record { order = tt; lie = refl }) read in
-      subst (Accepted f h) (given-same g) (record { agreed = agreed; order = all .order; lie = all .lie; inside = heading-inside f head })
+      subst (λ us. Accepted f h (ofSource n us)) (given-same g)
+      (record {
+        agreed = agreed-of ss agree n;
+        order = in-order-of n ss (all .order);
+        lie = chunks-of n (lies h) ss (all .lie);
+        inside = heading-inside f head;
+      })
 
 -- what reading tests of an accepted file
 pub record Read (limit : ℕ) (f : List ℕ) (h : Heading) (ss : List Segment) (is : List Indexed) : Type 0 where
@@ -163,5 +170,5 @@ module _ (limit : ℕ) (f : List ℕ) {h : Heading} {ss : List Segment} (head : 
   reading-segments g = reading-known g .1 .segmented
 
   -- each source byte of an accepted file is served or listed missing
-  pub read-mapped : reading limit f ≡ given ss → Mapped f h ss
-  read-mapped g = mapped f h ss (accepted limit f h head (reading-segments g))
+  pub mapped-of : reading limit f ≡ given ss → (n : ℕ) → Mapped f h (ofSource n ss)
+  mapped-of g n = mapped f h (ofSource n ss) (accepted-of limit f h head (reading-segments g) n)

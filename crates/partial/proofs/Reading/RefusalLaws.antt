@@ -1,5 +1,5 @@
--- Demand 1: every refusal has a number that the paper has for the call, and after it all lent memory holds what it
--- held.
+-- Demand 1, of reading: every refusal has a number that the paper has for the call, and after it all lent memory holds
+-- what it held.
 use Prim.Native.Nat.{ℕ, zero, suc, _+_, _/_, _%_}
 use mathlib.Core.Bool.{Bool, true, false, _&&_, _||_, true≢false}
 use mathlib.Core.List.{List, [], _∷_, _++_}
@@ -9,10 +9,10 @@ use mathlib.Core.Path.{_≡_, refl, sym, ap, _∙_}
 use native.Mathlib.Omega.{arith}
 use native.Mathlib.Decide.{decLe}
 use lib.Dec.{T, leb, ltb, eqb}
-use lib.ListN.{length, getD, take, drop-of-length-le}
+use lib.ListN.{length, getD, drop-of-length-le}
 use Rattle.boxes.specs.Answer.{Answer, refused, given, _>>=_, hold}
 use Rattle.numerals.specs.Numbers.{number}
-use Rattle.boxes.specs.Framing.{Box, boxesIn, boxLimit}
+use Rattle.boxes.specs.Framing.{Box, boxesIn}
 use Rattle.boxes.specs.Kinds.{pseg, pshd, ploc, surl, right, those, boxAt, firstOf}
 use Rattle.boxes.specs.declared.kinds.Container.{Container}
 use Rattle.boxes.specs.declared.kinds.Container.the-variants.{File, Pfil, Pseg}
@@ -20,22 +20,17 @@ use Rattle.boxes.proofs.AnswerLaws.{not-both, both-given, Only, refused-same, o
 use Rattle.boxes.proofs.ContainerLaws.{boxes-numbers}
 use Rattle.boxes.proofs.KindLaws.{some-right}
 use Rattle.partial.specs.Limits.{fileLimit, segmentLimit, chunkLimit}
-use Rattle.partial.specs.Sequences.{someOf, within}
-use Rattle.partial.specs.Segments.{Segment, present, chunksOf, endOf, hasPlace}
-use Rattle.partial.specs.Heading.{Heading, heading, ftypRight, brandRight, pfilRight, pfhdRight, surlRight, fileBoxes, judged, Part}
+use Rattle.partial.specs.Sequences.{someOf, within, allOf}
+use Rattle.partial.specs.Segments.{Segment, present, chunksOf, hasPlace}
+use Rattle.partial.specs.Heading.{Heading, heading, ftypRight, brandRight, pfilRight, pfhdRight, surlRight, fileBoxes, judged, Part, bytesIn}
 use Rattle.partial.specs.Entries.{Ploc, plocHead, stateOf, Entry, entry, mayLie, offsetPlace, placeOf, chunksFrom, chunkStep}
 use Rattle.partial.specs.Entries.{Cursor}
-use Rattle.partial.specs.Meaning.{agree, knownSize}
-use Rattle.partial.specs.Reading.{pshdFields, pshdRight, segment, segmentsFrom, segments, reading, admitted, earlierSegments}
+use Rattle.partial.specs.Sources.{agreed}
+use Rattle.partial.specs.Reading.{pshdFields, pshdRight, segment, segmentsFrom, segments, reading, earlierSegments}
 use Rattle.partial.specs.Index.{indexed, indexRows}
 use Rattle.partial.specs.Memory.{fits, after, textWritten}
-use Rattle.partial.specs.Tables.{segmentRows, chunkRows, hadRows, missingRows, tabled, listed, indexTabled, indexTable, asked, textOf, bytesIn, nowhere}
-use Rattle.partial.specs.declared.brand.Brand.{Brand}
-use Rattle.partial.specs.Begin.{beginning, isText, begun}
-use Rattle.partial.specs.Addition.{Addition, listRight, dataRight, outsideRight}
-use Rattle.partial.specs.Append.{addedBoxes, newSegment, added, appended, admission, psegPlace}
-use Rattle.partial.specs.Runs.{lent, sizeAfter, append}
-use Rattle.partial.specs.Demands.{beforeAgreement, ofIndex, ofStages, Never, Demand1, Takes}
+use Rattle.partial.specs.Tables.{segmentRows, chunkRows, hadRows, missingRows, tabled, listed, indexTabled, indexTable, asked, textOf, nowhere}
+use Rattle.partial.specs.ReadingDemands.{beforeAgreement, ofIndex, ofStages, NeverRead, Demand1OfReading, Takes}
 use Rattle.partial.proofs.Meaning.SequenceLaws.{inside, which}
 use Rattle.partial.proofs.Reading.ReadingLaws.{laterStages, reading-headless, reading-none, reading-some, reading-segments}
 use Rattle.partial.proofs.Reading.IndexGivenLaws.{indexed-only}
@@ -132,23 +127,11 @@ module _ (P : ℕ → Type 0) (known : (n : ℕ) → T (beforeAgreement n) → P
   segments-only last limit f h =
       only-held P 13 (leb (length (those pseg (h .boxes))) segmentLimit) _ (known 13 tt)
       (only-then P (segmentsFrom limit f h [] (those pseg (h .boxes))) _ (segments-from-only limit f h [] (those pseg (h .boxes)))
-      (λ ss. only-held P 25 (agree ss) _ last (only-given P ss)))
-
-  -- 1, 6, 13, 22, 23 and 25 of an addition's result
-  pub admission-only : P 25 → (limit : ℕ) (h : Heading) (ss : List Segment) (n : ℕ) (a : Addition) → Only P (admission limit h ss n a)
-  unfolding admission admitted within
-  admission-only last limit h ss n a =
-      let new = newSegment (psegPlace n a) a in
-      only-held P 1 (leb (n + length (added a)) fileLimit) _ (known 1 tt)
-      (only-held P 6 (leb (length (h .boxes) + addedBoxes a) boxLimit) _ (known 6 tt)
-      (only-held P 13 (leb (length ss + 1) segmentLimit) _ (known 13 tt)
-      (only-held P 22 (leb (length (chunksOf ss) + length (new .chunks)) chunkLimit) _ (known 22 tt)
-      (only-held P 23 (leb (endOf new) limit) _ (known 23 tt)
-      (only-held P 25 (agree (ss ++ (new ∷ []))) _ last (only-given P _))))))
+      (λ ss. only-held P 25 (agreed ss) _ last (only-given P ss)))
 
   -- and those of the index
   module _ (rest : (n : ℕ) → T (eqb n 25 || ofIndex n) → P n) where
-    told-only : (limit : ℕ) (f : List ℕ) (h : Heading) (ss : List Segment) → Only P (indexed limit f h ss)
+    pub told-only : (limit : ℕ) (f : List ℕ) (h : Heading) (ss : List Segment) → Only P (indexed limit f h ss)
     unfolding within
     told-only limit f h ss = indexed-only P (rest 36 tt) limit f (rest 37 tt) (rest 38 tt) (rest 39 tt) h ss
 
@@ -158,13 +141,13 @@ module _ (P : ℕ → Type 0) (known : (n : ℕ) → T (beforeAgreement n) → P
         (λ ss. only-then P (indexed limit f h ss) _ (told-only limit f h ss) (λ _. only-given P ss))
 
 -- a test that passes beside another
-beside : (b c : Bool) → T b → T (b || c)
+pub beside : (b c : Bool) → T b → T (b || c)
 beside true c t = tt
 
 abbrev OfFile : ℕ → Type 0
 OfFile n = T (ofStages n)
 
-known-file : (n : ℕ) → T (beforeAgreement n) → OfFile n
+pub known-file : (n : ℕ) → T (beforeAgreement n) → OfFile n
 known-file n = beside (beforeAgreement n) (eqb n 25 || ofIndex n)
 
 -- or is the other
@@ -172,13 +155,13 @@ behind : (b c : Bool) → T c → T (b || c)
 behind true c t = tt
 behind false c t = t
 
-rest-file : (n : ℕ) → T (eqb n 25 || ofIndex n) → OfFile n
+pub rest-file : (n : ℕ) → T (eqb n 25 || ofIndex n) → OfFile n
 rest-file n = behind (beforeAgreement n) (eqb n 25 || ofIndex n)
 
 -- append takes an acceptable file, or one whose only refusal is 12
 module _ (limit : ℕ) (f : List ℕ) where
   pub no-segments : (h : Heading) → right File pseg (h .boxes) ≡ false → segments limit f h ≡ given []
-  unfolding segments segmentsFrom agree knownSize
+  unfolding segments segmentsFrom agreed allOf
   no-segments h lacks =
       elim (decLe 1 (length (those pseg (h .boxes)))) [
         | yes there ↦ absurd (true≢false (sym (some-right File pseg (h .boxes) refl there) ∙ lacks))
@@ -231,7 +214,7 @@ module _ (limit : ℕ) (f : List ℕ) where
       (h, head)
 
   module _ (P : ℕ → Type 0) (known : (n : ℕ) → T (beforeAgreement n) → P n) (rest : (n : ℕ) → T (eqb n 25 || ofIndex n) → P n) where
-    earlier-only : Only P (earlierSegments limit f)
+    pub earlier-only : Only P (earlierSegments limit f)
     earlier-only n e = go (heading f) refl
       where
         go : (x : Answer Heading) → heading f ≡ x → P n
@@ -290,43 +273,6 @@ module _ (limit : ℕ) where
       only-then OfReading (indexed limit f h ss) _ (told-only OfReading known-read rest-read limit f h ss)
       (λ is. only-held OfReading 26 (fits (indexRows ss is) t) _ tt (only-given OfReading (ss, is)))))
 
-  abbrev OfAddition : ℕ → Type 0
-  OfAddition n = T (ofStages n || someOf (eqb n) (30 ∷ 31 ∷ 32 ∷ 33 ∷ 35 ∷ []))
-
-  known-added : (n : ℕ) → T (beforeAgreement n) → OfAddition n
-  known-added n before = beside (ofStages n) (someOf (eqb n) (30 ∷ 31 ∷ 32 ∷ 33 ∷ 35 ∷ [])) (known-file n before)
-
-  rest-added : (n : ℕ) → T (eqb n 25 || ofIndex n) → OfAddition n
-  rest-added n other = beside (ofStages n) (someOf (eqb n) (30 ∷ 31 ∷ 32 ∷ 33 ∷ 35 ∷ [])) (rest-file n other)
-
-  appended-only : (buffer : List ℕ) (n : ℕ) (a : Addition) → Only OfAddition (appended limit buffer n a)
-  unfolding appended within someOf
-  appended-only buffer n a =
-      let f = take n buffer in
-      let size = n + length (added a) in
-      only-held OfAddition 30 (leb n (length buffer)) _ tt
-      (only-then OfAddition (heading f) _ (heading-only OfAddition known-added f)
-      (λ h.
-      only-then OfAddition (earlierSegments limit f) _ (earlier-only limit f OfAddition known-added rest-added)
-      (λ ss.
-      only-held OfAddition 31 (listRight (a .list)) _ tt
-      (only-held OfAddition 32 (dataRight a) _ tt
-      (only-held OfAddition 35 (outsideRight h a) _ tt
-      (only-then OfAddition (admission limit h ss n a) _ (admission-only OfAddition known-added (rest-added 25 tt) limit h ss n a)
-      (λ ts.
-      only-then OfAddition (indexed limit f h ts) _ (told-only OfAddition known-added rest-added limit f h ts)
-      (λ _. only-held OfAddition 33 (leb size (length buffer)) _ tt (only-given OfAddition size)))))))))
-
-abbrev OfBegin : ℕ → Type 0
-OfBegin n = T (someOf (eqb n) (34 ∷ 1 ∷ 33 ∷ []))
-
-begun-only : (buffer : List ℕ) (brand : Brand) (u m : List ℕ) → Only OfBegin (begun buffer brand u m)
-unfolding begun someOf
-begun-only buffer brand u m =
-    let n = length (beginning brand u m) in
-    only-held OfBegin 34 (isText u && isText m) _ tt
-    (only-held OfBegin 1 (leb n fileLimit) _ tt (only-held OfBegin 33 (leb n (length buffer)) _ tt (only-given OfBegin n)))
-
 text-only : (text buffer : List ℕ) → Only (λ n. n ≡ 33) (textWritten text buffer)
 unfolding textWritten
 text-only text buffer = only-held (λ n. n ≡ 33) 33 (fits text buffer) _ refl (only-given (λ n. n ≡ 33) (length text))
@@ -340,23 +286,19 @@ unfolding textOf bytesIn nowhere
 text-empty limit which f n e = rw (textOf, e)
 
 -- after a refusal all lent memory holds what it held
-memory-kept : {A : Type 0} (rows : A → List ℕ) (r : Answer A) (table : List ℕ) (n : ℕ) → r ≡ refused n → after rows r table ≡ table
+pub memory-kept : {A : Type 0} (rows : A → List ℕ) (r : Answer A) (table : List ℕ) (n : ℕ) → r ≡ refused n → after rows r table ≡ table
 unfolding after
 memory-kept rows (refused m) table n e = refl
 memory-kept rows (given a) table n e = absurd (not-both (sym e))
 
-append-kept : (limit : ℕ) (buffer : List ℕ) (n : ℕ) (a : Addition) (k : ℕ) → appended limit buffer n a ≡ refused k → append limit (lent buffer n) a ≡ lent buffer n
-unfolding append after sizeAfter
-append-kept limit buffer n a k e = rw e
-
--- no call answers 21
+-- no call of reading answers 21
 module _ (limit : ℕ) where
   ask-told : (r : Answer (List Segment)) (p n : ℕ) → asked r p ≡ refused n → r ≡ refused n
   unfolding asked
   ask-told (refused m) p n e = ap (λ k. refused k) (refused-same e)
   ask-told (given ss) p n e = absurd (not-both (sym e))
 
-  never-21 : Never limit 21
+  never-21 : NeverRead limit 21
   unfolding within someOf
   never-21 =
       record {
@@ -364,21 +306,17 @@ module _ (limit : ℕ) where
         ask = λ f a b p e. tabled-only limit f a b 21 (ask-told (tabled limit f a b) p 21 e);
         list = λ f a b h m e. listed-only limit f a b h m 21 e;
         index = λ f t e. index-tabled-only limit f t 21 e;
-        begin = λ buffer brand u m e. begun-only buffer brand u m 21 e;
-        append = λ buffer size a e. appended-only limit buffer size a 21 e;
         text = λ text buffer e. omega (arith, text-only text buffer 21 e);
         mapped = λ input e. reading-only limit input 21 e;
         boxes = λ input e. boxes-only OfFile known-file File input 0 (length input) 21 e;
       }
 
-pub demand1 : (limit : ℕ) → Demand1 limit
+pub demand1 : (limit : ℕ) → Demand1OfReading limit
 demand1 limit =
     record {
       readNumbers = tabled-only limit;
       listNumbers = listed-only limit;
       indexNumbers = index-tabled-only limit;
-      beginNumbers = begun-only;
-      appendNumbers = appended-only limit;
       textNumbers = text-only;
       no21 = never-21 limit;
       askNumbers = λ f a b. ask-refused (tabled limit f a b);
@@ -386,7 +324,5 @@ demand1 limit =
       tablesKept = λ rows f a b. memory-kept rows (tabled limit f a b);
       listsKept = λ rows f a b h m. memory-kept rows (listed limit f a b h m);
       indexKept = λ f table. memory-kept indexTable (indexTabled limit f table) table;
-      beginKept = λ buffer brand u m. memory-kept (λ _. beginning brand u m) (begun buffer brand u m) buffer;
-      appendKept = append-kept limit;
       textKept = λ text buffer. memory-kept (λ _. text) (textWritten text buffer) buffer;
     }

@@ -15,11 +15,11 @@ use Rattle.boxes.specs.Kinds.{pseg, those, boxAt}
 use Rattle.boxes.specs.declared.kinds.Container.the-variants.{File}
 use Rattle.boxes.proofs.AnswerLaws.{given-same, both-given, held}
 use Rattle.boxes.proofs.ContainerLaws.{boxes-standing}
-use Rattle.partial.specs.Demands.{InData, Whole}
+use Rattle.partial.specs.ReadingDemands.{InData, Whole}
 use Rattle.partial.specs.Entries.{Ploc, Entry, state, stateOf, entry, placeOf, Cursor, chunkStep, chunksFrom}
 use Rattle.partial.specs.Heading.{Heading, heading}
 use Rattle.partial.specs.Limits.{fileLimit, segmentLimit}
-use Rattle.partial.specs.Meaning.{agree}
+use Rattle.partial.specs.Sources.{agreed}
 use Rattle.partial.specs.Reading.{segment, segmentsFrom, segments}
 use Rattle.partial.specs.Segments.{Chunk, Segment, elsewhere, hasPlace, present}
 use Rattle.partial.proofs.Meaning.MappedLaws.{lies, may-be}
@@ -121,5 +121,5 @@ module _ (limit : ℕ) (f : List ℕ) (h : Heading) (known : heading f ≡ given
   all-small g =
       let (_, g) = held 13 (leb (length (those pseg (h .boxes))) segmentLimit) _ g in
       let (ss, read, g) = both-given (segmentsFrom limit f h [] (those pseg (h .boxes))) _ g in
-      let (_, same) = held 25 (agree ss) _ g in
+      let (_, same) = held 25 (agreed ss) _ g in
       subst (AllSmall limit) (given-same same) (segments-small [] (those pseg (h .boxes)) tt read)

@@ -22,7 +22,7 @@ use Rattle.partial.specs.Map.{ascii, decimal, line, rangeLine, rangeLine
 use Rattle.partial.specs.Map.{mapOf, missmapOf, textFor}
 use Rattle.partial.specs.Reading.{reading}
 use Rattle.partial.specs.Sequences.{someOf}
-use Rattle.partial.specs.Demands.{ofStages, NeverShort}
+use Rattle.partial.specs.ReadingDemands.{ofStages, NeverShort}
 use Rattle.partial.proofs.Meaning.SequenceLaws.{which, both, passes, past, Each}
 use Rattle.partial.proofs.Meaning.DescribedLaws.{InOrder}
 use Rattle.partial.proofs.Meaning.ListingLaws.{listing}
@@ -31,7 +31,8 @@ use Rattle.partial.proofs.Meaning.EdgeLaws.{listed-few, named-few}
 use Rattle.partial.proofs.Reading.LimitLaws.{segments-limited, chunks-few, described-low}
 use Rattle.partial.proofs.Reading.PartLaws.{headed-read}
 use Rattle.partial.proofs.Reading.PrintedLaws.{printed}
-use Rattle.partial.proofs.Reading.ReadingLaws.{accepted, reading-segments}
+use Rattle.partial.proofs.Reading.OneSourceLaws.{accepted}
+use Rattle.partial.proofs.Reading.ReadingLaws.{reading-segments}
 use Rattle.partial.proofs.Reading.RefusalLaws.{reading-only}
 
 -- the least number that passes a test is no more than any that passes

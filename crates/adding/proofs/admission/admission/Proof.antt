@@ -8,13 +8,13 @@ use borrow.Author.Tests.{leb-true, not-true, not-false}
 use lib.Dec.{leb}
 use lib.ListN.{length}
 use Rattle.boxes.specs.Answer.{Answer, given, _>>=_}
-use Rattle.partial.specs.Addition.{Addition}
+use Rattle.additions.specs.Addition.{Addition}
 use Rattle.partial.specs.Answers.{writtenAnswer}
-use Rattle.partial.specs.Append.{added}
+use Rattle.additions.specs.Append.{added}
 use Rattle.partial.specs.Heading.{Heading}
 use Rattle.partial.specs.Limits.{fileLimit}
 use Rattle.partial.specs.Segments.{Segment}
-use Rattle.partial.proofs.Writing.NewSegmentLaws.{no-index-new}
+use Rattle.additions.proofs.NewSegmentLaws.{no-index-new, urls-new, source-new}
 use Rattle.adding.specs.Admission.{Beside, Asked, admittedAnswer, admittedLength}
 use Rattle.adding.proofs.AdmissionLaws.{file-test, size-whole, box-test, tells-new, admission-1, admission-6, admission-by}
 use borrow.Author.Needs.{needs}
@@ -48,21 +48,21 @@ admitted-requires : tie.Need-admitted-requires
 admitted-requires c κs = search needs
 
 -- past 6 the file is small, and whether the segment is admitted decides
-small-past : (c : tie.After-admitted) {h : Heading} {ss : List Segment} {a : Addition} → Beside (c .before .before .before .before .before .before .before .before .args .file .now) h ss (c .before .before .before .before .before .before .before .before .args .judged)
+small-past : (c : tie.After-admitted) {h : Heading} {ss : List Segment} {a : Addition} → Beside (c .before .before .before .before .before .before .before .before .args .file .now) h ss (c .before .before .before .before .before .before .before .before .args .judged) (c .before .before .before .before .before .before .before .before .args .sizes .now)
     → Asked a (c .before .before .before .before .before .before .before .before .args .header) (c .before .before .before .before .before .before .before .before .args .counts) (c .before .before .before .before .before .before .before .before .args .outside) (c .before .before .before .before .before .before .before .before .args .layout)
     → true ≡ leb (c .before .before .before .before .before .before .before .before .args .n + length (added a)) fileLimit
 small-past c beside asked =
     let met = c .before .before .before .before in
     file-test (c .before .before .before .before .before .before .before .before .args .n) beside asked (sym (not-false _ (met .if1 .left)) ∙ met .before .ends-by .ensures)
 
-by-admitted : (c : tie.After-admitted) (h : Heading) (ss : List Segment) (a : Addition) → Beside (c .before .before .before .before .before .before .before .before .args .file .now) h ss (c .before .before .before .before .before .before .before .before .args .judged)
+by-admitted : (c : tie.After-admitted) (h : Heading) (ss : List Segment) (a : Addition) → Beside (c .before .before .before .before .before .before .before .before .args .file .now) h ss (c .before .before .before .before .before .before .before .before .args .judged) (c .before .before .before .before .before .before .before .before .args .sizes .now)
     → Asked a (c .before .before .before .before .before .before .before .before .args .header) (c .before .before .before .before .before .before .before .before .args .counts) (c .before .before .before .before .before .before .before .before .args .outside) (c .before .before .before .before .before .before .before .before .args .layout)
     → (admittedAnswer (c .admitted .result) >>= λ _. given (c .before .before .before .before .before .before .before .before .args .n + length (added a))) ≡ admittedLength (c .before .before .before .before .before .before .before .before .args .file .now) h ss (c .before .before .before .before .before .before .before .before .args .n) a
 by-admitted c h ss a beside asked =
     let n = c .before .before .before .before .before .before .before .before .args .n in
     let met = c .before in
     let boxes = box-test n beside asked (met .before .before .added-boxes .ensures a (asked .sorted) (asked .whole)) (sym (not-false _ (met .if2 .left)) ∙ met .before .ends-by2 .ensures) in
-    ap (λ (x : Answer (Unit {0})). x >>= λ _. given (n + length (added a))) (c .admitted .ensures h ss _ (beside .file) (beside .segments) (tells-new n beside asked) (no-index-new _ a))
+    ap (λ (x : Answer (Unit {0})). x >>= λ _. given (n + length (added a))) (c .admitted .ensures h ss _ (beside .file) (beside .segments) (beside .sizes) (tells-new n beside asked) (no-index-new h ss _ a) (urls-new h ss _ a) (source-new h ss _ a))
     ∙ admission-by _ h ss n a (small-past c beside asked) boxes
 
 enum-known-k : tie.Need-enum-known-k
@@ -71,8 +71,8 @@ enum-known-k c = search needs
 enum-told : tie.Need-enum-told
 enum-told c = search needs
 
-add-t15 : tie.Need-add-t15
-add-t15 c =
+add-t16 : tie.Need-add-t16
+add-t16 c =
     let met = c .before .before .before .before .before .before .before in
     let args = c .before .before .before .before .before .before .before .before .before .before .before .args in
     omega (arith, leb-true (args .n + args .layout .added) fileLimit (sym (met .before .ends-by .ensures) ∙ not-false _ (met .if1 .left)))
@@ -103,6 +103,6 @@ admission-spec =
     admitted-requires
     enum-known-k
     enum-told
-    add-t15
+    add-t16
     returns-3
     returns-4)

@@ -10,10 +10,12 @@ use lib.ListN.{length}
 use Rattle.partial.specs.Limits.{segmentLimit, chunkLimit, sourceLimit}
 use Rattle.partial.specs.Meaning.{agree}
 use Rattle.partial.specs.Segments.{Segment, endOf, chunksOf}
+use Rattle.ends.specs.Sizes.{sizesOf}
+use Rattle.ends.specs.Table.{sizesIn}
 use Rattle.gathering.specs.Gathered.{gatheredOf}
-use Rattle.gathering.proofs.GatheredLaws.{gathered-segments, gathered-sizes}
+use Rattle.gathering.proofs.GatheredLaws.{gathered-segments}
 use Rattle.adding.specs.Admission.{Tells, admittedAnswer}
-use Rattle.adding.proofs.AdmissionLaws.{segments-full, segments-few, chunk-test, source-test, source-end}
+use Rattle.adding.proofs.AdmissionLaws.{segments-full, segments-few, chunk-test, source-test, source-end, sizes-all}
 use Rattle.adding.proofs.BesideLaws.{new-end}
 use Rattle.adding.proofs.AdmissionLaws.{admitted-13, admitted-22, admitted-23, admitted-25, admitted-by}
 use borrow.Author.Needs.{needs}
@@ -22,14 +24,14 @@ use Rattle.adding.proofs.admission.admitted.Tie as tie
 
 returns : tie.Need-returns
 unfolding admittedAnswer
-returns c = λ h ss s file known tells lacks. admitted-13 _ h ss s (segments-full ss known tells (c .if1 .taken))
+returns c = λ h ss s file known said tells lacks urls number. admitted-13 _ h ss s (segments-full ss known tells (c .if1 .taken))
 
 ends-by-requires : tie.Need-ends-by-requires
 ends-by-requires c κs = search needs
 
 returns-2 : tie.Need-returns-2
 unfolding admittedAnswer
-returns-2 c = λ h ss s file known tells lacks.
+returns-2 c = λ h ss s file known said tells lacks urls number.
     let few = segments-few ss known tells (c .before .before .if1 .left) in
     admitted-22 _ h ss s few (chunk-test ss known tells (sym (not-true _ (c .if2 .taken)) ∙ c .before .ends-by .ensures))
 
@@ -38,7 +40,7 @@ ends-by-requires-2 c κs = search needs
 
 returns-3 : tie.Need-returns-3
 unfolding admittedAnswer
-returns-3 c = λ h ss s file known tells lacks.
+returns-3 c = λ h ss s file known said tells lacks urls number.
     let met = c .before .before in
     let few = segments-few ss known tells (met .before .before .if1 .left) in
     let chunks = chunk-test ss known tells (sym (not-false _ (met .if2 .left)) ∙ met .before .ends-by .ensures) in
@@ -61,6 +63,9 @@ cast-gives-size c = search needs
 gives-size-requires : tie.Need-gives-size-requires
 gives-size-requires c κs = search needs
 
+sizes-at-requires : tie.Need-sizes-at-requires
+sizes-at-requires c κs = search needs
+
 add-end : tie.Need-add-end
 add-end c = omega (arith, leb-true (c .before .before .before .before .before .before .before .before .before .before .before .before .before .args .header .offset .0 + c .before .before .before .before .before .before .before .before .before .before .before .before .before .args .counts .sum) sourceLimit (sym (c .before .before .before .before .before .before .ends-by2 .ensures) ∙ not-false _ (c .before .before .before .before .before .if3 .left)))
 
@@ -71,29 +76,30 @@ agree-requires : tie.Need-agree-requires
 agree-requires c κs = search needs
 
 -- the sizes agree with the new segment's as the code says
-sizes-agree : (c : tie.After-agree) (ss : List Segment) (s : Segment) → c .before .before .before .before .before .before .before .before .before .before .before .before .before .before .before .args .gathered ≡ gatheredOf ss → Tells s (c .before .before .before .before .before .before .before .before .before .before .before .before .before .before .before .args .header) (c .before .before .before .before .before .before .before .before .before .before .before .before .before .before .before .args .counts)
+sizes-agree : (c : tie.After-agree) (ss : List Segment) (s : Segment) → c .before .before .before .before .before .before .before .before .before .before .before .before .before .before .before .args .gathered ≡ gatheredOf ss → sizesIn (c .before .before .before .before .before .before .before .before .before .before .before .before .before .before .before .args .sizes .now) 0 ≡ sizesOf ss
+    → Tells s (c .before .before .before .before .before .before .before .before .before .before .before .before .before .before .before .args .header) (c .before .before .before .before .before .before .before .before .before .before .before .before .before .before .before .args .counts)
     → c .agree .result ≡ agree (ss ++ (s ∷ []))
-sizes-agree c ss s known tells =
+sizes-agree c ss s known said tells =
     let past = c .before .before .before .before .before .before .before in
     let gives = c .before .before .before .before .before .gives-size .ensures s (tells .flags) (tells .items) in
     let ends = source-end ss known tells (sym (not-false _ (past .if3 .left)) ∙ past .before .ends-by2 .ensures) in
-    c .agree .ensures (ss ++ (s ∷ [])) (c .before .with .ensures ss s (gathered-sizes ss known) ends gives)
+    c .agree .ensures (ss ++ (s ∷ [])) (c .before .with .ensures ss s (c .before .before .before .before .sizes-at .ensures ∙ said) ends gives)
 
 returns-4 : tie.Need-returns-4
 unfolding admittedAnswer
-returns-4 c = λ h ss s file known tells lacks. admitted-25 _ h ss s (few-past (c .before .before .before .before .before .before .before .before) ss known tells) (chunks-past (c .before .before .before .before .before .before .before .before) ss known tells) (low-past (c .before .before .before .before .before .before .before .before) ss known tells) (sym (not-true _ (c .if4 .taken)) ∙ sizes-agree (c .before) ss s known tells)
+returns-4 c = λ h ss s file known said tells lacks urls number. admitted-25 _ h ss s (few-past (c .before .before .before .before .before .before .before .before) ss known tells) (chunks-past (c .before .before .before .before .before .before .before .before) ss known tells) (low-past (c .before .before .before .before .before .before .before .before) ss known tells) (sym (not-true _ (c .if4 .taken)) ∙ sizes-agree (c .before) ss s known said tells ∙ sizes-all ss file s urls number)
 
 index-beside-requires : tie.Need-index-beside-requires
 index-beside-requires c κs = search needs
 
 returns-5 : tie.Need-returns-5
-returns-5 c = λ h ss s file known tells lacks.
+returns-5 c = λ h ss s file known said tells lacks urls number.
     let left = c .before in
     let past = left .before .before .before .before .before .before .before .before in
     let gives = left .before .before .before .before .before .before .gives-size .ensures s (tells .flags) (tells .items) in
     let ends = source-end ss known tells (sym (not-false _ (past .if3 .left)) ∙ past .before .ends-by2 .ensures) in
     c .index-beside .ensures h ss s file (gathered-segments ss known) lacks (new-end s gives ends)
-    ∙ admitted-by _ h ss s (few-past past ss known tells) (chunks-past past ss known tells) (low-past past ss known tells) (sym (not-false _ (left .if4 .left)) ∙ sizes-agree (left .before) ss s known tells)
+    ∙ admitted-by _ h ss s (few-past past ss known tells) (chunks-past past ss known tells) (low-past past ss known tells) (sym (not-false _ (left .if4 .left)) ∙ sizes-agree (left .before) ss s known said tells ∙ sizes-all ss file s urls number)
 
 pub admitted-spec : {M : Type 1} → statement M
 admitted-spec =
@@ -106,6 +112,7 @@ admitted-spec =
     returns-3
     cast-gives-size
     gives-size-requires
+    sizes-at-requires
     add-end
     with-requires
     agree-requires

@@ -5,7 +5,7 @@ use native.Mathlib.Omega.{arith}
 use borrow.Author.Needs.{needs}
 use denote.Ref.{now}
 use lib.ListN.{length, take}
-use Rattle.partial.specs.Addition.{items}
+use Rattle.additions.specs.Addition.{items}
 use Rattle.adding.specs.Counts.{countsOf}
 use Rattle.adding.proofs.CountLaws.{items-none, items-more, items-whole, front-items, front-present}
 use Rattle.adding.proofs.counts.counts_of.Statement.{statement}

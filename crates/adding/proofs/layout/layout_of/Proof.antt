@@ -5,10 +5,10 @@ use native.Mathlib.Omega.{arith}
 use borrow.Author.Needs.{needs}
 use lib.ListN.{length}
 use Rattle.boxes.proofs.BoxedLaws.{front-size}
-use Rattle.partial.specs.Append.{versionFor, psegBody}
+use Rattle.additions.specs.Append.{versionFor, psegBody}
 use Rattle.partial.specs.Limits.{fileLimit}
 use Rattle.partial.specs.Reading.{offsetWidth}
-use Rattle.partial.proofs.Writing.AddedBoxesLaws.{length-added}
+use Rattle.additions.proofs.AddedBoxesLaws.{length-added}
 use Rattle.adding.proofs.WidthLaws.{offset-short}
 use Rattle.adding.proofs.LengthLaws.{pseg-long}
 use Rattle.adding.proofs.layout.layout_of.Statement.{statement}

@@ -23,18 +23,21 @@ use Rattle.gathering.proofs.pass.pass.Statement.{statement}
 use Rattle.gathering.proofs.pass.pass.Tie as tie
 
 abbrev Inv-loop : tie.InvT-loop
-Inv-loop file mixed numbered segments₀ chunks₀ tops walk₀ gathered₀ last₀ segments chunks walk gathered last =
+Inv-loop file mixed numbered segments₀ chunks₀ sizes₀ tops walk₀ gathered₀ last₀ segments chunks sizes walk gathered last =
     (gathered .segments + walk .left ≤ 512)
     × (gathered .chunks ≤ chunkLimit)
     × (length segments ≡ length segments₀)
     × (length chunks ≡ length chunks₀)
-    × ((h : Heading) → boxesIn File file 0 (length file) ≡ given (h .boxes) → mixed ≡ h .mixed → Midway file h numbered segments₀ chunks₀ segments chunks walk gathered last)
+    × ((h : Heading) → boxesIn File file 0 (length file) ≡ given (h .boxes) → mixed ≡ h .mixed → Midway file h numbered segments₀ chunks₀ segments chunks sizes walk gathered last)
 
 abbrev μ-loop : tie.MeasureT-loop
-μ-loop file mixed numbered segments₀ chunks₀ tops walk₀ gathered₀ last₀ segments chunks walk gathered last = walk .left
+μ-loop file mixed numbered segments₀ chunks₀ sizes₀ tops walk₀ gathered₀ last₀ segments chunks sizes walk gathered last = walk .left
 
 tops-of-requires : tie.Need-tops-of-requires Inv-loop μ-loop
 tops-of-requires c κs = tt
+
+clear-sizes-requires : tie.Need-clear-sizes-requires Inv-loop μ-loop
+clear-sizes-requires c κs = tt
 
 new-requires : tie.Need-new-requires Inv-loop μ-loop
 new-requires c κs = tt
@@ -51,7 +54,7 @@ loop-holds c =
       omega (arith, gathered-chunks _ none),
       refl,
       refl,
-      λ h known mix. midway-none _ h _ _ _ (sym (walk-boxes _ new) ∙ known) none (searched-none _ refl known),
+      λ h known mix. midway-none _ h _ _ _ (sym (walk-boxes _ new) ∙ known) none (searched-none _ refl known) (c .before .before .clear-sizes .ensures),
     )
 
 step-requires : tie.Need-step-requires Inv-loop μ-loop
@@ -63,7 +66,7 @@ enum-known-b c = search needs
 segment-of-requires : tie.Need-segment-of-requires Inv-loop μ-loop
 unfolding boxLimit
 segment-of-requires c κs =
-    let inv = c .before .before .before .before .before .before .before .before .before .before .loop .inv in
+    let inv = c .before .before .before .before .before .before .before .before .before .before .before .loop .inv in
     (omega (arith, inv .0), inv .1)
 
 enum-known-n : tie.Need-enum-known-n Inv-loop μ-loop
@@ -78,26 +81,26 @@ same-length-2 c = search needs
 returns : tie.Need-returns Inv-loop μ-loop
 unfolding Gathers Segmented
 returns c = λ h known mix.
-    let met = c .before .before .before .before .before .before .before .before .before .before .before .before .before .before .before in
+    let met = c .before .before .before .before .before .before .before .before .before .before .before .before .before .before .before .before in
     let at-loop = met .before .before .before in
     let so-far = at-loop .loop .inv .4 h known mix in
-    let listed = at-loop .before .before .before .tops-of .ensures (h .boxes) tops-none known in
+    let listed = at-loop .before .before .before .before .before .tops-of .ensures (h .boxes) tops-none known in
     let step = next-box (met .before .before .step .ensures) (met .b .given .1) in
-    let told = c .before .before .before .before .before .before .before .segment-of .ensures .1 h (so-far .before) mix (so-far .known) listed (so-far .gathered) in
-    midway-refused _ h _ _ _ so-far step (is-kind pseg _ (c .before .before .before .before .before .before .before .before .before .before .before .if1 .taken)) (subst (Segmented _ h _ _ _ _ _ _ _) (c .before .n .given .1) told)
+    let told = c .before .before .before .before .before .before .before .segment-of .ensures .1 h (so-far .before) mix (so-far .known) listed (so-far .gathered) (so-far .sizes) in
+    midway-refused _ h _ _ _ so-far step (is-kind pseg _ (c .before .before .before .before .before .before .before .before .before .before .before .before .if1 .taken)) (subst (Segmented _ h _ _ _ _ _ _ _ _) (c .before .n .given .1) told)
 
 enum-known-more : tie.Need-enum-known-more Inv-loop μ-loop
 enum-known-more c = search needs
 
 loop-less : tie.Need-loop-less Inv-loop μ-loop
 loop-less c =
-    let met = c .before .before .before .before .before .before .before .before .before .before .before .before .before .before .before in
+    let met = c .before .before .before .before .before .before .before .before .before .before .before .before .before .before .before .before in
     fewer _ _ (next-box (met .before .before .step .ensures) (met .b .given .1))
 
 loop-again : tie.Need-loop-again Inv-loop μ-loop
 unfolding Counted
 loop-again c =
-    let met = c .before .before .before .before .before .before .before .before .before .before .before .before .before .before .before in
+    let met = c .before .before .before .before .before .before .before .before .before .before .before .before .before .before .before .before in
     let at-loop = met .before .before .before in
     let inv = at-loop .loop .inv in
     let step = next-box (met .before .before .step .ensures) (met .b .given .1) in
@@ -110,9 +113,9 @@ loop-again c =
       kept .1 .1 .1 .1 .1 .1 .1 .1 .0 ∙ inv .3,
       λ h known mix.
           let so-far = inv .4 h known mix in
-          let listed = at-loop .before .before .before .tops-of .ensures (h .boxes) tops-none known in
-          let told = read .1 h (so-far .before) mix (so-far .known) listed (so-far .gathered) in
-          midway-more _ h _ _ _ so-far step (is-kind pseg _ (c .before .before .before .before .before .before .before .before .before .before .before .if1 .taken)) (subst (Segmented _ h _ _ _ _ _ _ _) (c .before .more .given .1) told),
+          let listed = at-loop .before .before .before .before .before .tops-of .ensures (h .boxes) tops-none known in
+          let told = read .1 h (so-far .before) mix (so-far .known) listed (so-far .gathered) (so-far .sizes) in
+          midway-more _ h _ _ _ so-far step (is-kind pseg _ (c .before .before .before .before .before .before .before .before .before .before .before .before .if1 .taken)) (subst (Segmented _ h _ _ _ _ _ _ _ _) (c .before .more .given .1) told),
     )
 
 loop-less-2 : tie.Need-loop-less-2 Inv-loop μ-loop
@@ -165,6 +168,7 @@ pass-spec =
     Inv-loop
     μ-loop
     tops-of-requires
+    clear-sizes-requires
     new-requires
     none-requires
     loop-holds

@@ -39,14 +39,14 @@ unfolding Counted Segmented partsAnswer
 returns c =
     let met = c .before .before .before .before .before .before .before .before in
     let parts = sym (met .before .before .parts-of .ensures) ∙ ap partsAnswer (met .p .given .1) in
-    (tt, λ h ss mix known listed so-far. segment-crowded _ h ss _ _ parts (omega (arith, gathered-chunks ss so-far)))
+    (tt, λ h ss mix known listed so-far held. segment-crowded _ h ss _ _ parts (omega (arith, gathered-chunks ss so-far)))
 
 returns-2 : tie.Need-returns-2
 unfolding Counted Segmented partsAnswer
 returns-2 c =
     let met = c .before .before .before .before .before .before .before .before .before .before in
     let parts = sym (met .before .before .parts-of .ensures) ∙ ap partsAnswer (met .p .given .1) in
-    (tt, λ h ss mix known listed so-far. segment-far _ h ss _ _ parts (omega (arith, gathered-chunks ss so-far)) (omega arith))
+    (tt, λ h ss mix known listed so-far held. segment-far _ h ss _ _ parts (omega (arith, gathered-chunks ss so-far)) (omega arith))
 
 chunks-of-requires : tie.Need-chunks-of-requires
 chunks-of-requires c κs = search needs
@@ -64,13 +64,16 @@ put-segment-requires c κs =
     let parts = sym (met .before .before .parts-of .ensures) ∙ ap partsAnswer (met .p .given .1) in
     (search needs, rw (box-fields _) at (header-whole _ _ parts))
 
+add-end-requires : tie.Need-add-end-requires
+add-end-requires c κs = search needs
+
 with-requires : tie.Need-with-requires
-with-requires c κs = (within (c .before .before .before .before .before .before .before .before .before .before .before .before .before), few (c .before .before .before .before .before .before .before .before .before .before .before .before .before))
+with-requires c κs = (within (c .before .before .before .before .before .before .before .before .before .before .before .before .before .before), few (c .before .before .before .before .before .before .before .before .before .before .before .before .before .before))
 
 returns-3 : tie.Need-returns-3
 unfolding Counted Segmented partsAnswer
 returns-3 c =
-    (tt, λ h ss mix known listed so-far. segment-fault _ h ss _ (sym (c .before .before .before .parts-of .ensures) ∙ ap partsAnswer (c .before .n .given .1)))
+    (tt, λ h ss mix known listed so-far held. segment-fault _ h ss _ (sym (c .before .before .before .parts-of .ensures) ∙ ap partsAnswer (c .before .n .given .1)))
 
 same-length : tie.Need-same-length
 same-length c = search needs
@@ -82,7 +85,7 @@ returns-4 c =
     let met = near .before .before .before .before .before .before .before .before .before .before in
     let parts = sym (met .before .before .parts-of .ensures) ∙ ap partsAnswer (met .p .given .1) in
     let ran = c .before .before .before .before .before .chunks-of .ensures in
-    (tt, λ h ss mix known listed so-far. segment-cut _ h ss _ _ parts (omega (arith, few near, gathered-chunks ss so-far)) (omega arith) (near .before .before .before .before .before .before .before .before .before .before .before .before .before .before .before .before .before .args .last) (subst (Chunked _ h _ _ _ _ _ _ _) (c .before .n2 .given .1) (ran h mix known listed)))
+    (tt, λ h ss mix known listed so-far held. segment-cut _ h ss _ _ parts (omega (arith, few near, gathered-chunks ss so-far)) (omega arith) (near .before .before .before .before .before .before .before .before .before .before .before .before .before .before .before .before .before .args .last) (subst (Chunked _ h _ _ _ _ _ _ _) (c .before .n2 .given .1) (ran h mix known listed)))
 
 same-length-2 : tie.Need-same-length-2
 same-length-2 c = search needs
@@ -93,17 +96,18 @@ same-length-3 c = search needs
 returns-5 : tie.Need-returns-5
 unfolding Counted Segmented Chunked partsAnswer
 returns-5 c =
-    let read = c .before .before .before .before .before .before .before .before in
+    let read = c .before .before .before .before .before .before .before .before .before in
     let near = read .before .before .before .before .before .before in
     let met = near .before .before .before .before .before .before .before .before .before .before in
     let parts = sym (met .before .before .parts-of .ensures) ∙ ap partsAnswer (met .p .given .1) in
     let ran = read .before .before .before .before .chunks-of .ensures in
-    let put = c .before .before .before .before .before .put-segment .ensures in
+    let put = c .before .before .before .before .before .before .put-segment .ensures in
+    let end = c .before .before .add-end .ensures in
     let more = c .with .ensures in (
       (more .0, subst (λ (n : ℕ). n ≤ chunkLimit) (sym (more .1)) (few near)),
-      λ h ss mix known listed so-far.
+      λ h ss mix known listed so-far held.
           let (cs, e, many, here) = subst (Chunked _ h _ _ _ _ _ _ _) (read .cursor .given .1) (ran h mix known listed) in
-          segment-told _ h ss _ _ parts (omega (arith, few near, gathered-chunks ss so-far)) (omega arith) (near .before .before .before .before .before .before .before .before .before .before .before .before .before .before .before .before .before .args .last) so-far e many here put (λ s. more .2 ss s so-far),
+          segment-told _ h ss _ _ parts (omega (arith, few near, gathered-chunks ss so-far)) (omega arith) (near .before .before .before .before .before .before .before .before .before .before .before .before .before .before .before .before .before .args .last) so-far e many here put (λ s. more .2 ss s so-far) (λ s. end ss s (omega arith) held),
     )
 
 pub segment-of-spec : {M : Type 1} → statement M
@@ -120,6 +124,7 @@ segment-of-spec =
     enum-known-n-2
     enum-known-cursor
     put-segment-requires
+    add-end-requires
     with-requires
     returns-3
     same-length

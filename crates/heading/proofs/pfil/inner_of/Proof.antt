@@ -12,10 +12,11 @@ use Rattle.tallying.specs.Rules.{tallyOf}
 use Rattle.tallying.proofs.RuleLaws.{tally-fault, tally-given, tally-known}
 use Rattle.partial.specs.Heading.{pfhdRight, surlRight, url, mime}
 use Rattle.partial.proofs.Reading.IndexedLaws.{has-counted}
+use Rattle.surls.specs.Parts.{Within}
+use Rattle.surls.proofs.FormLaws.{refuted, upheld}
+use Rattle.surls.proofs.WithinLaws.{further-within}
 use Rattle.heading.specs.Facts.{headedAnswer}
-use Rattle.heading.specs.Steps.{Within}
-use Rattle.heading.proofs.FormLaws.{refuted, upheld}
-use Rattle.heading.proofs.FoundLaws.{first-within, further-within}
+use Rattle.heading.proofs.FoundLaws.{first-within}
 use Rattle.heading.proofs.StageLaws.{inner-refused, pfhd-refused, surl-refused, all-right, found-told}
 use Rattle.heading.proofs.pfil.inner_of.Statement.{statement}
 use Rattle.heading.proofs.pfil.inner_of.Tie as tie
@@ -105,10 +106,10 @@ of-requires-2 : tie.Need-of-requires-2
 of-requires-2 c κs = search needs
 
 url-of-requires : tie.Need-url-of-requires
-url-of-requires c κs = first-surl (c .before .before)
+url-of-requires c κs = search needs
 
 mime-of-requires : tie.Need-mime-of-requires
-mime-of-requires c κs = first-surl (c .before .before .before)
+mime-of-requires c κs = search needs
 
 returns-4 : tie.Need-returns-4
 returns-4 c bs tallied same front =
@@ -126,8 +127,8 @@ returns-4 c bs tallied same front =
     rw (all-right (start .args .file .now) bs front (start .args .b) same known right formed)
     (found-told (start .args .file .now) bs is _ (all .number) (after-of .of .ensures ∙ all .of pseg refl)
     (has-counted is (after-index .of2 .ensures ∙ tally-given counted refl .of fidx refl))
-    (c .before .url-of .ensures ∙ ap (url _) first)
-    (c .mime-of .ensures ∙ ap (mime _) first))
+    (c .before .url-of .ensures (first-surl after-first) ∙ ap (url _) first)
+    (c .mime-of .ensures (first-surl after-first) ∙ ap (mime _) first))
 
 pub inner-of-spec : {M : Type 1} → statement M
 inner-of-spec =

@@ -6,7 +6,7 @@ use Rattle.boxes.specs.Kinds.{pfhd, right}
 use Rattle.boxes.specs.declared.kinds.Container.the-variants.{Pfil}
 use Rattle.partial.specs.Heading.{pfhdRight}
 use Rattle.tallying.proofs.RuleLaws.{rule-kept}
-use Rattle.heading.proofs.FormLaws.{refuted, upheld}
+use Rattle.surls.proofs.FormLaws.{refuted, upheld}
 use Rattle.heading.proofs.pfil.pfhd_right.Statement.{statement}
 use Rattle.heading.proofs.pfil.pfhd_right.Tie as tie
 

@@ -6,7 +6,7 @@ use Rattle.boxes.specs.Kinds.{surl, right}
 use Rattle.boxes.specs.declared.kinds.Container.the-variants.{Pfil}
 use Rattle.partial.specs.Heading.{surlRight}
 use Rattle.tallying.proofs.RuleLaws.{rule-kept}
-use Rattle.heading.proofs.FormLaws.{refuted, upheld}
+use Rattle.surls.proofs.FormLaws.{refuted, upheld}
 use Rattle.heading.proofs.pfil.surl_right.Statement.{statement}
 use Rattle.heading.proofs.pfil.surl_right.Tie as tie
 
@@ -32,7 +32,7 @@ returns-2 c bs tallied known =
     let after-keeps = c .before .before in
     let rule = rule-kept bs tallied Pfil surl refl (after-keeps .before .of .ensures) (after-keeps .keeps .ensures) in
     let kept : right Pfil surl bs ≡ true = upheld rule (c .before .if1 .left) in
-    c .surls-formed .ensures bs known ∙ sym (rw kept)
+    c .surls-formed .ensures (c .before .before .before .before .before .pre) bs known ∙ sym (rw kept)
 
 pub surl-right-spec : {M : Type 1} → statement M
 surl-right-spec =

@@ -9,9 +9,9 @@ use Rattle.boxes.specs.declared.kinds.Container.the-variants.{File}
 use Rattle.tallying.specs.Rules.{tallyOf}
 use Rattle.tallying.proofs.RuleLaws.{tally-fault, tally-known}
 use Rattle.partial.specs.Heading.{ftypRight, branded, pmff, brandRight, pfilRight}
+use Rattle.surls.specs.Parts.{Within}
+use Rattle.surls.proofs.FormLaws.{refuted, upheld}
 use Rattle.heading.specs.Facts.{headedAnswer}
-use Rattle.heading.specs.Steps.{Within}
-use Rattle.heading.proofs.FormLaws.{refuted, upheld}
 use Rattle.heading.proofs.FoundLaws.{number-within}
 use Rattle.heading.proofs.StageLaws.{too-long, ill-framed, framed, ftyp-refused, brand-refused, pfil-refused}
 use Rattle.heading.proofs.stages.heading_of.Statement.{statement}

@@ -4,7 +4,6 @@ use mathlib.Core.Path.{_∙_}
 use native.Mathlib.Omega.{arith}
 use lib.ListN.{length}
 use Rattle.partial.specs.Index.{indexRowLength}
-use Rattle.gathering.proofs.GatheredLaws.{gathered-sizes}
 use Rattle.reading.proofs.JudgedLaws.{accepted, read-refused, read-given, judgement-refused, judgement-given}
 use Rattle.reading.proofs.StagedLaws.{known-end}
 use Rattle.reading.proofs.TableLaws.{accepted-kept}
@@ -44,6 +43,9 @@ returns-2 c =
     indexes-given _ _ (a .ss) (a .boxes) (index-given _ _ (read-given _ a) (a .head) (a .index) (omega (arith, a .counted))) (omega (arith, a .counted))
     (none-filled (a .ss) (a .boxes) _ (omega (arith, a .counted)))
 
+sizes-at-requires : tie.Need-sizes-at-requires
+sizes-at-requires c κs = search needs
+
 index-of-requires : tie.Need-index-of-requires
 index-of-requires c κs = search needs
 
@@ -52,11 +54,11 @@ described-requires c κs = search needs
 
 mark-by-requires : tie.Need-mark-by-requires
 mark-by-requires c κs =
-    let met = c .before .before .before .before .before .before .before .before .before .before .before .before .before .before in
+    let met = c .before .before .before .before .before .before .before .before .before .before .before .before .before .before .before in
     let judged = met .before .before .before .before .judge-into .ensures in
     let a = accepted _ (judgement-given (judged .0) (met .judged .given .1)) in
     let kept = accepted-kept a (judged .1) (omega arith) (omega arith) in
-    let end = c .before .before .before .described .ensures (a .ss) (gathered-sizes (a .ss) (a .gathered)) in
+    let end = c .before .before .before .described .ensures (a .ss) (c .before .before .before .before .before .before .before .before .before .sizes-at .ensures ∙ judged .2 (a .ss) (read-given _ a)) in
     (search needs, (a .ss, accepted-in _ (a .h) (a .head) (a .all) kept end))
 
 returns-3 : tie.Need-returns-3
@@ -68,14 +70,14 @@ same-length c = search needs
 
 returns-4 : tie.Need-returns-4
 returns-4 c =
-    let met = c .before .before .before .before .before .before .before .before .before .before .before .before .before .before .before .before .before in
+    let met = c .before .before .before .before .before .before .before .before .before .before .before .before .before .before .before .before .before .before in
     let judged = met .before .before .before .before .judge-into .ensures in
     let a = accepted _ (judgement-given (judged .0) (met .judged .given .1)) in
     let kept = accepted-kept a (judged .1) (omega arith) (omega arith) in
-    let sizes = gathered-sizes (a .ss) (a .gathered) in
+    let sizes = c .before .before .before .before .before .before .before .before .before .before .before .before .sizes-at .ensures ∙ judged .2 (a .ss) (read-given _ a) in
     let end = c .before .before .before .before .before .before .described .ensures (a .ss) sizes in
-    let table = c .before .before .before .before .before .before .before .before .before .before .before .before .before .before .before .before .before .before .before .before .before .before .before .before .before .before .args .table .now in
-    let room : indexRowLength * length (a .boxes) ≤ length table = omega (arith, a .counted, c .before .before .before .before .before .before .before .before .before .before .before .before .before .before .before .if1 .left) in
+    let table = c .before .before .before .before .before .before .before .before .before .before .before .before .before .before .before .before .before .before .before .before .before .before .before .before .before .before .before .before .args .table .now in
+    let room : indexRowLength * length (a .boxes) ≤ length table = omega (arith, a .counted, c .before .before .before .before .before .before .before .before .before .before .before .before .before .before .before .before .if1 .left) in
     let (told, all) = index-told _ (a .h) (a .ss) (known-end (a .ss) sizes) (a .index) in
     let tells = c .before .before .before .before .before .before .before .before .before .index-of .ensures (a .h) (a .ss) (a .head) (a .all) in
     let plain = told-filled table _ (a .boxes) tells told all room in
@@ -93,6 +95,7 @@ index-spec =
     enum-known-judged
     returns
     returns-2
+    sizes-at-requires
     index-of-requires
     described-requires
     mark-by-requires

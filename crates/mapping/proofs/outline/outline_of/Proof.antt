@@ -40,10 +40,10 @@ same-length c = search needs
 
 returns : tie.Need-returns
 returns c =
-    let (ordered, all) = c .before .before .before .before .before .before .before .file-spans .ensures in
-    let (others, damage) = c .before .before .before .file-damage .ensures in
-    let long = c .before .before .before .file-damage .kept .1 .1 .1 .1 .1 .0 in (
-      drawn-both _ _ _ (ordered .spans .room) long (c .before .before .before .before .before .before .before .before .before .before .before .pre .0) ordered others,
+    let (ordered, all) = c .before .before .before .before .before .before .file-spans .ensures in
+    let (others, damage) = c .before .before .file-damage .ensures in
+    let long = c .before .before .file-damage .kept .1 .1 .1 .1 .1 .0 in (
+      drawn-both _ _ _ (ordered .spans .room) long (c .before .before .before .before .before .before .before .before .before .before .pre .0) ordered others,
       refl,
       λ ss room kept few ends closed.
           let spans = all ss kept (omega (arith, room, many-few good (chunksOf ss), kept .chunks)) in

@@ -2,7 +2,7 @@
 use mathlib.Core.Path.{sym, _∙_}
 use native.Mathlib.Nat.{add-zero}
 use borrow.Author.Needs.{needs}
-use Rattle.partial.specs.Addition.{dataSize}
+use Rattle.additions.specs.Addition.{dataSize}
 use Rattle.partial.specs.Sequences.{sum}
 use Rattle.outside.proofs.items.data_of.Statement.{statement}
 use Rattle.outside.proofs.items.data_of.Tie as tie

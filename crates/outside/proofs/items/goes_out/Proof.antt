@@ -1,7 +1,7 @@
 -- `outside::items::goes_out` meets its contract.
 use mathlib.Core.Path.{sym}
 use borrow.Author.Tests.{not-true, not-false}
-use Rattle.partial.specs.Addition.{goesOut}
+use Rattle.additions.specs.Addition.{goesOut}
 use Rattle.outside.proofs.items.goes_out.Statement.{statement}
 use Rattle.outside.proofs.items.goes_out.Tie as tie
 

@@ -13,7 +13,9 @@ judge-into-requires : tie.Need-judge-into-requires
 judge-into-requires c κs = search needs
 
 returns : tie.Need-returns
-returns c = c .before .before .judge-into .ensures .0
+returns c =
+    let into = c .before .before .judge-into .ensures in
+    (into .0, into .2)
 
 pub judge-spec : {M : Type 1} → statement M
 judge-spec =

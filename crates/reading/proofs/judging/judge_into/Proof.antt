@@ -28,7 +28,7 @@ returns c =
     let (h, known, same) = heading-found _ (met .before .before .heading-of .ensures) (met .head .given .1) in
     let rule = c .before .has-segment .ensures _ h same in
     let none = reading-none _ known (sym rule ∙ not-true _ (c .if1 .taken)) in
-    (sym none, kept-refused (read-refused _ none))
+    (sym none, kept-refused _ (read-refused _ none), kept-refused _ (read-refused _ none))
 
 segments-of-requires : tie.Need-segments-of-requires
 segments-of-requires c κs = search needs
@@ -46,7 +46,7 @@ returns-2 : tie.Need-returns-2
 unfolding judgedAnswer
 returns-2 c =
     let headless = reading-headless _ (heading-refused _ (c .before .before .before .heading-of .ensures) (c .before .n .given .1)) in
-    (sym headless, kept-refused (read-refused _ headless))
+    (sym headless, kept-refused _ (read-refused _ headless), kept-refused _ (read-refused _ headless))
 
 same-length : tie.Need-same-length
 same-length c = search needs
@@ -57,13 +57,13 @@ same-length-2 c = search needs
 returns-3 : tie.Need-returns-3
 unfolding judgedAnswer
 returns-3 c =
-    let kept = c .before .before .before .before .before .before .before .before .before .before in
+    let kept = c .before .before .before .before .before .before .before .before .before .before .before in
     let met = kept .before .before .before in
     let (h, known, same) = heading-found _ (met .before .before .heading-of .ensures) (met .head .given .1) in
     let rule = kept .before .has-segment .ensures _ h same in
-    let (answer, rows) = c .before .before .before .before .before .before .before .segments-of .ensures h (headed _ h known .boxes) (facts-mixed _ h same) (facts-segments _ h _ same) in
+    let (answer, rows, sized) = c .before .before .before .before .before .before .before .segments-of .ensures h (headed _ h known .boxes) (facts-mixed _ h same) (facts-segments _ h _ same) in
     let by = reading-by _ known (sym rule ∙ not-false _ (kept .if1 .left)) in
-    (sym (by ∙ judged-refused _ h (answer-refused answer (c .before .n2 .given .1))), kept-read _ h known rows)
+    (sym (by ∙ judged-refused _ h (answer-refused answer (c .before .n2 .given .1))), kept-read _ h known rows, kept-read _ h known sized)
 
 same-length-3 : tie.Need-same-length-3
 same-length-3 c = search needs
@@ -73,15 +73,15 @@ same-length-4 c = search needs
 
 returns-4 : tie.Need-returns-4
 returns-4 c =
-    let left = c .before in
-    let kept = left .before .before .before .before .before .before .before .before .before .before in
+    let left = c .before .before in
+    let kept = left .before .before .before .before .before .before .before .before .before .before .before in
     let met = kept .before .before .before in
     let (h, known, same) = heading-found _ (met .before .before .heading-of .ensures) (met .head .given .1) in
     let rule = kept .before .has-segment .ensures _ h same in
-    let (answer, rows) = left .before .before .before .before .before .before .before .segments-of .ensures h (headed _ h known .boxes) (facts-mixed _ h same) (facts-segments _ h _ same) in
+    let (answer, rows, sized) = left .before .before .before .before .before .before .before .segments-of .ensures h (headed _ h known .boxes) (facts-mixed _ h same) (facts-segments _ h _ same) in
     let by = reading-by _ known (sym rule ∙ not-false _ (kept .if1 .left)) in
     let (ss, all, of) = gathered-known _ h (answer-given answer (left .before .gathered .given .1)) in
-    (c .with-index .ensures h ss known same all of ∙ sym by, kept-read _ h known rows)
+    (c .with-index .ensures h ss known same all of (sized ss all) ∙ sym by, kept-read _ h known rows, kept-read _ h known sized)
 
 pub judge-into-spec : {M : Type 1} → statement M
 judge-into-spec =

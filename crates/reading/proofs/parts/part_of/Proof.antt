@@ -6,7 +6,8 @@ use denote.Ref.{now}
 use lib.ListN.{length, take, drop}
 use borrow.Author.Needs.{needs}
 use borrow.Author.Tests.{leb-true, not-true, not-false}
-use Rattle.partial.specs.Tables.{bytesIn, nowhere}
+use Rattle.partial.specs.Tables.{nowhere}
+use Rattle.partial.specs.Heading.{bytesIn}
 use Rattle.reading.proofs.PartLaws.{handed-refused, handed-past, handed-at, handed-same}
 use Rattle.reading.proofs.parts.part_of.Statement.{statement}
 use Rattle.reading.proofs.parts.part_of.Tie as tie

@@ -1,12 +1,13 @@
 -- `reading::tables::read` meets its contract: the judgement, then 26, then the pass that fills the tables.
 use Prim.Native.Nat.{_*_, _≤_}
+use mathlib.Core.Path.{_∙_}
 use native.Mathlib.Omega.{arith}
 use lib.ListN.{length}
 use Rattle.partial.specs.Segments.{chunksOf}
 use Rattle.partial.proofs.Reading.HeadingAppendLaws.{headed}
 use Rattle.partial.specs.Tables.{segmentRowLength, chunkRowLength}
 use Rattle.gathering.specs.Forms.{allPuts}
-use Rattle.gathering.proofs.GatheredLaws.{gathered-segments, gathered-chunks, gathered-sizes}
+use Rattle.gathering.proofs.GatheredLaws.{gathered-segments, gathered-chunks}
 use Rattle.gathering.proofs.PassLaws.{rows-put}
 use Rattle.reading.proofs.JudgedLaws.{facts-mixed, accepted, read-refused, read-given, read-segments, judgement-refused, judgement-given}
 use Rattle.reading.proofs.TableLaws.{tabled-refused, segments-short, chunks-short, tabled-given, reads-refused, reads-given, answered, segments-filled, chunks-filled}
@@ -23,16 +24,19 @@ enum-known-n c = search needs
 enum-known-judged : tie.Need-enum-known-judged
 enum-known-judged c = search needs
 
+sizes-at-requires : tie.Need-sizes-at-requires
+sizes-at-requires c κs = search needs
+
 returns : tie.Need-returns
 returns c =
-    let met = c .before .before .before .before .before in
-    let a = accepted _ (judgement-given (met .before .before .judge .ensures) (met .judged .given .1)) in
+    let met = c .before .before .before .before .before .before in
+    let a = accepted _ (judgement-given (met .before .before .judge .ensures .0) (met .judged .given .1)) in
     reads-refused _ _ _ (segments-short _ _ _ (a .ss) (read-given _ a) (omega (arith, gathered-segments (a .ss) (a .gathered))))
 
 returns-2 : tie.Need-returns-2
 returns-2 c =
-    let met = c .before .before .before .before .before .before .before in
-    let a = accepted _ (judgement-given (met .before .before .judge .ensures) (met .judged .given .1)) in
+    let met = c .before .before .before .before .before .before .before .before in
+    let a = accepted _ (judgement-given (met .before .before .judge .ensures .0) (met .judged .given .1)) in
     reads-refused _ _ _ (chunks-short _ _ _ (a .ss) (read-given _ a) (omega (arith, gathered-chunks (a .ss) (a .gathered))))
 
 pass-requires : tie.Need-pass-requires
@@ -43,7 +47,7 @@ described-requires c κs = search needs
 
 returns-3 : tie.Need-returns-3
 returns-3 c =
-    reads-refused _ _ _ (tabled-refused _ _ _ (read-refused _ (judgement-refused (c .before .before .before .judge .ensures) (c .before .n .given .1))))
+    reads-refused _ _ _ (tabled-refused _ _ _ (read-refused _ (judgement-refused (c .before .before .before .judge .ensures .0) (c .before .n .given .1))))
 
 same-length : tie.Need-same-length
 same-length c = search needs
@@ -54,13 +58,14 @@ same-length-2 c = search needs
 returns-4 : tie.Need-returns-4
 unfolding allPuts
 returns-4 c =
-    let met = c .before .before .before .before .before .before .before .before .before .before .before .before .before .before .before in
-    let a = accepted _ (judgement-given (met .before .before .judge .ensures) (met .judged .given .1)) in
-    let args = c .before .before .before .before .before .before .before .before .before .before .before .before .before .before .before .before .before .before .before .before .before .args in
+    let met = c .before .before .before .before .before .before .before .before .before .before .before .before .before .before .before .before .before in
+    let a = accepted _ (judgement-given (met .before .before .judge .ensures .0) (met .judged .given .1)) in
+    let args = c .before .before .before .before .before .before .before .before .before .before .before .before .before .before .before .before .before .before .before .before .before .before .before .before .args in
+    let said = c .before .before .before .before .before .before .before .before .before .before .before .before .before .sizes-at .ensures ∙ met .before .before .judge .ensures .1 (a .ss) (read-given _ a) in
     let segments : segmentRowLength * length (a .ss) ≤ length (args .segments .now) = omega (arith, gathered-segments (a .ss) (a .gathered)) in
     let chunks : chunkRowLength * length (chunksOf (a .ss)) ≤ length (args .chunks .now) = omega (arith, gathered-chunks (a .ss) (a .gathered)) in
-    let (one, two) = rows-put _ (a .h) _ _ (c .before .before .before .before .before .pass .ensures (a .h) (headed _ (a .h) (a .head) .boxes) (facts-mixed _ (a .h) (a .facts))) (read-segments _ a) in
-    let answer = answered (a .ss) (a .gathered) _ (c .described .ensures (a .ss) (gathered-sizes (a .ss) (a .gathered))) in
+    let (one, two, _) = rows-put _ (a .h) _ _ _ (c .before .before .before .before .before .pass .ensures (a .h) (headed _ (a .h) (a .head) .boxes) (facts-mixed _ (a .h) (a .facts))) (read-segments _ a) in
+    let answer = answered (a .ss) (a .gathered) said _ (c .described .ensures (a .ss) said) in
     reads-given _ _ _ (a .ss) (tabled-given _ _ _ (a .ss) (read-given _ a) segments chunks) answer (segments-filled (a .ss) one segments) (chunks-filled (a .ss) two chunks)
 
 pub read-spec : {M : Type 1} → statement M
@@ -70,6 +75,7 @@ read-spec =
     judge-requires
     enum-known-n
     enum-known-judged
+    sizes-at-requires
     returns
     returns-2
     pass-requires

@@ -24,20 +24,20 @@ enum-told-2 c = search needs
 
 returns : tie.Need-returns
 unfolding locatedAnswer
-returns c = text-refused _ _ (read-refused _ (judgement-refused (c .before .before .before .judge .ensures) (c .before .n .given .1)))
+returns c = text-refused _ _ (read-refused _ (judgement-refused (c .before .before .before .judge .ensures .0) (c .before .n .given .1)))
 
 returns-2 : tie.Need-returns-2
 unfolding locatedAnswer
 returns-2 c =
     let met = c .before .before .before .before .before .before in
-    let a = accepted _ (judgement-given (met .before .before .judge .ensures) (met .judged .given .1)) in
+    let a = accepted _ (judgement-given (met .before .before .judge .ensures .0) (met .judged .given .1)) in
     rw (c .enum-told .given .1) (text-given Url _ a (url-there _ a))
 
 returns-3 : tie.Need-returns-3
 unfolding locatedAnswer
 returns-3 c =
     let met = c .before .before .before .before .before .before in
-    let a = accepted _ (judgement-given (met .before .before .judge .ensures) (met .judged .given .1)) in
+    let a = accepted _ (judgement-given (met .before .before .judge .ensures .0) (met .judged .given .1)) in
     rw (c .enum-told2 .given .1) (text-given Mime _ a (mime-there _ a))
 
 pub text-at-spec : {M : Type 1} → statement M

@@ -19,11 +19,8 @@ abbrev μ-loop : tie.MeasureT-loop
 loop-holds : tie.Need-loop-holds Inv-loop μ-loop
 loop-holds c = (search needs, refl)
 
-mul-row : tie.Need-mul-row Inv-loop μ-loop
-mul-row c = search needs
-
-array-copy-out-row : tie.Need-array-copy-out-row Inv-loop μ-loop
-array-copy-out-row c = search needs
+row-at-requires : tie.Need-row-at-requires Inv-loop μ-loop
+row-at-requires c κs = search needs
 
 is-row-requires : tie.Need-is-row-requires Inv-loop μ-loop
 is-row-requires c κs = search needs
@@ -31,7 +28,7 @@ is-row-requires c κs = search needs
 returns : tie.Need-returns Inv-loop μ-loop
 returns c =
     let at-loop = c .before .before .before .before in
-    sym (at-loop .loop .inv .1 ∙ rule-found rules _ _ (at-loop .loop .i) _ (omega arith) (sym (c .before .is-row .ensures) ∙ c .if1 .taken))
+    sym (at-loop .loop .inv .1 ∙ rule-found rules _ _ (at-loop .loop .i) (c .before .before .row-at .ensures) (omega arith) (sym (c .before .is-row .ensures) ∙ c .if1 .taken))
 
 add-i : tie.Need-add-i Inv-loop μ-loop
 add-i c = search needs
@@ -42,7 +39,7 @@ loop-less c = search needs
 loop-again : tie.Need-loop-again Inv-loop μ-loop
 loop-again c =
     let at-loop = c .before .before .before .before in
-    (search needs, at-loop .loop .inv .1 ∙ rule-passed rules _ _ (at-loop .loop .i) _ (omega arith) (sym (c .before .is-row .ensures) ∙ c .if1 .left))
+    (search needs, at-loop .loop .inv .1 ∙ rule-passed rules _ _ (at-loop .loop .i) (c .before .before .row-at .ensures) (omega arith) (sym (c .before .is-row .ensures) ∙ c .if1 .left))
 
 returns-2 : tie.Need-returns-2 Inv-loop μ-loop
 returns-2 c =
@@ -56,8 +53,7 @@ rule-of-spec =
     Inv-loop
     μ-loop
     loop-holds
-    mul-row
-    array-copy-out-row
+    row-at-requires
     is-row-requires
     returns
     add-i

@@ -5,7 +5,7 @@ use native.Mathlib.Omega.{arith}
 use borrow.Author.Needs.{needs}
 use lib.Seq.{length-take-le}
 use Rattle.partial.specs.Limits.{sourceLimit}
-use Rattle.partial.proofs.Writing.ReasonLaws.{length-over, file-refused}
+use Rattle.additions.proofs.ReasonLaws.{length-over, file-refused}
 use Rattle.reading.proofs.JudgedLaws.{judgement-refused, judgement-given}
 use Rattle.writing.proofs.AppendLaws.{appends-refused, earlier-refused}
 use Rattle.writing.proofs.append.append.Statement.{statement}
@@ -30,7 +30,9 @@ enum-known-judged : tie.Need-enum-known-judged
 enum-known-judged c = search needs
 
 append-to-requires : tie.Need-append-to-requires
-append-to-requires c κs = (omega arith, judgement-given (c .before .before .before .before .earlier-of .ensures) (c .before .before .judged .given .1))
+append-to-requires c κs =
+    let (told, sized) = c .before .before .before .before .before .earlier-of .ensures in
+    (omega arith, judgement-given told (c .before .before .before .judged .given .1), sized)
 
 same-length : tie.Need-same-length
 same-length c = search needs
@@ -38,7 +40,7 @@ same-length c = search needs
 returns-2 : tie.Need-returns-2
 returns-2 c =
     appends-refused _ _ _
-    (file-refused sourceLimit _ _ _ (omega arith) (earlier-refused _ (judgement-refused (c .before .before .before .earlier-of .ensures) (c .before .n .given .1))))
+    (file-refused sourceLimit _ _ _ (omega arith) (earlier-refused _ (judgement-refused (c .before .before .before .earlier-of .ensures .0) (c .before .n .given .1))))
 
 same-length-2 : tie.Need-same-length-2
 same-length-2 c = search needs

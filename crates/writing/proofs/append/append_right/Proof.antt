@@ -5,8 +5,8 @@ use native.Mathlib.Omega.{arith}
 use borrow.Author.Needs.{needs}
 use lib.ListN.{length}
 use lib.Seq.{length-take-le}
-use Rattle.partial.specs.Addition.{asks}
-use Rattle.partial.specs.Append.{added}
+use Rattle.additions.specs.Addition.{asks}
+use Rattle.additions.specs.Append.{added}
 use Rattle.adding.specs.Layout.{Laid}
 use Rattle.writing.proofs.AppendLaws.{appends-refused, appends-given, put-result, earlier}
 use Rattle.writing.proofs.AppendLaws.{not-admitted, new-length, added-small, items-fit, too-short, appended-given}
@@ -19,7 +19,7 @@ layout-of-requires c κs = search needs
 -- the layout is the addition's
 is-laid : (c : tie.After-layout-of) → Laid (asks (c .before .before .before .before .args .header) (c .before .before .before .before .args .outside) (c .before .before .before .before .args .list .now) (c .before .before .before .before .args .bytes .now)) (c .layout-of .result)
 unfolding asks
-is-laid c = c .layout-of .ensures _ (c .before .before .before .before .pre .3) refl
+is-laid c = c .layout-of .ensures _ (c .before .before .before .before .pre .4) refl
 
 slice-reshare-prefix-admission : tie.Need-slice-reshare-prefix-admission
 slice-reshare-prefix-admission c = search needs
@@ -42,16 +42,16 @@ same-length c = search needs
 returns : tie.Need-returns
 returns c =
     let met = c .before .before .before .before in
-    let (fits, told, right, sorted, outer) = met .before .before .before .before .before .before .pre in
-    let file = earlier _ _ told in
+    let (fits, told, sized, right, sorted, outer) = met .before .before .before .before .before .before .pre in
+    let file = earlier _ _ _ told sized in
     appends-refused _ _ _
     (too-short _ _ _ _ _ _ fits _ file right sorted (outer _ (file .head)) (is-laid (met .before .before)) _ (met .admission .ensures) (c .before .before .size .given .1) (omega arith))
 
 put-added-requires : tie.Need-put-added-requires
 put-added-requires c κs =
     let met = c .before .before .before .before .before in
-    let (fits, told, right, sorted, outer) = met .before .before .before .before .before .before .pre in
-    let file = earlier _ _ told in
+    let (fits, told, sized, right, sorted, outer) = met .before .before .before .before .before .before .pre in
+    let file = earlier _ _ _ told sized in
     let held = outer _ (file .head) in
     let laid = is-laid (met .before .before) in
     let answer = met .admission .ensures in
@@ -70,8 +70,8 @@ same-length-2 c = search needs
 returns-2 : tie.Need-returns-2
 returns-2 c =
     let met = c .before .before .before in
-    let (fits, told, right, sorted, outer) = met .before .before .before .before .before .before .pre in
-    let file = earlier _ _ told in
+    let (fits, told, sized, right, sorted, outer) = met .before .before .before .before .before .before .pre in
+    let file = earlier _ _ _ told sized in
     appends-refused _ _ _
     (not-admitted _ _ _ _ _ _ fits _ file right sorted (outer _ (file .head)) (is-laid (met .before .before)) _ (met .admission .ensures) (c .before .k .given .1))
 
@@ -83,8 +83,8 @@ returns-3 c =
     let met = c .before .before .before .before .before .before .before .before in
     let start = met .before .before .before .before .before .before in
     let args = start .args in
-    let (fits, told, right, sorted, outer) = start .pre in
-    let file = earlier _ _ told in
+    let (fits, told, sized, right, sorted, outer) = start .pre in
+    let file = earlier _ _ _ told sized in
     let held = outer _ (file .head) in
     let laid = is-laid (met .before .before) in
     let answer = met .admission .ensures in

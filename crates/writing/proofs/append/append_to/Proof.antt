@@ -6,7 +6,7 @@ use borrow.Author.Needs.{needs}
 use borrow.Author.Tests.{not-true, not-false}
 use lib.ListN.{take}
 use Rattle.boxes.specs.Answer.{given}
-use Rattle.partial.specs.Addition.{asks, listRight, outsideRight}
+use Rattle.additions.specs.Addition.{asks, listRight, outsideRight}
 use Rattle.partial.specs.Heading.{Heading, heading}
 use Rattle.adding.specs.Counts.{Sorted}
 use Rattle.adding.proofs.OutsideLaws.{data-counted}
@@ -18,7 +18,7 @@ use Rattle.writing.proofs.append.append_to.Tie as tie
 returns : tie.Need-returns
 returns c =
     let start = c .before .before .before .before in
-    let file = earlier _ _ (start .pre .1) in
+    let file = earlier _ _ _ (start .pre .1) (start .pre .2) in
     appends-refused _ _ _ (wrong-list _ _ _ _ _ _ (start .pre .0) _ file (list-odd _ (c .if1 .taken)))
 
 counts-of-requires : tie.Need-counts-of-requires
@@ -27,7 +27,7 @@ counts-of-requires c κs = search needs
 returns-2 : tie.Need-returns-2
 returns-2 c =
     let start = c .before .before .before .before .before .before .before in
-    let file = earlier _ _ (start .pre .1) in
+    let file = earlier _ _ _ (start .pre .1) (start .pre .2) in
     appends-refused _ _ _ (wrong-list _ _ _ _ _ _ (start .pre .0) _ file (list-unright _ (c .before .before .counts-of .ensures) (not-true _ (c .if2 .taken))))
 
 -- past 31 the chunk list is right
@@ -38,7 +38,7 @@ returns-3 : tie.Need-returns-3
 returns-3 c =
     let listed = c .before .before in
     let start = listed .before .before .before .before .before .before .before in
-    let file = earlier _ _ (start .pre .1) in
+    let file = earlier _ _ _ (start .pre .1) (start .pre .2) in
     appends-refused _ _ _
     (wrong-data _ _ _ _ _ _ (start .pre .0) _ file (list-is-right listed) (data-differs _ _ _ _ (listed .before .before .counts-of .ensures) (omega (arith, start .good)) (c .if3 .taken)))
 
@@ -65,7 +65,7 @@ is-right : (c : tie.After-outside-right) (h : Heading) → heading (take (c .bef
     → c .outside-right .result ≡ outsideRight h (asks (c .before .before .before .before .before .before .before .before .before .before .before .before .args .header) (c .before .before .before .before .before .before .before .before .before .before .before .before .args .outside) (c .before .before .before .before .before .before .before .before .before .before .before .before .args .list .now) (c .before .before .before .before .before .before .before .before .before .before .before .before .args .bytes .now))
 unfolding asks
 is-right c h head =
-    let file = earlier _ _ (c .before .before .before .before .before .before .before .before .before .before .before .before .pre .1) in
+    let file = earlier _ _ _ (c .before .before .before .before .before .before .before .before .before .before .before .before .pre .1) (c .before .before .before .before .before .before .before .before .before .before .before .before .pre .2) in
     c .outside-right .ensures h _ (headed-mixed file head) (is-sorted (c .before) .outside)
 
 returns-4 : tie.Need-returns-4
@@ -73,7 +73,7 @@ returns-4 c =
     let met = c .before in
     let listed = met .before .before .before .before .before in
     let start = met .before .before .before .before .before .before .before .before .before .before .before .before in
-    let file = earlier _ _ (start .pre .1) in
+    let file = earlier _ _ _ (start .pre .1) (start .pre .2) in
     appends-refused _ _ _
     (wrong-outside _ _ _ _ _ _ (start .pre .0) _ file (list-is-right listed) (data-counted (is-sorted (met .before) .counted)) (sym (is-right met (file .h) (file .head)) ∙ not-true _ (c .if4 .taken)))
 
@@ -81,7 +81,7 @@ append-right-requires : tie.Need-append-right-requires
 append-right-requires c κs =
     let met = c .before .before in
     let start = met .before .before .before .before .before .before .before .before .before .before .before .before in
-    (start .pre .0, start .pre .1, list-is-right (met .before .before .before .before .before), is-sorted (met .before), λ h head. sym (is-right met h head) ∙ not-false _ (c .before .if4 .left))
+    (start .pre .0, start .pre .1, start .pre .2, list-is-right (met .before .before .before .before .before), is-sorted (met .before), λ h head. sym (is-right met h head) ∙ not-false _ (c .before .if4 .left))
 
 same-length : tie.Need-same-length
 same-length c = search needs

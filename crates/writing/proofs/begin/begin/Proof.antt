@@ -9,7 +9,7 @@ use borrow.Author.Needs.{needs}
 use borrow.Author.Tests.{not-true, not-false}
 use lib.ListN.{length}
 use Rattle.boxes.specs.Answer.{given}
-use Rattle.partial.specs.Begin.{beginning, isText}
+use Rattle.additions.specs.Begin.{beginning, isText}
 use Rattle.partial.specs.Limits.{fileLimit}
 use Rattle.filling.proofs.PutsLaws.{puts-same, puts-more}
 use Rattle.gathering.proofs.RowLaws.{put-filled}

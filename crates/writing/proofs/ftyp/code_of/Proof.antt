@@ -1,7 +1,7 @@
 -- `writing::ftyp::code_of` meets its contract.
 use mathlib.Core.Path.{sym, ap}
 use borrow.Author.Needs.{needs}
-use Rattle.partial.specs.Begin.{brandCode}
+use Rattle.additions.specs.Begin.{brandCode}
 use Rattle.writing.proofs.ftyp.code_of.Statement.{statement}
 use Rattle.writing.proofs.ftyp.code_of.Tie as tie
 

@@ -1,6 +1,6 @@
 -- `writing::ploc::flags_of` meets its contract.
 use mathlib.Core.Path.{sym}
-use Rattle.partial.specs.Append.{flagByte}
+use Rattle.additions.specs.Append.{flagByte}
 use Rattle.partial.specs.Segments.{present, corrupted}
 use Rattle.writing.proofs.AddedLaws.{no-flags}
 use Rattle.writing.proofs.ploc.flags_of.Statement.{statement}

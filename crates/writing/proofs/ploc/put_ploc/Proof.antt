@@ -4,7 +4,7 @@ use borrow.Author.Needs.{needs}
 use Rattle.boxes.specs.Kinds.{ploc}
 use Rattle.boxes.proofs.BoxedLaws.{front-size}
 use Rattle.numerals.proofs.WidthLaws.{below-holds}
-use Rattle.partial.specs.Addition.{items}
+use Rattle.additions.specs.Addition.{items}
 use Rattle.adding.proofs.CountLaws.{counted-items}
 use Rattle.filling.proofs.PutsLaws.{puts-same, puts-more}
 use Rattle.writing.proofs.AddedLaws.{widths-low, widths-hold, ploc-numbers, ploc-long, ploc-box-long, ploc-size-of}

@@ -4,8 +4,8 @@ use native.Mathlib.Omega.{arith}
 use borrow.Author.Needs.{needs}
 use Rattle.boxes.specs.Kinds.{pseg}
 use Rattle.boxes.proofs.BoxedLaws.{front-size, length-boxed}
-use Rattle.partial.specs.Addition.{asks}
-use Rattle.partial.specs.Append.{psegBody}
+use Rattle.additions.specs.Addition.{asks}
+use Rattle.additions.specs.Append.{psegBody}
 use Rattle.filling.proofs.PutsLaws.{puts-same, puts-more}
 use Rattle.writing.proofs.AddedLaws.{pseg-boxes, pseg-box-long, pseg-size-of}
 use Rattle.writing.proofs.PutLaws.{front-end, puts-box}

@@ -21,11 +21,8 @@ loop-holds : tie.Need-loop-holds Inv-loop μ-loop
 unfolding tallyFor
 loop-holds c = (search needs, refl)
 
-mul-row : tie.Need-mul-row Inv-loop μ-loop
-mul-row c = search needs
-
-array-copy-out-row : tie.Need-array-copy-out-row Inv-loop μ-loop
-array-copy-out-row c = search needs
+row-at-requires : tie.Need-row-at-requires Inv-loop μ-loop
+row-at-requires c κs = search needs
 
 mul-result : tie.Need-mul-result Inv-loop μ-loop
 mul-result c = search needs
@@ -36,7 +33,7 @@ array-read-result c = search needs
 returns : tie.Need-returns Inv-loop μ-loop
 returns c =
     let at-loop = c .before .before .before .before .before in
-    sym (at-loop .loop .inv .1 ∙ count-found rules _ _ (at-loop .loop .i) _ (omega arith) (c .if1 .taken))
+    sym (at-loop .loop .inv .1 ∙ count-found rules _ _ (at-loop .loop .i) (c .before .before .before .row-at .ensures) (omega arith) (c .if1 .taken))
 
 add-i : tie.Need-add-i Inv-loop μ-loop
 add-i c = search needs
@@ -47,7 +44,7 @@ loop-less c = search needs
 loop-again : tie.Need-loop-again Inv-loop μ-loop
 loop-again c =
     let at-loop = c .before .before .before .before .before in
-    (search needs, at-loop .loop .inv .1 ∙ count-passed rules _ _ (at-loop .loop .i) _ (omega arith) (c .if1 .left))
+    (search needs, at-loop .loop .inv .1 ∙ count-passed rules _ _ (at-loop .loop .i) (c .before .before .before .row-at .ensures) (omega arith) (c .if1 .left))
 
 returns-2 : tie.Need-returns-2 Inv-loop μ-loop
 unfolding countIn
@@ -62,8 +59,7 @@ of-spec =
     Inv-loop
     μ-loop
     loop-holds
-    mul-row
-    array-copy-out-row
+    row-at-requires
     mul-result
     array-read-result
     returns

@@ -1,0 +1,13 @@
+-- The worked examples of begin and append: the definitions say what the paper says.
+use mathlib.Core.Path.{refl}
+use Rattle.additions.specs.Examples.{table, AsThePaperSays}
+use Rattle.additions.specs.IndexExamples.{IndexAsThePaperSays}
+use Rattle.additions.proofs.Computing.{computing}
+
+as-the-paper-says : AsThePaperSays
+unfolding table computing
+as-the-paper-says = refl
+
+index-as-the-paper-says : IndexAsThePaperSays
+unfolding computing
+index-as-the-paper-says = refl

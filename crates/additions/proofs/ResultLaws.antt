@@ -1,0 +1,118 @@
+-- Demand 3, the reasons for which an addition is refused by its result: what the result would have, 1, 6, 13, 22, 23,
+-- 25, 36, 37 or 39, and then 33.
+use Prim.Native.Nat.{ℕ, _+_, _^_, _≤_}
+use mathlib.Core.Bool.{Bool, true, false, _&&_}
+use mathlib.Core.List.{List, [], _∷_, _++_}
+use mathlib.Core.Path.{_≡_, refl, _∙_, ap, sym}
+use native.Mathlib.Nat.{mod-lt}
+use native.Mathlib.Omega.{arith}
+use borrow.Author.Tests.{le-leb, ltb-true, lt-leb}
+use lib.Dec.{T, leb, ltb, lit<}
+use lib.ListN.{length, take, length-append}
+use lib.Seq.{length-take-le}
+use Rattle.boxes.specs.Answer.{Answer, refused, given, _>>=_, hold}
+use Rattle.numerals.specs.Numbers.{holds}
+use Rattle.boxes.specs.Framing.{boxLimit}
+use Rattle.boxes.proofs.AnswerLaws.{then-then}
+use Rattle.numerals.proofs.WidthLaws.{below-holds}
+use Rattle.partial.specs.Limits.{fileLimit, segmentLimit, chunkLimit}
+use Rattle.partial.specs.Sequences.{allOf}
+use Rattle.partial.specs.Segments.{Segment, chunksOf}
+use Rattle.partial.specs.Heading.{Heading, heading}
+use Rattle.partial.specs.Index.{Indexed, indexed}
+use Rattle.partial.specs.Reading.{reading, earlierSegments}
+use Rattle.additions.specs.Append.{admitted}
+use Rattle.additions.specs.Addition.{items, Addition, listRight, dataRight, outsideRight, sayable}
+use Rattle.additions.specs.Append.{addedBoxes, added, appended, result, placedWith, placed, admission, psegPlace}
+use Rattle.additions.specs.Runs.{lent, fileIn}
+use Rattle.partial.proofs.Meaning.SequenceLaws.{both, passes}
+use Rattle.additions.proofs.NewSegmentLaws.{Sayable, length-new}
+use Rattle.additions.proofs.ReadsBackLaws.{Offered, reading-result}
+use Rattle.additions.proofs.RepairTimeLaws.{cut, added-cut, offered-cut, admission-cut, index-cut}
+
+-- the sizes of a list whose numbers 64 bits hold
+sizes-said : (o : Bool) (out : ℕ) (list : List ℕ) → allOf (λ n. ltb n (2 ^ 64)) list ≡ true → allOf (λ p. holds 8 (p .size)) (placedWith o out (items list)) ≡ true
+unfolding allOf items placedWith
+sizes-said o out [] h = refl
+sizes-said o out (size ∷ []) h = refl
+sizes-said o out (size ∷ state ∷ rest) h =
+    let (first, others) = both (ltb size (2 ^ 64)) (ltb state (2 ^ 64) && allOf (λ n. ltb n (2 ^ 64)) rest) h in
+    rw (below-holds 8 size (ltb-true size (2 ^ 64) first)) (sizes-said o out rest (both (ltb state (2 ^ 64)) (allOf (λ n. ltb n (2 ^ 64)) rest) others .1))
+
+-- what 64 bits and `chunk_count` can say is said, but for what is cut from the repair time
+said : (a : Addition) → T (sayable a) → Sayable (cut a)
+unfolding sayable placed
+said a h =
+    let (front, count) = both (ltb (a .sourceOffset) (2 ^ 64) && allOf (λ n. ltb n (2 ^ 64)) (a .list)) (ltb (length (items (a .list))) (2 ^ 16)) (passes _ h) in
+    let (offset, numbers) = both (ltb (a .sourceOffset) (2 ^ 64)) (allOf (λ n. ltb n (2 ^ 64)) (a .list)) front in
+    record {
+      offset = ltb-true (a .sourceOffset) (2 ^ 64) offset;
+      time = mod-lt (a .repairTime) (lit< tt);
+      sizes = sizes-said (a .outside) _ (a .list) numbers;
+      count = ltb-true (length (items (a .list))) (2 ^ 16) count;
+    }
+
+-- a value that is looked at and passed on, and then something else
+passed-by : {A B C : Type 0} (x : Answer A) (look : A → Answer B) (last : Answer C)
+    → ((x >>= λ a. look a >>= λ _. given a) >>= λ _. last) ≡ (x >>= λ a. look a >>= λ _. last)
+passed-by (refused n) look last = refl
+passed-by (given a) look last = then-then (look a) (λ _. given a) (λ _. last)
+
+module _ (limit : ℕ) (buffer : List ℕ) (n : ℕ) (a : Addition) where
+  -- what append answers of an addition that is right in itself: admission, the index, and then 33
+  pub appended-offered : (h : Heading) (ss : List Segment) → n ≤ length buffer → Offered limit (take n buffer) h ss a
+      → appended limit buffer n a
+      ≡ (admission limit h ss n a
+      >>= λ ts. indexed limit (take n buffer) h ts >>= λ _. hold 33 (leb (n + length (added a)) (length buffer)) >>= λ _. given (n + length (added a)))
+  unfolding appended
+  appended-offered h ss fits t = rw (le-leb n (length buffer) fits, t .headed, t .before, t .list, t .carried, t .outside)
+
+  pub by-result : (h : Heading) (ss : List Segment) → n ≤ length buffer
+      → heading (fileIn (lent buffer n)) ≡ given h
+      → earlierSegments limit (fileIn (lent buffer n)) ≡ given ss
+      → listRight (a .list) ≡ true
+      → dataRight a ≡ true
+      → outsideRight h a ≡ true
+      → T (sayable a)
+      → let g = result buffer n a in
+      appended limit buffer n a ≡ (reading limit g >>= λ _. hold 33 (leb (length g) (length buffer)) >>= λ _. given (length g))
+  unfolding fileIn result
+  by-result h ss fits head read list carried outer says =
+      let f : List ℕ = take n buffer in
+      let long : length f ≡ n = length-take-le n buffer fits in
+      let offered : Offered limit f h ss a = record { headed = head; before = read; list = list; carried = carried; outside = outer } in
+      let whole : length (f ++ added a) ≡ n + length (added a) = length-append f (added a) ∙ ap (λ (m : ℕ). m + length (added a)) long in
+      let same : reading limit (f ++ added a) ≡ (admission limit h ss n (cut a) >>= λ ts. indexed limit f h ts >>= λ _. given ts) = rw (added-cut a, long) at (reading-result limit f h ss (cut a) (offered-cut limit f h ss a offered) (said a says)) in
+      let last : Answer ℕ = hold 33 (leb (n + length (added a)) (length buffer)) >>= λ _. given (n + length (added a)) in
+      appended-offered h ss fits offered
+      ∙ rw (whole, same)
+      (sym
+      (passed-by (admission limit h ss n (cut a)) (indexed limit f h) last
+      ∙ admission-cut limit h ss n a (λ ts. indexed limit f h ts >>= λ _. last)
+      (ap (λ (x : Answer (List Indexed)). x >>= λ _. last) (index-cut a limit f h ss (psegPlace n a)))))
+
+  -- of more chunks than `chunk_count` can say it is 22, unless 1, 6 or 13 comes before
+  pub too-many : (h : Heading) (ss : List Segment) → n ≤ length buffer
+      → heading (fileIn (lent buffer n)) ≡ given h
+      → earlierSegments limit (fileIn (lent buffer n)) ≡ given ss
+      → listRight (a .list) ≡ true
+      → dataRight a ≡ true
+      → outsideRight h a ≡ true
+      → 2 ^ 16 ≤ length (items (a .list))
+      → appended limit buffer n a
+      ≡ (hold 1 (leb (n + length (added a)) fileLimit)
+      >>= λ _. hold 6 (leb (length (h .boxes) + addedBoxes a) boxLimit) >>= λ _. hold 13 (leb (length ss + 1) segmentLimit) >>= λ _. refused 22)
+  unfolding fileIn admission admitted
+  too-many h ss fits head read list carried outer many =
+      let over = lt-leb (length (chunksOf ss) + length (items (a .list))) chunkLimit (omega arith) in
+      appended-offered h ss fits (record { headed = head; before = read; list = list; carried = carried; outside = outer })
+      ∙ rw (length-new h ss (psegPlace n a) a, over)
+      (go _ (leb (n + length (added a)) fileLimit) (leb (length (h .boxes) + addedBoxes a) boxLimit) (leb (length ss + 1) segmentLimit))
+    where
+      go : (rest : List Segment → Answer ℕ) (t1 t6 t13 : Bool)
+          → (_>>=_ {A = List Segment} (hold 1 t1 >>= λ _. hold 6 t6 >>= λ _. hold 13 t13 >>= λ _. refused 22) rest)
+          ≡ (hold 1 t1 >>= λ _. hold 6 t6 >>= λ _. hold 13 t13 >>= λ _. refused 22)
+      go rest true true true = refl
+      go rest true true false = refl
+      go rest true false t13 = refl
+      go rest false t6 t13 = refl

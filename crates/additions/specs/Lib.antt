@@ -1,0 +1,10 @@
+pub mod Begin
+pub mod Addition
+pub mod Append
+pub mod Runs
+pub mod Again
+pub mod Carried
+pub mod Examples
+pub mod IndexExamples
+pub mod Demands
+pub mod Raised

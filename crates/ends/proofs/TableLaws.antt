@@ -1,0 +1,154 @@
+-- Laws of the table of what the ends of segments say: an entry that is put is read back, the others stay, and zeros are
+-- the entries of no segment.
+use Prim.Native.Nat.{ℕ, _+_, _*_, _≤_, _<_}
+use mathlib.Core.Bool.{Bool, true, false, not}
+use mathlib.Core.List.{List, [], _∷_, _++_}
+use mathlib.Core.Path.{_≡_, refl, sym, _∙_}
+use mir.Val.{boolByte}
+use native.Mathlib.Decide.{decLe, ℕ-discrete}
+use native.Mathlib.Nat.{add-zero}
+use native.Mathlib.Omega.{arith}
+use borrow.Author.Tests.{le-ltb, lt-ltb}
+use lib.Dec.{eqb, ltb}
+use lib.ListN.{length, getD, set, replicate, length-set, length-replicate, getD-replicate}
+use lib.Seq.{getD-set-same, getD-set-other}
+use Rattle.partial.specs.Segments.{Segment}
+use Rattle.ends.specs.declared.sizes.Sizes.{Sizes}
+use Rattle.ends.specs.Sizes.{sizesOf}
+use Rattle.ends.specs.Table.{entryLength, sources, allSizes, entryIn, sizesIn, SizesPut, Cleared, Holds}
+use Rattle.ends.proofs.SizeLaws.{sizes-none}
+
+module _ (t : List ℕ) (source : ℕ) where
+  pub sizes-past : sources ≤ source → sizesIn t source ≡ sizesOf []
+  unfolding sizesIn
+  sizes-past past = rw (le-ltb source sources past, sizesIn)
+
+  pub sizes-there : source < sources → sizesIn t source ≡ entryIn t (entryLength * source)
+  unfolding sizesIn
+  sizes-there there = rw (lt-ltb source sources there, sizesIn)
+
+-- by the four numbers of an entry
+entry-by : (t : List ℕ) (at : ℕ) {a b c d : ℕ} → getD t at 0 ≡ a → getD t (at + 1) 0 ≡ b → getD t (at + 2) 0 ≡ c → getD t (at + 3) 0 ≡ d
+    → entryIn t at ≡ record { known = not (eqb a 0); size = record { 0 = b }; largest = record { 0 = c }; same = eqb d 0 }
+entry-by t at first second third fourth =
+    λ i. record { known = not (eqb (first i) 0); size = record { 0 = second i }; largest = record { 0 = third i }; same = eqb (fourth i) 0 }
+
+-- two tables have the same entry of a source where its numbers are the same
+entry-same : (t t′ : List ℕ) (source : ℕ) → ((j : ℕ) → j < entryLength → getD t (entryLength * source + j) 0 ≡ getD t′ (entryLength * source + j) 0) → sizesIn t source ≡ sizesIn t′ source
+unfolding sizesIn
+entry-same t t′ source same = go (ltb source sources)
+  where
+    first : getD t (entryLength * source) 0 ≡ getD t′ (entryLength * source) 0
+    first = rw add-zero at (same 0 (omega arith))
+
+    go : (b : Bool) → _≡_ {A = Sizes} (elim b [ true ↦ entryIn t (entryLength * source) | false ↦ sizesOf [] ]) (elim b [ true ↦ entryIn t′ (entryLength * source) | false ↦ sizesOf [] ])
+    go true = entry-by t (entryLength * source) first (same 1 (omega arith)) (same 2 (omega arith)) (same 3 (omega arith))
+    go false = refl
+
+-- a table of zeros
+pub zeros-cleared : Cleared (replicate allSizes 0)
+zeros-cleared =
+    record {
+      long = length-replicate {A = ℕ} allSizes 0;
+      none = λ source.
+          elim (decLe sources source) [
+            | yes past ↦ sizes-past (replicate allSizes 0) source past
+            | no there ↦
+                let zero : (i : ℕ) → i < allSizes → _≡_ {A = ℕ} (getD (replicate allSizes 0) i 0) 0 = λ i. getD-replicate allSizes i 0 0 in
+                sizes-there (replicate allSizes 0) source (omega arith)
+                ∙ entry-by (replicate allSizes 0) (entryLength * source) (zero (entryLength * source) (omega arith)) (zero (entryLength * source + 1) (omega arith)) (zero (entryLength * source + 2) (omega arith)) (zero (entryLength * source + 3) (omega arith))
+                ∙ sizes-none
+          ];
+    }
+
+-- a flag is kept as 1 or 0
+flag-known : (b : Bool) → not (eqb (boolByte b) 0) ≡ b
+flag-known true = refl
+flag-known false = refl
+
+flag-same : (b : Bool) → eqb (boolByte (not b)) 0 ≡ b
+flag-same true = refl
+flag-same false = refl
+
+-- a table after four numbers were put from one on
+module _ (t : List ℕ) (at a b c d : ℕ) where
+  abbrev one : List ℕ
+  one = set t at a
+
+  abbrev two : List ℕ
+  two = set one (at + 1) b
+
+  abbrev three : List ℕ
+  three = set two (at + 2) c
+
+  abbrev four : List ℕ
+  four = set three (at + 3) d
+
+  module _ (room : at + 4 ≤ length t) where
+    at-first : getD four at 0 ≡ a
+    at-first =
+        getD-set-other three (at + 3) at d 0 (λ e. omega arith)
+        ∙ getD-set-other two (at + 2) at c 0 (λ e. omega arith)
+        ∙ getD-set-other one (at + 1) at b 0 (λ e. omega arith)
+        ∙ getD-set-same t at a 0 (omega arith)
+
+    at-second : getD four (at + 1) 0 ≡ b
+    at-second =
+        getD-set-other three (at + 3) (at + 1) d 0 (λ e. omega arith)
+        ∙ getD-set-other two (at + 2) (at + 1) c 0 (λ e. omega arith)
+        ∙ getD-set-same one (at + 1) b 0 (simp length-set (omega arith))
+
+    at-third : getD four (at + 2) 0 ≡ c
+    at-third = getD-set-other three (at + 3) (at + 2) d 0 (λ e. omega arith) ∙ getD-set-same two (at + 2) c 0 (simp length-set (omega arith))
+
+    at-fourth : getD four (at + 3) 0 ≡ d
+    at-fourth = getD-set-same three (at + 3) d 0 (simp length-set (omega arith))
+
+  at-other : (i : ℕ) → (at ≤ i → at + 4 ≤ i) → getD four i 0 ≡ getD t i 0
+  at-other i outside =
+      getD-set-other three (at + 3) i d 0 (λ e. omega (arith, outside (omega arith)))
+      ∙ getD-set-other two (at + 2) i c 0 (λ e. omega (arith, outside (omega arith)))
+      ∙ getD-set-other one (at + 1) i b 0 (λ e. omega (arith, outside (omega arith)))
+      ∙ getD-set-other t at i a 0 (λ e. omega (arith, outside (omega arith)))
+
+-- nothing is put where the table has no such entry
+pub put-past : (t : List ℕ) (source : ℕ) (x : Sizes) → sources ≤ source → SizesPut t source x t
+put-past t source x past = record { long = refl; here = λ there. absurd (omega arith); others = λ k other. refl }
+
+-- else its four numbers are
+pub put-entry : (t : List ℕ) (source : ℕ) (x : Sizes) → source < sources
+    → SizesPut t source x (four t (entryLength * source) (boolByte (x .known)) (x .size .0) (x .largest .0) (boolByte (not (x .same))))
+put-entry t source x there =
+    let at = entryLength * source in
+    let known = boolByte (x .known) in
+    let size = x .size .0 in
+    let largest = x .largest .0 in
+    let apart = boolByte (not (x .same)) in
+    let put = four t at known size largest apart in
+    record {
+      long = simp length-set;
+      here = λ _ long.
+          let room : at + 4 ≤ length t = omega arith in
+          sizes-there put source there
+          ∙ entry-by put at (at-first t at known size largest apart room) (at-second t at known size largest apart room) (at-third t at known size largest apart room) (at-fourth t at known size largest apart room)
+          ∙ (λ i. record { known = flag-known (x .known) i; size = x .size; largest = x .largest; same = flag-same (x .same) i });
+      others = λ k other. entry-same put t k (λ j less. at-other t at known size largest apart (entryLength * k + j) (λ above. omega arith));
+    }
+
+-- two tables after the same was put have the same entries
+pub put-one : {t t′ t″ : List ℕ} {source : ℕ} {x : Sizes} → length t ≡ allSizes → SizesPut t source x t′ → SizesPut t source x t″ → (k : ℕ) → sizesIn t′ k ≡ sizesIn t″ k
+put-one {t} {t′} {t″} {source} long p q k =
+    elim (ℕ-discrete k source) [
+      | yes same ↦
+          elim (decLe sources k) [
+            | yes past ↦ sizes-past t′ k past ∙ sym (sizes-past t″ k past)
+            | no there ↦ rw same (p .here (omega arith) long ∙ sym (q .here (omega arith) long))
+          ]
+      | no other ↦ p .others k other ∙ sym (q .others k other)
+    ]
+
+-- with one segment more
+pub holds-more : {t t′ : List ℕ} {source : ℕ} {ss : List Segment} (s : Segment) {x : Sizes} → source < sources → Holds t source ss → x ≡ sizesOf (ss ++ (s ∷ []))
+    → SizesPut t source x t′
+    → Holds t′ source (ss ++ (s ∷ []))
+holds-more s there holds with put = record { long = put .long ∙ holds .long; said = put .here there (holds .long) ∙ with }

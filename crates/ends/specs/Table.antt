@@ -1,0 +1,53 @@
+-- What the ends of segments say, in a table that has an entry for each source.
+use Prim.Native.Nat.{ℕ, _+_, _*_, _<_}
+use mathlib.Core.Bool.{true, false, not}
+use mathlib.Core.List.{List, []}
+use mathlib.Core.Path.{_≡_}
+use lib.Dec.{eqb, ltb}
+use lib.ListN.{length, getD}
+use Rattle.partial.specs.Segments.{Segment}
+use Rattle.ends.specs.Sizes.{sizesOf}
+use Rattle.ends.specs.declared.sizes.Sizes.{Sizes}
+
+-- the numbers of an entry
+abbrev pub entryLength : ℕ
+entryLength = 4
+
+-- the sources of a file
+abbrev pub sources : ℕ
+sources = 1
+
+-- the numbers of the table
+abbrev pub allSizes : ℕ
+allSizes = entryLength * sources
+
+-- an entry: 0 unless the size is known, that size, the largest end, and 0 unless two segments that make the size known
+-- end apart; so zeros are the entry of no segment
+abbrev pub entryIn : List ℕ → ℕ → Sizes
+entryIn t at =
+    record {
+      known = not (eqb (getD t at 0) 0);
+      size = record { 0 = getD t (at + 1) 0 };
+      largest = record { 0 = getD t (at + 2) 0 };
+      same = eqb (getD t (at + 3) 0) 0;
+    }
+
+-- the entry of a source; past the table that of no segment
+unfoldable pub sizesIn : List ℕ → ℕ → Sizes
+sizesIn t source = elim (ltb source sources) [ true ↦ entryIn t (entryLength * source) | false ↦ sizesOf [] ]
+
+-- a table after the entry of a source was put, where it has one: every other stays
+pub record SizesPut (before : List ℕ) (source : ℕ) (x : Sizes) (table : List ℕ) : Type 0 where
+  pub long : length table ≡ length before
+  pub here : source < sources → length before ≡ allSizes → sizesIn table source ≡ x
+  pub others : (k : ℕ) → (k ≡ source → ⊥) → sizesIn table k ≡ sizesIn before k
+
+-- a table of which each entry is that of no segment
+pub record Cleared (table : List ℕ) : Type 0 where
+  pub long : length table ≡ allSizes
+  pub none : (source : ℕ) → sizesIn table source ≡ sizesOf []
+
+-- a table that holds of a source what the ends of these segments say
+pub record Holds (table : List ℕ) (source : ℕ) (ss : List Segment) : Type 0 where
+  pub long : length table ≡ allSizes
+  pub said : sizesIn table source ≡ sizesOf ss

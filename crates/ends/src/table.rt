@@ -1,0 +1,49 @@
+// What the ends of segments say, in a table that has an entry for each source.
+use crate::sizes::Sizes;
+use partial::position::Position;
+ghost use mathlib.Core.Path.{_≡_};
+ghost use Rattle.ends.specs.Table.{sizesIn, SizesPut, Cleared};
+
+// The numbers of an entry.
+const ENTRY: u64 = 4;
+// The entries of as many sources as a file may have.
+pub const ALL_SIZES: usize = 4;
+// The number of the source of a file.
+pub const ONE_SOURCE: u64 = 0;
+
+// What a table says of a source; of one past the table as of no segment.
+pub fn sizes_at(table: &[u64; ALL_SIZES], source: u64) -> Sizes
+    ensures { λ r. ⌜ r ≡ sizesIn (now (table .entry)) source ⌝ }
+{
+    if ALL_SIZES as u64 / ENTRY <= source {
+        return Sizes::none();
+    }
+    let at = (ENTRY * source) as usize;
+    Sizes {
+        known: table[at] != 0,
+        size: Position(table[at + 1]),
+        largest: Position(table[at + 2]),
+        same: table[at + 3] == 0,
+    }
+}
+
+// Puts what is said of a source into its entry, if the table has one.
+pub fn put_sizes(table: &mut [u64; ALL_SIZES], source: u64, sizes: Sizes)
+    ensures { λ _. ⌜ SizesPut (now (table .entry)) source sizes (now (table .exit)) ⌝ }
+{
+    if ALL_SIZES as u64 / ENTRY <= source {
+        return;
+    }
+    let at = (ENTRY * source) as usize;
+    table[at] = sizes.known as u64;
+    table[at + 1] = sizes.size.0;
+    table[at + 2] = sizes.largest.0;
+    table[at + 3] = !sizes.same as u64;
+}
+
+// Makes each entry that of no segment.
+pub fn clear_sizes(table: &mut [u64; ALL_SIZES])
+    ensures { λ _. ⌜ Cleared (now (table .exit)) ⌝ }
+{
+    *table = [0; ALL_SIZES];
+}

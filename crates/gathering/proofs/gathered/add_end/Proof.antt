@@ -1,0 +1,28 @@
+-- `gathering::gathered::add_end` meets its contract.
+use mathlib.Core.Path.{_∙_}
+use borrow.Author.Needs.{needs}
+use Rattle.ends.proofs.TableLaws.{holds-more}
+use Rattle.gathering.proofs.gathered.add_end.Statement.{statement}
+use Rattle.gathering.proofs.gathered.add_end.Tie as tie
+
+sizes-at-requires : tie.Need-sizes-at-requires
+sizes-at-requires c κs = search needs
+
+gives-size-requires : tie.Need-gives-size-requires
+gives-size-requires c κs = search needs
+
+with-requires : tie.Need-with-requires
+with-requires c κs = search needs
+
+put-sizes-requires : tie.Need-put-sizes-requires
+put-sizes-requires c κs = search needs
+
+returns : tie.Need-returns
+returns c = λ ss s there holds flags count ends.
+    let with = c .before .with .ensures ss s (c .before .before .before .before .sizes-at .ensures ∙ holds .said) ends (c .before .before .gives-size .ensures s flags count) in
+    holds-more s there holds with (c .put-sizes .ensures)
+
+pub add-end-spec : {M : Type 1} → statement M
+add-end-spec =
+    tie.close
+    (tie.spec sizes-at-requires gives-size-requires with-requires put-sizes-requires returns)

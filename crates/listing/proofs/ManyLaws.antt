@@ -1,0 +1,54 @@
+-- How many ranges a list has: neighbouring ranges are of two classes, so that no class has more than half of them, and
+-- one.
+use Prim.Native.Nat.{ℕ, suc, _+_, _*_, _≤_, _<_}
+use mathlib.Core.List.{List}
+use mathlib.Core.Logic.{inl, inr}
+use mathlib.Core.Path.{_≡_, sym, _∙_}
+use native.Mathlib.Omega.{arith}
+use borrow.Author.Tests.{eqb-true}
+use lib.Dec.{eqb}
+use lib.ListN.{length}
+use Rattle.partial.specs.Limits.{sourceLimit}
+use Rattle.partial.specs.Meaning.{describedLength}
+use Rattle.partial.specs.Ranges.{Range, had, missing, classOf, rangesOf, ofClass, hadList, missingList}
+use Rattle.partial.specs.Segments.{Segment, chunksOf}
+use Rattle.partial.proofs.Meaning.DescribedLaws.{InOrder}
+use Rattle.partial.proofs.Meaning.EdgeLaws.{listed-few}
+use Rattle.partial.proofs.Meaning.RangeLaws.{Cut, done, next, cut, ordered}
+use Rattle.partial.proofs.Meaning.SequenceLaws.{which}
+use Rattle.partial.proofs.Reading.OneSourceLaws.{accepted}
+use Rattle.reading.specs.Judged.{Judged}
+use Rattle.reading.proofs.JudgedLaws.{Accepted}
+
+module _ (class : ℕ → ℕ) (c : ℕ) where
+  -- no more than half and one are of a class, and no more than half where the first is not
+  half : {end p : ℕ} {rs : List Range} → Cut class end p rs
+      → (2 * length (ofClass c rs) ≤ suc (length rs)) × ((p < end → class p ≡ c → ⊥) → 2 * length (ofClass c rs) ≤ length rs)
+  unfolding ofClass
+  half (done e) = (omega arith, λ other. omega arith)
+  half {end} {p} (next {q = q} {rs = rs} some same differs rest) =
+      let (more, less) = half rest in
+      elim (which (eqb (class p) c)) [
+        | inl here ↦
+            let e = eqb-true (class p) c here in
+            (rw (ofClass, here) (omega (arith, less (λ short f. differs short (f ∙ sym e)))), λ other. absurd (other (omega (arith, ordered class rest)) e))
+        | inr there ↦ (rw (ofClass, there) (omega arith), λ other. rw (ofClass, there) (omega arith))
+      ]
+
+-- of segments in order, those of a class
+pub class-few : (c : ℕ) (ss : List Segment) → InOrder ss → 2 * length (ofClass c (rangesOf ss)) ≤ 2 + length ss + length (chunksOf ss)
+unfolding rangesOf
+class-few c ss order = omega (arith, half (classOf ss) c (cut (classOf ss) (describedLength ss) 0) .0, listed-few ss order)
+
+-- the lists of an accepted file
+module _ {f : List ℕ} {j : Judged} (a : Accepted f j) where
+  order : InOrder (a .ss)
+  order = accepted sourceLimit f (a .h) (a .head) (a .all) .order
+
+  pub had-few : 2 * length (hadList (a .ss)) ≤ 2 + length (a .ss) + length (chunksOf (a .ss))
+  unfolding hadList
+  had-few = class-few had (a .ss) order
+
+  pub missing-few : 2 * length (missingList (a .ss)) ≤ 2 + length (a .ss) + length (chunksOf (a .ss))
+  unfolding missingList
+  missing-few = class-few missing (a .ss) order

@@ -1,0 +1,7 @@
+pub mod BothLaws
+pub mod Determined
+pub mod FormLaws
+pub mod NextLaws
+pub mod TextLaws
+pub mod UrlLaws
+pub mod WithinLaws
