@@ -106,7 +106,7 @@ def reason(said):
         return "shape", first
     if re.search(r"record .* has no field", first):
         return "shape", first
-    if re.search(r"error\[|\.rt:\d+:\d+: error", first):
+    if re.search(r"error\[|\.rt:\d+:\d+: error|is not in scope", first):
         return "words", first
     return "fact", first
 
