@@ -30,8 +30,9 @@ use Rattle.partial.proofs.Reading.ReadingLaws.{reading-headless}
 use Rattle.partial.proofs.Reading.RefusalLaws.{takes}
 use Rattle.partial.proofs.Reading.HeadingAppendLaws.{heading-of, url-kept, mime-kept}
 use Rattle.additions.proofs.BegunLaws.{isMixed, begunHeading, sourceBox, begun-url, begun-mime, begun-headed, begun-taken}
-use Rattle.additions.proofs.BegunLaws.{first-source, source-inside, url-stands, mime-stands, source-stands, source-ends}
-use Rattle.additions.proofs.BegunLaws.{source-long, begin-given, begin-fits}
+use Rattle.additions.proofs.BegunLaws.{first-source, source-inside, source-stands, source-ends}
+use Rattle.additions.proofs.BegunLaws.{begin-given, begin-fits}
+use Rattle.additions.proofs.SurlLaws.{surl-long, url-stands, mime-stands}
 use Rattle.additions.proofs.RunAgainLaws.{Rewrites, rewrites, filled-take, filled-long}
 use Rattle.additions.proofs.StandsLaws.{Stands, part-stands, stands-longer}
 
@@ -57,7 +58,7 @@ module _ (limit : ℕ) (brand : Brand) (u m more : List ℕ) (plain-url : isText
       let b = sourceBox brand u m in
       let part = url-kept (beginning brand u m) more b (source-inside brand u m) ∙ begun-url brand u m plain-url plain-mime in
       let stands = url-stands u m (beginning brand u m) b (source-stands brand u m) (source-ends brand u m) plain-url plain-mime in
-      rw (text-from url, part) (part-again (b .body + 4) u stands (omega (arith, source-inside brand u m, source-ends brand u m, source-long u m)))
+      rw (text-from url, part) (part-again (b .body + 4) u stands (omega (arith, source-inside brand u m, source-ends brand u m, surl-long u m)))
 
   mime-again : bytesIn (beginning brand u m ++ more) (textOf mime limit (beginning brand u m ++ more)) ≡ m
   unfolding bytesIn
@@ -65,7 +66,7 @@ module _ (limit : ℕ) (brand : Brand) (u m more : List ℕ) (plain-url : isText
       let b = sourceBox brand u m in
       let part = mime-kept (beginning brand u m) more b (source-inside brand u m) ∙ begun-mime brand u m plain-url plain-mime in
       let stands = mime-stands u m (beginning brand u m) b (source-stands brand u m) (source-ends brand u m) plain-url plain-mime in
-      rw (text-from mime, part) (part-again (b .body + 4 + length u + 1) m stands (omega (arith, source-inside brand u m, source-ends brand u m, source-long u m)))
+      rw (text-from mime, part) (part-again (b .body + 4 + length u + 1) m stands (omega (arith, source-inside brand u m, source-ends brand u m, surl-long u m)))
 
 -- and so is the brand
 brand-again : (brand : Brand) → brandFor (isMixed brand) ≡ brand
