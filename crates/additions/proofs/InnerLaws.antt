@@ -10,10 +10,10 @@ use lib.Dec.{lit<}
 use lib.ListN.{length, length-append}
 use Rattle.boxes.specs.Answer.{given}
 use Rattle.boxes.specs.Framing.{Box, frontSize, boxed, boxedAt, boxesIn, boxLimit}
-use Rattle.boxes.specs.Kinds.{pshd, ploc, surl, fidx, those}
+use Rattle.boxes.specs.Kinds.{pseg, pshd, ploc, surl, fidx, those}
 use Rattle.boxes.specs.declared.kinds.Container.the-variants.{Pseg}
 use Rattle.boxes.proofs.HeaderLaws.{moved}
-use Rattle.boxes.proofs.ContainerLaws.{Filled, filled-appended, filled-moved, filled-boxes}
+use Rattle.boxes.proofs.ContainerLaws.{Filled, filled-appended, filled-moved, filled-boxes, box-limit}
 use Rattle.boxes.proofs.BoxedLaws.{length-boxed, boxed-alone, moved-boxedAt}
 use Rattle.boxes.proofs.KindLaws.{those-one, those-other, is-eqb}
 use Rattle.partial.specs.Sequences.{allOf}
@@ -21,11 +21,12 @@ use Rattle.partial.specs.Heading.{Heading, surlFormed, urlsIn}
 use Rattle.partial.specs.Sources.{urlsFor}
 use Rattle.additions.specs.Begin.{isText}
 use Rattle.additions.specs.Addition.{Addition, items, Surl, surlsOf, surls}
-use Rattle.additions.specs.Append.{placed, plocBody, pshdBody, surlBoxes, psegBody, innerBoxes, surlsAt, newUrls}
+use Rattle.additions.specs.Append.{stored, placed, plocBody, pshdBody, surlBoxes, psegBody, innerBoxes, added, psegPlace, surlsAt, newUrls}
 use Rattle.additions.specs.Again.{surlsIn}
 use Rattle.additions.specs.Demands.{Plain}
-use Rattle.additions.proofs.StandsLaws.{Stands, stands-left, stands-right}
+use Rattle.additions.proofs.StandsLaws.{Stands, stands-behind, stands-longer, stands-left, stands-right}
 use Rattle.additions.proofs.BoxesStandLaws.{stands-body}
+use Rattle.additions.proofs.AddedBoxesLaws.{length-added}
 use Rattle.additions.proofs.SurlLaws.{surls-many, surls-moved, surls-filled, those-surls, those-but-surls, surls-formed, surls-read, cut-textual}
 
 -- the body of its `ploc`
@@ -147,6 +148,23 @@ module _ (g : List ℕ) (at : ℕ) (a : Addition) (stands : Stands g at (psegBod
     unfolding urlsIn surlsIn
     urls-told inside = sym (map-map (λ (s : Surl). s .url) _ (those surl (inners at a))) ∙ ap (map (λ (s : Surl). s .url)) (surls-told inside)
 
+-- it stands in a file that the addition was put behind, and in any that goes on from there
+module _ (f more : List ℕ) (a : Addition) where
+  body-whole : psegPlace (length f) a + frontSize + length (psegBody a) ≡ length (f ++ added a)
+  unfolding psegPlace
+  body-whole = omega (arith, length-append f (added a), length-added a)
+
+  pub body-inside : psegPlace (length f) a + frontSize + length (psegBody a) ≤ length ((f ++ added a) ++ more)
+  body-inside = omega (arith, body-whole, length-append (f ++ added a) more)
+
+  pub body-stands : Stands ((f ++ added a) ++ more) (psegPlace (length f) a + frontSize) (psegBody a)
+  unfolding added psegPlace
+  body-stands =
+      let g = f ++ added a in
+      let at : ℕ = length f + length (stored a) in
+      let behind = stands-right g (length f) (stored a) (boxed (pseg .code) (psegBody a)) (stands-behind f (added a)) in
+      stands-longer g more (at + frontSize) (psegBody a) (stands-body g at (pseg .code) (psegBody a) behind) (omega (arith, body-whole))
+
 -- with an empty list of texts
 module _ (a : Addition) (plain : Plain a) where
   pub surls-none : surls a ≡ []
@@ -158,9 +176,12 @@ module _ (a : Addition) (plain : Plain a) where
   unfolding psegBody surlBoxes
   plain-body = rw (surls-none, append-nil)
 
-  pub plain-many : innerBoxes a ≡ 2
+  plain-many : innerBoxes a ≡ 2
   unfolding innerBoxes
   plain-many = rw surls-none
+
+  pub plain-few : innerBoxes a ≤ boxLimit
+  plain-few = omega (arith, plain-many, box-limit)
 
   -- and goes to the source of the list in `pfil`
   pub plain-urls : (h : Heading) → newUrls h a ≡ h .urls

@@ -1,17 +1,17 @@
 -- The segment that append adds is read from its box in the longer file, as what was added.
 use Prim.Native.Nat.{ℕ, suc, _+_, _-_, _^_, _≤_, _<_}
 use mathlib.Core.Bool.{Bool, true, false}
-use mathlib.Core.List.{List, [], _∷_, _++_, map}
+use mathlib.Core.List.{List, [], _∷_, _++_, map, append-nil}
 use mathlib.Core.Path.{_≡_, refl, ap, _∙_}
 use native.Mathlib.Nat.{add-assoc}
 use native.Mathlib.Decide.{decLe}
 use native.Mathlib.Omega.{arith}
 use borrow.Author.Tests.{le-leb, lt-leb, eq-eqb}
 use lib.Dec.{leb, lit<}
-use lib.ListN.{length, length-append}
+use lib.ListN.{length}
 use Rattle.boxes.specs.Answer.{Answer, refused, given, _>>=_, hold}
 use Rattle.numerals.specs.Numbers.{holds}
-use Rattle.boxes.specs.Framing.{Box, frontSize, boxed, boxedAt, boxLimit}
+use Rattle.boxes.specs.Framing.{Box, frontSize, boxedAt, boxLimit}
 use Rattle.boxes.specs.Kinds.{pseg, pshd, ploc, fidx, right, boxAt, firstOf, those, surl}
 use Rattle.boxes.specs.declared.kinds.Container.the-variants.{Pseg}
 use Rattle.boxes.proofs.KindLaws.{first-is, one-right, firstOf-those, is-eqb, boxAt-getD}
@@ -23,18 +23,17 @@ use Rattle.partial.specs.Sources.{sourceBeside}
 use Rattle.partial.specs.Reading.{pshdRight, segment, pshdFields}
 use Rattle.additions.specs.Begin.{isText}
 use Rattle.additions.specs.Addition.{items, Addition, flagsFor, sizeOf, dataSize, dataRight, goesOut}
-use Rattle.additions.specs.Append.{stored, plocBody, pshdBody, added, newChunks, surlsAt, newInner, newUrls, newSegment, Placed, placed, psegBody, innerBoxes, psegPlace}
+use Rattle.additions.specs.Append.{plocBody, pshdBody, added, newChunks, surlsAt, newInner, newUrls, newSegment, Placed, placed, psegBody, innerBoxes, psegPlace}
 use Rattle.additions.specs.Demands.{Plain}
 use Rattle.partial.proofs.Reading.HeadingAppendLaws.{withBoxes}
 use Rattle.additions.proofs.DataLaws.{sizes-split}
 use Rattle.additions.proofs.PlacedLaws.{formed, sizes-placed, length-placed, OutLie, placed-tell, offsets-eight}
-use Rattle.additions.proofs.StandsLaws.{Stands, stands-behind, stands-right}
+use Rattle.additions.proofs.StandsLaws.{Stands}
 use Rattle.additions.proofs.EntriesBackLaws.{chunks-back}
 use Rattle.additions.proofs.FieldsBackLaws.{fields-back, plocOf, head-back, sizes-held, offsets-held}
-use Rattle.additions.proofs.AddedBoxesLaws.{length-added, data-low, InLie}
-use Rattle.additions.proofs.BoxesStandLaws.{stands-body}
+use Rattle.additions.proofs.AddedBoxesLaws.{data-low, InLie}
 use Rattle.additions.proofs.InnerLaws.{headerBox, locationPlace, locationBox, inners, only-header, only-location, only-surls, no-index, surls-none}
-use Rattle.additions.proofs.InnerLaws.{header-stands, location-stands, inners-framed, urls-told}
+use Rattle.additions.proofs.InnerLaws.{header-stands, location-stands, inners-framed, urls-told, body-stands, body-inside}
 
 -- the new chunks are as many as the items, and as long
 length-chunks : (at start : ℕ) (ps : List Placed) → length (newChunks at start ps) ≡ length ps
@@ -191,11 +190,8 @@ pub new-segment : (limit : ℕ) (f : List ℕ) (h : Heading) (before : List Segm
     → segment limit (f ++ added a) h before (boxedAt (psegPlace (length f) a) (pseg .code) (length (psegBody a)))
     ≡ (hold 22 (leb (length (chunksOf before) + length (newSegment h before (psegPlace (length f) a) a .chunks)) chunkLimit)
     >>= λ _. hold 23 (leb (endOf (newSegment h before (psegPlace (length f) a) a)) limit) >>= λ _. given (newSegment h before (psegPlace (length f) a) a))
-unfolding added psegPlace
+unfolding psegPlace
 new-segment limit f h before a says plain few texts listed small right data-small lie outer =
-    let at : ℕ = length f + length (stored a) in
-    let g = f ++ added a in
-    let stands : Stands g at (boxed (pseg .code) (psegBody a)) = stands-right g (length f) (stored a) (boxed (pseg .code) (psegBody a)) (stands-behind f (added a)) in
-    let stands-seg = stands-body g at (pseg .code) (psegBody a) stands in
-    let inside : at + frontSize + length (psegBody a) ≤ length g = omega (arith, length-append f (added a), length-added a) in
-    segment-at limit g h before a at says plain few texts listed small stands-seg inside (omega (arith, data-low a right)) data-small lie outer
+    let stands = rw append-nil at (body-stands f [] a) in
+    let inside = rw append-nil at (body-inside f [] a) in
+    segment-at limit (f ++ added a) h before a (psegPlace (length f) a) says plain few texts listed small stands inside (omega (arith, data-low a right)) data-small lie outer

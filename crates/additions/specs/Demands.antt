@@ -18,7 +18,7 @@ use Rattle.partial.specs.Segments.{Segment, chunksOf}
 use Rattle.partial.specs.declared.brand.Brand.{Brand}
 use Rattle.partial.specs.Heading.{Heading, heading}
 use Rattle.partial.specs.Meaning.{describedLength, served}
-use Rattle.partial.specs.Sources.{sourceBeside, ofSource}
+use Rattle.partial.specs.Sources.{sourceBeside, ofUrls}
 use Rattle.partial.specs.Index.{Indexed, indexed}
 use Rattle.partial.specs.Reading.{reading, earlierSegments}
 use Rattle.partial.specs.Memory.{written}
@@ -129,10 +129,10 @@ pub record Untouched (f g : List ℕ) (ss ts : List Segment) : Type 0 where
 
 -- after an accepted addition, seen from the files and all their segments before and after
 pub record Extended (f g : List ℕ) (h : Heading) (ss ts : List Segment) (a : Addition) : Type 0 where
-  -- the source that it goes to is told by its URLs
-  pub grown : let n = sourceBeside ss (newUrls h a) in Grown f g (ofSource n ss) (ofSource n ts) a
+  -- the source that it goes to, told by its URLs
+  pub grown : let us = newUrls h a in Grown f g (ofUrls us ss) (ofUrls us ts) a
   -- it "changes no length, list or served byte of another"
-  pub untouched : (n : ℕ) → (n ≡ sourceBeside ss (newUrls h a) → ⊥) → Untouched f g (ofSource n ss) (ofSource n ts)
+  pub untouched : (us : List (List ℕ)) → (newUrls h a ≡ us → ⊥) → Untouched f g (ofUrls us ss) (ofUrls us ts)
   -- each source of the file before keeps its number
   pub numbers : (s : Segment) → List·Memᴰ s ss → sourceBeside ts (s .urls) ≡ s .source
 
@@ -255,7 +255,15 @@ pub record Demand3 (limit : ℕ) : Type 0 where
       → getD (bufferIn (append limit (lent buffer n) a)) i 0 ≡ getD buffer i 0
   -- the buffer is no longer and no shorter
   pub asLong : (l : Lent) (a : Addition) → length (bufferIn (append limit l a)) ≡ length (bufferIn l)
-  -- after each accepted addition
+  -- after each accepted addition, with the segment that it makes
+  pub extends :
+      (buffer : List ℕ) (n : ℕ) (a : Addition) (size : ℕ) (file : Taking limit buffer n)
+      → appended limit buffer n a ≡ given size
+      → Extended
+      (fileIn (lent buffer n)) (fileIn (append limit (lent buffer n) a)) (file .h) (file .ss)
+      (file .ss ++ (newSegment (file .h) (file .ss) (psegPlace n a) a ∷ []))
+      a
+  -- and as it is read
   pub accepted :
       (buffer : List ℕ) (n : ℕ) (a : Addition) (size : ℕ) (file : Taking limit buffer n)
       → Plain a
