@@ -110,10 +110,6 @@ module _ (a : Addition) where
   unfolding innerBoxes surls
   inner-cut = refl
 
-  pub urls-cut : (h : Heading) → newUrls h (cut a) ≡ newUrls h a
-  unfolding newUrls surls
-  urls-cut h = refl
-
   agreed-cut : (h : Heading) (ss : List Segment) (at : ℕ) → agreed (ss ++ (newSegment h ss at (cut a) ∷ [])) ≡ agreed (ss ++ (newSegment h ss at a ∷ []))
   unfolding newSegment newUrls surls endOf givesSize isOpen
   agreed-cut h ss at = agreed-same (newSegment h ss at (cut a)) (newSegment h ss at a) refl refl refl ss
