@@ -285,8 +285,8 @@ a = ascii "a" ∷ []
 abbrev b : List (List ℕ)
 b = ascii "b" ∷ []
 
--- document 02, [8]: an index of one box that runs to the end in a `pfil` with the list a, beside segments: it ends where
--- that source does, known or not, and not where the first does; it is not known of a list that no segment uses
+-- document 02, [8]: an index of one box that runs to the end in a `pfil` with the list a, beside segments: it ends
+-- where that source does, known or not, and not where the first does; of a list that no segment uses that is not known
 abbrev inPfilOfSource : Example
 inPfilOfSource =
     let told : List Segment → List ℤ = λ ss. says (boxesIn Pfil toTheEnd 0 (length toTheEnd) >>= λ inner. given (tellsOf toTheEnd a inner ss)) in

@@ -1,5 +1,5 @@
--- What is told of an accepted file's index: its boxes are in order, each belongs to a source, none is empty, and of each
--- is said what is served.
+-- What is told of an accepted file's index: its boxes are in order, each belongs to a source, none is empty, and of
+-- each is said what is served.
 use Prim.Native.Nat.{ℕ, _<_}
 use mathlib.Core.List.{List, [], _∷_, List·Memᴰ, List·Memᴰ·head, List·Memᴰ·tail, List·Memᴰ·not-nil, List·Memᴰ·cases-cons, List·Memᴰ·append-cases}
 use mathlib.Core.Logic.{_⊎_, inl, inr, ⊎-elim}
