@@ -20,7 +20,7 @@ use Rattle.partial.specs.declared.brand.Brand.{Brand}
 use Rattle.partial.specs.Heading.{Heading, heading, surlFormed, urlsIn}
 use Rattle.partial.specs.Meaning.{describedLength, served}
 use Rattle.partial.specs.Sources.{urlsFor, sourceBeside, ofUrls}
-use Rattle.partial.specs.Index.{Indexed, indexed}
+use Rattle.partial.specs.Index.{SourceBox, indexed}
 use Rattle.partial.specs.Reading.{reading, earlierSegments}
 use Rattle.partial.specs.Memory.{written}
 use Rattle.partial.specs.ReadingDemands.{oneOf, ofIndex, ofStages, InAgreement, Demand1OfReading, Demand2OfReading, Takes}
@@ -173,7 +173,7 @@ pub record Acceptable (limit : ℕ) (buffer : List ℕ) (n : ℕ) (a : Addition)
   pub sound : Sound (file .h) a
   pub within : Within limit (file .h) (file .ss) n a
   pub index :
-      (is : List Indexed)
+      (is : List SourceBox)
       × (indexed limit (fileIn (lent buffer n)) (file .h) (file .ss ++ (newSegment (file .h) (file .ss) (psegPlace n a) a ∷ [])) ≡ given is)
   pub room : n + length (added a) ≤ length buffer
 

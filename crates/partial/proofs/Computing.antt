@@ -42,15 +42,16 @@ unfolding
     Meaning.supplied Meaning.placeOfByte Meaning.served Meaning.onward Meaning.servedRun Meaning.missingRun Meaning.reply
     Index.sizeBy Index.frontBy Index.indexFields Index.isKnown Index.endFrom Index.wherever Index.endRight Index.frontPart Index.listFramed
     Index.lastOrSized Index.noneFollows Index.withRest Index.inARow Index.untold Index.indexList Index.indexIn
-    Index.indexOfSegments Index.indexOf Index.hasIndex Index.indexed Index.servedOf Index.indexedSize Index.indexRow Index.indexRows
+    Index.boxesAlone Index.belonging Index.sizeFor Index.indexFor Index.indexOfSegments Index.indexOf Index.hasIndex Index.indexed Index.servedOf Index.indexedSize Index.indexRow Index.indexRows
     Ranges.joined Ranges.ranges Ranges.classOf Ranges.rangesOf Ranges.ofClass Ranges.hadList Ranges.missingList Ranges.total
     Ranges.among Ranges.apart Ranges.inRow
     Memory.fits Memory.filled Memory.after Memory.textWritten
     Tables.segmentRow Tables.segmentRows Tables.chunkRow Tables.chunkRowsOf Tables.chunkRowsFrom Tables.chunkRows Tables.rangeRows
     Tables.hadRows Tables.missingRows Tables.tabled Tables.listed Tables.summary Tables.totals Tables.nowhere
-    Tables.servedPart Tables.asked Tables.textOf Tables.indexTabled
+    Tables.partOf Tables.servedPart Tables.asked Tables.textOf Tables.indexTabled
     Naming.damagedAt Naming.namedClass Naming.namedRanges Naming.heldList Naming.lostList
-    Map.ascii Map.decimal Map.line Map.refusedLine Map.sourceLine Map.rangeLine Map.rangeLines Map.totalLine Map.mapWord Map.mapOf Map.missWord Map.missmapOf
+    Map.ascii Map.decimal Map.line Map.refusedLine Map.sourceLine Map.rangeLine Map.rangeLines Map.totalLine Map.mapWord Map.sourceMap Map.missWord Map.sourceMissmap
+    Map.eachSource Map.perSource Map.mapOf Map.missmapOf
     Map.textFor Map.mapText Map.missmapText
     BoxList.hex BoxList.prints BoxList.shown BoxList.each BoxList.typeBytes BoxList.userBytes BoxList.boxLine BoxList.faultLine BoxList.walkLines BoxList.boxesText
 computing = tt
