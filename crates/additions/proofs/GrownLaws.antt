@@ -1,5 +1,5 @@
 -- What an addition makes of a file: in its source every byte served before keeps its value, one that was not is served
--- exactly if the addition carries it as good, and the described length never shrinks; the other sources are as they were.
+-- exactly if the addition carries it as good, and the described length never shrinks; other sources are as they were.
 use Prim.Native.Nat.{ℕ, _+_, _-_, _<_}
 use mathlib.Core.Bool.{Bool, true, _&&_}
 use mathlib.Core.List.{List, [], _∷_, _++_, append-nil, List·Memᴰ, Memᴰ·append-left}

@@ -1,5 +1,5 @@
--- Laws of the boxes inside a new `pseg`: which they are and of which kinds, that they are the boxes of its body wherever
--- that stands, and what their texts say there.
+-- Laws of the boxes inside a new `pseg`: which they are and of which kinds, that they are the boxes of its body
+-- wherever that stands, and what their texts say there.
 use Prim.Native.Nat.{ℕ, _+_, _≤_, _<_, _^_}
 use mathlib.Core.Bool.{true}
 use mathlib.Core.List.{List, [], _∷_, _++_, map, map-map, append-nil}

@@ -1,5 +1,5 @@
--- Laws of `surl` boxes as we write them: one is well-formed wherever its body stands, and its texts are read back; so of
--- a row of them, whose texts were cut by a list of lengths.
+-- Laws of `surl` boxes as we write them: one is well-formed wherever its body stands, and its texts are read back; so
+-- of a row of them, whose texts were cut by a list of lengths.
 use Prim.Native.Nat.{ℕ, zero, suc, _+_, _-_, _≤_, _<_, _%_, _^_}
 use mathlib.Core.Bool.{Bool, true, false, not, _&&_}
 use mathlib.Core.List.{List, [], _∷_, _++_, map}
@@ -120,7 +120,8 @@ cut-textual texts (urlLength ∷ mimeLength ∷ rest) plain =
     let (mime-plain, rest-plain) = cut-text mimeLength (drop urlLength texts) behind-plain in
     rw (url-plain, mime-plain) (cut-textual (drop mimeLength (drop urlLength texts)) rest rest-plain)
 
--- the parts one behind the other are the texts, where there are as many bytes as the lengths say, and have those lengths
+-- the parts one behind the other are the texts, where there are as many bytes as the lengths say, and have those
+-- lengths
 pub cut-joined : (texts lengths : List ℕ) → length lengths % 2 ≡ 0 → length texts ≡ sum lengths
     → (textsFor (surlsOf texts lengths) ≡ texts) × (lengthsFor (surlsOf texts lengths) ≡ lengths)
 unfolding surlsOf textsFor lengthsFor sum

@@ -11,8 +11,8 @@ use Rattle.partial.specs.Segments.{elsewhere, good, present, isLast}
 use Rattle.partial.specs.Heading.{Heading}
 use Rattle.partial.specs.Mixed.{areBoxes}
 
--- the fields of `pshd`, whether the good chunks go outside `pdat`, the chunk list and the data in chunk order; the texts
--- of the `surl` boxes to write and the list of their lengths, URL and MIME by turns
+-- the fields of `pshd`, whether the good chunks go outside `pdat`, the chunk list and the data in chunk order; the
+-- texts of the `surl` boxes to write and the list of their lengths, URL and MIME by turns
 pub record Addition : Type 0 where
   pub sourceOffset : ℕ
   pub repairTime : ℕ

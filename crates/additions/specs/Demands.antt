@@ -31,8 +31,8 @@ use Rattle.additions.specs.Runs.{Lent, lent, bufferIn, fileIn, begin, ap
 use Rattle.additions.specs.Again.{again, settled, writeAgain}
 use Rattle.additions.specs.Carried.{carried}
 
--- an addition without texts: append is given none today, since 16 refuses to read a `surl` in a segment; so what is said
--- of reading the result is said of such additions
+-- an addition without texts: append is given none today, since 16 refuses to read a `surl` in a segment; so what is
+-- said of reading the result is said of such additions
 abbrev pub Plain : Addition → Type 0
 Plain a = a .lengths ≡ []
 
@@ -247,8 +247,8 @@ pub record Demand3 (limit : ℕ) : Type 0 where
       → AllPlain additions
       → earlierSegments limit (fileIn l) ≡ given ss
       → (ts : List Segment) × (earlierSegments limit (fileIn (appendAll limit l additions)) ≡ given ts)
-  -- an addition is given a length exactly if it has right lists, data and texts, within each limit, in agreement, beside
-  -- an index that is told, and within the buffer; it is the length of the file and of what is added
+  -- an addition is given a length exactly if it has right lists, data and texts, within each limit, in agreement,
+  -- beside an index that is told, and within the buffer; it is the length of the file and of what is added
   pub accepts :
       (buffer : List ℕ) (n : ℕ) (a : Addition) (size : ℕ)
       → (appended limit buffer n a ≡ given size)

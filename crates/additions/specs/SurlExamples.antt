@@ -67,8 +67,8 @@ sourceOf texts lengths =
     let f = begunBytes ++ firstBytes in
     says (heading f >>= λ h. reading sourceLimit f >>= λ ss. given (pos (newSegment h ss (length f) (texted lostSix texts lengths) .source) ∷ []))
 
--- without texts it is that of `pfil`, and with the same list, whatever the MIME text; another list is another source: `b`,
--- an empty URL, `a` twice
+-- without texts it is that of `pfil`, and with the same list, whatever the MIME text; another list is another source:
+-- `b`, an empty URL, `a` twice
 abbrev sourcesTold : Example
 sourcesTold =
     record {
@@ -116,8 +116,8 @@ zeroByte =
       paper = map pos (34 ∷ 32 ∷ 35 ∷ 34 ∷ 23 ∷ []);
     }
 
--- 6 also of the new `pseg` itself: with `pshd` and `ploc` 510 `surl` boxes of 14 bytes are taken, 55 bytes and 51 beside
--- them; one more is a 513th box, which comes before 23
+-- 6 also of the new `pseg` itself: with `pshd` and `ploc` 510 `surl` boxes of 14 bytes are taken, 55 bytes and 51
+-- beside them; one more is a 513th box, which comes before 23
 abbrev manyTexts : Example
 manyTexts =
     let many : ℕ → Addition → Addition = λ n a. texted a [] (replicate (n + n) 0) in
