@@ -24,7 +24,7 @@ use Rattle.partial.specs.Memory.{after}
 use Rattle.partial.specs.Tables.{missingRows, tabled, summary, segmentRows, chunkRows, servedPart, textOf}
 use Rattle.partial.specs.Segments.{Segment, lost}
 use Rattle.partial.specs.Sources.{sourceBeside, agreed}
-use Rattle.partial.specs.Map.{ascii, sourceLine, mapText, missmapText, textFor, refusedLine}
+use Rattle.partial.specs.Map.{mapOf, ascii, sourceLine, mapText, missmapText, textFor, refusedLine}
 use Rattle.partial.specs.BoxList.{boxesText}
 use Rattle.partial.specs.Lesson.{begunBytes, firstBytes, secondBytes}
 
@@ -485,6 +485,15 @@ listsPerSource =
       paper = map pos (0 ∷ 4 ∷ 0 ∷ 9 ∷ 0 ∷ []);
     }
 
+-- the map of two sources, whose segments alternate: the lines of the one, then those of the other
+abbrev mapPerSource : Example
+mapPerSource =
+    let ss = segmentWith (ascii "b" ∷ []) 0 0 3 ∷ segmentWith (ascii "a" ∷ []) 1 1 2 ∷ segmentWith (ascii "b" ∷ []) 0 1 4 ∷ [] in
+    record {
+      defined = map pos (mapOf ss);
+      paper = map pos (ascii "source\t4\tclosed\nlost\t0\t4\ntotal\t0\t0\t4\nsource\t2\tclosed\nlost\t0\t2\ntotal\t0\t0\t2\n");
+    }
+
 unfoldable pub table : List Example
 table =
     P1 ∷ P2 ∷ P3 ∷ P4 ∷ P5 ∷ P6 ∷ P7 ∷ P9 ∷ P10 ∷ P11 ∷ P12 ∷
@@ -493,7 +502,7 @@ table =
     wholeServed ∷ notWhole ∷ byBrand ∷ elsewhereRead ∷ elsewhereMissing ∷
     highestRead ∷ bothForms ∷ servedFar ∷
     map10 ∷ mapNamed ∷ mapUnder ∷
-    sourcesNumbered ∷ sizesPerSource ∷ listsPerSource ∷ []
+    sourcesNumbered ∷ sizesPerSource ∷ listsPerSource ∷ mapPerSource ∷ []
 
 -- at every row the definitions say what the paper says
 abbrev pub AsThePaperSays : Type 0
