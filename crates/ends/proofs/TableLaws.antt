@@ -4,7 +4,7 @@ use Prim.Native.Nat.{ℕ, _+_, _*_, _≤_, _<_}
 use mathlib.Core.Bool.{Bool, true, false, not, false≢true}
 use mathlib.Core.List.{List, [], _∷_, _++_, append-nil}
 use mathlib.Core.Logic.{inl, inr}
-use mathlib.Core.Path.{_≡_, refl, sym, ap, _∙_}
+use mathlib.Core.Path.{_≡_, refl, sym, ap, subst, _∙_}
 use mir.Val.{boolByte}
 use native.Mathlib.Decide.{decLe, ℕ-discrete}
 use native.Mathlib.Nat.{add-zero}
@@ -167,10 +167,12 @@ unfolding ofSource
 of-other n ss s other = of-append n ss (s ∷ []) ∙ rw (ne-eqb (s .source) n other, ofSource) (append-nil (ofSource n ss))
 
 -- with one segment more, whose source has an entry
-pub holds-more : {t t′ : List ℕ} {ss : List Segment} (s : Segment) {x : Sizes} → s .source < sources → Holds t ss → x ≡ sizesOf (ofSource (s .source) ss ++ (s ∷ []))
-    → SizesPut t (s .source) x t′
+pub holds-more : {t t′ : List ℕ} {ss : List Segment} (s : Segment) {x : Sizes} {source : ℕ} → source ≡ s .source → s .source < sources → Holds t ss
+    → x ≡ sizesOf (ofSource (s .source) ss ++ (s ∷ []))
+    → SizesPut t source x t′
     → Holds t′ (ss ++ (s ∷ []))
-holds-more {ss = ss} s there holds with put =
+holds-more {t} {t′} {ss} s {x} number there holds with put-source =
+    let put = subst (λ (n : ℕ). SizesPut t n x t′) number put-source in
     record {
       long = put .long ∙ holds .long;
       said = λ n.

@@ -9,17 +9,18 @@ use native.Mathlib.Omega.{arith}
 use lib.ListN.{length, take, set, length-append, length-set, length-replicate}
 use lib.Seq.{take-suc-set}
 use Rattle.boxes.specs.Framing.{Box}
+use Rattle.boxes.specs.Kinds.{surl, those}
 use Rattle.boxes.proofs.AnswerLaws.{given-same}
 use Rattle.partial.specs.Heading.{Heading, urlsIn}
 use Rattle.partial.specs.Limits.{segmentLimit}
 use Rattle.partial.specs.ReadingDemands.{Numbered}
 use Rattle.partial.specs.Segments.{Segment}
 use Rattle.partial.specs.Sequences.{largest}
-use Rattle.partial.specs.Sources.{sameUrls, sourceCount, sourceBeside, ofSource, ofUrls}
+use Rattle.partial.specs.Sources.{urlsFor, sameUrls, sourceCount, sourceBeside, ofSource, ofUrls}
 use Rattle.partial.proofs.Meaning.SameLaws.{urls-equal, urls-same}
 use Rattle.partial.proofs.Meaning.SourceLaws.{of-append, member-of, of-one, of-none, source-count-more, beside-most, beside-there, of-urls-member, count-most}
 use Rattle.surls.specs.declared.body.Body.{Body}
-use Rattle.sources.specs.Held.{listBoxes, Stands, SourcesHeld, ListHeld, ListsHeld, Sourced, Joins}
+use Rattle.sources.specs.Held.{listBoxes, Stands, PfilList, SourcesHeld, ListHeld, ListsHeld, Sourced, Joins}
 use Rattle.sources.specs.Lists.{allLists, containerNumber, containerOf, listIn, ListPut, Unlisted}
 use Rattle.sources.specs.Numbers.{sourcePut, noSources}
 use Rattle.sources.proofs.ListLaws.{container-back}
@@ -63,6 +64,22 @@ module _ (f : List ℕ) (h : Heading) (ss : List Segment) (numbered : Numbered s
 
 pub further : {n m : ℕ} → n ≤ m → (m ≡ n → ⊥) → n + 1 ≤ m
 further {n} {m} most other = elim (ℕ-discrete m n) [ yes same ↦ absurd (other same) | no apart ↦ omega arith ]
+
+-- a segment without a `surl` has the list in `pfil`
+module _ (f : List ℕ) (h : Heading) {list : Body} (pfil : PfilList f h list) (s : Segment) (none : those surl (s .inner) ≡ []) where
+  list-boxes : listBoxes h s ≡ h .inner
+  unfolding listBoxes
+  list-boxes = rw (listBoxes, none)
+
+  urls-none : urlsFor (urlsIn f (s .inner)) (h .urls) ≡ h .urls
+  unfolding urlsIn urlsFor
+  urls-none = rw none
+
+  pub pfil-stands : Stands f list (listBoxes h s)
+  pfil-stands = subst (Stands f list) (sym list-boxes) (pfil .stands)
+
+  pub pfil-urls : s .urls ≡ urlsFor (urlsIn f (s .inner)) (h .urls) → urlsIn f (listBoxes h s) ≡ s .urls
+  pfil-urls urls = ap (urlsIn f) list-boxes ∙ sym (pfil .urls) ∙ sym (urls ∙ urls-none)
 
 -- ---- with one segment more
 

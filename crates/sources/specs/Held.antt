@@ -25,6 +25,11 @@ pub record Stands (f : List ℕ) (body : Body) (bs : List Box) : Type 0 where
   pub boxes : boxesIn (body .container) f (body .start .0) (body .end .0) ≡ given bs
   pub inside : body .end .0 ≤ length f
 
+-- the list of URLs in `pfil` stands in a container
+pub record PfilList (f : List ℕ) (h : Heading) (list : Body) : Type 0 where
+  pub stands : Stands f list (h .inner)
+  pub urls : h .urls ≡ urlsIn f (h .inner)
+
 -- a table that begins with the numbers of the sources of segments, in their order
 pub record SourcesHeld (table : List ℕ) (ss : List Segment) : Type 0 where
   pub long : length table ≡ segmentLimit
