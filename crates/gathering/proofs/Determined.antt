@@ -70,6 +70,6 @@ chunk-by-result : OneResult chunk-by.Post
 chunk-by-result κs args x y after after′ p q = chunk-told x y (p ∙ sym q)
 
 fill-rows-chunks : OneLeftKnown fill-rows.Post
-    (λ κs args (ss : List Segment). Kept (now (args .0)) (args .1 .0) (now (args .1 .1 .0)) ss × (length (chunkRows ss) ≤ length (now (args .1 .1 .1 .0))))
+    (λ κs args ((sources, ss) : List ℕ × List Segment). Kept (now (args .0)) (args .1 .0) sources (now (args .1 .1 .0)) ss × (length (chunkRows ss) ≤ length (now (args .1 .1 .1 .0))))
     (λ κs after. now (after .1 .1 .1 .0))
-fill-rows-chunks κs args ss (kept, room) x y after after′ p q = one-put room (p ss kept) (q ss kept)
+fill-rows-chunks κs args (sources, ss) (kept, room) x y after after′ p q = one-put room (p sources ss kept) (q sources ss kept)

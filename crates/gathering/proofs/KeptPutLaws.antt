@@ -1,4 +1,5 @@
--- The rows of an accepted file's segments and the numbers of its chunks, put into two tables, keep the file.
+-- The rows of an accepted file's segments and the numbers of its chunks, put into two tables, keep the file, with a third
+-- that has the numbers of its sources.
 use Prim.Native.Nat.{ℕ, _+_, _*_, _<_, _≤_}
 use mathlib.Core.Bool.{true, false}
 use mathlib.Core.List.{List, [], _∷_, _++_, map, append-assoc}
@@ -61,11 +62,16 @@ row-at : (front rest : List ℕ) (k : ℕ) (s : Segment) → length front ≡ se
     → getD (front ++ (segmentRow s ++ rest)) (segmentRowLength * k + j) 0 ≡ getD (segmentRow s ++ rest) j 0
 row-at front rest k s long j = ap (λ (n : ℕ). getD (front ++ (segmentRow s ++ rest)) (n + j) 0) (sym long) ∙ getD-append-add front (segmentRow s ++ rest) j 0
 
-all-kept : (front rest : List ℕ) (k : ℕ) → length front ≡ segmentRowLength * k → (before behind : List ℕ) (at : ℕ) → length before ≡ at → (ss : List Segment) → AllSmall sourceLimit ss
-    → SegmentsKept (front ++ (segmentRows ss ++ rest)) (before ++ (numbersOf ss ++ behind)) k at ss
+-- from one of the entries on a table has the numbers of the sources of segments
+abbrev pub SourcesFrom : List ℕ → ℕ → List Segment → Type 0
+SourcesFrom sources k [] = Unit {0}
+SourcesFrom sources k (s ∷ ss) = (getD sources k 0 ≡ s .source) × SourcesFrom sources (k + 1) ss
+
+all-kept : (sources front rest : List ℕ) (k : ℕ) → length front ≡ segmentRowLength * k → (before behind : List ℕ) (at : ℕ) → length before ≡ at → (ss : List Segment) → AllSmall sourceLimit ss → SourcesFrom sources k ss
+    → SegmentsKept (front ++ (segmentRows ss ++ rest)) sources (before ++ (numbersOf ss ++ behind)) k at ss
 unfolding segmentRows segmentRow numbersOf chunksOf
-all-kept front rest k long before behind at many [] small = tt
-all-kept front rest k long before behind at many (s ∷ ss) (one, others) =
+all-kept sources front rest k long before behind at many [] small from = tt
+all-kept sources front rest k long before behind at many (s ∷ ss) (one, others) (here, from) =
     let row = segmentRow s in
     let more = segmentRows ss ++ rest in
     let mine = map numberOf (s .chunks) in
@@ -78,12 +84,13 @@ all-kept front rest k long before behind at many (s ∷ ss) (one, others) =
     let numbers-on : (before ++ mine) ++ later ≡ numbers = append-assoc before mine later in
     let row-long : length (front ++ row) ≡ segmentRowLength * (k + 1) = omega (arith, length-append front row) in
     let numbers-long : length (before ++ mine) ≡ at + length (s .chunks) = omega (arith, length-append before mine, map-long (s .chunks)) in
-    let rest-kept = all-kept (front ++ row) rest (k + 1) row-long (before ++ mine) behind (at + length (s .chunks)) numbers-long ss others in
-    subst (λ (t : List ℕ). SegmentsKept rows t k at (s ∷ ss)) (sym split) (
+    let rest-kept = all-kept sources (front ++ row) rest (k + 1) row-long (before ++ mine) behind (at + length (s .chunks)) numbers-long ss others from in
+    subst (λ (t : List ℕ). SegmentsKept rows sources t k at (s ∷ ss)) (sym split) (
+      here,
       row-at front more k s long 1,
       row-at front more k s long 4,
       chunks-kept before later at many (s .sourceOffset) (s .chunks) one,
-      subst (λ (x : List ℕ × List ℕ). SegmentsKept (x .0) (x .1) (k + 1) (at + length (s .chunks)) ss) (λ i. (rows-on i, numbers-on i)) rest-kept,
+      subst (λ (x : List ℕ × List ℕ). SegmentsKept (x .0) sources (x .1) (k + 1) (at + length (s .chunks)) ss) (λ i. (rows-on i, numbers-on i)) rest-kept,
     )
 
 pub kept-put : (ss : List Segment) → AllSmall sourceLimit ss → length ss ≤ segmentLimit → length (chunksOf ss) ≤ chunkLimit → {many : ℕ} → many ≡ length ss → {t₀ t u₀ u : List ℕ}
@@ -91,9 +98,11 @@ pub kept-put : (ss : List Segment) → AllSmall sourceLimit ss → length ss ≤
     → chunkLimit ≤ length u₀
     → Put t₀ 0 (segmentRows ss) t
     → Put u₀ 0 (numbersOf ss) u
-    → Kept t many u ss
+    → {sources : List ℕ}
+    → SourcesFrom sources 0 ss
+    → Kept t many sources u ss
 unfolding numbersOf
-kept-put ss small few chunks count {t₀} {u₀ = u₀} room space rows numbers =
+kept-put ss small few chunks count {t₀} {u₀ = u₀} room space rows numbers {sources} from =
     let full = put-fills (segmentRows ss) rows (omega (arith, segment-rows-long ss)) in
     let told = put-fills (numbersOf ss) numbers (omega (arith, map-long (chunksOf ss))) in
     record {
@@ -101,6 +110,6 @@ kept-put ss small few chunks count {t₀} {u₀ = u₀} room space rows numbers 
       few = few;
       chunks = chunks;
       segments =
-          subst (λ (x : List ℕ × List ℕ). SegmentsKept (x .0) (x .1) 0 0 ss) (λ i. (sym full i, sym told i))
-          (all-kept [] (drop (length (segmentRows ss)) t₀) 0 refl [] (drop (length (numbersOf ss)) u₀) 0 refl ss small);
+          subst (λ (x : List ℕ × List ℕ). SegmentsKept (x .0) sources (x .1) 0 0 ss) (λ i. (sym full i, sym told i))
+          (all-kept sources [] (drop (length (segmentRows ss)) t₀) 0 refl [] (drop (length (numbersOf ss)) u₀) 0 refl ss small from);
     }
