@@ -18,9 +18,6 @@ ghost use Rattle.partial.specs.Tables.{chunkRowLength, chunkRowsOf, chunkRows};
 ghost use Rattle.filling.specs.Rows.{Put};
 ghost use Rattle.gathering.specs.Kept.{ChunksKept, Kept};
 
-// The numbers of the sources of as many segments as a file may have.
-pub const ALL_SOURCES: usize = 64;
-
 // Puts the rows of so many chunks of a segment, by the numbers from one on, of which the first starts there.
 fn put_rows(
     numbers: &[u64; ALL_NUMBERS],

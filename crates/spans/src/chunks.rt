@@ -1,6 +1,5 @@
 // The spans of the chunks of one state of a source, made of what is kept of a file.
 use crate::put::join_span;
-use gathering::kept::ALL_SOURCES;
 use gathering::numbers::chunk_by;
 use numerals::order::smaller;
 use numerals::order::sum_of;
@@ -11,6 +10,7 @@ use partial::rows::ALL_NUMBERS;
 use partial::rows::ALL_SEGMENT_ROWS;
 use partial::rows::SEGMENT_ROW;
 use segment::chunk::Chunk;
+use sources::numbers::ALL_SOURCES;
 ghost use Prim.Native.Nat.{_+_, _*_, _≤_};
 ghost use mathlib.Core.List.{List};
 ghost use lib.ListN.{length};

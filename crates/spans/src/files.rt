@@ -1,10 +1,10 @@
 // The spans of the chunks of one state of a source, in order.
 use crate::chunks::spans_of;
 use crate::ordering::order;
-use gathering::kept::ALL_SOURCES;
 use partial::position::Position;
 use partial::rows::ALL_NUMBERS;
 use partial::rows::ALL_SEGMENT_ROWS;
+use sources::numbers::ALL_SOURCES;
 ghost use Prim.Native.Nat.{_*_, _≤_};
 ghost use mathlib.Core.List.{List};
 ghost use lib.ListN.{length};

@@ -1,0 +1,2 @@
+// Which segments are one source: the numbers of their sources.
+pub mod numbers;
