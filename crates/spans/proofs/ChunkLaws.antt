@@ -8,7 +8,7 @@ use native.Mathlib.Decide.{decLe}
 use native.Mathlib.Omega.{arith}
 use borrow.Author.Tests.{eq-eqb, ne-eqb, eqb-true}
 use lib.Dec.{eqb}
-use lib.ListN.{length, getD, take, drop, take-append-drop}
+use lib.ListN.{length, getD, take, drop, take-append-drop, length-append}
 use Rattle.partial.specs.Meaning.{coversAs}
 use Rattle.partial.specs.Segments.{Chunk, Segment, good, damaged, chunksOf}
 use Rattle.partial.specs.Sequences.{someOf}
@@ -92,6 +92,16 @@ many-apart (c ∷ cs) = go (which (eqb (c .state) good)) (which (eqb (c .state) 
     go (inl a) (inr b) few = rw (a, b) (omega arith)
     go (inr a) (inl b) few = rw (a, b) (omega arith)
     go (inr a) (inr b) few = rw (a, b) (omega arith)
+
+-- the chunks of a source are no more than those of all segments
+pub source-few : (source : ℕ) (ss : List Segment) → length (chunksOf (ofSource source ss)) ≤ length (chunksOf ss)
+unfolding chunksOf ofSource
+source-few source [] = omega arith
+source-few source (s ∷ ss) =
+    elim (which (eqb (s .source) source)) [
+      | inl e ↦ rw (ofSource, e) (simp length-append (omega (arith, source-few source ss)))
+      | inr e ↦ rw (ofSource, e) (simp length-append (omega (arith, source-few source ss)))
+    ]
 
 -- ---- a chunk more
 
