@@ -93,7 +93,16 @@ many-apart (c ∷ cs) = go (which (eqb (c .state) good)) (which (eqb (c .state) 
     go (inr a) (inl b) few = rw (a, b) (omega arith)
     go (inr a) (inr b) few = rw (a, b) (omega arith)
 
--- the chunks of a source are no more than those of all segments
+-- the segments of a source are no more than all, and so are their chunks
+pub of-few : (source : ℕ) (ss : List Segment) → length (ofSource source ss) ≤ length ss
+unfolding ofSource
+of-few source [] = omega arith
+of-few source (s ∷ ss) =
+    elim (which (eqb (s .source) source)) [
+      | inl e ↦ rw (ofSource, e) (omega (arith, of-few source ss))
+      | inr e ↦ rw (ofSource, e) (omega (arith, of-few source ss))
+    ]
+
 pub source-few : (source : ℕ) (ss : List Segment) → length (chunksOf (ofSource source ss)) ≤ length (chunksOf ss)
 unfolding chunksOf ofSource
 source-few source [] = omega arith
