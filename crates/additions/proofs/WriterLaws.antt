@@ -15,6 +15,7 @@ use Rattle.additions.specs.Again.{again, settled}
 use Rattle.additions.specs.Demands.{Demand2}
 use Rattle.partial.proofs.Demands.{demand2-of-reading}
 use Rattle.additions.proofs.DataLaws.{settled-added}
+use Rattle.additions.proofs.InnerLaws.{plain-body}
 use Rattle.additions.proofs.ReadsBackLaws.{taken-any, file-after, reads-back, grownHeading, heading-added, admits}
 use Rattle.additions.proofs.RunAgainLaws.{says-whole}
 use Rattle.additions.proofs.WrittenAgainLaws.{written-again}
@@ -44,5 +45,6 @@ demand2 limit below =
       readsBack = reads-back limit below;
       sameAgain = says-again limit;
       sameBytes = settled-added;
+      plainBytes = plain-body;
       writtenAgain = written-again limit below;
     }

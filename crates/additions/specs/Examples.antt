@@ -39,7 +39,7 @@ P8 =
 -- a segment with its good chunks outside `pdat` or not, at an offset, last or not, with a chunk list and data
 abbrev segmentWith : Bool → ℕ → Bool → List ℕ → List ℕ → Addition
 segmentWith outside offset last list bytes =
-    record { sourceOffset = offset; repairTime = 0; last = last; outside = outside; list = list; bytes = bytes }
+    record { sourceOffset = offset; repairTime = 0; last = last; outside = outside; list = list; bytes = bytes; texts = []; lengths = [] }
 
 abbrev pub segmentAt : ℕ → Bool → List ℕ → List ℕ → Addition
 segmentAt = segmentWith false

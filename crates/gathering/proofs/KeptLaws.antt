@@ -64,11 +64,11 @@ module _ (numbers : List ℕ) (at : ℕ) (cs : List Chunk) (i start : ℕ) where
 pub record NextSegment (rows sources numbers : List ℕ) (ss : List Segment) (k at : ℕ) : Type 0 where
   pub s : Segment
   pub taken : take (k + 1) ss ≡ take k ss ++ (s ∷ [])
-  pub source : getD sources k 0 ≡ s .source
   pub count : getD rows (segmentRowLength * k + 4) 0 ≡ length (s .chunks)
   pub fits : at + getD rows (segmentRowLength * k + 4) 0 ≤ chunkLimit
   pub kept : ChunksKept numbers at (getD rows (segmentRowLength * k + 1) 0) (s .chunks)
   pub behind : at + getD rows (segmentRowLength * k + 4) 0 ≡ length (chunksOf (take (k + 1) ss))
+  pub source : getD sources k 0 ≡ s .source
   pub ahead : SegmentsKept rows sources numbers (k + 1) (at + getD rows (segmentRowLength * k + 4) 0) (drop (k + 1) ss)
 
 noSegment : Segment
@@ -92,17 +92,17 @@ next-segment rows sources numbers ss k at some few here kept =
     let s = getD ss k noSegment in
     let one : suc k ≡ k + 1 = omega arith in
     let taken : take (k + 1) ss ≡ take k ss ++ (s ∷ []) = rw (add-one, take-suc ss k noSegment) in
-    let (source, offset, count, chunks, ahead) = rw (drop-cons ss k noSegment some) at kept in
+    let (offset, count, source, chunks, ahead) = rw (drop-cons ss k noSegment some) at kept in
     let behind : at + getD rows (segmentRowLength * k + 4) 0 ≡ length (chunksOf (take (k + 1) ss)) =
     omega (arith, here, count, ap (λ (x : List Segment). length (chunksOf x)) taken, chunks-last (take k ss) s) in
     record {
       s = s;
       taken = taken;
-      source = source;
       count = count;
       fits = omega (arith, behind, few, taken-few ss (k + 1));
       kept = rw offset chunks;
       behind = behind;
+      source = source;
       ahead = subst (λ (x : ℕ × ℕ). SegmentsKept rows sources numbers (k + 1) (at + x .0) (drop (x .1) ss)) (λ j. (sym count j, one j)) ahead;
     }
 

@@ -14,14 +14,14 @@ ChunksKept numbers at start [] = Unit {0}
 ChunksKept numbers at start (c ∷ cs) =
     (chunkBy start (getD numbers at 0) ≡ c) × (start + c .size ≤ sourceLimit) × ChunksKept numbers (at + 1) (start + c .size) cs
 
--- from one of the rows and one of the numbers on segments are kept: the number of its source stands in a table of its
--- own, and a row has its source offset and its chunk count
+-- from one of the rows and one of the numbers on segments are kept: a row has its source offset and its chunk count, and
+-- beside it stands the number of its source
 abbrev pub SegmentsKept : List ℕ → List ℕ → List ℕ → ℕ → ℕ → List Segment → Type 0
 SegmentsKept rows sources numbers k at [] = Unit {0}
 SegmentsKept rows sources numbers k at (s ∷ ss) =
-    (getD sources k 0 ≡ s .source)
-    × (getD rows (segmentRowLength * k + 1) 0 ≡ s .sourceOffset)
+    (getD rows (segmentRowLength * k + 1) 0 ≡ s .sourceOffset)
     × (getD rows (segmentRowLength * k + 4) 0 ≡ length (s .chunks))
+    × (getD sources k 0 ≡ s .source)
     × ChunksKept numbers at (s .sourceOffset) (s .chunks)
     × SegmentsKept rows sources numbers (k + 1) (at + length (s .chunks)) ss
 

@@ -1,13 +1,13 @@
--- `sources::numbers::source_at` meets its contract.
+-- `sources::numbers::source_at` meets its contract: by whether the table has the entry.
+use borrow.Author.Needs.{needs}
 use mathlib.Core.Path.{sym}
 use native.Mathlib.Omega.{arith}
-use borrow.Author.Needs.{needs}
 use Rattle.sources.proofs.NumberLaws.{source-past, source-there}
 use Rattle.sources.proofs.numbers.source_at.Statement.{statement}
 use Rattle.sources.proofs.numbers.source_at.Tie as tie
 
 returns : tie.Need-returns
-returns c = sym (source-past _ _ (omega arith))
+returns c = sym (source-past _ _ (c .if1 .taken))
 
 mul-result : tie.Need-mul-result
 mul-result c = search needs
