@@ -1,4 +1,3 @@
 pub mod ListLaws
 pub mod ManyLaws
 pub mod CallsLaws
-pub mod Determined

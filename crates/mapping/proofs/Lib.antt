@@ -1,5 +1,4 @@
 pub mod CountLaws
-pub mod Determined
 pub mod LineLaws
 pub mod OutlineLaws
 pub mod RangesLaws

@@ -1,11 +1,26 @@
--- `mapping::call::put_outline` meets its contract: the line of the source, those of the ranges, that of the totals.
+-- `mapping::each::put_outline` meets its contract: the line of the source, those of the ranges, that of the totals.
 -- None of the ranges' is longer than fifty bytes.
 use native.Mathlib.Omega.{arith}
 use Rattle.filling.proofs.PutsLaws.{puts-same, puts-more}
 use Rattle.mapping.proofs.OutlineLaws.{range-lines, total-line, text-lines}
 use borrow.Author.Needs.{needs}
-use Rattle.mapping.proofs.call.put_outline.Statement.{statement}
-use Rattle.mapping.proofs.call.put_outline.Tie as tie
+use Rattle.mapping.proofs.each.put_outline.Statement.{statement}
+use Rattle.mapping.proofs.each.put_outline.Tie as tie
+
+mul-behind : tie.Need-mul-behind
+mul-behind c = search needs
+
+mul-damaged : tie.Need-mul-damaged
+mul-damaged c = search needs
+
+sub-damaged : tie.Need-sub-damaged
+sub-damaged c = search needs
+
+part-damaged-start : tie.Need-part-damaged-start
+part-damaged-start c = search needs
+
+part-damaged-end : tie.Need-part-damaged-end
+part-damaged-end c = search needs
 
 put-source-requires : tie.Need-put-source-requires
 put-source-requires c κs = search needs
@@ -33,4 +48,14 @@ returns c =
 pub put-outline-spec : {M : Type 1} → statement M
 put-outline-spec =
     tie.close
-    (tie.spec put-source-requires put-ranges-requires put-total-requires same-length returns)
+    (tie.spec
+    mul-behind
+    mul-damaged
+    sub-damaged
+    part-damaged-start
+    part-damaged-end
+    put-source-requires
+    put-ranges-requires
+    put-total-requires
+    same-length
+    returns)
