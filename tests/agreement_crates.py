@@ -58,7 +58,7 @@ counted xs = length xs ∷ xs
 
 rowsOf : List Segment → List ℕ
 rowsOf ss =
-    let s = summary ss in
+    let s = summary 0 ss in
     s .segments ∷ s .chunks ∷ s .described ∷ flag (s .closed) ∷ (segmentRows ss ++ chunkRows ss)
 
 replyOf : Reply → List ℕ
@@ -68,7 +68,7 @@ replyOf notBelow = 2 ∷ []
 
 askedOf : Answer (List Segment) → List ℕ → List ℕ
 askedOf r [] = []
-askedOf r (p ∷ ps) = servedPart r p .place ∷ servedPart r p .size ∷ (answered replyOf (asked r p) ++ askedOf r ps)
+askedOf r (p ∷ ps) = servedPart r 0 p .place ∷ servedPart r 0 p .size ∷ (answered replyOf (asked r 0 p) ++ askedOf r ps)
 
 unfoldable pub readOf : List ℕ → List ℕ → List ℕ
 unfolding answered flag counted rowsOf replyOf askedOf computing
@@ -85,7 +85,7 @@ tablesOf f a b =
 
 totalsOf : List Segment → List ℕ
 totalsOf ss =
-    let t = totals ss in
+    let t = totals 0 ss in
     t .hadRanges ∷ t .missingRanges ∷ t .receivedTotal ∷ t .missingTotal ∷ []
 
 ample : List ℕ
@@ -94,8 +94,8 @@ ample = bytesOf 512 0
 unfoldable pub listsOf : List ℕ → List ℕ → List ℕ → List ℕ
 unfolding answered totalsOf ample computing
 listsOf f h m =
-    let r = listed sourceLimit f ample ample h m in
-    answered totalsOf r ++ (after hadRows r h ++ after missingRows r m)
+    let r = listed sourceLimit f 0 ample ample h m in
+    answered totalsOf r ++ (after (hadRows 0) r h ++ after (missingRows 0) r m)
 
 unfoldable pub indexRowsOf : List ℕ → List ℕ → List ℕ
 unfolding answered computing

@@ -1,15 +1,14 @@
 -- A file just begun has a heading and no segment, so that append takes it.
-use Prim.Native.Nat.{ℕ, zero, suc, _+_, _-_, _≤_, _<_, _/_, _%_, _^_}
-use mathlib.Core.Bool.{Bool, true, false, not, _&&_, _||_, or-false}
+use Prim.Native.Nat.{ℕ, _+_, _-_, _≤_, _<_, _/_, _%_, _^_}
+use mathlib.Core.Bool.{Bool, true, false, _&&_, _||_, or-false}
 use mathlib.Core.List.{List, [], _∷_, _++_}
 use mathlib.Core.Logic.{_↔_, inl, inr}
 use mathlib.Core.Path.{_≡_, refl, sym, ap, _∙_}
 use native.Mathlib.Nat.{add-assoc, zero-add, add-zero}
-use native.Mathlib.Numerals.{add-one}
 use native.Mathlib.Omega.{arith}
 use borrow.Author.Tests.{le-leb, leb-true, eq-eqb}
 use lib.Dec.{leb, eqb, lit<, T}
-use lib.ListN.{length, getD, drop, length-append}
+use lib.ListN.{length, drop, length-append}
 use lib.Seq.{take-at}
 use Rattle.boxes.specs.Answer.{given}
 use Rattle.numerals.specs.Numbers.{number, bytesOf}
@@ -21,9 +20,9 @@ use Rattle.numerals.proofs.NumberLaws.{length-bytesOf, number-byte, bytesOf-zer
 use Rattle.boxes.proofs.BoxedLaws.{length-boxed, boxed-stand}
 use Rattle.boxes.proofs.KindLaws.{some-right, right-some, firstOf-those, one-right, is-eqb, boxAt-getD, first-is}
 use Rattle.partial.specs.Limits.{fileLimit}
-use Rattle.partial.specs.Sequences.{someOf, allOf, stretch}
+use Rattle.partial.specs.Sequences.{someOf, allOf}
 use Rattle.partial.specs.Heading.{Heading, paff, pmff, ftypRight, brandsFrom, brands, branded, brandRight, pfilRight, pfhdFormed, urlsIn}
-use Rattle.partial.specs.Heading.{pfhdRight, text, url, mime, surlFormed, surlRight}
+use Rattle.partial.specs.Heading.{pfhdRight, url, mime, surlRight}
 use Rattle.partial.specs.Reading.{earlierSegments}
 use Rattle.partial.specs.Memory.{after, filled}
 use Rattle.partial.specs.declared.brand.Brand.{Brand}
@@ -31,8 +30,7 @@ use Rattle.partial.specs.declared.brand.Brand.the-variants.{Paff, Pmff}
 use Rattle.additions.specs.Begin.{versionAndFlags, surlBody, brandCode, beginning, isText, begun}
 use Rattle.additions.specs.Runs.{lent, fileIn, sizeAfter, begin}
 use Rattle.partial.proofs.Meaning.SequenceLaws.{both, passes, which}
-use Rattle.additions.proofs.StandsLaws.{Stands, stands-behind, stands-head, stands-tail, stands-left, stands-right}
-use Rattle.additions.proofs.StandsLaws.{stands-number}
+use Rattle.additions.proofs.StandsLaws.{Stands, stands-behind, stands-right, stands-number}
 use Rattle.additions.proofs.SurlLaws.{url-back, mime-back, surl-back}
 use Rattle.additions.proofs.BoxesStandLaws.{stands-two, only-second, second-box, neither, only-first, first-box}
 use Rattle.partial.proofs.Reading.HeadingAppendLaws.{Headed, heading-of}

@@ -11,6 +11,7 @@ use Rattle.boxes.specs.Answer.{Answer, refused, given}
 use Rattle.boxes.proofs.AnswerLaws.{only-held, only-given, not-both, given-same, refused-same}
 use Rattle.partial.specs.Segments.{Segment}
 use Rattle.partial.specs.Heading.{Heading, heading}
+use Rattle.partial.specs.Sources.{sourceBeside}
 use Rattle.partial.specs.Index.{indexed}
 use Rattle.partial.specs.Reading.{reading, earlierSegments}
 use Rattle.additions.specs.Begin.{isText}
@@ -19,10 +20,11 @@ use Rattle.additions.specs.Append.{added, newSegment, psegPlace, admissi
 use Rattle.partial.specs.ReadingDemands.{ofIndex}
 use Rattle.partial.proofs.Reading.AgreementReadLaws.{passed-on, passed, refused-first, of-index, not-index}
 use Rattle.partial.proofs.Reading.IndexedLaws.{indexed-more, no-38}
+use Rattle.partial.proofs.Reading.NumberedLaws.{reading-numbered}
 use Rattle.partial.proofs.Reading.ReadingLaws.{reading-known}
 use Rattle.partial.proofs.Reading.RefusalLaws.{heading-only, twelve-apart}
 use Rattle.additions.proofs.RefusalLaws.{admission-only}
-use Rattle.additions.proofs.NewSegmentLaws.{no-index-new}
+use Rattle.additions.proofs.NewSegmentLaws.{urls-new, source-new, no-index-new}
 use Rattle.additions.proofs.ReadsBackLaws.{admits}
 use Rattle.additions.proofs.ReasonLaws.{file-refused}
 
@@ -68,7 +70,9 @@ module _ (limit : ℕ) (buffer : List ℕ) (n : ℕ) (a : Addition) (k : ℕ) (o
       own same (given ss) before =
           let (h, head, told) = beside-new before e in
           let (is, r) = reading-known limit (take n buffer) head (same ∙ before) in
-          absurd (not-both (sym told ∙ indexed-more limit (take n buffer) h (new h ss) (no-index-new h ss (psegPlace n a) a) ss (r .told)))
+          let beside : new h ss .source ≡ sourceBeside ss (new h ss .urls) = source-new h ss (psegPlace n a) a ∙ ap (sourceBeside ss) (sym (urls-new h ss (psegPlace n a) a)) in
+          let numbered = reading-numbered limit (take n buffer) (same ∙ before) in
+          absurd (not-both (sym told ∙ indexed-more limit (take n buffer) h (new h ss) (no-index-new h ss (psegPlace n a) a) ss numbered beside (r .told)))
 
       begun : earlierSegments limit (take n buffer) ≡ given [] → k ≡ 38 → ⊥
       begun before =

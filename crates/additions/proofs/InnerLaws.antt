@@ -3,7 +3,7 @@
 use Prim.Native.Nat.{ℕ, _+_, _≤_, _<_, _^_}
 use mathlib.Core.Bool.{true}
 use mathlib.Core.List.{List, [], _∷_, _++_, map, map-map, append-nil}
-use mathlib.Core.Path.{_≡_, refl, sym, ap, ap₂, subst, _∙_}
+use mathlib.Core.Path.{_≡_, refl, sym, ap, subst, _∙_}
 use native.Mathlib.Nat.{add-zero, add-assoc}
 use native.Mathlib.Omega.{arith}
 use lib.Dec.{lit<}
@@ -150,7 +150,7 @@ module _ (g : List ℕ) (at : ℕ) (a : Addition) (stands : Stands g at (psegBod
 
 -- it stands in a file that the addition was put behind, and in any that goes on from there
 module _ (f more : List ℕ) (a : Addition) where
-  body-whole : psegPlace (length f) a + frontSize + length (psegBody a) ≡ length (f ++ added a)
+  pub body-whole : psegPlace (length f) a + frontSize + length (psegBody a) ≡ length (f ++ added a)
   unfolding psegPlace
   body-whole = omega (arith, length-append f (added a), length-added a)
 

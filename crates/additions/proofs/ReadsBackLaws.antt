@@ -23,7 +23,7 @@ use Rattle.partial.specs.Segments.{Segment, endOf, chunksOf}
 use Rattle.partial.specs.Heading.{Heading, heading, fileBoxes}
 use Rattle.partial.specs.Mixed.{allowed}
 use Rattle.partial.specs.Sources.{agreed}
-use Rattle.partial.specs.Index.{Indexed, indexed}
+use Rattle.partial.specs.Index.{SourceBox, indexed}
 use Rattle.partial.specs.Reading.{segment, segmentsFrom, segments, reading, earlierSegments}
 use Rattle.additions.specs.Append.{admitted}
 use Rattle.partial.specs.Memory.{after, filled}
@@ -102,7 +102,7 @@ module _ (limit : ℕ) (f : List ℕ) (h : Heading) (ss : List Segment) (a : Add
 pub record Taken (limit : ℕ) (f : List ℕ) (h : Heading) (ss : List Segment) (a : Addition) : Type 0 where
   pub offered : Offered limit f h ss a
   pub admits : admission limit h ss (length f) a ≡ given (ss ++ (newSegment h ss (psegPlace (length f) a) a ∷ []))
-  pub index : (is : List Indexed) × (indexed limit f h (ss ++ (newSegment h ss (psegPlace (length f) a) a ∷ [])) ≡ given is)
+  pub index : (is : List SourceBox) × (indexed limit f h (ss ++ (newSegment h ss (psegPlace (length f) a) a ∷ [])) ≡ given is)
 
 -- what admission tests
 pub record Admits (limit : ℕ) (h : Heading) (ss : List Segment) (n : ℕ) (a : Addition) : Type 0 where
@@ -273,7 +273,7 @@ module _ (limit : ℕ) (f : List ℕ) (h : Heading) (ss : List Segment) (a : Add
           let head = headed f h (t .headed) in
           let lie = those-all pseg (lies n) (h .boxes) (boxes-lie File f 0 n (h .boxes) (head .boxes)) in
           let new : Segment = newSegment h ss (psegPlace n a) a in
-          indexed-kept f (added a) limit h grownHeading refl new (no-index-new h ss (psegPlace n a) a) ss (inner-lie f h head) (segments-inside limit f h old [] lie refl (read ∙ e3))
+          indexed-kept f (added a) limit h grownHeading refl refl new (no-index-new h ss (psegPlace n a) a) ss (inner-lie f h head) (segments-inside limit f h old [] lie refl (read ∙ e3))
 
       segments-added : Sayable a
           → Plain a
@@ -326,7 +326,7 @@ module _ (limit : ℕ) (f : List ℕ) (h : Heading) (ss : List Segment) (a : Add
                     ∙ rw (segments-added small says plain, le-leb size fileLimit small, le-leb many boxLimit room, le-leb (innerBoxes a) boxLimit (plain-few a plain))
                     (then-known (admitted limit ss (newSegment h ss (psegPlace (length f) a) a)) _ _ (λ ts e.
                     let same = admitted-given limit ss (newSegment h ss (psegPlace (length f) a) a) e in
-                    rw same (ap (λ (x : Answer (List Indexed)). x >>= λ _. given (ss ++ (newSegment h ss (psegPlace (length f) a) a ∷ []))) (index-added small))))
+                    rw same (ap (λ (x : Answer (List SourceBox)). x >>= λ _. given (ss ++ (newSegment h ss (psegPlace (length f) a) a ∷ []))) (index-added small))))
               ]
         ]
 

@@ -18,8 +18,8 @@ use Rattle.partial.specs.Sequences.{allOf}
 use Rattle.partial.specs.Segments.{Segment, isOpen, endOf, chunksOf}
 use Rattle.partial.specs.Heading.{Heading}
 use Rattle.partial.specs.Meaning.{givesSize, knownSize, agree}
-use Rattle.partial.specs.Sources.{ofSource, agreed}
-use Rattle.partial.specs.Index.{indexed}
+use Rattle.partial.specs.Sources.{sourceBeside, ofSource, ofUrls, agreed}
+use Rattle.partial.specs.Index.{sizeFor, indexed}
 use Rattle.partial.specs.Reading.{offsetWidth}
 use Rattle.additions.specs.Append.{admitted}
 use Rattle.additions.specs.Addition.{items, Addition, flagsFor, dataRight, textsRight, surls, outsideRight}
@@ -27,7 +27,7 @@ use Rattle.additions.specs.Append.{insideData, outsideData, anyInside, d
 use Rattle.additions.specs.Append.{pshdBody, surlBoxes, psegBody, innerBoxes, added, psegPlace, newUrls, newSegment, admission}
 use Rattle.additions.specs.Carried.{carried}
 use Rattle.partial.proofs.Meaning.SequenceLaws.{which, all-append, all-same}
-use Rattle.partial.proofs.Meaning.SourceLaws.{of-append}
+use Rattle.partial.proofs.Meaning.SourceLaws.{of-append, beside-last}
 use Rattle.partial.proofs.Reading.IndexedLaws.{indexed-alike}
 use Rattle.additions.proofs.NewSegmentLaws.{no-index-new}
 use Rattle.additions.proofs.ReadsBackLaws.{Offered, Taken, Admits, admission-of, admits}
@@ -56,15 +56,27 @@ module _ (s t : Segment) (source : s .source ≡ t .source) (ends : endOf s ≡ 
       go none = refl
       go (some n) = rw (all-append (fits n) ss (s ∷ []), all-append (fits n) ss (t ∷ []), ends, gives)
 
-  -- so do those of each source
-  of-same : (ss : List Segment) (n : ℕ) → agree (ofSource n (ss ++ (s ∷ []))) ≡ agree (ofSource n (ss ++ (t ∷ [])))
+  -- what does not tell them apart at the end of segments does not at the end of those of a source
+  of-last : {A : Type 0} (said : List Segment → A) → ((ss : List Segment) → said (ss ++ (s ∷ [])) ≡ said (ss ++ (t ∷ [])))
+      → (ss : List Segment) (n : ℕ) → said (ofSource n (ss ++ (s ∷ []))) ≡ said (ofSource n (ss ++ (t ∷ [])))
   unfolding ofSource
-  of-same ss n =
+  of-last said same ss n =
       rw (of-append n ss (s ∷ []), of-append n ss (t ∷ []))
       (elim (which (eqb (t .source) n)) [
-        | inl e ↦ rw (ofSource, source, e) (agree-same (ofSource n ss))
+        | inl e ↦ rw (ofSource, source, e) (same (ofSource n ss))
         | inr e ↦ rw (ofSource, source, e)
       ])
+
+  of-same : (ss : List Segment) (n : ℕ) → agree (ofSource n (ss ++ (s ∷ []))) ≡ agree (ofSource n (ss ++ (t ∷ [])))
+  of-same = of-last agree agree-same
+
+  -- and where each source ends
+  sizes-same : s .urls ≡ t .urls → (ss : List Segment) → sizeFor (ss ++ (s ∷ [])) ≡ sizeFor (ss ++ (t ∷ []))
+  unfolding sizeFor ofUrls
+  sizes-same urls ss = λ i us. (ap (λ (n : ℕ). knownSize (ofSource n (ss ++ (s ∷ [])))) (beside-last ss s t urls source us) ∙ known-of (sourceBeside (ss ++ (t ∷ [])) us)) i
+    where
+      known-of : (n : ℕ) → knownSize (ofSource n (ss ++ (s ∷ []))) ≡ knownSize (ofSource n (ss ++ (t ∷ [])))
+      known-of n = of-last knownSize known-same ss n
 
   agreed-same : (ss : List Segment) → agreed (ss ++ (s ∷ [])) ≡ agreed (ss ++ (t ∷ []))
   unfolding agreed allOf
@@ -110,21 +122,17 @@ module _ (a : Addition) where
   unfolding innerBoxes surls
   inner-cut = refl
 
-  pub urls-cut : (h : Heading) → newUrls h (cut a) ≡ newUrls h a
-  unfolding newUrls surls
-  urls-cut h = refl
-
   agreed-cut : (h : Heading) (ss : List Segment) (at : ℕ) → agreed (ss ++ (newSegment h ss at (cut a) ∷ [])) ≡ agreed (ss ++ (newSegment h ss at a ∷ []))
   unfolding newSegment newUrls surls endOf givesSize isOpen
   agreed-cut h ss at = agreed-same (newSegment h ss at (cut a)) (newSegment h ss at a) refl refl refl ss
 
-  -- nor does the index, for which the size of the source is the same
+  -- nor does the index, for which each source ends where it did
   pub index-cut : (limit : ℕ) (f : List ℕ) (h : Heading) (ss : List Segment) (at : ℕ)
       → indexed limit f h (ss ++ (newSegment h ss at (cut a) ∷ [])) ≡ indexed limit f h (ss ++ (newSegment h ss at a ∷ []))
   unfolding newSegment newUrls surls endOf givesSize isOpen
   index-cut limit f h ss at =
       indexed-alike limit f h ss (newSegment h ss at (cut a)) (newSegment h ss at a) (no-index-new h ss at (cut a)) (no-index-new h ss at a)
-      (known-same (newSegment h ss at (cut a)) (newSegment h ss at a) refl refl refl ss)
+      (sizes-same (newSegment h ss at (cut a)) (newSegment h ss at a) refl refl refl refl ss)
 
 module _ (limit : ℕ) (h : Heading) (ss : List Segment) (n : ℕ) (a : Addition) where
   -- the same refusals, and whatever follows that tells the two segments not apart

@@ -19,7 +19,7 @@ use Rattle.partial.specs.Limits.{fileLimit, segmentLimit, chunkLimit}
 use Rattle.partial.specs.Sequences.{allOf}
 use Rattle.partial.specs.Segments.{Segment, chunksOf}
 use Rattle.partial.specs.Heading.{Heading}
-use Rattle.partial.specs.Index.{Indexed, indexed}
+use Rattle.partial.specs.Index.{SourceBox, indexed}
 use Rattle.partial.specs.Reading.{reading}
 use Rattle.additions.specs.Append.{admitted}
 use Rattle.additions.specs.Addition.{items, Addition, sayable}
@@ -86,7 +86,7 @@ module _ (limit : ℕ) (buffer : List ℕ) (n : ℕ) (a : Addition) where
       (sym
       (passed-by (admission limit h ss n (cut a)) (indexed limit f h) last
       ∙ admission-cut limit h ss n a (λ ts. indexed limit f h ts >>= λ _. last)
-      (ap (λ (x : Answer (List Indexed)). x >>= λ _. last) (index-cut a limit f h ss (psegPlace n a)))))
+      (ap (λ (x : Answer (List SourceBox)). x >>= λ _. last) (index-cut a limit f h ss (psegPlace n a)))))
 
   -- of more chunks than `chunk_count` can say it is 22, unless 1, 6 or 13 comes before
   pub too-many : (file : Taking limit buffer n) → Sound (file .h) a → 2 ^ 16 ≤ length (items (a .list))

@@ -10,16 +10,17 @@ use mathlib.Core.Path.{_≡_}
 use lib.ListN.{length, getD}
 use lib.Dec.{T, leb}
 use Rattle.boxes.specs.Answer.{refused, given, _>>=_, hold}
-use Rattle.boxes.specs.Framing.{boxed, boxLimit}
-use Rattle.boxes.specs.Kinds.{pshd, ploc}
+use Rattle.boxes.specs.Framing.{frontSize, boxed, boxesIn, boxLimit}
+use Rattle.boxes.specs.Kinds.{pshd, ploc, surl, those}
+use Rattle.boxes.specs.declared.kinds.Container.the-variants.{Pseg}
 use Rattle.partial.specs.Limits.{fileLimit, segmentLimit, chunkLimit}
-use Rattle.partial.specs.Sequences.{sum, orElse}
+use Rattle.partial.specs.Sequences.{allOf, sum, orElse}
 use Rattle.partial.specs.Segments.{Segment, chunksOf}
 use Rattle.partial.specs.declared.brand.Brand.{Brand}
-use Rattle.partial.specs.Heading.{Heading, heading}
+use Rattle.partial.specs.Heading.{Heading, heading, surlFormed, urlsIn}
 use Rattle.partial.specs.Meaning.{describedLength, served}
-use Rattle.partial.specs.Sources.{sourceBeside, ofUrls}
-use Rattle.partial.specs.Index.{Indexed, indexed}
+use Rattle.partial.specs.Sources.{urlsFor, sourceBeside, ofUrls}
+use Rattle.partial.specs.Index.{SourceBox, indexed}
 use Rattle.partial.specs.Reading.{reading, earlierSegments}
 use Rattle.partial.specs.Memory.{written}
 use Rattle.partial.specs.ReadingDemands.{oneOf, ofIndex, ofStages, InAgreement, Demand1OfReading, Demand2OfReading, Takes}
@@ -78,6 +79,13 @@ pub record Taking (limit : ℕ) (buffer : List ℕ) (n : ℕ) : Type 0 where
   pub headed : heading (fileIn (lent buffer n)) ≡ given h
   pub before : earlierSegments limit (fileIn (lent buffer n)) ≡ given ss
 
+-- the new `pseg` in the result, where it is the last box, for any list of texts: its boxes are framed, its `surl` boxes
+-- well-formed, and the URLs of its source are those that are read of it
+pub record Framed (g : List ℕ) (h : Heading) (s : Segment) : Type 0 where
+  pub boxes : boxesIn Pseg g (s .place + frontSize) (length g) ≡ given (s .inner)
+  pub formed : T (allOf (surlFormed g) (those surl (s .inner)))
+  pub urls : urlsFor (urlsIn g (s .inner)) (h .urls) ≡ s .urls
+
 -- demand 2: in an accepted file each source byte is served or listed missing as document 01's rules say; a segment our
 -- writer adds reads back with the same chunks and bytes; writing again what was read from our writer's file gives that
 -- file
@@ -91,6 +99,11 @@ pub record Demand2 (limit : ℕ) : Type 0 where
       → a .repairTime < 2 ^ 64
       → appended limit buffer n a ≡ given size
       → reading limit (fileIn (append limit (lent buffer n) a)) ≡ given (file .ss ++ (newSegment (file .h) (file .ss) (psegPlace n a) a ∷ []))
+  -- the boxes inside
+  pub framed :
+      (buffer : List ℕ) (n : ℕ) (a : Addition) (size : ℕ) (h : Heading) (ss : List Segment)
+      → appended limit buffer n a ≡ given size
+      → Framed (fileIn (append limit (lent buffer n) a)) h (newSegment h ss (psegPlace n a) a)
   -- and those say again what was added, with the same bytes
   pub sameAgain :
       (buffer : List ℕ) (n : ℕ) (a : Addition) (size : ℕ) (h : Heading) (ss : List Segment)
@@ -160,7 +173,7 @@ pub record Acceptable (limit : ℕ) (buffer : List ℕ) (n : ℕ) (a : Addition)
   pub sound : Sound (file .h) a
   pub within : Within limit (file .h) (file .ss) n a
   pub index :
-      (is : List Indexed)
+      (is : List SourceBox)
       × (indexed limit (fileIn (lent buffer n)) (file .h) (file .ss ++ (newSegment (file .h) (file .ss) (psegPlace n a) a ∷ [])) ≡ given is)
   pub room : n + length (added a) ≤ length buffer
 

@@ -42,7 +42,7 @@ unfolding
     Meaning.supplied Meaning.placeOfByte Meaning.served Meaning.onward Meaning.servedRun Meaning.missingRun Meaning.reply
     Index.sizeBy Index.frontBy Index.indexFields Index.isKnown Index.endFrom Index.wherever Index.endRight Index.frontPart Index.listFramed
     Index.lastOrSized Index.noneFollows Index.withRest Index.inARow Index.untold Index.indexList Index.indexIn
-    Index.indexOfSegments Index.indexOf Index.hasIndex Index.indexed Index.servedOf Index.indexedSize Index.indexRow Index.indexRows
+    Index.boxesAlone Index.belonging Index.sizeFor Index.indexFor Index.indexOfSegments Index.indexOf Index.hasIndex Index.indexed Index.servedOf Index.indexedSize Index.indexRow Index.indexRows
     Ranges.joined Ranges.ranges Ranges.classOf Ranges.rangesOf Ranges.ofClass Ranges.hadList Ranges.missingList Ranges.total
     Ranges.among Ranges.apart Ranges.inRow
     Memory.fits Memory.filled Memory.after Memory.textWritten

@@ -20,8 +20,8 @@ use Rattle.partial.specs.Heading.{Part, Heading, heading, bytesIn}
 use Rattle.partial.specs.Mixed.{allowed}
 use Rattle.partial.specs.Meaning.{givesSize, describedLength, covers, supplier, supplied, chunkNo, chunkFor, served, servedRun, missingRun}
 use Rattle.partial.specs.Meaning.{reply, servedFor, missingFor, notBelow}
-use Rattle.partial.specs.Sources.{sourceCount, ofSource}
-use Rattle.partial.specs.Index.{Indexed, indexed, indexedSize}
+use Rattle.partial.specs.Sources.{sourceCount, ofSource, ofUrls}
+use Rattle.partial.specs.Index.{SourceBox, boxesAlone, indexed, indexedSize}
 use Rattle.partial.specs.IndexShape.{InOrder, ServedAsSaid}
 use Rattle.partial.specs.Reading.{segmentsFrom, reading, earlierSegments}
 use Rattle.partial.specs.Ranges.{had, rangesOf, ofClass, hadList, missingList, total, among, apart, inRow}
@@ -204,12 +204,14 @@ pub record Reaches25 (limit : ℕ) (f : List ℕ) (ss : List Segment) : Type 0 w
   pub read : segmentsFrom limit f h [] (those pseg (h .boxes)) ≡ given ss
 
 -- document 02, [7]: the boxes of an accepted file's index
-pub record Indexing (ss : List Segment) (is : List Indexed) : Type 0 where
+pub record Indexing (h : Heading) (ss : List Segment) (is : List SourceBox) : Type 0 where
   -- each before those of its own list, which lie inside it, on one of eight levels
-  pub inOrder : InOrder is
-  -- none is empty, and of each is said whether all, some or none of its positions are served
-  pub notEmpty : (i : Indexed) → List·Memᴰ i is → 0 < indexedSize i
-  pub served : (i : Indexed) → List·Memᴰ i is → ServedAsSaid ss (i .place) (indexedSize i)
+  pub inOrder : InOrder (boxesAlone is)
+  -- document 02, [8]: each belongs to the source of the list in `pfil`, or to that of a segment
+  pub owned : (i : SourceBox) → List·Memᴰ i is → (i .urls ≡ h .urls) ⊎ ((s : Segment) × List·Memᴰ s ss × (i .urls ≡ s .urls))
+  -- none is empty, and of each is said whether all, some or none of its positions are served by its source
+  pub notEmpty : (i : SourceBox) → List·Memᴰ i is → 0 < indexedSize (i .box)
+  pub served : (i : SourceBox) → List·Memᴰ i is → ServedAsSaid (ofUrls (i .urls) ss) (i .box .place) (indexedSize (i .box))
 
 -- the segments of a source of an accepted file: its sizes agree, and each source byte is served or listed missing
 pub record Mapped (f : List ℕ) (h : Heading) (ss : List Segment) : Type 0 where
@@ -295,7 +297,7 @@ pub record Demand2OfReading (limit : ℕ) : Type 0 where
   pub agrees :
       (f : List ℕ) (ss : List Segment)
       → (reading limit f ≡ given ss)
-      ↔ ((reached : Reaches25 limit f ss) × InAgreement ss × ((is : List Indexed) × (indexed limit f (reached .h) ss ≡ given is)))
+      ↔ ((reached : Reaches25 limit f ss) × InAgreement ss × ((is : List SourceBox) × (indexed limit f (reached .h) ss ≡ given is)))
   pub disagrees : (f : List ℕ) → (reading limit f ≡ refused 25) ↔ ((ss : List Segment) × Reaches25 limit f ss × (InAgreement ss → ⊥))
   -- it is 36 to 39 exactly if its sizes agree and its index has that number
   pub indexRefused :
@@ -304,11 +306,11 @@ pub record Demand2OfReading (limit : ℕ) : Type 0 where
       ↔ ((ss : List Segment) × (reached : Reaches25 limit f ss) × InAgreement ss × (indexed limit f (reached .h) ss ≡ refused n))
   -- what is told of an accepted file's index
   pub indexing :
-      (f : List ℕ) (h : Heading) (ss : List Segment) (is : List Indexed)
+      (f : List ℕ) (h : Heading) (ss : List Segment) (is : List SourceBox)
       → heading f ≡ given h
       → reading limit f ≡ given ss
       → indexed limit f h ss ≡ given is
-      → Indexing ss is
+      → Indexing h ss is
   -- the part is empty exactly when the file is refused, a table is too short or p is not supplied
   pub partEmpty :
       (f a b : List ℕ) (source p : ℕ)

@@ -13,7 +13,7 @@ use Rattle.partial.specs.Heading.{Part, heading}
 use Rattle.partial.specs.Meaning.{describedLength, isClosed, supplied, placeOfByte, servedRun, Reply, reply}
 use Rattle.partial.specs.Sources.{ofSource}
 use Rattle.partial.specs.Reading.{reading}
-use Rattle.partial.specs.Index.{Indexed, indexed, indexRows}
+use Rattle.partial.specs.Index.{SourceBox, indexed, indexRows}
 use Rattle.partial.specs.Ranges.{Range, hadList, missingList, total}
 use Rattle.partial.specs.Memory.{fits}
 
@@ -81,7 +81,7 @@ listed limit f source segmentTable chunkTable hadTable missingTable = do
 
 -- the index with its lent table: the segments and the boxes of the index. The table is left as `after` says, by
 -- `indexTable`
-unfoldable pub indexTabled : ℕ → List ℕ → List ℕ → Answer (List Segment × List Indexed)
+unfoldable pub indexTabled : ℕ → List ℕ → List ℕ → Answer (List Segment × List SourceBox)
 indexTabled limit f table = do
   ss ← reading limit f
   h ← heading f
@@ -89,11 +89,11 @@ indexTabled limit f table = do
   _ ← hold 26 (fits (indexRows ss is) table)
   given (ss, is)
 
-abbrev pub indexTable : List Segment × List Indexed → List ℕ
+abbrev pub indexTable : List Segment × List SourceBox → List ℕ
 indexTable told = indexRows (told .0) (told .1)
 
 -- what is answered of the index: how many boxes it has
-abbrev pub indexCount : List Segment × List Indexed → ℕ
+abbrev pub indexCount : List Segment × List SourceBox → ℕ
 indexCount told = length (told .1)
 
 -- what reading says of an accepted file: how many rows each table has; of a source the described length, and whether

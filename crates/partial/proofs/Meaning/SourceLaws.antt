@@ -157,6 +157,20 @@ module _ (ss : List Segment) (us : List (List ℕ)) where
   pub beside-most : sourceBeside ss us ≤ sourceCount ss
   beside-most = ⊎-elim (λ found. omega (arith, source-low ss (found .0) (found .1), found .3)) (λ none. omega (arith, none .1)) beside-found
 
+-- a last segment is told by its URLs and its number
+pub beside-last : (ss : List Segment) (s t : Segment) → s .urls ≡ t .urls → s .source ≡ t .source → (us : List (List ℕ)) → sourceBeside (ss ++ (s ∷ [])) us ≡ sourceBeside (ss ++ (t ∷ [])) us
+unfolding sourceBeside sourceAmong
+beside-last ss s t urls number us =
+    ap (λ (next : ℕ). sourceAmong next (ss ++ (s ∷ [])) us) (omega (arith, source-count-more ss s, source-count-more ss t, number)) ∙ among (sourceCount (ss ++ (t ∷ []))) ss
+  where
+    among : (next : ℕ) (ss : List Segment) → sourceAmong next (ss ++ (s ∷ [])) us ≡ sourceAmong next (ss ++ (t ∷ [])) us
+    among next [] = rw (urls, number)
+    among next (x ∷ ss) =
+        elim (which (sameUrls us (x .urls))) [
+          | inl e ↦ rw (sourceAmong, e)
+          | inr e ↦ rw (sourceAmong, e) (among next ss)
+        ]
+
 -- of a number that none has there are none, and so of one that is not below
 pub of-other : (n : ℕ) (ss : List Segment) → ((s : Segment) → List·Memᴰ s ss → s .source ≡ n → ⊥) → ofSource n ss ≡ []
 unfolding ofSource

@@ -18,7 +18,7 @@ use Rattle.partial.specs.Segments.{Segment, chunksOf}
 use Rattle.partial.specs.Heading.{Heading, heading, Part}
 use Rattle.partial.specs.Entries.{Ploc, Cursor, plocHead, entry, chunkStep, chunksFrom}
 use Rattle.partial.specs.Reading.{pshdFields, pshdRight, segment, segmentsFrom, segments, reading, earlierSegments}
-use Rattle.partial.specs.Index.{Indexed, indexOf, indexed}
+use Rattle.partial.specs.Index.{SourceBox, indexOf, indexed}
 use Rattle.partial.specs.Tables.{tabled, listed, indexTabled, servedPart, asked, textOf}
 use Rattle.partial.specs.Map.{refusedLine, textFor}
 use Rattle.partial.specs.ReadingRaised.{Kept, judgesLimit, RaisedReading}
@@ -109,7 +109,7 @@ module _ (low high : ℕ) (raised : low ≤ high) where
     index-same : (ss : List Segment) → Same (indexOf low f h ss) (indexOf high f h ss)
     index-same ss = go (indexOf low f h ss) refl
       where
-        go : (x : Answer (List Indexed)) → indexOf low f h ss ≡ x → Same (indexOf low f h ss) (indexOf high f h ss)
+        go : (x : Answer (List SourceBox)) → indexOf low f h ss ≡ x → Same (indexOf low f h ss) (indexOf high f h ss)
         go (given is) e = inl (index-raised low high raised f h ss is e ∙ sym e)
         go (refused n) e = inr (n, index-only (λ n. T (judgesLimit n)) tt low f h ss n e, e)
 
