@@ -13,6 +13,7 @@ use Rattle.boxes.proofs.ToldLaws.{Tells}
 use Rattle.sources.specs.Held.{Sourced}
 use Rattle.sources.specs.Lists.{listIn}
 use Rattle.ends.specs.Table.{sizesIn, Holds}
+use Rattle.fileindex.specs.File.{NumberedBy}
 use Rattle.gathering.specs.Numbers.{numbersOf}
 use Rattle.gathering.proofs.Determined.{OneRead, one-put, boxesAt, one-list}
 use Rattle.heading.proofs.Determined.{head-told}
@@ -103,8 +104,9 @@ one-part p q =
     λ i. ((memory i, place i), holds i)
 
 index-stages-result : OneKnown index-stages.Post
-    (λ κs args ((h, ss) : Heading × List Segment). (heading (now (args .0)) ≡ given h) × (segments sourceLimit (now (args .0)) h ≡ given ss) × HasIndexes h ss (args .1 .0) (args .1 .1 .0))
-index-stages-result κs args (h, ss) (head, known, has) x y after after′ p q = counted-told x y (p h ss head known has ∙ sym (q h ss head known has))
+    (λ κs args ((h, ss, number) : Heading × List Segment × (List (List ℕ) → ℕ)).
+    (heading (now (args .0)) ≡ given h) × (segments sourceLimit (now (args .0)) h ≡ given ss) × NumberedBy number h ss (now (args .1 .1 .1 .1 .0)) (args .1 .1 .1 .1 .1 .0) × HasIndexes h ss (args .1 .0) (args .1 .1 .0))
+index-stages-result κs args (h, ss, number) (head, known, by, has) x y after after′ p q = counted-told x y (p h ss number head known by has ∙ sym (q h ss number head known by has))
 
 earlier-of-result : OneResult earlier-of.Post
 earlier-of-result κs args x y after after′ p q = judged-told x y (p .0 ∙ sym (q .0))

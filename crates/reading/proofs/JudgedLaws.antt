@@ -13,7 +13,7 @@ use Rattle.boxes.specs.Kinds.{pseg, those, right}
 use Rattle.boxes.specs.declared.kinds.Container.the-variants.{File}
 use Rattle.boxes.proofs.AnswerLaws.{not-both, refused-same, given-same, both-given, held}
 use Rattle.partial.specs.Heading.{Heading, heading}
-use Rattle.partial.specs.Index.{Indexed, hasIndex, indexed}
+use Rattle.partial.specs.Index.{SourceBox, hasIndex, indexed}
 use Rattle.partial.specs.Limits.{segmentLimit, sourceLimit}
 use Rattle.partial.specs.Sources.{agreed}
 use Rattle.partial.specs.Reading.{segmentsFrom, segments, reading, earlierSegments}
@@ -104,6 +104,13 @@ segments-by f h e =
     let (ss, read, e) = both-given (segmentsFrom sourceLimit f h [] (those pseg (h .boxes))) _ e in
     let (_, same) = held 25 (agreed ss) _ e in
     read ∙ same
+
+-- they are not too many
+pub few-segments : (f : List ℕ) (h : Heading) {ss : List Segment} → segments sourceLimit f h ≡ given ss → length (those pseg (h .boxes)) ≤ segmentLimit
+unfolding segments
+few-segments f h e =
+    let (few, _) = held 13 (leb (length (those pseg (h .boxes))) segmentLimit) _ e in
+    leb-true (length (those pseg (h .boxes))) segmentLimit few
 
 -- what the pass over them told
 module _ (f : List ℕ) (h : Heading) (t₀ t u₀ u z n l : List ℕ) (r : Passed) (gathers : Gathers f h true t₀ t u₀ u z n l r) where
@@ -239,7 +246,7 @@ pub record Accepted (f : List ℕ) (j : Judged) : Type 0 where
   pub head : heading f ≡ given h
   pub some : right File pseg (h .boxes) ≡ true
   pub all : segments sourceLimit f h ≡ given ss
-  pub boxes : List Indexed
+  pub boxes : List SourceBox
   pub index : indexed sourceLimit f h ss ≡ given boxes
   pub facts : factsOf f h ≡ j .facts
   pub gathered : j .gathered ≡ gatheredOf ss
@@ -273,7 +280,7 @@ module _ (f : List ℕ) where
   read-refused {n} e = go (heading f) e
     where
       -- the index, then the segments, then 12
-      last : (h : Heading) (ss : List Segment) (x : Answer (List Indexed))
+      last : (h : Heading) (ss : List Segment) (x : Answer (List SourceBox))
           → _>>=_ {B = Judged} (x >>= λ is. given (length is)) (λ n. given (record { facts = factsOf f h; gathered = gatheredOf ss; index = n })) ≡ refused n
           → _>>=_ {B = List Segment} x (λ _. given ss) ≡ refused n
       last h ss (refused m) e = ap refused (refused-same e)
@@ -299,10 +306,7 @@ module _ (f : List ℕ) where
 
     -- as the pass over its segments is told of it
     pub read-opened : Opened f (j .facts .mixed) (j .facts .list) (a .h)
-    unfolding segments
-    read-opened =
-        let (few, _) = held 13 (leb (length (those pseg (a .h .boxes))) segmentLimit) _ (a .all) in
-        opened f (a .h) (a .head) (a .facts) (leb-true (length (those pseg (a .h .boxes))) segmentLimit few)
+    read-opened = opened f (a .h) (a .head) (a .facts) (few-segments f (a .h) (a .all))
 
     pub read-segments : segmentsBy f (a .h) ≡ given (a .ss)
     read-segments = segments-by f (a .h) (a .all)

@@ -3,21 +3,19 @@ use crate::indexed::index_stages;
 use boxes::kinds::Container;
 use boxes::kinds::PSEG;
 use ends::table::ALL_SIZES;
-use ends::table::ONE_SOURCE;
 use ends::table::all_agree;
-use ends::table::sizes_at;
 use gathering::gathered::Gathered;
 use gathering::pass::Passed;
 use gathering::pass::pass;
 use heading::answers::Head;
 use heading::answers::Headed;
 use heading::stages::heading_of;
-use indexing::end::End;
 use partial::answers::Counted;
 use partial::limits::SEGMENT_LIMIT;
 use partial::refusals::NO_SEGMENT;
 use partial::refusals::SIZES_DIFFER;
 use partial::refusals::TOO_MANY_SEGMENTS;
+use sources::find::source_of;
 use sources::lists::ALL_LISTS;
 use sources::numbers::ALL_SOURCES;
 use tallying::rules::keeps;
@@ -31,7 +29,6 @@ ghost use Rattle.partial.specs.Heading.{Heading, heading};
 ghost use Rattle.partial.specs.Limits.{sourceLimit};
 ghost use Rattle.partial.specs.Reading.{segments, reading, earlierSegments};
 ghost use Rattle.partial.specs.Segments.{Segment};
-ghost use Rattle.ends.specs.Table.{Holds};
 ghost use Rattle.heading.specs.Facts.{factsOf, factsBy};
 ghost use Rattle.gathering.specs.Gathered.{gatheredOf};
 ghost use Rattle.gathering.specs.Step.{Noted};
@@ -100,19 +97,22 @@ fn segments_of(
 }
 
 // What a file says of which stages 1 to 25 are passed: 36 to 39 are those of its index.
-fn with_index(file: &[u8], head: Head, gathered: Gathered, sizes: &[u64; ALL_SIZES]) -> Judgement
+fn with_index(
+    file: &[u8],
+    head: Head,
+    gathered: Gathered,
+    sizes: &[u64; ALL_SIZES],
+    sources: &[u64; ALL_SOURCES],
+    lists: &[u64; ALL_LISTS],
+) -> Judgement
     ensures { λ r. ⌜ ((h : Heading) (ss : List Segment) → heading (now (file .entry)) ≡ given h
         → factsOf (now (file .entry)) h ≡ factsBy head → segments sourceLimit (now (file .entry)) h ≡ given ss
-        → gathered ≡ gatheredOf ss → Holds (now (sizes .entry)) ss
+        → gathered ≡ gatheredOf ss → Noted (now (file .entry)) h (now (sizes .entry)) (now (sources .entry)) (now (lists .entry)) ss
         → judgedAnswer r ≡ judgedIn (now (file .entry)) h) ⌝ }
 {
-    let said = sizes_at(sizes, ONE_SOURCE);
-    let at = said.size;
-    let size = End {
-        known: said.known,
-        at,
-    };
-    match index_stages(file, head.indexed, gathered.indexed, size) {
+    let list = head.list;
+    let source = source_of(file, lists, gathered.sources, list);
+    match index_stages(file, head.indexed, gathered.indexed, sizes, sources, source) {
         Counted::Refused(n) => Judgement::Refused(n),
         Counted::Rows(index) => Judgement::Given(Judged {
             head,
@@ -156,7 +156,7 @@ pub fn earlier_of(
                         index: 0,
                     });
                 }
-                with_index(file, head, gathered, sizes)
+                with_index(file, head, gathered, sizes, sources, lists)
             }
         },
     }
@@ -186,7 +186,7 @@ pub fn judge_into(
             }
             match segments_of(file, head, rows, numbers, sizes, sources, lists) {
                 Passed::Refused(n) => Judgement::Refused(n),
-                Passed::Given(gathered) => with_index(file, head, gathered, sizes),
+                Passed::Given(gathered) => with_index(file, head, gathered, sizes, sources, lists),
             }
         }
     }

@@ -67,14 +67,14 @@ returns-3 c =
 
 returns-4 : tie.Need-returns-4
 returns-4 c =
-    let left = c .before .before in
+    let left = c .before .before .before .before in
     let read = left .before .before in
     let met = read .before .before .before .before .before .before .before .before .before .before .before .before in
     let (h, known, same) = heading-found _ (met .before .before .heading-of .ensures) (met .head .given .1) in
     let rule = left .before .has-segment .ensures _ h same in
     let (answer, _, noted) = read .before .before .before .before .before .segments-of .ensures h known same in
     let (ss, all, of) = gathered-known _ h (answer-given answer (read .before .gathered .given .1)) in
-    (c .with-index .ensures h ss known same all of (noted ss all .sizes) ∙ sym (earlier-by _ known (sym rule ∙ not-false _ (left .if1 .left))), kept-earlier _ h known (noted-sized _ h known noted), kept-earlier _ h known (noted-sourced _ h known noted))
+    (c .with-index .ensures h ss known same all of (noted ss all) ∙ sym (earlier-by _ known (sym rule ∙ not-false _ (left .if1 .left))), kept-earlier _ h known (noted-sized _ h known noted), kept-earlier _ h known (noted-sourced _ h known noted))
 
 pub earlier-of-spec : {M : Type 1} → statement M
 earlier-of-spec =

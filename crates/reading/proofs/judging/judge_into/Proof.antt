@@ -72,7 +72,7 @@ same-length-4 c = search needs
 
 returns-4 : tie.Need-returns-4
 returns-4 c =
-    let left = c .before .before in
+    let left = c .before .before .before .before in
     let kept = left .before .before .before .before .before .before .before .before .before .before .before .before .before in
     let met = kept .before .before .before in
     let (h, known, same) = heading-found _ (met .before .before .heading-of .ensures) (met .head .given .1) in
@@ -80,7 +80,7 @@ returns-4 c =
     let (answer, rows, noted) = left .before .before .before .before .before .before .before .segments-of .ensures h known same in
     let by = reading-by _ known (sym rule ∙ not-false _ (kept .if1 .left)) in
     let (ss, all, of) = gathered-known _ h (answer-given answer (left .before .gathered .given .1)) in
-    (c .with-index .ensures h ss known same all of (noted ss all .sizes) ∙ sym by, kept-read _ h known rows, kept-read _ h known (noted-sized _ h known noted), kept-read _ h known (noted-sourced _ h known noted))
+    (c .with-index .ensures h ss known same all of (noted ss all) ∙ sym by, kept-read _ h known rows, kept-read _ h known (noted-sized _ h known noted), kept-read _ h known (noted-sourced _ h known noted))
 
 pub judge-into-spec : {M : Type 1} → statement M
 judge-into-spec =
