@@ -1,6 +1,6 @@
 -- Laws of the index of a file: by its containers in file order; and for those who ask for it of a file that was read,
 -- or of one that was only begun and gets its first segment.
-use Prim.Native.Nat.{ℕ}
+use Prim.Native.Nat.{ℕ, _≤_}
 use mathlib.Core.Bool.{Bool, true, false}
 use mathlib.Core.List.{List, [], _∷_, map, List·Memᴰ, List·Memᴰ·head, List·Memᴰ·tail}
 use mathlib.Core.Option.{Option, none, some, Option·getD}
@@ -13,13 +13,15 @@ use Rattle.boxes.specs.declared.kinds.Container.the-variants.{File, Pseg}
 use Rattle.boxes.proofs.KindLaws.{few-right}
 use Rattle.partial.specs.Heading.{Heading, heading}
 use Rattle.partial.specs.Index.{SourceBox, belonging, sizeFor, indexFor, indexOfSegments, indexOf}
-use Rattle.partial.specs.Limits.{sourceLimit}
+use Rattle.partial.specs.Limits.{segmentLimit, sourceLimit}
 use Rattle.partial.specs.Meaning.{knownSize, isClosed}
 use Rattle.partial.specs.Reading.{segments}
 use Rattle.partial.specs.Segments.{Segment}
-use Rattle.partial.specs.Sources.{sourceBeside, ofSource, ofUrls}
-use Rattle.partial.proofs.Meaning.SourceLaws.{beside-there}
+use Rattle.partial.specs.Sequences.{largest}
+use Rattle.partial.specs.Sources.{sourceCount, sourceBeside, ofSource, ofUrls}
+use Rattle.partial.proofs.Meaning.SourceLaws.{beside-most, count-most, beside-there}
 use Rattle.partial.proofs.Reading.IndexedLaws.{index-none}
+use Rattle.partial.proofs.Reading.LimitLaws.{segments-limited}
 use Rattle.partial.proofs.Reading.NumberedLaws.{segments-numbered}
 use Rattle.partial.proofs.Reading.RefusalLaws.{no-segments}
 use Rattle.ends.specs.Sizes.{sizesOf}
@@ -37,8 +39,8 @@ module _ (f : List ℕ) (h : Heading) (size : List (List ℕ) → Option ℕ) wh
   unfolding indexBy indexOfParts
   by-parts ss = rw (parts-segments f size ss)
 
-  pub tells-file : (ss : List Segment) (t₀ t : List ℕ) (r : FileIndex) → Tells (indexOfParts f size (partsOf h ss)) t₀ t r → Tells (indexBy f h size ss) t₀ t r
-  tells-file ss t₀ t r told = subst (λ (x : Answer (List SourceBox)). Tells x t₀ t r) (by-parts ss) told
+  pub tells-file : (number : List (List ℕ) → ℕ) (ss : List Segment) (t₀ t : List ℕ) (r : FileIndex) → Tells number (indexOfParts f size (partsOf h ss)) t₀ t r → Tells number (indexBy f h size ss) t₀ t r
+  tells-file number ss t₀ t r told = subst (λ (x : Answer (List SourceBox)). Tells number x t₀ t r) (by-parts ss) told
 
   -- where each source ends as the segments say it
   pub by-segments : (ss : List Segment) → size ≡ sizeFor ss → indexBy f h size ss ≡ indexOf sourceLimit f h ss
@@ -75,20 +77,24 @@ map-each p q (s ∷ ss) same = ap₂ _∷_ (same s (List·Memᴰ·head refl)) (m
 -- what the answer says to those who ask
 module _ (f sizes sources : List ℕ) (inPfil : ℕ) (t₀ t : List ℕ) (r : FileIndex) (h : Heading) (head : heading f ≡ given h)
     (promise : (h : Heading) (ss : List Segment) (number : List (List ℕ) → ℕ) → heading f ≡ given h → segments sourceLimit f h ≡ given ss → NumberedBy number h ss sources inPfil
-    → Tells (indexBy f h (λ us. endIn sizes (number us)) ss) t₀ t r) where
+    → Tells number (indexBy f h (λ us. endIn sizes (number us)) ss) t₀ t r) where
   -- of a file whose segments were read
   pub told-read : (ss : List Segment) → segments sourceLimit f h ≡ given ss → Holds sizes ss → SourcesHeld sources ss → inPfil ≡ sourceBeside ss (h .urls)
-      → Tells (indexOf sourceLimit f h ss) t₀ t r
+      → Tells (sourceBeside ss) (indexOf sourceLimit f h ss) t₀ t r
   told-read ss read ends held first =
       let numbered = segments-numbered sourceLimit f h read in
       let numbers = map-each (λ s. s .source) (λ s. sourceBeside ss (s .urls)) ss (λ s there. sym (beside-there ss numbered s there)) in
-      subst (λ (x : Answer (List SourceBox)). Tells x t₀ t r) (by-segments f h _ ss (ends-held sizes ss ends))
-      (promise h ss (sourceBeside ss) head read (record { pfil = first; segments = held .numbers ∙ numbers }))
+      let small : (us : List (List ℕ)) → sourceBeside ss us ≤ segmentLimit =
+      λ us. omega (arith, beside-most ss us, count-most ss numbered, segments-limited sourceLimit f h read) in
+      subst (λ (x : Answer (List SourceBox)). Tells (sourceBeside ss) x t₀ t r) (by-segments f h _ ss (ends-held sizes ss ends))
+      (promise h ss (sourceBeside ss) head read (record { small = small; pfil = first; segments = held .numbers ∙ numbers }))
 
   -- of a file that was only begun, to which a segment without an index is added
-  pub told-begun : (s : Segment) → right File pseg (h .boxes) ≡ false → those fidx (s .inner) ≡ [] → Holds sizes (s ∷ []) → inPfil ≡ sourceBeside (s ∷ []) (h .urls)
-      → Tells (indexOf sourceLimit f h (s ∷ [])) t₀ t r
-  told-begun s begun lacks ends first =
+  pub told-begun : (s : Segment) → right File pseg (h .boxes) ≡ false → those fidx (s .inner) ≡ [] → Holds sizes (s ∷ []) → s .source ≡ 0 → inPfil ≡ sourceBeside (s ∷ []) (h .urls)
+      → Tells (sourceBeside (s ∷ [])) (indexOf sourceLimit f h (s ∷ [])) t₀ t r
+  unfolding sourceCount largest
+  told-begun s begun lacks ends zero first =
+      let small : (us : List (List ℕ)) → sourceBeside (s ∷ []) us ≤ segmentLimit = λ us. omega (arith, beside-most (s ∷ []) us, zero) in
       let by = by-first f h _ s lacks ∙ by-segments f h _ (s ∷ []) (ends-held sizes (s ∷ []) ends) in
-      subst (λ (x : Answer (List SourceBox)). Tells x t₀ t r) by
-      (promise h [] (sourceBeside (s ∷ [])) head (no-segments sourceLimit f h begun) (record { pfil = first; segments = refl }))
+      subst (λ (x : Answer (List SourceBox)). Tells (sourceBeside (s ∷ [])) x t₀ t r) by
+      (promise h [] (sourceBeside (s ∷ [])) head (no-segments sourceLimit f h begun) (record { small = small; pfil = first; segments = refl }))

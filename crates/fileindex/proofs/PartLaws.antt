@@ -3,7 +3,7 @@ use Prim.Native.Nat.{ℕ, suc, _≤_}
 use mathlib.Core.Bool.{Bool, true, false, false≢true}
 use mathlib.Core.List.{List, [], _∷_, _++_, map, append-assoc, append-nil}
 use mathlib.Core.Option.{Option}
-use mathlib.Core.Path.{_≡_, refl, sym, ap, subst, _∙_}
+use mathlib.Core.Path.{_≡_, refl, sym, ap, ap₂, subst, _∙_}
 use native.Mathlib.Omega.{arith}
 use borrow.Author.Tests.{eqb-true, ne-eqb}
 use Rattle.boxes.specs.Answer.{Answer, refused, given, _>>=_}
@@ -11,22 +11,25 @@ use Rattle.boxes.specs.Framing.{Box, boxesIn, boxOf}
 use Rattle.boxes.specs.Kinds.{pfil, pseg, is}
 use Rattle.boxes.specs.declared.framing.Framed.{Framed}
 use Rattle.boxes.specs.declared.kinds.Kind.{Kind}
+use Rattle.boxes.proofs.AnswerLaws.{both-given, given-same}
 use Rattle.boxes.proofs.KindLaws.{is-eqb}
 use Rattle.boxes.specs.declared.kinds.Container.{Container}
 use Rattle.boxes.specs.declared.kinds.Container.the-variants.{Pfil}
 use Rattle.partial.specs.Heading.{Heading}
-use Rattle.partial.specs.Index.{Indexed, SourceBox, boxesAlone, belonging, indexFor, indexOfSegments}
+use Rattle.partial.specs.Index.{Indexed, SourceBox, boxesAlone, belonging, indexIn, indexFor, indexOfSegments}
 use Rattle.partial.specs.Limits.{sourceLimit}
 use Rattle.partial.specs.Segments.{Segment}
 use Rattle.indexing.specs.Index.{Contained, Indexes, CountedIn}
-use Rattle.indexing.specs.Marks.{Marked}
+use Rattle.indexing.specs.Marks.{shown, Marked}
 use Rattle.indexing.specs.declared.index.IndexRead.{IndexRead}
 use Rattle.indexing.specs.declared.index.IndexRead.the-variants.{Refused, Given}
 use Rattle.indexing.specs.declared.marks.Marks.{Marks}
 use Rattle.partial.proofs.Reading.IndexedLaws.{belonging-alone}
 use Rattle.sources.specs.Numbers.{sourceIn}
 use Rattle.indexing.proofs.MarksLaws.{marked-none}
-use Rattle.fileindex.specs.Parts.{SegmentOf, Part, partIn, segmentPart, indexOfParts, Sourcing, Holds, file, segment, other, segmentsWith, EndsAs, InFile, Adds}
+use Rattle.fileindex.specs.File.{sourceRows, rowsBy}
+use Rattle.fileindex.proofs.SourceRowLaws.{by-append, by-one, shown-rows}
+use Rattle.fileindex.specs.Parts.{SegmentOf, Part, partIn, segmentPart, indexOfParts, Sourcing, Holds, file, segment, other, segmentsWith, SourcesAs, SourceIs, EndsAs, InFile, Adds}
 
 -- the containers of a file, in file order
 abbrev pub partsOf : Heading → List Segment → List Part
@@ -79,17 +82,22 @@ module _ {f : List ℕ} {x : Sourcing} {k : ℕ} {b : Box} where
   holds-none (segment not-file kind known number) e none = absurd (false≢true (sym none ∙ kind))
   holds-none (other not-file lacks) e none = refl
 
-  -- where its source ends, by the number of that: the segment's, or that of the list in `pfil`
-  module _ (size : ℕ → Option ℕ) (end : Option ℕ) where
-    pub ends-segment : {ps : List Part} → Holds f x k b ps → is pseg b ≡ true → end ≡ size (sourceIn (x .sources) k) → EndsAs (λ us. size (x .number us)) end ps
-    ends-segment (file kind known number) there e = absurd (false≢true (sym (other-kind pfil pseg b kind (λ same. omega arith)) ∙ there))
-    ends-segment (segment not-file kind known number) there e = (e ∙ ap size number, tt)
-    ends-segment (other not-file none) there e = tt
+  -- the number of its source: the segment's, or that of the list in `pfil`
+  pub sources-segment : {ps : List Part} → Holds f x k b ps → is pseg b ≡ true → {source : ℕ} → source ≡ sourceIn (x .sources) k → SourceIs (x .number) (x .inPfil) source ps
+  sources-segment (file kind known number) there e = absurd (false≢true (sym (other-kind pfil pseg b kind (λ same. omega arith)) ∙ there))
+  sources-segment (segment {s = s} not-file kind known number) there e = record { each = (e ∙ number, tt); most = λ n low all. omega (arith, e, number, all (s .urls)) }
+  sources-segment (other not-file none) there e = absurd (false≢true (sym none ∙ there))
 
-    pub ends-file : {ps : List Part} → Holds f x k b ps → is pseg b ≡ false → end ≡ size (x .inPfil) → EndsAs (λ us. size (x .number us)) end ps
-    ends-file (file kind known number) lacks e = (e ∙ ap size number, tt)
-    ends-file (segment not-file kind known number) lacks e = absurd (false≢true (sym lacks ∙ kind))
-    ends-file (other not-file none) lacks e = tt
+  pub sources-file : {ps : List Part} → Holds f x k b ps → is pseg b ≡ false → SourceIs (x .number) (x .inPfil) (x .inPfil) ps
+  sources-file (file kind known number) lacks = record { each = (number, tt); most = λ n low all. low }
+  sources-file (segment not-file kind known number) lacks = absurd (false≢true (sym lacks ∙ kind))
+  sources-file (other not-file none) lacks = record { each = tt; most = λ n low all. low }
+
+-- where its source ends, by its number
+pub ends-as : (number : List (List ℕ) → ℕ) (source : ℕ) (size : ℕ → Option ℕ) (end : Option ℕ) (ps : List Part) → SourcesAs number source ps → end ≡ size source
+    → EndsAs (λ us. size (number us)) end ps
+ends-as number source size end [] same e = tt
+ends-as number source size end (p ∷ ps) (here, same) e = (e ∙ ap size here, ends-as number source size end ps same e)
 
 -- ---- what is known where its boxes are read
 
@@ -120,6 +128,21 @@ module _ (f : List ℕ) (size : List (List ℕ) → Option ℕ) where
       go (given a) (refused n) z e = rw e
       go (given a) (given b) (refused n) e = rw e
       go (given a) (given b) (given c) e = rw e (ap given (sym (append-assoc a b c)))
+
+  -- the rows of containers of one source
+  pub parts-rows : (number : List (List ℕ) → ℕ) (source : ℕ) (ps : List Part) → SourcesAs number source ps → {is : List SourceBox} → indexOfParts f size ps ≡ given is
+      → rowsBy number is ≡ sourceRows source (shown (boxesAlone is))
+  unfolding indexOfParts indexFor rowsBy boxesAlone sourceRows shown
+  parts-rows number source [] same e = subst (λ (is : List SourceBox). rowsBy number is ≡ sourceRows source (shown (boxesAlone is))) (given-same e) refl
+  parts-rows number source (p ∷ ps) (here, same) e =
+      let (first, one, e1) = both-given (indexFor sourceLimit f size (p .urls) (p .container) (p .inner) (p .from)) _ e in
+      let (later, rest, e2) = both-given (indexOfParts f size ps) _ e1 in
+      let (boxes, _, e3) = both-given (indexIn sourceLimit f (p .container) (p .inner) (size (p .urls)) (p .from)) _ one in
+      let own : rowsBy number first ≡ sourceRows source (shown (boxesAlone first)) =
+      subst (λ (is : List SourceBox). rowsBy number is ≡ sourceRows source (shown (boxesAlone is))) (given-same e3)
+      (by-one number (p .urls) boxes ∙ ap₂ (λ (n : ℕ) (is : List Indexed). sourceRows n (shown is)) (sym here) (sym (belonging-alone (p .urls) boxes))) in
+      subst (λ (is : List SourceBox). rowsBy number is ≡ sourceRows source (shown (boxesAlone is))) (given-same e2)
+      (by-append number first later ∙ ap₂ _++_ own (parts-rows number source ps same rest) ∙ sym (shown-rows source first later))
 
   -- of segments
   pub parts-segments : (ss : List Segment) → indexOfParts f size (map segmentPart ss) ≡ indexOfSegments sourceLimit f size ss

@@ -69,6 +69,16 @@ pub data Holds (f : List ℕ) (x : Sourcing) (k : ℕ) (b : Box) : List Part →
 unfoldable pub segmentsWith : Box → ℕ → ℕ
 segmentsWith b k = elim (is pseg b) [ true ↦ suc k | false ↦ k ]
 
+-- the number of the source of containers
+abbrev pub SourcesAs : (List (List ℕ) → ℕ) → ℕ → List Part → Type 0
+SourcesAs number source [] = Unit {0}
+SourcesAs number source (p ∷ ps) = (source ≡ number (p .urls)) × SourcesAs number source ps
+
+-- so it is told, and it is no higher than the numbers that are known
+pub record SourceIs (number : List (List ℕ) → ℕ) (inPfil source : ℕ) (ps : List Part) : Type 0 where
+  pub each : SourcesAs number source ps
+  pub most : (n : ℕ) → inPfil ≤ n → ((us : List (List ℕ)) → number us ≤ n) → source ≤ n
+
 -- where the sources of containers end, by a size of each
 abbrev pub EndsAs : (List (List ℕ) → Option ℕ) → Option ℕ → List Part → Type 0
 EndsAs size end [] = Unit {0}

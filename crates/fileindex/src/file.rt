@@ -1,7 +1,9 @@
 // The pass over the boxes of a file whose heading and segments are known to be right.
-use crate::parts::end_at;
+use crate::parts::end_of;
 use crate::parts::index_at;
+use crate::parts::put_source;
 use crate::parts::segments_with;
+use crate::parts::source_of;
 use boxes::kinds::Container;
 use boxes::walk::Step;
 use boxes::walk::Walk;
@@ -35,7 +37,7 @@ const NO_MARKS: Marks = Marks {
 
 // The index of a file whose heading and segments are known to be right: that in `pfil`, from the first byte of its
 // source on, and those in segments, each from its `source_byte_offset` on; each by where its source ends, told by the
-// source's number. Its rows in a table that has room for them, but for what is served.
+// source's number. Its rows in a table that has room for them, each with that number for what is served.
 pub fn index_of(
     file: &[u8],
     sizes: &[u64; ALL_SIZES],
@@ -45,7 +47,7 @@ pub fn index_of(
 ) -> FileIndex
     ensures { λ r. ⌜ ((h : Heading) (ss : List Segment) (number : List (List ℕ) → ℕ) → heading (now (file .entry)) ≡ given h
         → segments sourceLimit (now (file .entry)) h ≡ given ss → NumberedBy number h ss (now (sources .entry)) in_pfil
-        → Tells (indexBy (now (file .entry)) h (λ us. endIn (now (sizes .entry)) (number us)) ss)
+        → Tells number (indexBy (now (file .entry)) h (λ us. endIn (now (sizes .entry)) (number us)) ss)
         (now (table .entry)) (now (table .exit)) r) ⌝ }
 {
     let mut walk = Walk::new(Container::File, Place(0), Place(file.len() as u64));
@@ -55,11 +57,15 @@ pub fn index_of(
         match walk.step(file) {
             Step::Next(b, next) => {
                 walk = next;
-                let size = end_at(b, segments, sizes, sources, in_pfil);
+                let source = source_of(b, segments, sources, in_pfil);
+                let size = end_of(sizes, source);
                 segments = segments_with(b, segments);
                 match index_at(file, b, size, marks, table) {
                     IndexRead::Refused(n) => return FileIndex::Refused(n),
-                    IndexRead::Given(_, more) => marks = more,
+                    IndexRead::Given(_, more) => {
+                        put_source(table, marks.count, more.count, source);
+                        marks = more;
+                    }
                 }
             }
             Step::End => return FileIndex::Given(marks),

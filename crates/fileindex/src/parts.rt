@@ -12,8 +12,10 @@ use indexing::end::End;
 use indexing::index::IndexRead;
 use indexing::index::index_in;
 use indexing::marks::Marks;
+use numerals::order::smaller;
 use numerals::order::sum_of;
 use partial::position::Position;
+use partial::rows::INDEX_ROW;
 use sources::numbers::ALL_SOURCES;
 use sources::numbers::source_at;
 use tallying::find::first_of;
@@ -26,8 +28,8 @@ ghost use Rattle.partial.specs.Limits.{fileLimit};
 ghost use Rattle.partial.specs.Segments.{Segment};
 ghost use Rattle.indexing.specs.Ends.{endOf};
 ghost use Rattle.indexing.specs.Index.{CountedIn};
-ghost use Rattle.fileindex.specs.File.{endIn};
-ghost use Rattle.fileindex.specs.Parts.{SegmentOf, Part, indexOfParts, Sourcing, Holds, segmentsWith, EndsAs, InFile, Adds};
+ghost use Rattle.fileindex.specs.File.{endIn, SourcePut};
+ghost use Rattle.fileindex.specs.Parts.{SegmentOf, Part, indexOfParts, Sourcing, Holds, segmentsWith, SourceIs, EndsAs, InFile, Adds};
 
 // How many segments there are with a box, in a file.
 pub(crate) fn segments_with(b: Framed, segments: u64) -> u64
@@ -40,7 +42,7 @@ pub(crate) fn segments_with(b: Framed, segments: u64) -> u64
 }
 
 // Where a source ends, by its number.
-fn end_of(sizes: &[u64; ALL_SIZES], source: u64) -> End
+pub(crate) fn end_of(sizes: &[u64; ALL_SIZES], source: u64) -> End
     ensures { λ r. ⌜ endOf r ≡ endIn (now (sizes .entry)) source ⌝ }
 {
     let said = sizes_at(sizes, source);
@@ -51,23 +53,31 @@ fn end_of(sizes: &[u64; ALL_SIZES], source: u64) -> End
     }
 }
 
-// Where the source of the index in a box of the file ends, behind so many segments: that of the list in `pfil`, or that
-// of the segment.
-pub(crate) fn end_at(
-    b: Framed,
-    segments: u64,
-    sizes: &[u64; ALL_SIZES],
-    sources: &[u64; ALL_SOURCES],
-    in_pfil: u64,
-) -> End
+// The number of the source of the index in a box of the file, behind so many segments: that of the list in `pfil`, or
+// that of the segment.
+pub(crate) fn source_of(b: Framed, segments: u64, sources: &[u64; ALL_SOURCES], in_pfil: u64) -> u64
     ensures { λ r. ⌜ ((f : List ℕ) (number : List (List ℕ) → ℕ) (ps : List Part)
         → Holds f (record { number = number; sources = now (sources .entry); inPfil = in_pfil }) segments (boxOf b) ps
-        → EndsAs (λ us. endIn (now (sizes .entry)) (number us)) (endOf r) ps) ⌝ }
+        → SourceIs number in_pfil r ps) ⌝ }
 {
     if b.kind == PSEG.code {
-        return end_of(sizes, source_at(sources, segments));
+        return source_at(sources, segments);
     }
-    end_of(sizes, in_pfil)
+    in_pfil
+}
+
+// Puts the number of their source into the rows from one number up to another, where the table has them, behind the
+// three that say what is served.
+pub(crate) fn put_source(table: &mut [u64], from: u64, to: u64, source: u64)
+    ensures { λ _. ⌜ SourcePut from to source (now (table .entry)) (now (table .exit)) ⌝ }
+{
+    let end = smaller(to, table.len() as u64 / INDEX_ROW);
+    let mark = sum_of(source, 3);
+    let mut i = from;
+    while i < end {
+        table[(INDEX_ROW * i + 4) as usize] = mark;
+        i += 1;
+    }
 }
 
 // Where the segment of a `pseg` box starts in the source.
