@@ -1,3 +1,4 @@
 pub mod ListLaws
 pub mod ManyLaws
 pub mod CallsLaws
+pub mod Determined
