@@ -36,7 +36,7 @@ use Rattle.gathering.proofs.pass.pass.Reads as pass
 
 -- where something is known, a contract allows one value of what is read by it of that which the call leaves behind
 module _ {L : Type 0} {A R E : L → Type 0} (post : (κs : L) → A κs → R κs → E κs → Type 0) where
-  abbrev OneRead : {X Y : Type 0} → ((κs : L) → A κs → X → Type 0) → ((κs : L) → A κs → E κs → X → Y) → Type 0
+  abbrev pub OneRead : {X Y : Type 0} → ((κs : L) → A κs → X → Type 0) → ((κs : L) → A κs → E κs → X → Y) → Type 0
   OneRead {X} known of =
       (κs : L) (args : A κs) (what : X) → known κs args what → (x y : R κs) (after after′ : E κs)
       → post κs args x after
@@ -82,10 +82,10 @@ pass-sources κs args (h, ss) (opened, read) x y after after′ p q =
     rows-put _ h _ _ _ _ x (p h opened) read .2 .sourced .sources .numbers ∙ sym (rows-put _ h _ _ _ _ y (q h opened) read .2 .sourced .sources .numbers)
 
 -- the boxes where the list of a source stands
-abbrev boxesAt : List ℕ → Body → Answer (List Box)
+abbrev pub boxesAt : List ℕ → Body → Answer (List Box)
 boxesAt f list = boxesIn (list .container) f (list .start .0) (list .end .0)
 
-one-list : {f : List ℕ} {h : Heading} {ss : List Segment} {n : ℕ} {list list′ : Body} → ListHeld f h ss n list → ListHeld f h ss n list′ → boxesAt f list ≡ boxesAt f list′
+pub one-list : {f : List ℕ} {h : Heading} {ss : List Segment} {n : ℕ} {list list′ : Body} → ListHeld f h ss n list → ListHeld f h ss n list′ → boxesAt f list ≡ boxesAt f list′
 one-list {h = h} p q =
     let same : p .first ≡ q .first = cc (p .leads, q .leads) in
     p .stands .boxes ∙ ap (λ (s : Segment). given (listBoxes h s)) same ∙ sym (q .stands .boxes)
