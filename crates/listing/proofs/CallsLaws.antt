@@ -4,7 +4,7 @@ use Prim.Native.Nat.{ℕ, _*_, _/_, _<_, _≤_}
 use mathlib.Core.Bool.{true, false, _&&_, and-false}
 use mathlib.Core.List.{List}
 use mathlib.Core.Logic.{inl, inr}
-use mathlib.Core.Path.{_≡_, refl, ap, _∙_}
+use mathlib.Core.Path.{_≡_, refl, sym, ap, subst, _∙_}
 use native.Mathlib.Omega.{arith}
 use borrow.Author.Tests.{leb-true, leb-false, le-leb, lt-leb}
 use lib.Dec.{leb}
@@ -25,7 +25,7 @@ use Rattle.gathering.proofs.RowLaws.{put-filled}
 use Rattle.spans.specs.Files.{Spanned}
 use Rattle.spans.specs.Spans.{classBy}
 use Rattle.sweeping.proofs.RangeLaws.{ranges-same}
-use Rattle.listing.specs.Calls.{Counted, roomy, Leaves}
+use Rattle.listing.specs.Calls.{Counted, roomy, Leaves, Listing}
 use Rattle.listing.specs.Lists.{Lists}
 use Rattle.listing.specs.declared.lists.Totals.{Totals}
 use Rattle.listing.proofs.ListLaws.{range-rows-long}
@@ -139,6 +139,10 @@ module _ (f : List ℕ) (source : ℕ) (a b c d : List ℕ) where
   unfolding listed
   listed-refused e = rw e
 
-  pub listed-roomy : {ss : List Segment} → tabled sourceLimit f a b ≡ given ss → listed sourceLimit f source a b c d ≡ roomy source ss c d
+  listed-roomy : {ss : List Segment} → tabled sourceLimit f a b ≡ given ss → listed sourceLimit f source a b c d ≡ roomy source ss c d
   unfolding listed roomy
   listed-roomy e = rw e
+
+  pub listing-roomy : {a′ b′ c′ d′ : List ℕ} {r : Listed} {ss : List Segment} → tabled sourceLimit f a b ≡ given ss → Leaves (roomy source ss c d) source a a′ b b′ c c′ d d′ r
+      → Listing f source a a′ b b′ c c′ d d′ r
+  listing-roomy {a′} {b′} {c′} {d′} {r} read leaves = subst (λ (x : Answer (List Segment)). Leaves x source a a′ b b′ c c′ d d′ r) (sym (listed-roomy read)) leaves

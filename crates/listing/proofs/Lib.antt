@@ -1,3 +1,5 @@
 pub mod ListLaws
 pub mod ManyLaws
 pub mod CallsLaws
+pub mod Determined
+pub mod ToldLaws

@@ -12,16 +12,12 @@ use Rattle.partial.specs.Memory.{fits, after}
 use Rattle.partial.specs.Ranges.{hadList, missingList, total}
 use Rattle.partial.specs.Segments.{Segment, chunksOf}
 use Rattle.partial.specs.Sources.{ofSource}
-use Rattle.partial.specs.Tables.{segmentRowLength, segmentRows, chunkRows, listed, hadRows, missingRows, totals}
+use Rattle.partial.specs.Tables.{segmentRowLength, segmentRows, listed, hadRows, missingRows, totals}
 use Rattle.partial.specs.declared.answers.Listed.{Listed}
 use Rattle.gathering.specs.Kept.{Kept}
 use Rattle.gathering.specs.declared.gathered.Gathered.{Gathered}
+use Rattle.reading.specs.Tables.{Filled}
 use Rattle.listing.specs.declared.lists.Totals.{Totals}
-
--- TEMPORARY
-pub record Filled (read : Answer (List Segment)) (segments segments′ chunks chunks′ : List ℕ) : Type 0 where
-  pub segmentTable : segments′ ≡ after segmentRows read segments
-  pub chunkTable : chunks′ ≡ after chunkRows read chunks
 
 -- what the two lists hold of the segments of a source
 pub record Counted (ss : List Segment) (t : Totals) : Type 0 where

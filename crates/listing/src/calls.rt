@@ -1,6 +1,9 @@
 // Listing into the two lent lists, after reading into the two lent tables.
 use crate::lists::Totals;
 use crate::lists::put_lists;
+use ends::table::ALL_SIZES;
+use ends::table::ONE_SOURCE;
+use ends::table::sizes_at;
 use fields::state::GOOD;
 use filling::rows::put_row;
 use gathering::gathered::Gathered;
@@ -11,8 +14,12 @@ use partial::position::Position;
 use partial::refusals::TABLE_TOO_SHORT;
 use partial::rows::ALL_NUMBERS;
 use partial::rows::ALL_SEGMENT_ROWS;
+use partial::rows::CHUNK_ROW;
 use partial::rows::RANGE_ROW;
 use partial::rows::SEGMENT_ROW;
+use reading::judging::Judgement;
+use reading::judging::judge_into;
+use sources::lists::ALL_LISTS;
 use sources::numbers::ALL_SOURCES;
 use spans::chunks::ALL_SPANS;
 use spans::files::file_spans;
@@ -29,7 +36,7 @@ ghost use Rattle.partial.specs.Segments.{Segment};
 ghost use Rattle.partial.specs.Tables.{segmentRowLength, segmentRows, chunkRows};
 ghost use Rattle.spans.specs.Files.{Spanned};
 ghost use Rattle.spans.specs.Spans.{Ordered};
-ghost use Rattle.listing.specs.Calls.{Counted, Told, roomy, Leaves};
+ghost use Rattle.listing.specs.Calls.{Counted, Told, roomy, Leaves, Listing};
 
 // What the lists will hold: they are put where there is no room for them, since nothing lent is touched before it is
 // known that both lists have room.
@@ -106,4 +113,71 @@ fn list_kept(
         received_total: totals.received,
         missing_total: totals.missed,
     }
+}
+
+// Lists the ranges of positions that a source of a file has and of those that are missing, and reads the file into both
+// tables. After a refusal all four are as they were.
+fn list_source(
+    file: &[u8],
+    source: u64,
+    segments: &mut [u64],
+    chunks: &mut [u64],
+    had: &mut [u64],
+    missing: &mut [u64],
+) -> Listed
+    ensures { λ r. ⌜ Listing (now (file .entry)) source (now (segments .entry)) (now (segments .exit)) (now (chunks .entry))
+        (now (chunks .exit)) (now (had .entry)) (now (had .exit)) (now (missing .entry)) (now (missing .exit)) r ⌝ }
+{
+    // What is kept goes into tables of the call's own, so that the file is judged and kept in one pass.
+    let mut rows = [0; ALL_SEGMENT_ROWS];
+    let mut numbers = [0; ALL_NUMBERS];
+    let mut sizes = [0; ALL_SIZES];
+    let mut sources = [0; ALL_SOURCES];
+    let mut lists = [0; ALL_LISTS];
+    match judge_into(
+        file,
+        &mut rows,
+        &mut numbers,
+        &mut sizes,
+        &mut sources,
+        &mut lists,
+    ) {
+        Judgement::Refused(n) => Listed::Refused(n),
+        Judgement::Given(judged) => {
+            let gathered = judged.gathered;
+            if segments.len() as u64 / SEGMENT_ROW < gathered.segments {
+                return Listed::Refused(TABLE_TOO_SHORT);
+            }
+            if chunks.len() as u64 / CHUNK_ROW < gathered.chunks {
+                return Listed::Refused(TABLE_TOO_SHORT);
+            }
+            let end = sizes_at(&sizes, source).described();
+            list_kept(
+                source,
+                &sources,
+                &rows,
+                &numbers,
+                gathered,
+                end,
+                segments,
+                chunks,
+                had,
+                missing,
+            )
+        }
+    }
+}
+
+// The same of the one source that a file has.
+pub fn list(
+    file: &[u8],
+    segments: &mut [u64],
+    chunks: &mut [u64],
+    had: &mut [u64],
+    missing: &mut [u64],
+) -> Listed
+    ensures { λ r. ⌜ Listing (now (file .entry)) 0 (now (segments .entry)) (now (segments .exit)) (now (chunks .entry))
+        (now (chunks .exit)) (now (had .entry)) (now (had .exit)) (now (missing .entry)) (now (missing .exit)) r ⌝ }
+{
+    list_source(file, ONE_SOURCE, segments, chunks, had, missing)
 }

@@ -1,4 +1,5 @@
 pub mod CountLaws
+pub mod Determined
 pub mod LineLaws
 pub mod OutlineLaws
 pub mod RangesLaws

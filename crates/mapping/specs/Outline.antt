@@ -5,13 +5,13 @@ use mathlib.Core.Bool.{Bool, true, false, _&&_}
 use mathlib.Core.List.{List, [], _∷_}
 use mathlib.Core.Path.{_≡_}
 use lib.ListN.{length, take, drop}
-use Rattle.partial.specs.Limits.{sourceLimit}
+use Rattle.partial.specs.Limits.{segmentLimit, sourceLimit}
 use Rattle.partial.specs.Map.{mapWord, sourceMap, mapOf, missWord, sourceMissmap, missmapOf}
 use Rattle.partial.specs.Meaning.{describedLength, isClosed}
 use Rattle.partial.specs.Naming.{damagedAt, namedClass, heldList, lostList}
 use Rattle.partial.specs.Ranges.{Range as Stretch, ranges, classOf, hadList, missingList}
 use Rattle.partial.specs.Segments.{Segment, chunksOf}
-use Rattle.partial.specs.Sources.{ofSource}
+use Rattle.partial.specs.Sources.{sourceCount, ofSource}
 use Rattle.ends.specs.Sizes.{sizesOf}
 use Rattle.ends.specs.Table.{sizesIn}
 use Rattle.gathering.specs.Kept.{Kept}
@@ -70,10 +70,13 @@ pub record Outlined (ss : List Segment) (good damaged : List ℕ) (o : Outline) 
 abbrev pub mostRanges : Gathered → ℕ
 mostRanges gathered = gathered .segments + gathered .chunks + 1
 
--- the segments of a file are those that were kept and counted and whose ends were put to their sources
+-- the segments of a file are those that were kept and counted and whose ends were put to their sources, of which there
+-- are no more than segments
 pub record Told (rows sources numbers sizes : List ℕ) (gathered : Gathered) (ss : List Segment) : Type 0 where
   pub kept : Kept rows (gathered .segments) sources numbers ss
   pub chunks : gathered .chunks ≡ length (chunksOf ss)
+  pub sourceMany : gathered .sources ≡ sourceCount ss
+  pub sourceFew : gathered .sources ≤ segmentLimit
   pub said : (n : ℕ) → sizesIn sizes n ≡ sizesOf (ofSource n ss)
   pub low : (n : ℕ) → describedLength (ofSource n ss) ≤ sourceLimit
   pub few : (n : ℕ) (named : Bool) → length (rangesFor named (ofSource n ss)) ≤ mostRanges gathered

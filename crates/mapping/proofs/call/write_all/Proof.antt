@@ -29,8 +29,8 @@ put-all-requires : tie.Need-put-all-requires
 put-all-requires c κs = search needs
 
 returns : tie.Need-returns
-returns c = λ ss told all.
-    let puts = puts-same (text-all _ ss all) (c .before .before .put-all .ensures .0 ss told) in
+returns c = λ ss told.
+    let puts = puts-same (text-all _ ss (told .sourceMany)) (c .before .before .put-all .ensures .0 ss told) in
     writes-short _ _ (omega (arith, puts .end))
 
 put-all-requires-2 : tie.Need-put-all-requires-2
@@ -40,13 +40,13 @@ same-length : tie.Need-same-length
 same-length c = search needs
 
 returns-2 : tie.Need-returns-2
-returns-2 c = λ ss told all.
+returns-2 c = λ ss told.
     let start = c .before .before .before .before .before .before .before .before .before in
     let (put, few) = c .before .before .put-all2 .ensures in
-    let puts = puts-same (text-all _ ss all) (put ss told) in
+    let puts = puts-same (text-all _ ss (told .sourceMany)) (put ss told) in
     let room : length (textOf (start .args .named) ss) ≤ length (start .args .buffer .now) =
     ⊎-elim
-    (λ w. omega (arith, w .5 .left, puts-same (text-all _ ss all) (w .3 .ensures .0 ss told) .end))
+    (λ w. omega (arith, w .5 .left, puts-same (text-all _ ss (told .sourceMany)) (w .3 .ensures .0 ss told) .end))
     (λ w. omega (arith, puts .end, few, c .before .before .before .before .before .before .surely-fits .ensures (not-false _ (w .0 .left))))
     (c .before .before .before .before .before .if1 .came) in
     writes-given _ _ (omega (arith, puts .end)) room puts
