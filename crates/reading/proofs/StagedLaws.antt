@@ -1,6 +1,6 @@
 -- Laws of stages 36 to 39: what the marks of an index decide, what is told where there is none, and that the stages are
 -- those of the definition.
-use Prim.Native.Nat.{ℕ, suc}
+use Prim.Native.Nat.{ℕ, suc, _≤_}
 use mathlib.Core.Bool.{Bool, true, false, not, _&&_, _||_, false≢true}
 use mathlib.Core.List.{List, [], _∷_, map, List·Memᴰ, List·Memᴰ·head, List·Memᴰ·tail}
 use mathlib.Core.Option.{Option}
@@ -19,15 +19,16 @@ use Rattle.boxes.specs.declared.kinds.Count.the-variants.{AtMostOne}
 use Rattle.boxes.proofs.KindLaws.{few-right}
 use Rattle.partial.specs.Heading.{Heading, heading}
 use Rattle.partial.specs.Index.{SourceBox, boxesAlone, belonging, sizeFor, indexFor, isKnown, levelLimit, indexOfSegments, indexOf, hasIndex, indexed}
-use Rattle.partial.specs.Limits.{sourceLimit}
+use Rattle.partial.specs.Limits.{segmentLimit, sourceLimit}
 use Rattle.partial.specs.Reading.{segments}
 use Rattle.partial.specs.ReadingDemands.{Numbered}
 use Rattle.partial.specs.Segments.{Segment}
 use Rattle.partial.specs.Sequences.{someOf, allOf}
 use Rattle.partial.specs.Sources.{sourceBeside}
 use Rattle.partial.proofs.Meaning.SequenceLaws.{neither}
-use Rattle.partial.proofs.Meaning.SourceLaws.{beside-there}
+use Rattle.partial.proofs.Meaning.SourceLaws.{beside-there, beside-most, count-most}
 use Rattle.partial.proofs.Reading.IndexedLaws.{index-none, has-none}
+use Rattle.partial.proofs.Reading.LimitLaws.{segments-limited}
 use Rattle.partial.proofs.Reading.NumberedLaws.{segments-numbered}
 use Rattle.sources.specs.Held.{SourcesHeld, SourceOf}
 use Rattle.indexing.specs.Marks.{deepIn, unknownIn, shown, marksWith}
@@ -159,26 +160,27 @@ begun-told f h s {inPfil} index lacks =
 -- ---- what the calls told
 
 -- the index that was read
-module _ (f : List ℕ) (h : Heading) (size : List (List ℕ) → Option ℕ) (ss : List Segment) (t₀ t : List ℕ) (r : FileIndex) (told : Tells (indexBy f h size ss) t₀ t r) where
+module _ (f : List ℕ) (h : Heading) (size : List (List ℕ) → Option ℕ) (ss : List Segment) (number : List (List ℕ) → ℕ) (t₀ t : List ℕ) (r : FileIndex)
+    (told : Tells number (indexBy f h size ss) t₀ t r) where
   pub index-refused : (both : Bool) {n : ℕ} → r ≡ Refused n → staged both (indexBy f h size ss) ≡ refused n
   unfolding Tells staged
-  index-refused both e = rw (subst (Tells (indexBy f h size ss) t₀ t) e told)
+  index-refused both e = rw (subst (Tells number (indexBy f h size ss) t₀ t) e told)
 
   pub index-marked : {m : Marks} → r ≡ Given m → (is : List SourceBox) × (indexBy f h size ss ≡ given is) × (m ≡ marksWith noMarks (boxesAlone is))
   unfolding Tells
   index-marked e =
-      let (is, read, marked) = subst (Tells (indexBy f h size ss) t₀ t) e told in
+      let (is, read, marked) = subst (Tells number (indexBy f h size ss) t₀ t) e told in
       (is, read, marked .marks)
 
 -- the sources of segments by their lists of URLs, and that of the list in `pfil`
-module _ (h : Heading) (ss : List Segment) (numbered : Numbered ss) where
+module _ (h : Heading) (ss : List Segment) (few : length ss ≤ segmentLimit) (numbered : Numbered ss) where
   beside-each : (ts : List Segment) → ((t : Segment) → List·Memᴰ t ts → List·Memᴰ t ss) → map (λ s. s .source) ts ≡ map (λ s. sourceBeside ss (s .urls)) ts
   beside-each [] there = refl
   beside-each (t ∷ ts) there =
       ap₂ _∷_ (sym (beside-there ss numbered t (there t (List·Memᴰ·head refl)))) (beside-each ts (λ u rest. there u (List·Memᴰ·tail rest)))
 
   pub numbered-by : {sources : List ℕ} {inPfil : ℕ} → SourcesHeld sources ss → inPfil ≡ sourceBeside ss (h .urls) → NumberedBy (sourceBeside ss) h ss sources inPfil
-  numbered-by held pfil = record { pfil = pfil; segments = held .numbers ∙ beside-each ss (λ t there. there) }
+  numbered-by held pfil = record { small = λ us. omega (arith, beside-most ss us, count-most ss numbered); pfil = pfil; segments = held .numbers ∙ beside-each ss (λ t there. there) }
 
 -- the stages of a file by what its heading tells, what is gathered of its segments and what is noted of them
 pub stages-given : (f : List ℕ) (h : Heading) (ss : List Segment) {head : Head} {g : Gathered} {z n l : List ℕ} {source : ℕ} {x : Answer ℕ} → heading f ≡ given h → factsOf f h ≡ factsBy head
@@ -196,6 +198,6 @@ stages-given f h ss {head} {g} {z} headed facts all same noted found answer =
     let numbered = segments-numbered sourceLimit f h all in
     let inPfil = opened f h headed facts (few-segments f h all) .inPfil in
     let source = found h ss (h .inner) (gathered-sources ss same) numbered (noted .sourced .lists) (inPfil .stands) ∙ ap (sourceBeside ss) (sym (inPfil .urls)) in
-    answer h ss (sourceBeside ss) headed all (numbered-by h ss numbered (noted .sourced .sources) source) has
+    answer h ss (sourceBeside ss) headed all (numbered-by h ss (segments-limited sourceLimit f h all) numbered (noted .sourced .sources) source) has
     ∙ ap (λ (size : List (List ℕ) → Option ℕ). staged (head .indexed && g .indexed) (indexBy f h size ss)) (ends-held z ss (noted .sizes))
     ∙ stages-told f h ss has
