@@ -12,7 +12,7 @@ use lib.ListN.{length}
 use Rattle.boxes.specs.Answer.{Answer, refused, given}
 use Rattle.partial.specs.Answers.{listedAnswer}
 use Rattle.partial.specs.Limits.{sourceLimit}
-use Rattle.partial.specs.Memory.{fits, filled, after}
+use Rattle.partial.specs.Memory.{fits, after}
 use Rattle.partial.specs.Ranges.{had, missing, ranges, classOf, rangesOf, hadList, missingList}
 use Rattle.partial.specs.Segments.{Segment}
 use Rattle.partial.specs.Sources.{ofSource}

@@ -5,7 +5,7 @@ use native.Mathlib.Omega.{arith}
 use lib.ListN.{length}
 use Rattle.partial.specs.Segments.{chunksOf}
 use Rattle.partial.specs.Sources.{ofSource}
-use Rattle.partial.specs.Tables.{segmentRowLength, chunkRowLength, segmentRows, chunkRows}
+use Rattle.partial.specs.Tables.{segmentRowLength, chunkRowLength, chunkRows}
 use Rattle.partial.proofs.Reading.RowLaws.{segment-rows-long, all-rows-long}
 use Rattle.gathering.proofs.GatheredLaws.{gathered-segments, gathered-chunks}
 use Rattle.reading.proofs.JudgedLaws.{accepted, read-refused, read-given, judgement-refused, judgement-given}

@@ -1,11 +1,9 @@
 -- `mapping::each::put_one` meets its contract: the outline of the source, then its lines.
-use Prim.Native.Nat.{ℕ}
 use mathlib.Core.Bool.{Bool}
 use mathlib.Core.Path.{ap}
 use native.Mathlib.Omega.{arith}
 use lib.ListN.{length}
 use Rattle.filling.proofs.PutsLaws.{puts-same}
-use Rattle.partial.specs.Ranges.{Range as Stretch}
 use Rattle.partial.specs.Sources.{ofSource}
 use Rattle.mapping.specs.Outline.{sourceText}
 use Rattle.mapping.proofs.OutlineLaws.{outlined-ranges}

@@ -1,8 +1,5 @@
 -- `supplying::rows::row_of` meets its contract.
-use Prim.Native.Nat.{ℕ}
-use mathlib.Core.Path.{ap, _∙_}
 use native.Mathlib.Omega.{arith}
-use lib.Dec.{eqb}
 use Rattle.supplying.proofs.RowsLaws.{row-past, row-by}
 use borrow.Author.Needs.{needs}
 use Rattle.supplying.proofs.rows.row_of.Statement.{statement}
