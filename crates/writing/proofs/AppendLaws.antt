@@ -49,7 +49,8 @@ use Rattle.adding.specs.declared.counts.Counts.{Counts}
 use Rattle.adding.specs.declared.layout.Layout.{Layout}
 use Rattle.adding.proofs.CountLaws.{counted-bytes}
 use Rattle.adding.proofs.OutsideLaws.{data-counted, right-whole}
-use Rattle.writing.specs.Append.{Fits, Appends}
+use Rattle.puts.specs.Entries.{Fits}
+use Rattle.writing.specs.Append.{Appends}
 
 -- ---- what the call leaves
 

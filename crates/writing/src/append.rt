@@ -1,7 +1,4 @@
 // Appending a segment to a file in a lent buffer.
-use crate::pdat::put_chosen;
-use crate::pdat::put_pdat;
-use crate::pseg::put_pseg;
 use adding::admission::admission;
 use adding::admission::outside_right;
 use adding::counts::Counts;
@@ -19,10 +16,13 @@ use partial::refusals::CHUNK_LIST_WRONG;
 use partial::refusals::DATA_WRONG;
 use partial::refusals::LENGTH_OVER_BUFFER;
 use partial::refusals::NOT_WHOLE_BOXES;
+use puts::pdat::put_chosen;
+use puts::pdat::put_pdat;
+use puts::pseg::put_pseg;
 use reading::judging::Judged;
 use reading::judging::Judgement;
 use reading::judging::earlier_of;
-ghost use Prim.Native.Nat.{_+_, _≤_};
+ghost use Prim.Native.Nat.{_≤_};
 ghost use mathlib.Core.Bool.{true};
 ghost use mathlib.Core.Path.{_≡_};
 ghost use lib.ListN.{length, take};
@@ -35,10 +35,11 @@ ghost use Rattle.partial.specs.Reading.{earlierSegments};
 ghost use Rattle.reading.specs.Judged.{judgedBy, earlierTold, SizedIn};
 ghost use Rattle.adding.specs.Counts.{Sorted};
 ghost use Rattle.adding.specs.Layout.{Laid};
-ghost use Rattle.filling.specs.Rows.{Puts};
-ghost use Rattle.writing.specs.Append.{Fits, Appends};
+ghost use Rattle.puts.specs.Entries.{Fits};
+ghost use Rattle.puts.specs.Pieces.{PutsPieces};
+ghost use Rattle.writing.specs.Append.{Appends};
 
-// Writes all that append adds: the `pdat`, if any chunk's data goes there, the chunks outside, and the `pseg`.
+// Puts all that append adds: the `pdat`, if any chunk's data goes there, the chunks outside, and the `pseg`.
 fn put_added(
     buffer: &mut [u8],
     at: Place,
@@ -52,9 +53,8 @@ fn put_added(
 ) -> Place
     requires { ⌜ Sorted (asks header outside (now list) (now bytes)) counts stored
         × Laid (asks header outside (now list) (now bytes)) layout × Fits (items (now list))
-        × (at .0 + length (added (asks header outside (now list) (now bytes))) ≤ length (now buffer))
         × (length (added (asks header outside (now list) (now bytes))) ≤ fileLimit) ⌝ }
-    ensures { λ r. ⌜ Puts (now (buffer .entry)) (at .0) (added (asks header outside (now (list .entry)) (now (bytes .entry)))) (now (buffer .exit)) (r .0) ⌝ }
+    ensures { λ r. ⌜ PutsPieces (now (buffer .entry)) (at .0) (added (asks header outside (now (list .entry)) (now (bytes .entry)))) (now (buffer .exit)) (r .0) ⌝ }
 {
     let there = counts.present != stored.chunks;
     let size = counts.bytes - stored.bytes;

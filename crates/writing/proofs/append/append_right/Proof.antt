@@ -55,12 +55,10 @@ put-added-requires c κs =
     let held = outer _ (file .head) in
     let laid = is-laid (met .before .before) in
     let answer = met .admission .ensures in
-    let size = c .before .before .before .size .given .1 in
-    let long = new-length _ _ _ _ _ _ fits _ file right sorted held laid _ answer size in (
+    let size = c .before .before .before .size .given .1 in (
       sorted,
       laid,
       items-fit _ _ _ _ _ _ fits _ file right sorted held laid _ answer size,
-      omega arith,
       added-small _ _ _ _ _ _ fits _ file right sorted held laid _ answer size,
     )
 
@@ -92,7 +90,7 @@ returns-3 c =
     let long = new-length _ _ _ _ _ _ fits _ file right sorted held laid _ answer size in
     let left = c .before .before .before .before .if1 .left in
     let room : args .n + length (added (asks (start .args .header) (start .args .outside) (start .args .list .now) (start .args .bytes .now))) ≤ length (args .buffer .now) = omega arith in
-    let all = c .before .before .put-added .ensures in
+    let all = c .before .before .put-added .ensures .puts (omega arith) in
     let answered = appended-given _ _ _ _ _ _ fits _ file right sorted held laid _ answer size (omega arith) (all .end) in
     appends-given _ _ _ answered (put-result _ _ _ room (all .put))
 
