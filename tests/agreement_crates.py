@@ -110,7 +110,7 @@ begunOf buffer brand u m = answered (λ n. n ∷ []) (begun buffer brand u m) ++
 unfoldable pub appendedOf : List ℕ → ℕ → ℕ → ℕ → Bool → Bool → List ℕ → List ℕ → List ℕ
 unfolding answered computing
 appendedOf buffer n offset repair last outside list bytes =
-    let a : Addition = record { sourceOffset = offset; repairTime = repair; last = last; outside = outside; list = list; bytes = bytes } in
+    let a : Addition = record { sourceOffset = offset; repairTime = repair; last = last; outside = outside; list = list; bytes = bytes; texts = []; lengths = [] } in
     let r = appended sourceLimit buffer n a in
     answered (λ m. m ∷ []) r ++ written (result buffer n a) r buffer
 
@@ -134,6 +134,7 @@ sameAddition : Addition → Addition → Bool
 sameAddition a b =
     eqb (a .sourceOffset) (b .sourceOffset) && eqb (a .repairTime) (b .repairTime) && eqb (flag (a .last)) (flag (b .last))
     && eqb (flag (a .outside)) (flag (b .outside)) && same (a .list) (b .list) && same (a .bytes) (b .bytes)
+    && same (a .texts) (b .texts) && same (a .lengths) (b .lengths)
 
 keptAt : List ℕ → List ℕ → List Segment → List Segment → Addition → List ℕ → List ℕ
 keptAt f g ss ts a [] = []
@@ -143,7 +144,7 @@ keptAt f g ss ts a (p ∷ ps) = flag (sameByte (served g ts p) (orElse (served f
 unfoldable pub demandsOf : List ℕ → ℕ → ℕ → ℕ → Bool → Bool → List ℕ → List ℕ → List ℕ → List ℕ
 unfolding flag same sameSegments sameByte sameAddition keptAt computing
 demandsOf buffer n offset repair last outside list bytes ps =
-    let a : Addition = record { sourceOffset = offset; repairTime = repair; last = last; outside = outside; list = list; bytes = bytes } in
+    let a : Addition = record { sourceOffset = offset; repairTime = repair; last = last; outside = outside; list = list; bytes = bytes; texts = []; lengths = [] } in
     let f = fileIn (lent buffer n) in
     let g = fileIn (append sourceLimit (lent buffer n) a) in
     elim (heading f)

@@ -22,9 +22,9 @@ use Rattle.partial.specs.Sources.{ofSource, agreed}
 use Rattle.partial.specs.Index.{indexed}
 use Rattle.partial.specs.Reading.{offsetWidth}
 use Rattle.additions.specs.Append.{admitted}
-use Rattle.additions.specs.Addition.{items, Addition, flagsFor, dataRight, outsideRight}
+use Rattle.additions.specs.Addition.{items, Addition, flagsFor, dataRight, textsRight, surls, outsideRight}
 use Rattle.additions.specs.Append.{insideData, outsideData, anyInside, dataBox, stored, addedBoxes, placed, plocBody, versionFor}
-use Rattle.additions.specs.Append.{pshdBody, psegBody, added, psegPlace, newSegment, admission}
+use Rattle.additions.specs.Append.{pshdBody, surlBoxes, psegBody, innerBoxes, added, psegPlace, newUrls, newSegment, admission}
 use Rattle.additions.specs.Carried.{carried}
 use Rattle.partial.proofs.Meaning.SequenceLaws.{which, all-append, all-same}
 use Rattle.partial.proofs.Meaning.SourceLaws.{of-append}
@@ -85,14 +85,16 @@ cut a =
       outside = a .outside;
       list = a .list;
       bytes = a .bytes;
+      texts = a .texts;
+      lengths = a .lengths;
     }
 
 pub added-cut : (a : Addition) → added (cut a) ≡ added a
-unfolding added psegBody pshdBody stored dataBox anyInside insideData outsideData
+unfolding added psegBody pshdBody stored dataBox anyInside insideData outsideData surls
 added-cut a =
     ap (λ (time : List ℕ). stored a ++ boxed (pseg .code)
     (boxed (pshd .code) (versionFor (a .sourceOffset) ∷ (bytesOf 3 (flagsFor (a .last)) ++ (bytesOf (offsetWidth (versionFor (a .sourceOffset))) (a .sourceOffset) ++ time)))
-    ++ boxed (ploc .code) (plocBody (placed (a .outside) (items (a .list)))))) (bytesOf-mod 8 (a .repairTime))
+    ++ (boxed (ploc .code) (plocBody (placed (a .outside) (items (a .list)))) ++ surlBoxes (surls a)))) (bytesOf-mod 8 (a .repairTime))
 
 -- what append tests of an addition is the same of that one
 module _ (a : Addition) where
@@ -104,14 +106,18 @@ module _ (a : Addition) where
   unfolding addedBoxes anyInside outsideData
   boxes-cut = refl
 
+  inner-cut : innerBoxes (cut a) ≡ innerBoxes a
+  unfolding innerBoxes surls
+  inner-cut = refl
+
   agreed-cut : (h : Heading) (ss : List Segment) (at : ℕ) → agreed (ss ++ (newSegment h ss at (cut a) ∷ [])) ≡ agreed (ss ++ (newSegment h ss at a ∷ []))
-  unfolding newSegment endOf givesSize isOpen
+  unfolding newSegment newUrls surls endOf givesSize isOpen
   agreed-cut h ss at = agreed-same (newSegment h ss at (cut a)) (newSegment h ss at a) refl refl refl ss
 
   -- nor does the index, for which the size of the source is the same
   pub index-cut : (limit : ℕ) (f : List ℕ) (h : Heading) (ss : List Segment) (at : ℕ)
       → indexed limit f h (ss ++ (newSegment h ss at (cut a) ∷ [])) ≡ indexed limit f h (ss ++ (newSegment h ss at a ∷ []))
-  unfolding newSegment endOf givesSize isOpen
+  unfolding newSegment newUrls surls endOf givesSize isOpen
   index-cut limit f h ss at =
       indexed-alike limit f h ss (newSegment h ss at (cut a)) (newSegment h ss at a) (no-index-new h ss at (cut a)) (no-index-new h ss at a)
       (known-same (newSegment h ss at (cut a)) (newSegment h ss at a) refl refl refl ss)
@@ -121,11 +127,11 @@ module _ (limit : ℕ) (h : Heading) (ss : List Segment) (n : ℕ) (a : Addition
   pub admission-cut : {C : Type 0} (rest : List Segment → Answer C)
       → rest (ss ++ (newSegment h ss (psegPlace n a) (cut a) ∷ [])) ≡ rest (ss ++ (newSegment h ss (psegPlace n a) a ∷ []))
       → (admission limit h ss n (cut a) >>= rest) ≡ (admission limit h ss n a >>= rest)
-  unfolding admission admitted newSegment endOf
+  unfolding admission admitted newSegment newUrls surls endOf
   admission-cut rest same =
       let at = psegPlace n a in
-      rw (added-cut a, boxes-cut a, place-cut a n, agreed-cut a h ss at)
-      (go (leb (n + length (added a)) fileLimit) (leb (length (h .boxes) + addedBoxes a) boxLimit) (leb (length ss + 1) segmentLimit)
+      rw (added-cut a, boxes-cut a, inner-cut a, place-cut a n, agreed-cut a h ss at)
+      (go (leb (n + length (added a)) fileLimit) (leb (length (h .boxes) + addedBoxes a) boxLimit && leb (innerBoxes a) boxLimit) (leb (length ss + 1) segmentLimit)
       (leb (length (chunksOf ss) + length (newSegment h ss at a .chunks)) chunkLimit) (leb (endOf (newSegment h ss at a)) limit) (agreed (ss ++ (newSegment h ss at a ∷ []))))
     where
       go : (t1 t6 t13 t22 t23 t25 : Bool)
@@ -144,6 +150,7 @@ module _ (limit : ℕ) (h : Heading) (ss : List Segment) (n : ℕ) (a : Addition
       record {
         small = rw added-cut (t .small);
         boxes = rw boxes-cut (t .boxes);
+        inner = rw inner-cut (t .inner);
         few = t .few;
         chunks = t .chunks;
         low = t .low;
@@ -152,8 +159,8 @@ module _ (limit : ℕ) (h : Heading) (ss : List Segment) (n : ℕ) (a : Addition
 
 module _ (limit : ℕ) (f : List ℕ) (h : Heading) (ss : List Segment) (a : Addition) where
   pub offered-cut : Offered limit f h ss a → Offered limit f h ss (cut a)
-  unfolding dataRight outsideRight
-  offered-cut t = record { headed = t .headed; before = t .before; list = t .list; carried = t .carried; outside = t .outside }
+  unfolding dataRight textsRight outsideRight
+  offered-cut t = record { headed = t .headed; before = t .before; list = t .list; lengths = t .lengths; carried = t .carried; texts = t .texts; outside = t .outside; text = t .text }
 
   pub taken-cut : Taken limit f h ss a → Taken limit f h ss (cut a)
   taken-cut t =

@@ -35,7 +35,7 @@ unfolding
     Mixed.allowed Mixed.fillUp Mixed.wholeBoxes Mixed.boxesOf Mixed.areBoxes Mixed.boxesMany
     Entries.plocHead Entries.state Entries.stateOf Entries.entry Entries.inData Entries.mayLie Entries.offsetPlace Entries.placeOf
     Entries.chunkStep Entries.chunksFrom
-    Sources.urlsFor Sources.sameList Sources.sameText Sources.sameUrls Sources.sourceCount Sources.sourceAmong Sources.sourceBeside Sources.ofSource Sources.agreed
+    Sources.urlsFor Sources.sameList Sources.sameText Sources.sameUrls Sources.sourceCount Sources.sourceAmong Sources.sourceBeside Sources.ofSource Sources.ofUrls Sources.agreed
     Reading.offsetWidth Reading.pshdFields Reading.pshdRight Reading.segment Reading.segmentsFrom Reading.segments Reading.reading
     Reading.earlierSegments
     Meaning.givesSize Meaning.knownSize Meaning.describedLength Meaning.isClosed Meaning.agree Meaning.covers Meaning.supplier

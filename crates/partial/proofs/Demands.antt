@@ -7,6 +7,7 @@ use Rattle.partial.proofs.Reading.AgreementReadLaws.{agrees, disagrees,
 use Rattle.partial.proofs.Reading.IndexingLaws.{indexing}
 use Rattle.partial.proofs.Reading.PartLaws.{part-empty}
 use Rattle.partial.proofs.Reading.PrintedLaws.{printed}
+use Rattle.partial.proofs.Reading.NumberedLaws.{reading-numbered}
 use Rattle.partial.proofs.Reading.OneSourceLaws.{one-source}
 use Rattle.partial.proofs.Reading.ReadingLaws.{mapped-of}
 use Rattle.partial.proofs.Reading.TextLengthLaws.{never-short, map-fits, missmap-fits}
@@ -14,6 +15,7 @@ use Rattle.partial.proofs.Reading.TextLengthLaws.{never-short, map-fits
 pub demand2-of-reading : (limit : ℕ) → Demand2OfReading limit
 demand2-of-reading limit =
     record {
+      numbered = λ f ss read. reading-numbered limit f read;
       mapped = λ f h ss head read. mapped-of limit f head read;
       oneSource = λ f ss read. one-source limit f read;
       agrees = agrees limit;

@@ -20,7 +20,7 @@ use Rattle.partial.specs.Heading.{Part, Heading, heading, bytesIn}
 use Rattle.partial.specs.Mixed.{allowed}
 use Rattle.partial.specs.Meaning.{givesSize, describedLength, covers, supplier, supplied, chunkNo, chunkFor, served, servedRun, missingRun}
 use Rattle.partial.specs.Meaning.{reply, servedFor, missingFor, notBelow}
-use Rattle.partial.specs.Sources.{ofSource}
+use Rattle.partial.specs.Sources.{sourceCount, ofSource}
 use Rattle.partial.specs.Index.{Indexed, indexed, indexedSize}
 use Rattle.partial.specs.IndexShape.{InOrder, ServedAsSaid}
 use Rattle.partial.specs.Reading.{segmentsFrom, reading, earlierSegments}
@@ -182,6 +182,16 @@ pub record Missing (f : List ℕ) (ss : List Segment) (p : ℕ) : Type 0 where
   pub upTo : (p + missingRun ss p ≡ describedLength ss) ⊎ T (supplied ss (p + missingRun ss p))
   pub notEmpty : 0 < missingRun ss p
 
+-- document 02, [8]: the numbers of the sources of a list of segments
+pub record Numbered (ss : List Segment) : Type 0 where
+  -- segments whose lists of URLs are byte-equal in the same order belong to one source, and no others do
+  pub sameNumber : (s t : Segment) → List·Memᴰ s ss → List·Memᴰ t ss → (s .source ≡ t .source) ↔ (s .urls ≡ t .urls)
+  -- given from 0 on, one to each source
+  pub below : (s : Segment) → List·Memᴰ s ss → s .source < sourceCount ss
+  pub used : (n : ℕ) → n < sourceCount ss → (s : Segment) × List·Memᴰ s ss × (s .source ≡ n)
+  -- in order of first appearance: a segment has the number of a source before it, or the next
+  pub inTurn : (before after : List Segment) (s : Segment) → ss ≡ before ++ (s ∷ after) → s .source ≤ sourceCount before
+
 -- no segment ends above, or differs from, a size that one of its source makes known
 abbrev pub InAgreement : List Segment → Type 0
 InAgreement ss = (s t : Segment) → List·Memᴰ s ss → List·Memᴰ t ss → s .source ≡ t .source → T (givesSize s) → endOf t ≤ endOf s
@@ -261,6 +271,8 @@ pub record BoxesPrinted (most : ℕ) (input : List ℕ) : Type 0 where
 
 -- demand 2, of reading: in an accepted file each source byte is served or listed missing as document 01's rules say
 pub record Demand2OfReading (limit : ℕ) : Type 0 where
+  -- a source number is given in order of first appearance
+  pub numbered : (f : List ℕ) (ss : List Segment) → reading limit f ≡ given ss → Numbered ss
   -- of each source, of which a file has one
   pub mapped : (f : List ℕ) (h : Heading) (ss : List Segment) → heading f ≡ given h → reading limit f ≡ given ss → (n : ℕ) → Mapped f h (ofSource n ss)
   pub oneSource : (f : List ℕ) (ss : List Segment) → reading limit f ≡ given ss → ofSource 0 ss ≡ ss
