@@ -14,9 +14,9 @@ use Rattle.boxes.proofs.BoxedLaws.{front-size, length-boxed}
 use Rattle.numerals.specs.Numbers.{bytesOf, holds, holdsOffset}
 use Rattle.numerals.proofs.NumberLaws.{length-bytesOf}
 use Rattle.numerals.proofs.WidthLaws.{below-holds, leastWidth-within}
-use Rattle.additions.specs.Addition.{asks, flagsFor, Item, items, goesIn, dataFor}
-use Rattle.additions.specs.Append.{placed, lengthSize, offsetSize, flagByte, entryBytes, plocBody, versionFor, pshdBody, psegBody}
-use Rattle.additions.specs.Begin.{versionAndFlags, brandCode}
+use Rattle.additions.specs.Addition.{asks, flagsFor, Item, items, surlsOf, surls, goesIn, dataFor}
+use Rattle.additions.specs.Append.{placed, lengthSize, offsetSize, flagByte, entryBytes, plocBody, versionFor, pshdBody, surlBoxes, psegBody}
+use Rattle.additions.specs.Begin.{brandCode, surlBody, surlBox}
 use Rattle.partial.specs.Limits.{fileLimit}
 use Rattle.partial.specs.Reading.{offsetWidth}
 use Rattle.partial.specs.Segments.{isLast, present, corrupted}
@@ -27,7 +27,7 @@ use Rattle.additions.specs.declared.header.SegmentHeader.{SegmentHeader}
 use Rattle.partial.proofs.Meaning.SequenceLaws.{which}
 use Rattle.additions.proofs.FieldsBackLaws.{length-pshd, sizes-eight, sizes-held, offsets-held}
 use Rattle.additions.proofs.PlacedLaws.{length-placed, sizes-placed, offsets-eight}
-use Rattle.puts.specs.Boxes.{ftypBox, pfhdBox, surlBox, pfilBox, dataPart, pshdBox, plocBox, psegBox}
+use Rattle.puts.specs.Boxes.{ftypBox, pfhdBox, pfilBox, dataPart, pshdBox, plocBox, psegBox}
 use Rattle.puts.specs.Entries.{Entries, Fits}
 
 -- ---- what a file begins with
@@ -49,7 +49,7 @@ pub pfhd-long : length pfhdBox ≡ 12
 pfhd-long = simp (length-boxed, length-bytesOf, front-size)
 
 module _ (url mime : List ℕ) where
-  pub source-long : length (versionAndFlags ++ (url ++ (0 ∷ (mime ++ (0 ∷ []))))) ≡ 6 + length url + length mime
+  pub source-long : length (surlBody url mime) ≡ 6 + length url + length mime
   source-long = simp (length-append, length-bytesOf) (omega arith)
 
   pub surl-long : length (surlBox url mime) ≡ 14 + length url + length mime
@@ -130,18 +130,18 @@ last-flag flags =
 
 module _ (h : SegmentHeader) where
   pub pshd-numbers : {version width : ℕ} → version ≡ versionFor (h .offset .0) → width ≡ offsetWidth (versionFor (h .offset .0))
-      → bytesOf 1 version ++ (bytesOf 3 (h .flags % 2) ++ (bytesOf width (h .offset .0) ++ bytesOf 8 (h .repair))) ≡ pshdBody (asks h false [] [])
+      → bytesOf 1 version ++ (bytesOf 3 (h .flags % 2) ++ (bytesOf width (h .offset .0) ++ bytesOf 8 (h .repair))) ≡ pshdBody (asks h false [] [] [] [])
   unfolding pshdBody asks
   pshd-numbers v w =
       let low = version-low (h .offset .0) in
       rw (v, w, one-byte (versionFor (h .offset .0)) (omega arith), last-flag (h .flags))
 
-  pub pshd-long : length (pshdBody (asks h false [] [])) ≡ 12 + offsetWidth (versionFor (h .offset .0))
+  pub pshd-long : length (pshdBody (asks h false [] [] [] [])) ≡ 12 + offsetWidth (versionFor (h .offset .0))
   unfolding asks
-  pshd-long = omega (arith, length-pshd (asks h false [] []))
+  pshd-long = omega (arith, length-pshd (asks h false [] [] [] []))
 
   pub pshd-box-long : length (pshdBox h) ≡ 20 + offsetWidth (versionFor (h .offset .0))
-  pshd-box-long = omega (arith, length-boxed (pshd .code) (pshdBody (asks h false [] [])), front-size, pshd-long)
+  pshd-box-long = omega (arith, length-boxed (pshd .code) (pshdBody (asks h false [] [] [] [])), front-size, pshd-long)
 
 -- ---- `ploc`
 
@@ -206,16 +206,24 @@ module _ (o : Bool) (list : List ℕ) where
 
 -- ---- `pseg`
 
-module _ (h : SegmentHeader) (o : Bool) (list : List ℕ) where
-  pub pseg-boxes : pshdBox h ++ plocBox o list ≡ psegBody (asks h o list [])
-  unfolding asks psegBody pshdBody
+module _ (h : SegmentHeader) (o : Bool) (list texts lengths : List ℕ) where
+  abbrev body : List ℕ
+  body = psegBody (asks h o list [] texts lengths)
+
+  pub pseg-boxes : pshdBox h ++ (plocBox o list ++ surlBoxes (surlsOf texts lengths)) ≡ body
+  unfolding asks psegBody pshdBody surls
   pseg-boxes = refl
 
-  pub pseg-box-long : length (psegBox h o list) ≡ 8 + (length (pshdBox h) + length (plocBox o list))
+  pub pseg-box-long : length (psegBox h o list texts lengths) ≡ 8 + (length (pshdBox h) + (length (plocBox o list) + length (surlBoxes (surlsOf texts lengths))))
   pseg-box-long =
-      length-boxed (pseg .code) (psegBody (asks h o list []))
-      ∙ omega (arith, front-size, ap length pseg-boxes, length-append (pshdBox h) (plocBox o list))
+      length-boxed (pseg .code) body
+      ∙ omega (
+        arith,
+        front-size,
+        ap length pseg-boxes,
+        length-append (pshdBox h) (plocBox o list ++ surlBoxes (surlsOf texts lengths)),
+        length-append (plocBox o list) (surlBoxes (surlsOf texts lengths)),
+      )
 
-  pub pseg-size-of : {n : ℕ} → n ≡ min (length (psegBody (asks h o list []))) (fileLimit + 1) → length (psegBox h o list) ≤ fileLimit
-      → n ≡ length (psegBody (asks h o list []))
-  pseg-size-of size small = omega (arith, length-boxed (pseg .code) (psegBody (asks h o list [])))
+  pub pseg-size-of : {n : ℕ} → n ≡ min (length body) (fileLimit + 1) → length (psegBox h o list texts lengths) ≤ fileLimit → n ≡ length body
+  pseg-size-of size small = omega (arith, length-boxed (pseg .code) body)

@@ -8,11 +8,13 @@ use denote.Ref.{now}
 use lib.ListN.{length}
 use Rattle.numerals.specs.declared.place.Place.{Place}
 use Rattle.numerals.proofs.Determined.{OneResult, OneLeft, OneKnown, OneLeftKnown}
-use Rattle.additions.specs.Addition.{asks, items, sizeOf, goesOut, goesIn, dataFor}
+use Rattle.additions.specs.Addition.{asks, items, sizeOf, surlsOf, goesOut, goesIn, dataFor}
+use Rattle.additions.specs.Append.{surlBoxes}
+use Rattle.additions.specs.Begin.{surlBox}
 use Rattle.adding.specs.Counts.{Whole}
 use Rattle.adding.specs.Layout.{PsegLaid}
 use Rattle.partial.specs.Limits.{fileLimit}
-use Rattle.puts.specs.Boxes.{ftypBox, pfhdBox, surlBox, pfilBox, chosen, dataPart, psegBox}
+use Rattle.puts.specs.Boxes.{ftypBox, pfhdBox, pfilBox, chosen, dataPart, psegBox}
 use Rattle.puts.specs.Entries.{Fits}
 use Rattle.puts.specs.Pieces.{PutsPieces}
 use Rattle.puts.proofs.ftyp.put_ftyp.Reads as put-ftyp
@@ -26,6 +28,7 @@ use Rattle.puts.proofs.pieces.put_field.Reads as put-field
 use Rattle.puts.proofs.pieces.put_front.Reads as put-front
 use Rattle.puts.proofs.pseg.put_pseg.Reads as put-pseg
 use Rattle.puts.proofs.surls.put_surl.Reads as put-surl
+use Rattle.puts.proofs.surls.put_surls.Reads as put-surls
 
 -- a place is its number
 same-place : {x y : Place} → x .0 ≡ y .0 → x ≡ y
@@ -88,6 +91,12 @@ put-surl-result κs args _ (a, room) x y after after′ p q = one-end (p a) (q a
 put-surl-bytes : OneLeftKnown put-surl.Post (λ κs args (_ : Unit {0}). (length (surlBox (now (args .1 .1 .0)) (now (args .1 .1 .1 .0))) < 2 ^ 32) × Room (now (args .0)) (args .1 .0 .0) (surlBox (now (args .1 .1 .0)) (now (args .1 .1 .1 .0)))) (λ κs after. now (after .0))
 put-surl-bytes κs args _ (a, room) x y after after′ p q = one-left (p a) (q a) room
 
+put-surls-result : OneKnown put-surls.Post (λ κs args (_ : Unit {0}). (length (surlBoxes (surlsOf (now (args .1 .1 .0)) (now (args .1 .1 .1 .0)))) < 2 ^ 32) × Room (now (args .0)) (args .1 .0 .0) (surlBoxes (surlsOf (now (args .1 .1 .0)) (now (args .1 .1 .1 .0)))))
+put-surls-result κs args _ (a, room) x y after after′ p q = one-end (p a) (q a) room
+
+put-surls-bytes : OneLeftKnown put-surls.Post (λ κs args (_ : Unit {0}). (length (surlBoxes (surlsOf (now (args .1 .1 .0)) (now (args .1 .1 .1 .0)))) < 2 ^ 32) × Room (now (args .0)) (args .1 .0 .0) (surlBoxes (surlsOf (now (args .1 .1 .0)) (now (args .1 .1 .1 .0))))) (λ κs after. now (after .0))
+put-surls-bytes κs args _ (a, room) x y after after′ p q = one-left (p a) (q a) room
+
 put-pfil-result : OneKnown put-pfil.Post (λ κs args (_ : Unit {0}). (length (pfilBox (now (args .1 .1 .0)) (now (args .1 .1 .1 .0))) < 2 ^ 32) × Room (now (args .0)) (args .1 .0 .0) (pfilBox (now (args .1 .1 .0)) (now (args .1 .1 .1 .0))))
 put-pfil-result κs args _ (a, room) x y after after′ p q = one-end (p a) (q a) room
 
@@ -106,8 +115,8 @@ put-pdat-result κs args _ (a, b, room) x y after after′ p q = one-end (p a b)
 put-pdat-bytes : OneLeftKnown put-pdat.Post (λ κs args (_ : Unit {0}). ((args .1 .1 .1 .1 .0) ≡ length (dataFor (goesIn (args .1 .1 .0)) (items (now (args .1 .1 .1 .1 .1 .0))) (now (args .1 .1 .1 .1 .1 .1 .0)))) × (length (dataPart (args .1 .1 .0) (args .1 .1 .1 .0) (now (args .1 .1 .1 .1 .1 .0)) (now (args .1 .1 .1 .1 .1 .1 .0))) < 2 ^ 32) × Room (now (args .0)) (args .1 .0 .0) (dataPart (args .1 .1 .0) (args .1 .1 .1 .0) (now (args .1 .1 .1 .1 .1 .0)) (now (args .1 .1 .1 .1 .1 .1 .0)))) (λ κs after. now (after .0))
 put-pdat-bytes κs args _ (a, b, room) x y after after′ p q = one-left (p a b) (q a b) room
 
-put-pseg-result : OneKnown put-pseg.Post (λ κs args (_ : Unit {0}). Whole (items (now (args .1 .1 .1 .1 .1 .1 .1 .0))) (args .1 .1 .1 .0) × PsegLaid (asks (args .1 .1 .0) (args .1 .1 .1 .1 .1 .0) (now (args .1 .1 .1 .1 .1 .1 .1 .0)) []) (args .1 .1 .1 .1 .0) × Fits (items (now (args .1 .1 .1 .1 .1 .1 .1 .0))) × ((args .1 .1 .1 .1 .1 .1 .0) ≡ sizeOf (goesOut (args .1 .1 .1 .1 .1 .0)) (items (now (args .1 .1 .1 .1 .1 .1 .1 .0)))) × (length (psegBox (args .1 .1 .0) (args .1 .1 .1 .1 .1 .0) (now (args .1 .1 .1 .1 .1 .1 .1 .0))) ≤ fileLimit) × Room (now (args .0)) (args .1 .0 .0) (psegBox (args .1 .1 .0) (args .1 .1 .1 .1 .1 .0) (now (args .1 .1 .1 .1 .1 .1 .1 .0))))
+put-pseg-result : OneKnown put-pseg.Post (λ κs args (_ : Unit {0}). Whole (items (now (args .1 .1 .1 .1 .1 .1 .1 .0))) (args .1 .1 .1 .0) × PsegLaid (asks (args .1 .1 .0) (args .1 .1 .1 .1 .1 .0) (now (args .1 .1 .1 .1 .1 .1 .1 .0)) [] (now (args .1 .1 .1 .1 .1 .1 .1 .1 .0)) (now (args .1 .1 .1 .1 .1 .1 .1 .1 .1 .0))) (args .1 .1 .1 .1 .0) × Fits (items (now (args .1 .1 .1 .1 .1 .1 .1 .0))) × ((args .1 .1 .1 .1 .1 .1 .0) ≡ sizeOf (goesOut (args .1 .1 .1 .1 .1 .0)) (items (now (args .1 .1 .1 .1 .1 .1 .1 .0)))) × (length (psegBox (args .1 .1 .0) (args .1 .1 .1 .1 .1 .0) (now (args .1 .1 .1 .1 .1 .1 .1 .0)) (now (args .1 .1 .1 .1 .1 .1 .1 .1 .0)) (now (args .1 .1 .1 .1 .1 .1 .1 .1 .1 .0))) ≤ fileLimit) × Room (now (args .0)) (args .1 .0 .0) (psegBox (args .1 .1 .0) (args .1 .1 .1 .1 .1 .0) (now (args .1 .1 .1 .1 .1 .1 .1 .0)) (now (args .1 .1 .1 .1 .1 .1 .1 .1 .0)) (now (args .1 .1 .1 .1 .1 .1 .1 .1 .1 .0))))
 put-pseg-result κs args _ (a, b, c, d, e, room) x y after after′ p q = one-end (p a b c d e) (q a b c d e) room
 
-put-pseg-bytes : OneLeftKnown put-pseg.Post (λ κs args (_ : Unit {0}). Whole (items (now (args .1 .1 .1 .1 .1 .1 .1 .0))) (args .1 .1 .1 .0) × PsegLaid (asks (args .1 .1 .0) (args .1 .1 .1 .1 .1 .0) (now (args .1 .1 .1 .1 .1 .1 .1 .0)) []) (args .1 .1 .1 .1 .0) × Fits (items (now (args .1 .1 .1 .1 .1 .1 .1 .0))) × ((args .1 .1 .1 .1 .1 .1 .0) ≡ sizeOf (goesOut (args .1 .1 .1 .1 .1 .0)) (items (now (args .1 .1 .1 .1 .1 .1 .1 .0)))) × (length (psegBox (args .1 .1 .0) (args .1 .1 .1 .1 .1 .0) (now (args .1 .1 .1 .1 .1 .1 .1 .0))) ≤ fileLimit) × Room (now (args .0)) (args .1 .0 .0) (psegBox (args .1 .1 .0) (args .1 .1 .1 .1 .1 .0) (now (args .1 .1 .1 .1 .1 .1 .1 .0)))) (λ κs after. now (after .0))
+put-pseg-bytes : OneLeftKnown put-pseg.Post (λ κs args (_ : Unit {0}). Whole (items (now (args .1 .1 .1 .1 .1 .1 .1 .0))) (args .1 .1 .1 .0) × PsegLaid (asks (args .1 .1 .0) (args .1 .1 .1 .1 .1 .0) (now (args .1 .1 .1 .1 .1 .1 .1 .0)) [] (now (args .1 .1 .1 .1 .1 .1 .1 .1 .0)) (now (args .1 .1 .1 .1 .1 .1 .1 .1 .1 .0))) (args .1 .1 .1 .1 .0) × Fits (items (now (args .1 .1 .1 .1 .1 .1 .1 .0))) × ((args .1 .1 .1 .1 .1 .1 .0) ≡ sizeOf (goesOut (args .1 .1 .1 .1 .1 .0)) (items (now (args .1 .1 .1 .1 .1 .1 .1 .0)))) × (length (psegBox (args .1 .1 .0) (args .1 .1 .1 .1 .1 .0) (now (args .1 .1 .1 .1 .1 .1 .1 .0)) (now (args .1 .1 .1 .1 .1 .1 .1 .1 .0)) (now (args .1 .1 .1 .1 .1 .1 .1 .1 .1 .0))) ≤ fileLimit) × Room (now (args .0)) (args .1 .0 .0) (psegBox (args .1 .1 .0) (args .1 .1 .1 .1 .1 .0) (now (args .1 .1 .1 .1 .1 .1 .1 .0)) (now (args .1 .1 .1 .1 .1 .1 .1 .1 .0)) (now (args .1 .1 .1 .1 .1 .1 .1 .1 .1 .0)))) (λ κs after. now (after .0))
 put-pseg-bytes κs args _ (a, b, c, d, e, room) x y after after′ p q = one-left (p a b c d e) (q a b c d e) room

@@ -1,13 +1,13 @@
 -- Document 01, "Begin" and "Append": the boxes that they write, one by one.
 use Prim.Native.Nat.{ℕ}
 use mathlib.Core.Bool.{Bool, true, false}
-use mathlib.Core.List.{List, [], _∷_, _++_}
+use mathlib.Core.List.{List, [], _++_}
 use Rattle.numerals.specs.Numbers.{bytesOf}
 use Rattle.boxes.specs.Framing.{boxed}
-use Rattle.boxes.specs.Kinds.{ftyp, pfil, pfhd, surl, pseg, pshd, ploc, pdat}
+use Rattle.boxes.specs.Kinds.{ftyp, pfil, pfhd, pseg, pshd, ploc, pdat}
 use Rattle.additions.specs.Addition.{asks, Item, items, goesOut, goesIn, dataFor}
 use Rattle.additions.specs.Append.{placed, plocBody, pshdBody, psegBody}
-use Rattle.additions.specs.Begin.{versionAndFlags, brandCode}
+use Rattle.additions.specs.Begin.{versionAndFlags, brandCode, surlBox}
 use Rattle.additions.specs.declared.header.SegmentHeader.{SegmentHeader}
 use Rattle.partial.specs.declared.brand.Brand.{Brand}
 
@@ -20,10 +20,6 @@ ftypBox brand = boxed (ftyp .code) (bytesOf 4 (brandCode brand) ++ (bytesOf 4 0 
 -- flags 0
 abbrev pub pfhdBox : List ℕ
 pfhdBox = boxed (pfhd .code) versionAndFlags
-
--- the two texts, each closed by a zero byte
-abbrev pub surlBox : List ℕ → List ℕ → List ℕ
-surlBox url mime = boxed (surl .code) (versionAndFlags ++ (url ++ (0 ∷ (mime ++ (0 ∷ [])))))
 
 -- holding `pfhd` and one `surl`
 abbrev pub pfilBox : List ℕ → List ℕ → List ℕ
@@ -42,11 +38,12 @@ dataPart o there list bytes = elim there [ true ↦ boxed (pdat .code) (dataFor 
 
 -- a `pshd` tells of the header alone
 abbrev pub pshdBox : SegmentHeader → List ℕ
-pshdBox header = boxed (pshd .code) (pshdBody (asks header false [] []))
+pshdBox header = boxed (pshd .code) (pshdBody (asks header false [] [] [] []))
 
 -- a `ploc` tells of the chunk list, and of which chunks go outside
 abbrev pub plocBox : Bool → List ℕ → List ℕ
 plocBox o list = boxed (ploc .code) (plocBody (placed o (items list)))
 
-abbrev pub psegBox : SegmentHeader → Bool → List ℕ → List ℕ
-psegBox header o list = boxed (pseg .code) (psegBody (asks header o list []))
+-- a `pseg` tells of both, and of the texts of its `surl` boxes with the list of their lengths
+abbrev pub psegBox : SegmentHeader → Bool → List ℕ → List ℕ → List ℕ → List ℕ
+psegBox header o list texts lengths = boxed (pseg .code) (psegBody (asks header o list [] texts lengths))

@@ -1,7 +1,8 @@
-// The `pseg` box with its `pshd` and its `ploc`, as it is written.
+// The `pseg` box with its `pshd`, its `ploc` and its `surl` boxes, as it is written.
 use crate::pieces::put_front;
 use crate::ploc::put_ploc;
 use crate::pshd::put_pshd;
+use crate::surls::put_surls;
 use adding::counts::Counts;
 use adding::layout::Layout;
 use additions::header::SegmentHeader;
@@ -19,7 +20,7 @@ ghost use Rattle.puts.specs.Boxes.{psegBox};
 ghost use Rattle.puts.specs.Entries.{Fits};
 ghost use Rattle.puts.specs.Pieces.{PutsPieces};
 
-// Puts `pseg`, holding `pshd` and `ploc`; so many bytes stand outside before it.
+// Puts `pseg`, holding `pshd`, `ploc` and after it the `surl` boxes; so many bytes stand outside before it.
 pub fn put_pseg(
     buffer: &mut [u8],
     at: Place,
@@ -29,13 +30,16 @@ pub fn put_pseg(
     outside: bool,
     out: u64,
     list: &[u64],
+    texts: &[u8],
+    lengths: &[u64],
 ) -> Place
-    ensures { λ r. ⌜ (Whole (items (now (list .entry))) counts → PsegLaid (asks header outside (now (list .entry)) []) layout
+    ensures { λ r. ⌜ (Whole (items (now (list .entry))) counts → PsegLaid (asks header outside (now (list .entry)) [] (now (texts .entry)) (now (lengths .entry))) layout
         → Fits (items (now (list .entry))) → out ≡ sizeOf (goesOut outside) (items (now (list .entry)))
-        → length (psegBox header outside (now (list .entry))) ≤ fileLimit
-        → PutsPieces (now (buffer .entry)) (at .0) (psegBox header outside (now (list .entry))) (now (buffer .exit)) (r .0)) ⌝ }
+        → length (psegBox header outside (now (list .entry)) (now (texts .entry)) (now (lengths .entry))) ≤ fileLimit
+        → PutsPieces (now (buffer .entry)) (at .0) (psegBox header outside (now (list .entry)) (now (texts .entry)) (now (lengths .entry))) (now (buffer .exit)) (r .0)) ⌝ }
 {
     let body = put_front(buffer, at, PSEG.code, layout.pseg);
     let ploc = put_pshd(buffer, body, header, layout);
-    put_ploc(buffer, ploc, counts, layout, outside, out, list)
+    let surls = put_ploc(buffer, ploc, counts, layout, outside, out, list);
+    put_surls(buffer, surls, texts, lengths)
 }

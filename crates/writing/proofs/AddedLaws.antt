@@ -24,11 +24,11 @@ use Rattle.adding.proofs.OutsideLaws.{data-counted, inside-none, inside-some}
 use Rattle.puts.specs.Boxes.{dataPart, psegBox}
 
 -- the layout of the `pseg` does not depend on the data
-pub pseg-laid : (h : SegmentHeader) (o : Bool) (list bytes : List ℕ) {l : Layout} → Laid (asks h o list bytes) l → PsegLaid (asks h o list []) l
+pub pseg-laid : (h : SegmentHeader) (o : Bool) (list bytes texts lengths : List ℕ) {l : Layout} → Laid (asks h o list bytes texts lengths) l → PsegLaid (asks h o list [] texts lengths) l
 unfolding asks psegBody pshdBody
 pseg-laid h o list bytes laid = record { pshd = laid .pseg .pshd; ploc = laid .pseg .ploc; body = laid .pseg .body }
 
-module _ (h : SegmentHeader) (o : Bool) (list bytes : List ℕ) {c : Counts} {x : Outside} (sorted : Sorted (asks h o list bytes) c x) where
+module _ (h : SegmentHeader) (o : Bool) (list bytes texts lengths : List ℕ) {c : Counts} {x : Outside} (sorted : Sorted (asks h o list bytes texts lengths) c x) where
   pub whole-of : Whole (items list) c
   unfolding asks
   whole-of = sorted .counted .items
@@ -39,7 +39,7 @@ module _ (h : SegmentHeader) (o : Bool) (list bytes : List ℕ) {c : Counts} {x 
   out-size =
       ap (λ (x : Outside). x .bytes) (sorted .outside)
       ∙ outside-bytes o (items list) bytes
-      ∙ length-outside (asks h o list bytes) (data-counted (sorted .counted))
+      ∙ length-outside (asks h o list bytes texts lengths) (data-counted (sorted .counted))
 
   -- and the others go into `pdat`
   pub in-size : c .bytes ≡ length (dataFor (goesIn o) (items list) bytes) + x .bytes
@@ -50,11 +50,11 @@ module _ (h : SegmentHeader) (o : Bool) (list bytes : List ℕ) {c : Counts} {x 
         out-size,
         sorted .counted .items .bytes,
         sizes-split o (items list),
-        length-inside (asks h o list bytes) (data-counted (sorted .counted)),
+        length-inside (asks h o list bytes texts lengths) (data-counted (sorted .counted)),
       )
 
   -- there is a `pdat` where more chunks are present than go outside
-  there-inside : not (eqb (c .present) (x .chunks)) ≡ anyInside (asks h o list bytes)
+  there-inside : not (eqb (c .present) (x .chunks)) ≡ anyInside (asks h o list bytes texts lengths)
   there-inside =
       elim (which (eqb (c .present) (x .chunks))) [
         | inl e ↦ ap not e ∙ sym (inside-none sorted (eqb-true (c .present) (x .chunks) e))
@@ -64,15 +64,15 @@ module _ (h : SegmentHeader) (o : Bool) (list bytes : List ℕ) {c : Counts} {x 
   abbrev pub thereIs : Bool
   thereIs = not (eqb (c .present) (x .chunks))
 
-  pub added-parts : dataPart o thereIs list bytes ++ (dataFor (goesOut o) (items list) bytes ++ psegBox h o list) ≡ added (asks h o list bytes)
+  pub added-parts : dataPart o thereIs list bytes ++ (dataFor (goesOut o) (items list) bytes ++ psegBox h o list texts lengths) ≡ added (asks h o list bytes texts lengths)
   unfolding added stored dataBox insideData outsideData asks psegBody pshdBody
   added-parts =
-      ap (λ (there : Bool). dataPart o there list bytes ++ (dataFor (goesOut o) (items list) bytes ++ psegBox h o list)) there-inside
-      ∙ sym (append-assoc (dataBox (asks h o list bytes)) (dataFor (goesOut o) (items list) bytes) (psegBox h o list))
+      ap (λ (there : Bool). dataPart o there list bytes ++ (dataFor (goesOut o) (items list) bytes ++ psegBox h o list texts lengths)) there-inside
+      ∙ sym (append-assoc (dataBox (asks h o list bytes texts lengths)) (dataFor (goesOut o) (items list) bytes) (psegBox h o list texts lengths))
 
-  pub added-long : length (added (asks h o list bytes))
-      ≡ length (dataPart o thereIs list bytes) + (length (dataFor (goesOut o) (items list) bytes) + length (psegBox h o list))
+  pub added-long : length (added (asks h o list bytes texts lengths))
+      ≡ length (dataPart o thereIs list bytes) + (length (dataFor (goesOut o) (items list) bytes) + length (psegBox h o list texts lengths))
   added-long =
       sym (ap length added-parts)
       ∙ length-append (dataPart o thereIs list bytes) _
-      ∙ ap (λ (n : ℕ). length (dataPart o thereIs list bytes) + n) (length-append (dataFor (goesOut o) (items list) bytes) (psegBox h o list))
+      ∙ ap (λ (n : ℕ). length (dataPart o thereIs list bytes) + n) (length-append (dataFor (goesOut o) (items list) bytes) (psegBox h o list texts lengths))

@@ -2,4 +2,3 @@ pub mod AddedLaws
 pub mod AppendLaws
 pub mod BeginLaws
 pub mod Determined
-pub mod TextLaws

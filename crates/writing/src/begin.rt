@@ -1,5 +1,5 @@
 // Beginning a file in a lent buffer.
-use crate::texts::is_text;
+use adding::texts::is_text;
 use numerals::place::Place;
 use partial::answers::Written;
 use partial::brand::Brand;

@@ -1,4 +1,4 @@
--- `puts::pseg::put_pseg` meets its contract: the header, then two boxes.
+-- `puts::pseg::put_pseg` meets its contract: the header, then two boxes and the `surl` boxes.
 use native.Mathlib.Omega.{arith}
 use borrow.Author.Needs.{needs}
 use Rattle.boxes.specs.Kinds.{pseg}
@@ -17,25 +17,32 @@ put-pshd-requires c κs = search needs
 put-ploc-requires : tie.Need-put-ploc-requires
 put-ploc-requires c κs = search needs
 
+put-surls-requires : tie.Need-put-surls-requires
+put-surls-requires c κs = search needs
+
 same-length : tie.Need-same-length
 same-length c = search needs
 
 returns : tie.Need-returns
 unfolding asks
 returns c whole laid fits outer small =
-    let inner = c .before .before in
+    let last = c .before .before in
+    let inner = last .before .before .before .before in
     let first = inner .before .before .before .before in
     let front = first .before .before .before .before in
-    let start = front .before .before .before .before in
+    let start = front .before .before .before .before .before .before in
     let header = start .args .header in
     let list = start .args .list .now in
     let outside = start .args .outside in
-    let long = pseg-box-long header outside list in
-    let size = pseg-size-of header outside list (laid .body) small in
+    let texts = start .args .texts .now in
+    let lengths = start .args .lengths .now in
+    let long = pseg-box-long header outside list texts lengths in
+    let size = pseg-size-of header outside list texts lengths (laid .body) small in
     let ploc = inner .put-ploc .ensures whole (laid .ploc) fits outer (omega arith) in
+    let surls = last .put-surls .ensures (omega arith) in
     pieces-box (pseg .code) (omega arith) (front .put-front .ensures) size
-    (pieces-same (pseg-boxes header outside list) (pieces-more (first .put-pshd .ensures (laid .pshd)) ploc))
+    (pieces-same (pseg-boxes header outside list texts lengths) (pieces-more (first .put-pshd .ensures (laid .pshd)) (pieces-more ploc surls)))
 
 pub put-pseg-spec : {M : Type 1} → statement M
 put-pseg-spec =
-    tie.close (tie.spec put-front-requires put-pshd-requires put-ploc-requires same-length returns)
+    tie.close (tie.spec put-front-requires put-pshd-requires put-ploc-requires put-surls-requires same-length returns)

@@ -1,13 +1,14 @@
 -- `writing::append::append` meets its contract: 30, then what the file itself is refused for, then what is appended to
 -- it.
-use mathlib.Core.Path.{sym}
+use mathlib.Core.Path.{refl, sym}
 use native.Mathlib.Omega.{arith}
 use borrow.Author.Needs.{needs}
 use lib.Seq.{length-take-le}
+use Rattle.additions.specs.Addition.{asks}
 use Rattle.partial.specs.Limits.{sourceLimit}
 use Rattle.additions.proofs.ReasonLaws.{length-over, file-refused}
 use Rattle.reading.proofs.JudgedLaws.{judgement-refused, judgement-given}
-use Rattle.writing.proofs.AppendLaws.{appends-refused, earlier-refused}
+use Rattle.writing.proofs.AppendLaws.{appends-refused, earlier-refused, one-going}
 use Rattle.writing.proofs.append.append.Statement.{statement}
 use Rattle.writing.proofs.append.append.Tie as tie
 
@@ -30,9 +31,10 @@ enum-known-judged : tie.Need-enum-known-judged
 enum-known-judged c = search needs
 
 append-to-requires : tie.Need-append-to-requires
+unfolding asks
 append-to-requires c κs =
     let (told, sized) = c .before .before .before .before .before .earlier-of .ensures in
-    (omega arith, judgement-given told (c .before .before .before .judged .given .1), sized)
+    (omega arith, judgement-given told (c .before .before .before .judged .given .1), one-going _ _ refl sized)
 
 same-length : tie.Need-same-length
 same-length c = search needs

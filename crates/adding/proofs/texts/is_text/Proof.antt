@@ -1,13 +1,13 @@
--- `writing::texts::is_text` meets its contract. The loop's invariant: no byte passed is zero.
+-- `adding::texts::is_text` meets its contract. The loop's invariant: no byte passed is zero.
 use Prim.Native.Nat.{ℕ, _-_, _≤_, _<_}
 use mathlib.Core.Path.{_≡_, sym}
 use native.Mathlib.Omega.{arith}
 use borrow.Author.Count.{below-more}
 use borrow.Author.Needs.{needs}
 use lib.ListN.{length, getD}
-use Rattle.writing.proofs.TextLaws.{with-zero, no-zero}
-use Rattle.writing.proofs.texts.is_text.Statement.{statement}
-use Rattle.writing.proofs.texts.is_text.Tie as tie
+use Rattle.adding.proofs.TextLaws.{with-zero, no-zero}
+use Rattle.adding.proofs.texts.is_text.Statement.{statement}
+use Rattle.adding.proofs.texts.is_text.Tie as tie
 
 abbrev Inv-loop : tie.InvT-loop
 Inv-loop bytes i₀ i = (i ≤ length bytes) × ((k : ℕ) → k < i → getD bytes k 0 ≡ 0 → ⊥)
