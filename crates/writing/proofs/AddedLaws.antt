@@ -8,7 +8,7 @@ use native.Mathlib.Omega.{arith}
 use borrow.Author.Tests.{eqb-true, eqb-false}
 use lib.Dec.{eqb}
 use lib.ListN.{length, length-append}
-use Rattle.additions.specs.Addition.{asks, items, sizeOf, goesOut, goesIn, dataFor}
+use Rattle.additions.specs.Addition.{asks, items, sizeOf, surls, goesOut, goesIn, dataFor}
 use Rattle.additions.specs.Append.{pshdBody, psegBody}
 use Rattle.additions.specs.Append.{insideData, outsideData, anyInside, dataBox, stored, added}
 use Rattle.additions.specs.declared.header.SegmentHeader.{SegmentHeader}
@@ -25,8 +25,8 @@ use Rattle.puts.specs.Boxes.{dataPart, psegBox}
 
 -- the layout of the `pseg` does not depend on the data
 pub pseg-laid : (h : SegmentHeader) (o : Bool) (list bytes texts lengths : List ℕ) {l : Layout} → Laid (asks h o list bytes texts lengths) l → PsegLaid (asks h o list [] texts lengths) l
-unfolding asks psegBody pshdBody
-pseg-laid h o list bytes laid = record { pshd = laid .pseg .pshd; ploc = laid .pseg .ploc; body = laid .pseg .body }
+unfolding asks surls psegBody pshdBody
+pseg-laid h o list bytes texts lengths laid = record { pshd = laid .pseg .pshd; ploc = laid .pseg .ploc; body = laid .pseg .body }
 
 module _ (h : SegmentHeader) (o : Bool) (list bytes texts lengths : List ℕ) {c : Counts} {x : Outside} (sorted : Sorted (asks h o list bytes texts lengths) c x) where
   pub whole-of : Whole (items list) c
@@ -65,7 +65,7 @@ module _ (h : SegmentHeader) (o : Bool) (list bytes texts lengths : List ℕ) {c
   thereIs = not (eqb (c .present) (x .chunks))
 
   pub added-parts : dataPart o thereIs list bytes ++ (dataFor (goesOut o) (items list) bytes ++ psegBox h o list texts lengths) ≡ added (asks h o list bytes texts lengths)
-  unfolding added stored dataBox insideData outsideData asks psegBody pshdBody
+  unfolding added stored dataBox insideData outsideData asks surls psegBody pshdBody
   added-parts =
       ap (λ (there : Bool). dataPart o there list bytes ++ (dataFor (goesOut o) (items list) bytes ++ psegBox h o list texts lengths)) there-inside
       ∙ sym (append-assoc (dataBox (asks h o list bytes texts lengths)) (dataFor (goesOut o) (items list) bytes) (psegBox h o list texts lengths))

@@ -149,14 +149,14 @@ module _ (a : Addition) where
   bytes-both carried texts = rw (carried, texts)
 
 -- what is counted of the texts
-module _ (header : SegmentHeader) (o : Bool) (list bytes texts lengths : List ℕ) {t : Texts} (counts : t ≡ textsOf texts lengths) where
+module _ (texts lengths : List ℕ) {t : Texts} (counts : t ≡ textsOf texts lengths) where
   pub even-told : t .even ≡ lengthsRight lengths
   unfolding textsOf
   even-told = ap (λ (t : Texts). t .even) counts
 
-  pub whole-told : t .whole ≡ textsRight (asks header o list bytes texts lengths)
+  pub whole-told : (header : SegmentHeader) (o : Bool) (list bytes : List ℕ) → t .whole ≡ textsRight (asks header o list bytes texts lengths)
   unfolding textsOf textsRight asks
-  whole-told = ap (λ (t : Texts). t .whole) counts
+  whole-told header o list bytes = ap (λ (t : Texts). t .whole) counts
 
   pub plain-told : t .plain ≡ isText texts
   unfolding textsOf

@@ -30,11 +30,17 @@ enum-known-n c = search needs
 enum-known-judged : tie.Need-enum-known-judged
 enum-known-judged c = search needs
 
+slice-aggregate-append-to : tie.Need-slice-aggregate-append-to
+slice-aggregate-append-to c = search needs
+
+slice-aggregate-append-to-2 : tie.Need-slice-aggregate-append-to-2
+slice-aggregate-append-to-2 c = search needs
+
 append-to-requires : tie.Need-append-to-requires
 unfolding asks
 append-to-requires c κs =
-    let (told, sized) = c .before .before .before .before .before .earlier-of .ensures in
-    (omega arith, judgement-given told (c .before .before .before .judged .given .1), one-going _ _ refl sized)
+    let (told, sized) = c .before .before .before .before .before .before .before .earlier-of .ensures in
+    (omega arith, judgement-given told (c .before .before .before .before .before .judged .given .1), one-going _ _ refl sized)
 
 same-length : tie.Need-same-length
 same-length c = search needs
@@ -60,6 +66,8 @@ append-spec =
     earlier-of-requires
     enum-known-n
     enum-known-judged
+    slice-aggregate-append-to
+    slice-aggregate-append-to-2
     append-to-requires
     same-length
     returns-2
