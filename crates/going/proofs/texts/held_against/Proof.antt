@@ -1,7 +1,6 @@
 -- `going::texts::held_against` meets its contract: a box that is no `surl` is passed, and the URL of one is held against
 -- the next of the texts.
-use Prim.Native.Nat.{ℕ, _+_, _-_, _*_, _/_, _^_, _<_, min}
-use mathlib.Core.Bool.{Bool, false}
+use Prim.Native.Nat.{_+_, _-_, _*_, min}
 use mathlib.Core.Path.{_≡_, sym, ap, _∙_}
 use native.Mathlib.Omega.{arith}
 use borrow.Author.Tests.{not-true, not-false}
@@ -79,14 +78,13 @@ returns-3 : tie.Need-returns-3
 returns-3 c = λ rest.
     let met = c .before in
     let found = met .before .before in
-    let less = c .before .before .before .before .before .before .before .before .before .before .if2 .left in
-    let one = is-kind surl _ (c .before .before .before .before .before .before .before .before .before .before .before .if1 .left) in
     let start = c .before .before .before .before .before .before .before .before .before .before .before .before .before .before .before .before .before in
+    let b = start .args .b in
+    let one = is-kind surl b (c .before .before .before .before .before .before .before .before .before .before .before .if1 .left) in
     let f = start .args .file .now in
     let texts = start .args .texts .now in
     let lengths = start .args .lengths .now in
     let cut = start .args .cut in
-    let b = start .args .b in
     let first : found .before .before .before .before .smaller .result ≡ min (cut .from + getD lengths (2 * cut .pair) 0) (length texts) =
     omega (arith, found .before .before .before .before .smaller .ensures, found .before .before .before .before .before .sum-of .ensures, start .good) in
     let second : found .before .smaller2 .result ≡ min (found .before .before .before .before .smaller .result + getD lengths (2 * cut .pair + 1) 0) (length texts) =
@@ -105,14 +103,13 @@ returns-4 : tie.Need-returns-4
 returns-4 c =
     let met = c .before in
     let found = met .before .before in
-    let less = c .before .before .before .before .before .before .before .before .before .before .if2 .left in
-    let one = is-kind surl _ (c .before .before .before .before .before .before .before .before .before .before .before .if1 .left) in
     let start = c .before .before .before .before .before .before .before .before .before .before .before .before .before .before .before .before .before in
+    let b = start .args .b in
+    let one = is-kind surl b (c .before .before .before .before .before .before .before .before .before .before .before .if1 .left) in
     let f = start .args .file .now in
     let texts = start .args .texts .now in
     let lengths = start .args .lengths .now in
     let cut = start .args .cut in
-    let b = start .args .b in
     let first : found .before .before .before .before .smaller .result ≡ min (cut .from + getD lengths (2 * cut .pair) 0) (length texts) =
     omega (arith, found .before .before .before .before .smaller .ensures, found .before .before .before .before .before .sum-of .ensures, start .good) in
     let second : found .before .smaller2 .result ≡ min (found .before .before .before .before .smaller .result + getD lengths (2 * cut .pair + 1) 0) (length texts) =
