@@ -48,9 +48,10 @@ unfolding
     Memory.fits Memory.filled Memory.after Memory.textWritten
     Tables.segmentRow Tables.segmentRows Tables.chunkRow Tables.chunkRowsOf Tables.chunkRowsFrom Tables.chunkRows Tables.rangeRows
     Tables.hadRows Tables.missingRows Tables.tabled Tables.listed Tables.summary Tables.totals Tables.nowhere
-    Tables.servedPart Tables.asked Tables.textOf Tables.indexTabled
+    Tables.partOf Tables.servedPart Tables.asked Tables.textOf Tables.indexTabled
     Naming.damagedAt Naming.namedClass Naming.namedRanges Naming.heldList Naming.lostList
-    Map.ascii Map.decimal Map.line Map.refusedLine Map.sourceLine Map.rangeLine Map.rangeLines Map.totalLine Map.mapWord Map.mapOf Map.missWord Map.missmapOf
+    Map.ascii Map.decimal Map.line Map.refusedLine Map.sourceLine Map.rangeLine Map.rangeLines Map.totalLine Map.mapWord Map.sourceMap Map.missWord Map.sourceMissmap
+    Map.eachSource Map.perSource Map.mapOf Map.missmapOf
     Map.textFor Map.mapText Map.missmapText
     BoxList.hex BoxList.prints BoxList.shown BoxList.each BoxList.typeBytes BoxList.userBytes BoxList.boxLine BoxList.faultLine BoxList.walkLines BoxList.boxesText
 computing = tt

@@ -24,7 +24,10 @@ use Rattle.partial.specs.Meaning.{knownSize, isClosed}
 use Rattle.partial.specs.Reading.{segments}
 use Rattle.partial.specs.Segments.{Segment}
 use Rattle.partial.specs.Sequences.{someOf, allOf}
-use Rattle.partial.proofs.Meaning.SequenceLaws.{neither}
+use Rattle.partial.specs.Sources.{ofSource}
+use Rattle.partial.proofs.Meaning.SequenceLaws.{neither, each-member}
+use Rattle.partial.proofs.Meaning.SourceLaws.{of-one}
+use Rattle.partial.proofs.Reading.OneSourceLaws.{Plain, all-plain}
 use Rattle.partial.proofs.Reading.IndexedLaws.{index-none, has-none}
 use Rattle.ends.specs.Sizes.{sizesOf}
 use Rattle.ends.specs.declared.sizes.Sizes.{Sizes}
@@ -171,14 +174,18 @@ module _ (f : List ℕ) (h : Heading) (size : Option ℕ) (ss : List Segment) (t
       let (is, read, marked) = subst (Tells (indexBy f h size ss) t₀ t) e told in
       (is, read, marked .marks)
 
+-- 11 and 16 leave a file one source
+one-source : (f : List ℕ) (h : Heading) {ss : List Segment} → segments sourceLimit f h ≡ given ss → ofSource 0 ss ≡ ss
+one-source f h {ss} all = of-one 0 ss (λ s there. each-member (Plain h) ss (all-plain sourceLimit f h all) s there .first)
+
 -- the stages of a file by what its heading tells and what is gathered of its segments
 pub stages-given : (f : List ℕ) (h : Heading) (ss : List Segment) {head : Head} {g : Gathered} {said : Sizes} {x : Answer ℕ} → heading f ≡ given h → factsOf f h ≡ factsBy head
     → segments sourceLimit f h ≡ given ss
     → g ≡ gatheredOf ss
-    → said ≡ sizesOf ss
+    → said ≡ sizesOf (ofSource 0 ss)
     → ((h : Heading) (ss : List Segment) → heading f ≡ given h → segments sourceLimit f h ≡ given ss → HasIndexes h ss (head .indexed) (g .indexed)
     → x ≡ staged (head .indexed && g .indexed) (indexBy f h (endOf (record { known = said .known; at = said .size })) ss))
     → x ≡ indexedTold f h ss
 stages-given f h ss {head} {g} headed facts all same sizes answer =
     let has : HasIndexes h ss (head .indexed) (g .indexed) = record { pfil = facts-indexed f h head facts; segments = gathered-indexed ss same } in
-    answer h ss headed all has ∙ rw (known-end ss sizes) (stages-told f h ss has)
+    answer h ss headed all has ∙ rw (known-end ss (sizes ∙ ap sizesOf (one-source f h all))) (stages-told f h ss has)

@@ -23,13 +23,13 @@ enum-known-index c = search needs
 returns : tie.Need-returns
 unfolding judgedAnswer countedAnswer
 returns c = λ h ss head facts all same said.
-    let told = stages-given _ h ss head facts all same (c .before .before .before .before .before .sizes-at .ensures ∙ said) (c .before .before .before .index-stages .ensures) in
+    let told = stages-given _ h ss head facts all same (c .before .before .before .before .before .sizes-at .ensures ∙ said .said 0) (c .before .before .before .index-stages .ensures) in
     sym (judged-unindexed _ h all (sym told ∙ ap countedAnswer (c .before .n .given .1)))
 
 returns-2 : tie.Need-returns-2
 unfolding judgedAnswer countedAnswer
 returns-2 c = λ h ss head facts all same said.
-    let told = stages-given _ h ss head facts all same (c .before .before .before .before .before .sizes-at .ensures ∙ said) (c .before .before .before .index-stages .ensures) in
+    let told = stages-given _ h ss head facts all same (c .before .before .before .before .before .sizes-at .ensures ∙ said .said 0) (c .before .before .before .index-stages .ensures) in
     sym (judged-given _ h all (sym told ∙ ap countedAnswer (c .before .index .given .1)) facts same)
 
 pub with-index-spec : {M : Type 1} → statement M
