@@ -91,7 +91,7 @@ returns-3 c = λ rest.
     omega (arith, found .before .smaller2 .ensures, found .before .before .sum-of2 .ensures, start .good) in
     let text = take (found .before .before .before .before .smaller .result - cut .from) (drop (cut .from) texts) in
     let left : Cut = record { from = found .before .smaller2 .result; pair = cut .pair + 1 } in
-    let more = urls-more f texts lengths cut (omega arith) first second in
+    let more = urls-more f texts lengths cut (omega (arith, c .before .before .before .before .before .before .before .before .before .before .if2 .left)) first second in
     let url = url-told f b (found .url-of .result) (start .pre .1) (found .url-of .ensures) in
     let told = sym (ap (λ (p : Part). sameText (bytesIn f p) text) (url .same)) ∙ sym (met .same-part .ensures) in
     past-differs f texts lengths cut b one rest left more (told ∙ not-true _ (c .if3 .taken))
@@ -116,7 +116,7 @@ returns-4 c =
     omega (arith, found .before .smaller2 .ensures, found .before .before .sum-of2 .ensures, start .good) in
     let text = take (found .before .before .before .before .smaller .result - cut .from) (drop (cut .from) texts) in
     let left : Cut = record { from = found .before .smaller2 .result; pair = cut .pair + 1 } in
-    let more = urls-more f texts lengths cut (omega arith) first second in
+    let more = urls-more f texts lengths cut (omega (arith, c .before .before .before .before .before .before .before .before .before .before .if2 .left)) first second in
     let url = url-told f b (found .url-of .result) (start .pre .1) (found .url-of .ensures) in
     let told = sym (ap (λ (p : Part). sameText (bytesIn f p) text) (url .same)) ∙ sym (met .same-part .ensures) in
     (omega (arith, second), λ rest. past-same f texts lengths cut b one rest left more (told ∙ not-false _ (c .if3 .left)))
