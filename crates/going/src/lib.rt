@@ -1,3 +1,4 @@
-// Going: the texts of an addition held against the lists of URLs of a file, which tell the source that it goes to.
+// Going: the source that an addition goes to, told by its texts and the lists of URLs of the file.
 mod part;
+pub mod source;
 pub mod texts;

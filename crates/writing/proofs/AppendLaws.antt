@@ -3,7 +3,7 @@ use Prim.Native.Nat.{ℕ, _+_, _%_, _^_, _≤_, _<_}
 use mathlib.Core.Bool.{Bool, true, false, not, _&&_, and-false}
 use mathlib.Core.List.{List, [], _∷_, _++_, append-assoc}
 use mathlib.Core.Logic.{inl, inr}
-use mathlib.Core.Path.{_≡_, refl, sym, ap, _∙_}
+use mathlib.Core.Path.{_≡_, refl, sym, ap, subst, _∙_}
 use native.Mathlib.Omega.{arith}
 use borrow.Author.Tests.{le-leb, lt-leb, eq-eqb, ne-eqb}
 use lib.Dec.{leb, eqb}
@@ -14,9 +14,9 @@ use Rattle.boxes.specs.Kinds.{pseg, right}
 use Rattle.boxes.specs.declared.kinds.Container.the-variants.{File}
 use Rattle.boxes.proofs.AnswerLaws.{not-both, refused-same, given-same, both-given}
 use Rattle.numerals.proofs.StoredLaws.{stored-room}
-use Rattle.additions.specs.Addition.{Addition, asks, items, listRight, lengthsRight, listsRight, dataSize, dataRight, textsRight, bytesRight, outsideRight}
+use Rattle.additions.specs.Addition.{Addition, asks, items, listRight, lengthsRight, listsRight, dataSize, dataRight, textsRight, bytesRight, surls, outsideRight}
 use Rattle.partial.specs.Answers.{writtenAnswer}
-use Rattle.additions.specs.Append.{added, admission, appended, result}
+use Rattle.additions.specs.Append.{added, newUrls, admission, appended, result}
 use Rattle.partial.specs.Heading.{Heading, heading}
 use Rattle.partial.specs.Index.{Indexed, indexed}
 use Rattle.partial.specs.Limits.{fileLimit, sourceLimit}
@@ -25,30 +25,33 @@ use Rattle.partial.specs.Reading.{earlierSegments}
 use Rattle.partial.specs.Segments.{Segment}
 use Rattle.additions.specs.Addition.{isState}
 use Rattle.additions.specs.Begin.{isText}
-use Rattle.partial.specs.Sequences.{allOf, largest}
-use Rattle.partial.specs.Sources.{sameUrls, sourceCount, sourceAmong, sourceBeside}
+use Rattle.partial.specs.Sequences.{allOf}
+use Rattle.partial.specs.Sources.{urlsFor, sourceCount, sourceBeside}
 use Rattle.partial.specs.declared.answers.Written.{Written}
 use Rattle.partial.specs.declared.answers.Written.the-variants as Written
 use Rattle.additions.specs.declared.header.SegmentHeader.{SegmentHeader}
-use Rattle.partial.proofs.Meaning.SameLaws.{urls-same}
-use Rattle.partial.proofs.Meaning.SequenceLaws.{which, each-member}
-use Rattle.partial.proofs.Meaning.SourceLaws.{of-one}
-use Rattle.partial.proofs.Reading.OneSourceLaws.{Plain, OneSource, all-plain}
+use Rattle.partial.proofs.Meaning.SequenceLaws.{which}
+use Rattle.partial.proofs.Reading.HeadingAppendLaws.{headed}
+use Rattle.partial.proofs.Reading.NumberedLaws.{segments-numbered}
 use Rattle.partial.proofs.Reading.RefusalLaws.{earlier-headless, earlier-some, earlier-none, earlier-read}
 use Rattle.additions.proofs.AddedBoxesLaws.{data-low, length-added}
 use Rattle.additions.proofs.ReadsBackLaws.{Offered, Admits, admits}
-use Rattle.additions.proofs.InnerLaws.{plain-urls}
 use Rattle.additions.proofs.ReasonLaws.{lists-wrong, bytes-wrong, outside-wrong, texts-wrong}
 use Rattle.additions.proofs.ResultLaws.{appended-offered}
 use Rattle.heading.specs.Facts.{factsOf, factsBy}
+use Rattle.heading.proofs.FoundLaws.{pfil-inside}
 use Rattle.filling.specs.Rows.{Put}
 use Rattle.gathering.specs.Gathered.{gatheredOf}
-use Rattle.reading.specs.Judged.{judgedBy, earlierTold, SizedIn}
+use Rattle.reading.specs.Judged.{judgedBy, earlierTold, SizedIn, SourcedIn}
 use Rattle.reading.specs.declared.judging.Judged.{Judged}
 use Rattle.reading.proofs.JudgedLaws.{earlier-cases, accepted, read-refused, read-given}
 use Rattle.reading.proofs.JudgedLaws.{earlier-headless as told-headless}
 use Rattle.outside.specs.declared.chunks.Outside.{Outside}
-use Rattle.ends.specs.Sizes.{sizesOf}
+use Rattle.surls.specs.declared.body.Body.{Body}
+use Rattle.sources.specs.Held.{PfilList}
+use Rattle.going.specs.Source.{SourceFor}
+use Rattle.going.specs.Texts.{urlsOf}
+use Rattle.gathering.specs.declared.gathered.Gathered.{Gathered}
 use Rattle.adding.specs.Admission.{Beside, Goes, Asked, admittedLength}
 use Rattle.adding.specs.Counts.{countsOf, Counted}
 use Rattle.adding.specs.Texts.{textsOf}
@@ -194,6 +197,7 @@ pub record Earlier (f : List ℕ) (j : Judged) : Type 0 where
   pub read : earlierSegments sourceLimit f ≡ given ss
   pub beside : Beside f h ss j
   pub mixed : j .head .mixed ≡ h .mixed
+  pub inPfil : PfilList f h (j .head .list)
 
 pub earlier : (f : List ℕ) (j : Judged) → earlierTold f ≡ given (judgedBy j) → Earlier f j
 unfolding earlierTold factsOf
@@ -222,6 +226,7 @@ earlier f j e =
             segments = gathered;
           };
           mixed = sym (ap (λ x. x .mixed) facts);
+          inPfil = subst (PfilList f h) (ap (λ x. x .list) facts) (record { stands = record { boxes = headed f h head .inner; inside = pfil-inside f h head }; urls = headed f h head .urls });
         }
 
 -- it has one heading
@@ -230,23 +235,24 @@ headed-mixed file head = file .mixed ∙ ap (λ (h : Heading). h .mixed) (given-
 
 -- ---- the source
 
--- a file has one source so far, to which an addition without texts goes
-pub one-going : (f : List ℕ) (a : Addition) {z : List ℕ} → a .lengths ≡ [] → SizedIn (earlierSegments sourceLimit f) z → Going f a z 0
-unfolding sourceBeside sourceCount sourceAmong largest
-one-going f a {z} plain sized h ss head read =
+-- the source that an addition goes to, by the tables of those of the file
+pub going-of : (f : List ℕ) (a : Addition) (j : Judged) → Earlier f j → {z n l : List ℕ} → SizedIn (earlierSegments sourceLimit f) z
+    → SourcedIn f (earlierSegments sourceLimit f) n l
+    → {source : ℕ}
+    → SourceFor f l (j .gathered .sources) (j .head .list) (a .texts) (a .lengths) source
+    → Going f a z source
+unfolding newUrls surls gatheredOf
+going-of f a j file sized sourced {source} told h ss head read =
+    let same-head : file .h ≡ h = given-same (sym (file .head) ∙ head) in
+    let same : file .ss ≡ ss = given-same (sym (file .read) ∙ read) in
+    let pfil = subst (λ (h : Heading). PfilList f h (j .head .list)) same-head (file .inPfil) in
+    let count : j .gathered .sources ≡ sourceCount ss = ap (λ (g : Gathered). g .sources) (file .beside .segments) ∙ ap sourceCount same in
+    let numbered = segments-numbered sourceLimit f h (earlier-read sourceLimit f head read) in
     record {
-      number = sym (ap (sourceBeside ss) (plain-urls a plain h) ∙ first ss one);
-      sizes = sized ss read ∙ ap sizesOf (sym (of-one 0 ss (λ s there. each-member (Plain h) ss one s there .first)));
+      number = told h ss (h .inner) count numbered (sourced ss read h head .lists) (pfil .stands)
+          ∙ ap (λ (us : List (List ℕ)). sourceBeside ss (urlsFor (urlsOf (a .texts) (a .lengths)) us)) (sym (pfil .urls));
+      sizes = sized ss read .said source;
     }
-  where
-    one : OneSource h ss
-    one = all-plain sourceLimit f h (earlier-read sourceLimit f head read)
-
-    first : (ss : List Segment) → OneSource h ss → sourceBeside ss (h .urls) ≡ 0
-    first [] one = refl
-    first (s ∷ ss) (plain, one) =
-        let same : sameUrls (h .urls) (s .urls) ≡ true = rw (plain .urls) (urls-same (h .urls) (h .urls) refl) in
-        rw (sourceAmong, same) (plain .first)
 
 -- ---- the tests, in their order
 

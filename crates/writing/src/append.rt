@@ -9,7 +9,7 @@ use adding::texts::Texts;
 use adding::texts::texts_of;
 use additions::header::SegmentHeader;
 use ends::table::ALL_SIZES;
-use ends::table::ONE_SOURCE;
+use going::source::source_for;
 use numerals::place::Place;
 use outside::chunks::Outside;
 use outside::chunks::outside_of;
@@ -26,6 +26,8 @@ use puts::pseg::put_pseg;
 use reading::judging::Judged;
 use reading::judging::Judgement;
 use reading::judging::earlier_of;
+use sources::lists::ALL_LISTS;
+use sources::numbers::ALL_SOURCES;
 ghost use Prim.Native.Nat.{_≤_};
 ghost use mathlib.Core.Bool.{true};
 ghost use mathlib.Core.List.{[]};
@@ -41,6 +43,7 @@ ghost use Rattle.reading.specs.Judged.{judgedBy, earlierTold};
 ghost use Rattle.adding.specs.Counts.{Counted, Sorted};
 ghost use Rattle.adding.specs.Texts.{Texted};
 ghost use Rattle.adding.specs.Layout.{Laid};
+ghost use Rattle.going.specs.Source.{SourceFor};
 ghost use Rattle.puts.specs.Entries.{Fits};
 ghost use Rattle.puts.specs.Pieces.{PutsPieces};
 ghost use Rattle.writing.specs.Append.{Going, Appends};
@@ -246,6 +249,68 @@ fn append_to(
     )
 }
 
+// The source that an addition with these texts goes to, by what was read of the file.
+fn source_beside(
+    file: &[u8],
+    judged: Judged,
+    lists: &[u64; ALL_LISTS],
+    texts: &[u8],
+    lengths: &[u64],
+) -> u64
+    ensures { λ r. ⌜ SourceFor (now (file .entry)) (now (lists .entry)) (judged .gathered .sources) (judged .head .list) (now (texts .entry)) (now (lengths .entry)) r ⌝ }
+{
+    let head = judged.head;
+    let gathered = judged.gathered;
+    let list = head.list;
+    source_for(file, lists, gathered.sources, list, texts, lengths)
+}
+
+// Appends a segment, with the `surl` boxes of texts that a list of their lengths cuts, to the file in the first bytes of
+// the buffer.
+fn append_with(
+    buffer: &mut [u8],
+    length: u64,
+    header: SegmentHeader,
+    outside: bool,
+    list: &[u64],
+    data: &[u8],
+    texts: &[u8],
+    lengths: &[u64],
+) -> Written
+    ensures { λ r. ⌜ Appends (now (buffer .entry)) (now (buffer .exit)) length (asks header outside (now (list .entry)) (now («data» .entry)) (now (texts .entry)) (now (lengths .entry))) r ⌝ }
+{
+    if (buffer.len() as u64) < length {
+        return Written::Refused(LENGTH_OVER_BUFFER);
+    }
+    let mut sizes = [0; ALL_SIZES];
+    let mut sources = [0; ALL_SOURCES];
+    let mut lists = [0; ALL_LISTS];
+    match earlier_of(
+        &buffer[..length as usize],
+        &mut sizes,
+        &mut sources,
+        &mut lists,
+    ) {
+        Judgement::Refused(n) => Written::Refused(n),
+        Judgement::Given(judged) => {
+            let source = source_beside(&buffer[..length as usize], judged, &lists, texts, lengths);
+            append_to(
+                buffer,
+                length,
+                judged,
+                &sizes,
+                source,
+                header,
+                outside,
+                list,
+                data,
+                texts,
+                lengths,
+            )
+        }
+    }
+}
+
 // Appends a segment to the file in the first bytes of the buffer: the data of its chunks, the good ones outside `pdat`
 // or all in one, and a `pseg`. Answers the new length; after a refusal the buffer is as it was.
 pub fn append(
@@ -258,26 +323,14 @@ pub fn append(
 ) -> Written
     ensures { λ r. ⌜ Appends (now (buffer .entry)) (now (buffer .exit)) length (asks header outside (now (list .entry)) (now («data» .entry)) [] []) r ⌝ }
 {
-    if (buffer.len() as u64) < length {
-        return Written::Refused(LENGTH_OVER_BUFFER);
-    }
-    let mut sizes = [0; ALL_SIZES];
-    match earlier_of(&buffer[..length as usize], &mut sizes) {
-        Judgement::Refused(n) => Written::Refused(n),
-        Judgement::Given(judged) => {
-            append_to(
-                buffer,
-                length,
-                judged,
-                &sizes,
-                ONE_SOURCE,
-                header,
-                outside,
-                list,
-                data,
-                &data[..0],
-                &list[..0],
-            )
-        }
-    }
+    append_with(
+        buffer,
+        length,
+        header,
+        outside,
+        list,
+        data,
+        &data[..0],
+        &list[..0],
+    )
 }
