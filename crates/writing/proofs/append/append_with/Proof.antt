@@ -1,6 +1,6 @@
--- `writing::append::append` meets its contract: 30, then what the file itself is refused for, then what is appended to
--- it.
-use mathlib.Core.Path.{refl, sym}
+-- `writing::append::append_with` meets its contract: 30, then what the file itself is refused for, then what is appended
+-- to it, by the source that it goes to.
+use mathlib.Core.Path.{sym}
 use native.Mathlib.Omega.{arith}
 use borrow.Author.Needs.{needs}
 use lib.Seq.{length-take-le}
@@ -8,9 +8,9 @@ use Rattle.additions.specs.Addition.{asks}
 use Rattle.partial.specs.Limits.{sourceLimit}
 use Rattle.additions.proofs.ReasonLaws.{length-over, file-refused}
 use Rattle.reading.proofs.JudgedLaws.{judgement-refused, judgement-given}
-use Rattle.writing.proofs.AppendLaws.{appends-refused, earlier-refused, one-going}
-use Rattle.writing.proofs.append.append.Statement.{statement}
-use Rattle.writing.proofs.append.append.Tie as tie
+use Rattle.writing.proofs.AppendLaws.{appends-refused, earlier-refused, earlier, going-of}
+use Rattle.writing.proofs.append.append_with.Statement.{statement}
+use Rattle.writing.proofs.append.append_with.Tie as tie
 
 returns : tie.Need-returns
 returns c = appends-refused _ _ _ (length-over sourceLimit _ _ _ (omega arith))
@@ -30,17 +30,21 @@ enum-known-n c = search needs
 enum-known-judged : tie.Need-enum-known-judged
 enum-known-judged c = search needs
 
-slice-aggregate-append-to : tie.Need-slice-aggregate-append-to
-slice-aggregate-append-to c = search needs
+slice-reshare-prefix-source-beside : tie.Need-slice-reshare-prefix-source-beside
+slice-reshare-prefix-source-beside c = search needs
 
-slice-aggregate-append-to-2 : tie.Need-slice-aggregate-append-to-2
-slice-aggregate-append-to-2 c = search needs
+slice-aggregate-source-beside : tie.Need-slice-aggregate-source-beside
+slice-aggregate-source-beside c = sym (length-take-le _ _ (omega arith))
+
+source-beside-requires : tie.Need-source-beside-requires
+source-beside-requires c κs = search needs
 
 append-to-requires : tie.Need-append-to-requires
 unfolding asks
 append-to-requires c κs =
-    let (told, sized) = c .before .before .before .before .before .before .before .earlier-of .ensures in
-    (omega arith, judgement-given told (c .before .before .before .before .before .judged .given .1), one-going _ _ refl sized)
+    let (answer, sized, sourced) = c .before .before .before .before .before .before .before .before .earlier-of .ensures in
+    let told = judgement-given answer (c .before .before .before .before .before .before .judged .given .1) in
+    (omega arith, told, going-of _ _ _ (earlier _ _ told) sized sourced (c .before .before .source-beside .ensures))
 
 same-length : tie.Need-same-length
 same-length c = search needs
@@ -56,8 +60,8 @@ same-length-2 c = search needs
 returns-3 : tie.Need-returns-3
 returns-3 c = search needs
 
-pub append-spec : {M : Type 1} → statement M
-append-spec =
+pub append-with-spec : {M : Type 1} → statement M
+append-with-spec =
     tie.close
     (tie.spec
     returns
@@ -66,8 +70,9 @@ append-spec =
     earlier-of-requires
     enum-known-n
     enum-known-judged
-    slice-aggregate-append-to
-    slice-aggregate-append-to-2
+    slice-reshare-prefix-source-beside
+    slice-aggregate-source-beside
+    source-beside-requires
     append-to-requires
     same-length
     returns-2
