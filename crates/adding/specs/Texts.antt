@@ -10,8 +10,8 @@ use Rattle.additions.specs.Begin.{isText}
 use Rattle.partial.specs.Sequences.{sum}
 use Rattle.adding.specs.declared.texts.Texts.{Texts}
 
--- whether the list of lengths is even and their sum, which no limit cuts, is the number of the bytes; whether no byte is
--- zero; how many `surl` boxes there are, and how many bytes
+-- whether the list of lengths is even and their sum, which no limit cuts, is the number of the bytes; whether no byte
+-- is zero; how many `surl` boxes there are, and how many bytes
 unfoldable pub textsOf : List ℕ → List ℕ → Texts
 textsOf texts lengths =
     record {

@@ -92,8 +92,8 @@ fn index_beside(file: &[u8], indexed: bool, segments: u64, size: End) -> Verdict
     }
 }
 
-// 13, 22, 23 and 25 of the new segment, by what was gathered of those before it and what the ends of its own source say,
-// since the sizes of every other agree, and then the index beside it.
+// 13, 22, 23 and 25 of the new segment, by what was gathered of those before it and what the ends of its own source
+// say, since the sizes of every other agree, and then the index beside it.
 fn admitted(
     file: &[u8],
     indexed: bool,

@@ -1,6 +1,6 @@
 -- Each public call's contract determines its answer and what it leaves in the buffer: two that it allows of the same
--- arguments are equal. Where pieces follow one another that is said where they end within the buffer; of a box, too, that
--- 32 bits hold its size, and of `pdat` and `pseg` that what is handed over of their chunk list is right.
+-- arguments are equal. Where pieces follow one another that is said where they end within the buffer; of a box, too,
+-- that 32 bits hold its size, and of `pdat` and `pseg` that what is handed over of their chunk list is right.
 use Prim.Native.Nat.{ℕ, _+_, _^_, _≤_, _<_}
 use mathlib.Core.List.{List, []}
 use mathlib.Core.Path.{_≡_, sym, _∙_}

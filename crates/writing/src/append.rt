@@ -265,8 +265,8 @@ fn source_beside(
     source_for(file, lists, gathered.sources, list, texts, lengths)
 }
 
-// Appends a segment, with the `surl` boxes of texts that a list of their lengths cuts, to the file in the first bytes of
-// the buffer.
+// Appends a segment, with the `surl` boxes of texts that a list of their lengths cuts, to the file in the first bytes
+// of the buffer.
 fn append_with(
     buffer: &mut [u8],
     length: u64,

@@ -1,4 +1,5 @@
--- `adding::texts::sum_in` meets its contract. The loop's invariant: with the lengths that are left, the sum is that of all.
+-- `adding::texts::sum_in` meets its contract. The loop's invariant: with the lengths that are left, the sum is that of
+-- all.
 use Prim.Native.Nat.{_+_, _-_, _^_, _≤_, min}
 use mathlib.Core.Path.{_≡_, ap, _∙_}
 use native.Mathlib.Omega.{arith}

@@ -1,4 +1,5 @@
--- `going::source::source_for` meets its contract: by the list in `pfil` where there is no box to write, else by the texts.
+-- `going::source::source_for` meets its contract: by the list in `pfil` where there is no box to write, else by the
+-- texts.
 use mathlib.Core.List.{List}
 use mathlib.Core.Path.{sym, ap, _∙_}
 use native.Mathlib.Omega.{arith}

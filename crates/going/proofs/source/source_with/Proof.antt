@@ -1,4 +1,5 @@
--- `going::source::source_with` meets its contract. The loop's invariant: the source of the texts is none of those so far.
+-- `going::source::source_with` meets its contract. The loop's invariant: the source of the texts is none of those so
+-- far.
 use Prim.Native.Nat.{_-_, _≤_}
 use mathlib.Core.List.{List}
 use mathlib.Core.Path.{_≡_}

@@ -1,5 +1,5 @@
--- `going::texts::held_against` meets its contract: a box that is no `surl` is passed, and the URL of one is held against
--- the next of the texts.
+-- `going::texts::held_against` meets its contract: a box that is no `surl` is passed, and the URL of one is held
+-- against the next of the texts.
 use Prim.Native.Nat.{_+_, _-_, _*_, min}
 use mathlib.Core.Path.{_≡_, sym, ap, _∙_}
 use native.Mathlib.Omega.{arith}

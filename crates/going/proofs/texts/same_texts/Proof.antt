@@ -1,4 +1,5 @@
--- `going::texts::same_texts` meets its contract. The loop's invariant: what both lists say goes by what is left of them.
+-- `going::texts::same_texts` meets its contract. The loop's invariant: what both lists say goes by what is left of
+-- them.
 use Prim.Native.Nat.{_≤_}
 use mathlib.Core.Path.{_≡_, refl, sym, ap, _∙_}
 use native.Mathlib.Omega.{arith}

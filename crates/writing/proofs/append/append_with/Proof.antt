@@ -1,5 +1,5 @@
--- `writing::append::append_with` meets its contract: 30, then what the file itself is refused for, then what is appended
--- to it, by the source that it goes to.
+-- `writing::append::append_with` meets its contract: 30, then what the file itself is refused for, then what is
+-- appended to it, by the source that it goes to.
 use mathlib.Core.Path.{sym}
 use native.Mathlib.Omega.{arith}
 use borrow.Author.Needs.{needs}
