@@ -1,12 +1,12 @@
 // Whether a file takes an addition: 35, and then 1, 6, 13, 22, 23, 25, 36, 37 or 39 if the result would have it.
 use crate::counts::Counts;
 use crate::layout::Layout;
+use crate::texts::Texts;
 use additions::header::SegmentHeader;
 use boxes::limits::BOX_LIMIT;
 use boxes::refusals::TOO_MANY_BOXES;
 use ends::sizes::gives_size;
 use ends::table::ALL_SIZES;
-use ends::table::ONE_SOURCE;
 use ends::table::sizes_at;
 use gathering::gathered::Gathered;
 use indexing::end::End;
@@ -38,14 +38,17 @@ ghost use Rattle.partial.specs.Answers.{writtenAnswer};
 ghost use Rattle.partial.specs.Heading.{Heading};
 ghost use Rattle.partial.specs.Meaning.{knownSize};
 ghost use Rattle.partial.specs.Segments.{Segment};
-ghost use Rattle.partial.specs.Sources.{sourceBeside};
+ghost use Rattle.partial.specs.Sources.{ofSource};
 ghost use Rattle.ends.specs.Sizes.{sizesOf};
 ghost use Rattle.ends.specs.Table.{sizesIn};
 ghost use Rattle.gathering.specs.Gathered.{gatheredOf};
 ghost use Rattle.indexing.specs.Ends.{endOf};
-ghost use Rattle.adding.specs.Admission.{Tells, Known, indexedBeside, admittedBeside, admittedAnswer, Beside, Asked, admittedLength};
+ghost use Rattle.adding.specs.Admission.{Tells, Known, indexedBeside, admittedBeside, admittedAnswer, Beside, Goes, Asked, admittedLength};
 ghost use Rattle.outside.specs.Chunks.{outsideOf};
 ghost use Rattle.adding.specs.Counts.{capped, Sorted};
+
+// The boxes of a `pseg` without texts: its `pshd` and its `ploc`.
+const PLAIN_BOXES: u64 = 2;
 
 // Whether the chunks may go outside: there is none, or the file is mixed and each is whole allowed boxes.
 pub fn outside_right(mixed: bool, outside: Outside) -> bool
@@ -89,20 +92,20 @@ fn index_beside(file: &[u8], indexed: bool, segments: u64, size: End) -> Verdict
     }
 }
 
-// 13, 22, 23 and 25 of the new segment, by what was gathered of those before it and what their ends say, and then the
-// index beside it.
+// 13, 22, 23 and 25 of the new segment, by what was gathered of those before it and what the ends of its own source
+// say, since the sizes of every other agree, and then the index beside it.
 fn admitted(
     file: &[u8],
     indexed: bool,
     gathered: Gathered,
     sizes: &[u64; ALL_SIZES],
+    source: u64,
     header: SegmentHeader,
     counts: Counts,
 ) -> Verdict
     ensures { λ r. ⌜ ((h : Heading) (ss : List Segment) (s : Segment) → Known (now (file .entry)) h ss indexed
-        → gathered ≡ gatheredOf ss → sizesIn (now (sizes .entry)) 0 ≡ sizesOf ss
-        → Tells s header counts → those fidx (s .inner) ≡ []
-        → s .urls ≡ h .urls → s .source ≡ sourceBeside ss (h .urls)
+        → gathered ≡ gatheredOf ss → sizesIn (now (sizes .entry)) source ≡ sizesOf (ofSource source ss)
+        → s .source ≡ source → Tells s header counts → those fidx (s .inner) ≡ []
         → admittedAnswer r ≡ admittedBeside (now (file .entry)) h ss s) ⌝ }
 {
     let offset = header.offset;
@@ -116,7 +119,7 @@ fn admitted(
         return Verdict::Refused(SOURCE_TOO_LONG);
     }
     let gives = gives_size(header.flags as u64 % 2, counts.items);
-    let said = sizes_at(sizes, ONE_SOURCE);
+    let said = sizes_at(sizes, source);
     let end = offset.0 + counts.sum;
     let with = said.with(Position(end), gives);
     if !with.agree() {
@@ -129,19 +132,23 @@ fn admitted(
     index_beside(file, indexed, gathered.segments, size)
 }
 
-// The length of a file of n bytes with the addition, or the number of the first refusal that the result would have.
+// The length of a file of n bytes with the addition, which goes to that source, or the number of the first refusal that
+// the result would have.
 pub fn admission(
     file: &[u8],
     judged: Judged,
     sizes: &[u64; ALL_SIZES],
+    source: u64,
     n: u64,
     header: SegmentHeader,
     counts: Counts,
     outside: Outside,
+    texts: Texts,
     layout: Layout,
 ) -> Written
-    ensures { λ r. ⌜ ((h : Heading) (ss : List Segment) (a : Addition) → Beside (now (file .entry)) h ss judged (now (sizes .entry))
-        → Asked a header counts outside layout → writtenAnswer r ≡ admittedLength (now (file .entry)) h ss n a) ⌝ }
+    ensures { λ r. ⌜ ((h : Heading) (ss : List Segment) (a : Addition) → Beside (now (file .entry)) h ss judged
+        → Goes h ss a (now (sizes .entry)) source → Asked a header counts outside texts layout
+        → writtenAnswer r ≡ admittedLength (now (file .entry)) h ss n a) ⌝ }
 {
     let head = judged.head;
     if !ends_by(n, layout.added, FILE_LIMIT) {
@@ -150,7 +157,18 @@ pub fn admission(
     if !ends_by(head.boxes, added_boxes(counts, outside), BOX_LIMIT) {
         return Written::Refused(TOO_MANY_BOXES);
     }
-    match admitted(file, head.indexed, judged.gathered, sizes, header, counts) {
+    if !ends_by(PLAIN_BOXES, texts.surls, BOX_LIMIT) {
+        return Written::Refused(TOO_MANY_BOXES);
+    }
+    match admitted(
+        file,
+        head.indexed,
+        judged.gathered,
+        sizes,
+        source,
+        header,
+        counts,
+    ) {
         Verdict::Refused(k) => Written::Refused(k),
         Verdict::Taken => Written::Length(n + layout.added),
     }
