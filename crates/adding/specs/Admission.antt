@@ -14,7 +14,7 @@ use Rattle.partial.specs.Limits.{sourceLimit}
 use Rattle.partial.specs.Reading.{earlierSegments}
 use Rattle.partial.specs.Segments.{Segment, isLast}
 use Rattle.partial.specs.Sequences.{sum}
-use Rattle.partial.specs.Sources.{sourceBeside, ofSource}
+use Rattle.partial.specs.Sources.{sameUrls, sourceBeside, ofSource}
 use Rattle.additions.specs.declared.header.SegmentHeader.{SegmentHeader}
 use Rattle.ends.specs.Sizes.{sizesOf}
 use Rattle.ends.specs.Table.{sizesIn}
@@ -24,6 +24,7 @@ use Rattle.reading.specs.declared.judging.Judged.{Judged}
 use Rattle.adding.specs.Counts.{capped, Sorted}
 use Rattle.adding.specs.Layout.{Laid}
 use Rattle.adding.specs.Texts.{Texted}
+use Rattle.adding.specs.declared.admission.Target.{Target}
 use Rattle.adding.specs.declared.admission.Verdict.{Verdict}
 use Rattle.adding.specs.declared.admission.Verdict.the-variants.{Refused, Taken}
 use Rattle.adding.specs.declared.counts.Counts.{Counts}
@@ -67,10 +68,12 @@ pub record Beside (f : List ℕ) (h : Heading) (ss : List Segment) (j : Judged) 
   pub boxes : j .head .boxes ≡ length (h .boxes)
   pub segments : j .gathered ≡ gatheredOf ss
 
--- the source that an addition goes to beside the segments of a file, and what their ends say of it in a table
-pub record Goes (h : Heading) (ss : List Segment) (a : Addition) (z : List ℕ) (source : ℕ) : Type 0 where
-  pub number : source ≡ sourceBeside ss (newUrls h a)
-  pub sizes : sizesIn z source ≡ sizesOf (ofSource source ss)
+-- the source that an addition goes to beside the segments of a file, what their ends say of it in a table, and whether
+-- its list of URLs is that in `pfil`
+pub record Goes (h : Heading) (ss : List Segment) (a : Addition) (z : List ℕ) (target : Target) : Type 0 where
+  pub number : target .source ≡ sourceBeside ss (newUrls h a)
+  pub sizes : sizesIn z (target .source) ≡ sizesOf (ofSource (target .source) ss)
+  pub list : target .«in_pfil» ≡ sameUrls (h .urls) (newUrls h a)
 
 -- what is asked of append, by the header, the counts of the chunk list, what goes outside, each chunk whole boxes, the
 -- counts of the texts, and the layout

@@ -14,6 +14,7 @@ use Rattle.partial.specs.ReadingDemands.{Numbered}
 use Rattle.partial.specs.Segments.{Segment}
 use Rattle.partial.specs.Sources.{sourceCount}
 use Rattle.sources.specs.Held.{Stands, ListsHeld}
+use Rattle.going.proofs.source.goes_to.Reads as goes-to
 use Rattle.going.proofs.source.source_for.Reads as source-for
 use Rattle.going.proofs.texts.same_texts.Reads as same-texts
 
@@ -27,3 +28,6 @@ source-for-result : OneKnown source-for.Post
     (args .1 .1 .0 ≡ sourceCount ss) × Numbered ss × ListsHeld (now (args .0)) h (now (args .1 .0)) ss × Stands (now (args .0)) (args .1 .1 .1 .0) bs)
 source-for-result κs args (h, ss, bs) (count, numbered, held, stands) x y after after′ p q =
     p h ss bs count numbered held stands ∙ sym (q h ss bs count numbered held stands)
+
+goes-to-result : OneKnown goes-to.Post (λ κs args (bs : List Box). Stands (now (args .0)) (args .1 .0) bs)
+goes-to-result κs args bs stands x y after after′ p q = p bs stands ∙ sym (q bs stands)

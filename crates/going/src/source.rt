@@ -4,7 +4,7 @@ use sources::find::source_of;
 use sources::lists::ALL_LISTS;
 use sources::lists::list_at;
 use surls::body::Body;
-ghost use Rattle.going.specs.Source.{SourceWith, SourceFor};
+ghost use Rattle.going.specs.Source.{SourceWith, SourceFor, GoesTo};
 
 // The number of the source whose URLs are those of the texts, beside segments of so many sources: that of a source with
 // the same list, or the next one.
@@ -42,4 +42,14 @@ pub fn source_for(
         return source_of(file, lists, many, list);
     }
     source_with(file, lists, many, texts, lengths)
+}
+
+// Whether an addition with these texts goes to the source of the list in a container: it has none, or the same URLs.
+pub fn goes_to(file: &[u8], list: Body, texts: &[u8], lengths: &[u64]) -> bool
+    ensures { λ r. ⌜ GoesTo (now (file .entry)) list (now (texts .entry)) (now (lengths .entry)) r ⌝ }
+{
+    if lengths.len() < 2 {
+        return true;
+    }
+    same_texts(file, list, texts, lengths)
 }

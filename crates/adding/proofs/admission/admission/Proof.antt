@@ -14,7 +14,8 @@ use Rattle.additions.specs.Append.{added}
 use Rattle.partial.specs.Heading.{Heading}
 use Rattle.partial.specs.Limits.{fileLimit}
 use Rattle.partial.specs.Segments.{Segment}
-use Rattle.additions.proofs.NewSegmentLaws.{no-index-new, source-new}
+use Rattle.partial.specs.Sources.{sameUrls, sourceBeside}
+use Rattle.additions.proofs.NewSegmentLaws.{no-index-new, urls-new, source-new}
 use Rattle.adding.specs.Admission.{Beside, Goes, Asked, admittedAnswer, admittedLength}
 use Rattle.adding.proofs.AdmissionLaws.{file-test, size-whole, box-test, inner-test, tells-new}
 use Rattle.adding.proofs.AdmissionLaws.{admission-1, admission-6, admission-6-inner, admission-by}
@@ -71,14 +72,14 @@ small-past c beside asked =
 
 by-admitted : (c : tie.After-admitted) (h : Heading) (ss : List Segment) (a : Addition) → Beside (c .before .before .before .before .before .before .before .before .before .before .args .file .now) h ss (c .before .before .before .before .before .before .before .before .before .before .args .judged)
     → Asked a (c .before .before .before .before .before .before .before .before .before .before .args .header) (c .before .before .before .before .before .before .before .before .before .before .args .counts) (c .before .before .before .before .before .before .before .before .before .before .args .outside) (c .before .before .before .before .before .before .before .before .before .before .args .texts) (c .before .before .before .before .before .before .before .before .before .before .args .layout)
-    → Goes h ss a (c .before .before .before .before .before .before .before .before .before .before .args .sizes .now) (c .before .before .before .before .before .before .before .before .before .before .args .source)
+    → Goes h ss a (c .before .before .before .before .before .before .before .before .before .before .args .sizes .now) (c .before .before .before .before .before .before .before .before .before .before .args .target)
     → (admittedAnswer (c .admitted .result) >>= λ _. given (c .before .before .before .before .before .before .before .before .before .before .args .n + length (added a))) ≡ admittedLength (c .before .before .before .before .before .before .before .before .before .before .args .file .now) h ss (c .before .before .before .before .before .before .before .before .before .before .args .n) a
 by-admitted c h ss a beside asked goes =
     let n = c .before .before .before .before .before .before .before .before .before .before .args .n in
     let met = c .before .before .before in
     let inner = inner-test n beside asked (sym (not-false _ (c .before .if3 .left)) ∙ c .before .before .ends-by3 .ensures) in
     let boxes = box-test n beside asked (met .before .before .added-boxes .ensures a (asked .sorted) (asked .whole)) (sym (not-false _ (met .if2 .left)) ∙ met .before .ends-by2 .ensures) in
-    ap (λ (x : Answer (Unit {0})). x >>= λ _. given (n + length (added a))) (c .admitted .ensures h ss _ (beside .file) (beside .segments) (goes .sizes) (source-new h ss _ a ∙ sym (goes .number)) (tells-new n beside asked) (no-index-new h ss _ a))
+    ap (λ (x : Answer (Unit {0})). x >>= λ _. given (n + length (added a))) (c .admitted .ensures h ss _ (beside .file) (beside .segments) (goes .sizes) (source-new h ss _ a ∙ ap (sourceBeside ss) (sym (urls-new h ss _ a))) (source-new h ss _ a ∙ sym (goes .number)) (goes .list ∙ ap (sameUrls (h .urls)) (sym (urls-new h ss _ a))) (tells-new n beside asked) (no-index-new h ss _ a))
     ∙ admission-by _ h ss n a (small-past c beside asked) boxes inner
 
 enum-known-k : tie.Need-enum-known-k
