@@ -18,7 +18,7 @@ use Rattle.additions.specs.Addition.{Addition, asks, items, listRight, lengthsR
 use Rattle.partial.specs.Answers.{writtenAnswer}
 use Rattle.additions.specs.Append.{added, newUrls, admission, appended, result}
 use Rattle.partial.specs.Heading.{Heading, heading}
-use Rattle.partial.specs.Index.{Indexed, indexed}
+use Rattle.partial.specs.Index.{SourceBox, indexed}
 use Rattle.partial.specs.Limits.{fileLimit, sourceLimit}
 use Rattle.partial.specs.Memory.{after, filled}
 use Rattle.partial.specs.Reading.{earlierSegments}
@@ -26,7 +26,7 @@ use Rattle.partial.specs.Segments.{Segment}
 use Rattle.additions.specs.Addition.{isState}
 use Rattle.additions.specs.Begin.{isText}
 use Rattle.partial.specs.Sequences.{allOf}
-use Rattle.partial.specs.Sources.{urlsFor, sourceCount, sourceBeside}
+use Rattle.partial.specs.Sources.{urlsFor, sameUrls, sourceCount, sourceBeside}
 use Rattle.partial.specs.declared.answers.Written.{Written}
 use Rattle.partial.specs.declared.answers.Written.the-variants as Written
 use Rattle.additions.specs.declared.header.SegmentHeader.{SegmentHeader}
@@ -49,12 +49,13 @@ use Rattle.reading.proofs.JudgedLaws.{earlier-headless as told-headless}
 use Rattle.outside.specs.declared.chunks.Outside.{Outside}
 use Rattle.surls.specs.declared.body.Body.{Body}
 use Rattle.sources.specs.Held.{PfilList}
-use Rattle.going.specs.Source.{SourceFor}
+use Rattle.going.specs.Source.{SourceFor, GoesTo}
 use Rattle.going.specs.Texts.{urlsOf}
 use Rattle.gathering.specs.declared.gathered.Gathered.{Gathered}
 use Rattle.adding.specs.Admission.{Beside, Goes, Asked, admittedLength}
 use Rattle.adding.specs.Counts.{countsOf, Counted}
 use Rattle.adding.specs.Texts.{textsOf}
+use Rattle.adding.specs.declared.admission.Target.{Target}
 use Rattle.adding.specs.declared.counts.Counts.{Counts}
 use Rattle.adding.specs.declared.layout.Layout.{Layout}
 use Rattle.adding.specs.declared.texts.Texts.{Texts}
@@ -238,11 +239,11 @@ headed-mixed file head = file .mixed ∙ ap (λ (h : Heading). h .mixed) (given-
 -- the source that an addition goes to, by the tables of those of the file
 pub going-of : (f : List ℕ) (a : Addition) (j : Judged) → Earlier f j → {z n l : List ℕ} → SizedIn (earlierSegments sourceLimit f) z
     → SourcedIn f (earlierSegments sourceLimit f) n l
-    → {source : ℕ}
-    → SourceFor f l (j .gathered .sources) (j .head .list) (a .texts) (a .lengths) source
-    → Going f a z source
+    → {target : Target}
+    → SourceFor f l (j .gathered .sources) (j .head .list) (a .texts) (a .lengths) (target .source) × GoesTo f (j .head .list) (a .texts) (a .lengths) (target .«in_pfil»)
+    → Going f a z target
 unfolding newUrls surls gatheredOf
-going-of f a j file sized sourced {source} told h ss head read =
+going-of f a j file sized sourced {target} (told, goes) h ss head read =
     let same-head : file .h ≡ h = given-same (sym (file .head) ∙ head) in
     let same : file .ss ≡ ss = given-same (sym (file .read) ∙ read) in
     let pfil = subst (λ (h : Heading). PfilList f h (j .head .list)) same-head (file .inPfil) in
@@ -251,7 +252,9 @@ going-of f a j file sized sourced {source} told h ss head read =
     record {
       number = told h ss (h .inner) count numbered (sourced ss read h head .lists) (pfil .stands)
           ∙ ap (λ (us : List (List ℕ)). sourceBeside ss (urlsFor (urlsOf (a .texts) (a .lengths)) us)) (sym (pfil .urls));
-      sizes = sized ss read .said source;
+      sizes = sized ss read .said (target .source);
+      list = goes (h .inner) (pfil .stands)
+          ∙ ap (λ (us : List (List ℕ)). sameUrls us (urlsFor (urlsOf (a .texts) (a .lengths)) us)) (sym (pfil .urls));
     }
 
 -- ---- the tests, in their order
@@ -273,7 +276,7 @@ module _ (buffer : List ℕ) (n : ℕ) (a : Addition) (fits : n ≤ length buffe
 
   module _ (list : listRight (a .list) ≡ true) (outer : outsideRight (file .h) a ≡ true) (plain : isText (a .texts) ≡ true)
       {header : SegmentHeader} {c : Counts} {x : Outside} {t : Texts} {l : Layout} (asked : Asked a header c x t l)
-      {z : List ℕ} {source : ℕ} (going : Going (take n buffer) a z source) where
+      {z : List ℕ} {target : Target} (going : Going (take n buffer) a z target) where
     offered : Offered sourceLimit (take n buffer) (file .h) (file .ss) a
     offered =
         record {
@@ -293,7 +296,7 @@ module _ (buffer : List ℕ) (n : ℕ) (a : Addition) (fits : n ≤ length buffe
     by-admission = appended-offered sourceLimit buffer n a (file .h) (file .ss) fits offered
 
     module _ (r : Written)
-        (answer : (h : Heading) (ss : List Segment) (a : Addition) → Beside (take n buffer) h ss j → Goes h ss a z source → Asked a header c x t l
+        (answer : (h : Heading) (ss : List Segment) (a : Addition) → Beside (take n buffer) h ss j → Goes h ss a z target → Asked a header c x t l
         → writtenAnswer r ≡ admittedLength (take n buffer) h ss n a) where
       told : writtenAnswer r ≡ admittedLength (take n buffer) (file .h) (file .ss) n a
       told = answer (file .h) (file .ss) a (file .beside) (going (file .h) (file .ss) (file .head) (file .read)) asked
@@ -307,7 +310,7 @@ module _ (buffer : List ℕ) (n : ℕ) (a : Addition) (fits : n ≤ length buffe
       module _ {m : ℕ} (e : r ≡ Written.Length m) where
         taken : (ts : List Segment)
             × (admission sourceLimit (file .h) (file .ss) n a ≡ given ts)
-            × (is : List Indexed)
+            × (is : List SourceBox)
             × (indexed sourceLimit (take n buffer) (file .h) ts ≡ given is)
             × (given (n + length (added a)) ≡ given m)
         unfolding writtenAnswer admittedLength

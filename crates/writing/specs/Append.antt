@@ -13,10 +13,11 @@ use Rattle.partial.specs.Reading.{earlierSegments}
 use Rattle.partial.specs.Segments.{Segment}
 use Rattle.partial.specs.declared.answers.Written.{Written}
 use Rattle.adding.specs.Admission.{Goes}
+use Rattle.adding.specs.declared.admission.Target.{Target}
 
 -- the source that an addition to a file goes to, where append takes the file, and what a table says of it
-abbrev pub Going : List ℕ → Addition → List ℕ → ℕ → Type 0
-Going f a z source = (h : Heading) (ss : List Segment) → heading f ≡ given h → earlierSegments sourceLimit f ≡ given ss → Goes h ss a z source
+abbrev pub Going : List ℕ → Addition → List ℕ → Target → Type 0
+Going f a z target = (h : Heading) (ss : List Segment) → heading f ≡ given h → earlierSegments sourceLimit f ≡ given ss → Goes h ss a z target
 
 -- the answer and the buffer, each by what the buffer, the stated length and the addition decide
 pub record Appends (buffer buffer′ : List ℕ) (n : ℕ) (a : Addition) (r : Written) : Type 0 where

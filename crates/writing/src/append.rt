@@ -1,4 +1,5 @@
 // Appending a segment to a file in a lent buffer.
+use adding::admission::Target;
 use adding::admission::admission;
 use adding::admission::outside_right;
 use adding::counts::Counts;
@@ -9,6 +10,7 @@ use adding::texts::Texts;
 use adding::texts::texts_of;
 use additions::header::SegmentHeader;
 use ends::table::ALL_SIZES;
+use going::source::goes_to;
 use going::source::source_for;
 use numerals::place::Place;
 use outside::chunks::Outside;
@@ -43,7 +45,7 @@ ghost use Rattle.reading.specs.Judged.{judgedBy, earlierTold};
 ghost use Rattle.adding.specs.Counts.{Counted, Sorted};
 ghost use Rattle.adding.specs.Texts.{Texted};
 ghost use Rattle.adding.specs.Layout.{Laid};
-ghost use Rattle.going.specs.Source.{SourceFor};
+ghost use Rattle.going.specs.Source.{SourceFor, GoesTo};
 ghost use Rattle.puts.specs.Entries.{Fits};
 ghost use Rattle.puts.specs.Pieces.{PutsPieces};
 ghost use Rattle.writing.specs.Append.{Going, Appends};
@@ -91,7 +93,7 @@ fn append_right(
     n: u64,
     judged: Judged,
     sizes: &[u64; ALL_SIZES],
-    source: u64,
+    target: Target,
     header: SegmentHeader,
     outside: bool,
     counts: Counts,
@@ -104,7 +106,7 @@ fn append_right(
 ) -> Written
     requires { ⌜ (n ≤ length (now buffer))
         × (earlierTold (take n (now buffer)) ≡ given (judgedBy judged))
-        × Going (take n (now buffer)) (asks header outside (now list) (now bytes) (now texts) (now lengths)) (now sizes) source
+        × Going (take n (now buffer)) (asks header outside (now list) (now bytes) (now texts) (now lengths)) (now sizes) target
         × (listRight (now list) ≡ true) × Sorted (asks header outside (now list) (now bytes) (now texts) (now lengths)) counts stored
         × Texted (asks header outside (now list) (now bytes) (now texts) (now lengths)) said × (isText (now texts) ≡ true)
         × ((h : Heading) → heading (take n (now buffer)) ≡ given h
@@ -116,7 +118,7 @@ fn append_right(
         &buffer[..n as usize],
         judged,
         sizes,
-        source,
+        target,
         n,
         header,
         counts,
@@ -154,7 +156,7 @@ fn append_counted(
     n: u64,
     judged: Judged,
     sizes: &[u64; ALL_SIZES],
-    source: u64,
+    target: Target,
     header: SegmentHeader,
     outside: bool,
     counts: Counts,
@@ -165,7 +167,7 @@ fn append_counted(
     lengths: &[u64],
 ) -> Written
     requires { ⌜ (n ≤ length (now buffer)) × (earlierTold (take n (now buffer)) ≡ given (judgedBy judged))
-        × Going (take n (now buffer)) (asks header outside (now list) (now bytes) (now texts) (now lengths)) (now sizes) source
+        × Going (take n (now buffer)) (asks header outside (now list) (now bytes) (now texts) (now lengths)) (now sizes) target
         × (listRight (now list) ≡ true) × Counted (asks header outside (now list) (now bytes) (now texts) (now lengths)) counts
         × Texted (asks header outside (now list) (now bytes) (now texts) (now lengths)) said ⌝ }
     ensures { λ r. ⌜ Appends (now (buffer .entry)) (now (buffer .exit)) n (asks header outside (now (list .entry)) (now (bytes .entry)) (now (texts .entry)) (now (lengths .entry))) r ⌝ }
@@ -183,7 +185,7 @@ fn append_counted(
         n,
         judged,
         sizes,
-        source,
+        target,
         header,
         outside,
         counts,
@@ -203,7 +205,7 @@ fn append_to(
     n: u64,
     judged: Judged,
     sizes: &[u64; ALL_SIZES],
-    source: u64,
+    target: Target,
     header: SegmentHeader,
     outside: bool,
     list: &[u64],
@@ -212,7 +214,7 @@ fn append_to(
     lengths: &[u64],
 ) -> Written
     requires { ⌜ (n ≤ length (now buffer)) × (earlierTold (take n (now buffer)) ≡ given (judgedBy judged))
-        × Going (take n (now buffer)) (asks header outside (now list) (now bytes) (now texts) (now lengths)) (now sizes) source ⌝ }
+        × Going (take n (now buffer)) (asks header outside (now list) (now bytes) (now texts) (now lengths)) (now sizes) target ⌝ }
     ensures { λ r. ⌜ Appends (now (buffer .entry)) (now (buffer .exit)) n (asks header outside (now (list .entry)) (now (bytes .entry)) (now (texts .entry)) (now (lengths .entry))) r ⌝ }
 {
     let counts = counts_of(list);
@@ -237,7 +239,7 @@ fn append_to(
         n,
         judged,
         sizes,
-        source,
+        target,
         header,
         outside,
         counts,
@@ -249,20 +251,23 @@ fn append_to(
     )
 }
 
-// The source that an addition with these texts goes to, by what was read of the file.
-fn source_beside(
+// The source that an addition with these texts goes to, by the lists of the file.
+fn target_of(
     file: &[u8],
     judged: Judged,
     lists: &[u64; ALL_LISTS],
     texts: &[u8],
     lengths: &[u64],
-) -> u64
-    ensures { λ r. ⌜ SourceFor (now (file .entry)) (now (lists .entry)) (judged .gathered .sources) (judged .head .list) (now (texts .entry)) (now (lengths .entry)) r ⌝ }
+) -> Target
+    ensures { λ r. ⌜ SourceFor (now (file .entry)) (now (lists .entry)) (judged .gathered .sources) (judged .head .list) (now (texts .entry)) (now (lengths .entry)) (r .source)
+        × GoesTo (now (file .entry)) (judged .head .list) (now (texts .entry)) (now (lengths .entry)) (r .«in_pfil») ⌝ }
 {
     let head = judged.head;
     let gathered = judged.gathered;
     let list = head.list;
-    source_for(file, lists, gathered.sources, list, texts, lengths)
+    let source = source_for(file, lists, gathered.sources, list, texts, lengths);
+    let in_pfil = goes_to(file, list, texts, lengths);
+    Target { source, in_pfil }
 }
 
 // Appends a segment, with the `surl` boxes of texts that a list of their lengths cuts, to the file in the first bytes
@@ -293,13 +298,13 @@ fn append_with(
     ) {
         Judgement::Refused(n) => Written::Refused(n),
         Judgement::Given(judged) => {
-            let source = source_beside(&buffer[..length as usize], judged, &lists, texts, lengths);
+            let target = target_of(&buffer[..length as usize], judged, &lists, texts, lengths);
             append_to(
                 buffer,
                 length,
                 judged,
                 &sizes,
-                source,
+                target,
                 header,
                 outside,
                 list,

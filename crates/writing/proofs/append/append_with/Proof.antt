@@ -30,21 +30,21 @@ enum-known-n c = search needs
 enum-known-judged : tie.Need-enum-known-judged
 enum-known-judged c = search needs
 
-slice-reshare-prefix-source-beside : tie.Need-slice-reshare-prefix-source-beside
-slice-reshare-prefix-source-beside c = search needs
+slice-reshare-prefix-target-of : tie.Need-slice-reshare-prefix-target-of
+slice-reshare-prefix-target-of c = search needs
 
-slice-aggregate-source-beside : tie.Need-slice-aggregate-source-beside
-slice-aggregate-source-beside c = sym (length-take-le _ _ (omega arith))
+slice-aggregate-target-of : tie.Need-slice-aggregate-target-of
+slice-aggregate-target-of c = sym (length-take-le _ _ (omega arith))
 
-source-beside-requires : tie.Need-source-beside-requires
-source-beside-requires c κs = search needs
+target-of-requires : tie.Need-target-of-requires
+target-of-requires c κs = search needs
 
 append-to-requires : tie.Need-append-to-requires
 unfolding asks
 append-to-requires c κs =
     let (answer, sized, sourced) = c .before .before .before .before .before .before .before .before .earlier-of .ensures in
     let told = judgement-given answer (c .before .before .before .before .before .before .judged .given .1) in
-    (omega arith, told, going-of _ _ _ (earlier _ _ told) sized sourced (c .before .before .source-beside .ensures))
+    (omega arith, told, going-of _ _ _ (earlier _ _ told) sized sourced (c .before .before .target-of .ensures))
 
 same-length : tie.Need-same-length
 same-length c = search needs
@@ -70,9 +70,9 @@ append-with-spec =
     earlier-of-requires
     enum-known-n
     enum-known-judged
-    slice-reshare-prefix-source-beside
-    slice-aggregate-source-beside
-    source-beside-requires
+    slice-reshare-prefix-target-of
+    slice-aggregate-target-of
+    target-of-requires
     append-to-requires
     same-length
     returns-2
