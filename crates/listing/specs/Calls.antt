@@ -26,8 +26,8 @@ pub record Counted (ss : List Segment) (t : Totals) : Type 0 where
   pub received : t .received ≡ total (hadList ss)
   pub missed : t .missed ≡ total (missingList ss)
 
--- the segments of a file are those that were kept and counted, and a source of theirs is as long as that; neither of its
--- lists has more ranges than half of the segments and chunks, and one
+-- the segments of a file are those that were kept and counted, and a source of theirs is as long as that; neither of
+-- its lists has more ranges than half of the segments and chunks, and one
 pub record Told (rows sources numbers : List ℕ) (gathered : Gathered) (source end : ℕ) (ss : List Segment) : Type 0 where
   pub kept : Kept rows (gathered .segments) sources numbers ss
   pub own : take (segmentRowLength * gathered .segments) rows ≡ segmentRows ss

@@ -74,8 +74,8 @@ fn put_segments(table: &mut [u64], rows: &[u64], many: u64)
     put_row(table, 0, &rows[..end]);
 }
 
-// Lists a source, as long as that, of a file that has room in both tables, by what is kept of the file. Where a list has
-// no room all four are as they were.
+// Lists a source, as long as that, of a file that has room in both tables, by what is kept of the file. Where a list
+// has no room all four are as they were.
 fn list_kept(
     source: u64,
     sources: &[u64; ALL_SOURCES],

@@ -1,13 +1,11 @@
 -- What is kept of an accepted file tells the maps of its sources.
-use Prim.Native.Nat.{ℕ, suc, _+_, _*_, _≤_}
+use Prim.Native.Nat.{ℕ, _*_, _≤_}
 use mathlib.Core.Bool.{Bool}
 use mathlib.Core.List.{List}
-use mathlib.Core.Path.{_≡_}
 use native.Mathlib.Omega.{arith}
 use lib.ListN.{length}
 use Rattle.partial.specs.Limits.{segmentLimit, chunkLimit, sourceLimit}
 use Rattle.partial.specs.Reading.{reading}
-use Rattle.partial.specs.Segments.{chunksOf}
 use Rattle.partial.specs.Sources.{ofSource}
 use Rattle.partial.specs.Tables.{segmentRowLength}
 use Rattle.partial.proofs.Meaning.SourceLaws.{count-most}

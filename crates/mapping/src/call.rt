@@ -35,8 +35,8 @@ fn surely_fits(room: u64, many: u64, ranges: u64) -> bool
     many * (ranges + 3) <= room / LINE
 }
 
-// Writes the maps of all sources of a file by what is kept of it. Where they may not fit, they are first put where there
-// is no room for them, to learn how long they are, since a buffer that is too short is left as it was.
+// Writes the maps of all sources of a file by what is kept of it. Where they may not fit, they are first put where
+// there is no room for them, to learn how long they are, since a buffer that is too short is left as it was.
 fn write_all(
     buffer: &mut [u8],
     sources: &[u64; ALL_SOURCES],

@@ -29,8 +29,8 @@ pub struct Outline {
 }
 
 // The outline of a source of a file by what is kept of the file and gathered, and what the ends say of the source.
-// A chunk is good or damaged or neither, so that a table with room for a span of each chunk has room for both kinds, the
-// damaged ones behind the good ones.
+// A chunk is good or damaged or neither, so that a table with room for a span of each chunk has room for both kinds,
+// the damaged ones behind the good ones.
 pub(crate) fn outline_of(
     source: u64,
     sources: &[u64; ALL_SOURCES],

@@ -36,8 +36,8 @@ use Rattle.supplying.specs.Runs.{isSupplied, suppliedBy, sameRun, RunIn}
 use Rattle.supplying.specs.declared.runs.Run.{Run}
 use Rattle.supplying.proofs.RowsLaws.{filled-chunks}
 
--- what reading tells of a source of a file that it read into the tables: the file's segments, and that so many rows hold
--- the chunks of the source
+-- what reading tells of a source of a file that it read into the tables: the file's segments, and that so many rows
+-- hold the chunks of the source
 pub record Told (f : List ℕ) (source : ℕ) (a b sources b′ : List ℕ) (count described : ℕ) : Type 0 where
   pub ss : List Segment
   pub read : tabled sourceLimit f a b ≡ given ss

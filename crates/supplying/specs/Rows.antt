@@ -23,8 +23,8 @@ chunkIn table n =
       | false ↦ noChunk
     ]
 
--- whether a row is there and its chunk is of a source: its first number is that of its segment, whose source stands in a
--- table of the numbers of sources
+-- whether a row is there and its chunk is of a source: its first number is that of its segment, whose source stands in
+-- a table of the numbers of sources
 unfoldable pub rowOf : List ℕ → ℕ → List ℕ → ℕ → Bool
 rowOf sources source table n = ltb n (length table / chunkRowLength) && eqb (sourceIn sources (getD table (chunkRowLength * n) 0)) source
 

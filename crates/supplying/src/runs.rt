@@ -1,5 +1,5 @@
-// Runs: which chunk of a source supplies a position, and how many positions from there on have the same supplier, in one
-// pass over the rows.
+// Runs: which chunk of a source supplies a position, and how many positions from there on have the same supplier, in
+// one pass over the rows.
 use crate::rows::NO_CHUNK;
 use crate::rows::chunk_at;
 use crate::rows::row_of;

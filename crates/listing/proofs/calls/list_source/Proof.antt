@@ -1,4 +1,5 @@
--- `listing::calls::list_source` meets its contract: the judgement, then 26 of the tables, then the lists by what is kept.
+-- `listing::calls::list_source` meets its contract: the judgement, then 26 of the tables, then the lists by what is
+-- kept.
 use Prim.Native.Nat.{_*_, _≤_}
 use mathlib.Core.Path.{_∙_}
 use native.Mathlib.Omega.{arith}

@@ -1,5 +1,5 @@
--- `mapping::call::write_all` meets its contract: the maps surely fit, or are counted in a buffer without room; then they
--- are put.
+-- `mapping::call::write_all` meets its contract: the maps surely fit, or are counted in a buffer without room; then
+-- they are put.
 use Prim.Native.Nat.{_≤_}
 use mathlib.Core.Logic.{⊎-elim}
 use native.Mathlib.Omega.{arith}

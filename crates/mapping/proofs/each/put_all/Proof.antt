@@ -1,5 +1,5 @@
--- `mapping::each::put_all` meets its contract. The loop's invariant: the sources so far have their maps, none longer than
--- its ranges allow.
+-- `mapping::each::put_all` meets its contract. The loop's invariant: the sources so far have their maps, none longer
+-- than its ranges allow.
 use Prim.Native.Nat.{ℕ, _+_, _*_, _-_, _≤_}
 use mathlib.Core.List.{List}
 use mathlib.Core.Path.{_≡_, refl, sym, ap}

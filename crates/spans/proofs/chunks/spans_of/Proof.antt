@@ -1,6 +1,6 @@
 -- `spans::chunks::spans_of` meets its contract. The loop's invariant: the segments so far have the spans of their
 -- chunks, and the others are kept ahead.
-use Prim.Native.Nat.{_+_, _-_, _*_, _<_, _≤_}
+use Prim.Native.Nat.{_-_, _*_, _<_, _≤_}
 use mathlib.Core.List.{List}
 use mathlib.Core.Logic.{⊎-elim}
 use mathlib.Core.Path.{_≡_, refl, ap}
