@@ -48,7 +48,7 @@ pub fn source_for(
 pub fn goes_to(file: &[u8], list: Body, texts: &[u8], lengths: &[u64]) -> bool
     ensures { λ r. ⌜ GoesTo (now (file .entry)) list (now (texts .entry)) (now (lengths .entry)) r ⌝ }
 {
-    if lengths.len() < 2 {
+    if lengths.len() <= 1 {
         return true;
     }
     same_texts(file, list, texts, lengths)
