@@ -58,7 +58,7 @@ counted xs = length xs ∷ xs
 
 rowsOf : List Segment → List ℕ
 rowsOf ss =
-    let s = summary ss in
+    let s = summary 0 ss in
     s .segments ∷ s .chunks ∷ s .described ∷ flag (s .closed) ∷ (segmentRows ss ++ chunkRows ss)
 
 replyOf : Reply → List ℕ
@@ -68,7 +68,7 @@ replyOf notBelow = 2 ∷ []
 
 askedOf : Answer (List Segment) → List ℕ → List ℕ
 askedOf r [] = []
-askedOf r (p ∷ ps) = servedPart r p .place ∷ servedPart r p .size ∷ (answered replyOf (asked r p) ++ askedOf r ps)
+askedOf r (p ∷ ps) = servedPart r 0 p .place ∷ servedPart r 0 p .size ∷ (answered replyOf (asked r 0 p) ++ askedOf r ps)
 
 unfoldable pub readOf : List ℕ → List ℕ → List ℕ
 unfolding answered flag counted rowsOf replyOf askedOf computing
@@ -85,7 +85,7 @@ tablesOf f a b =
 
 totalsOf : List Segment → List ℕ
 totalsOf ss =
-    let t = totals ss in
+    let t = totals 0 ss in
     t .hadRanges ∷ t .missingRanges ∷ t .receivedTotal ∷ t .missingTotal ∷ []
 
 ample : List ℕ
@@ -94,8 +94,8 @@ ample = bytesOf 512 0
 unfoldable pub listsOf : List ℕ → List ℕ → List ℕ → List ℕ
 unfolding answered totalsOf ample computing
 listsOf f h m =
-    let r = listed sourceLimit f ample ample h m in
-    answered totalsOf r ++ (after hadRows r h ++ after missingRows r m)
+    let r = listed sourceLimit f 0 ample ample h m in
+    answered totalsOf r ++ (after (hadRows 0) r h ++ after (missingRows 0) r m)
 
 unfoldable pub indexRowsOf : List ℕ → List ℕ → List ℕ
 unfolding answered computing
@@ -110,7 +110,7 @@ begunOf buffer brand u m = answered (λ n. n ∷ []) (begun buffer brand u m) ++
 unfoldable pub appendedOf : List ℕ → ℕ → ℕ → ℕ → Bool → Bool → List ℕ → List ℕ → List ℕ
 unfolding answered computing
 appendedOf buffer n offset repair last outside list bytes =
-    let a : Addition = record { sourceOffset = offset; repairTime = repair; last = last; outside = outside; list = list; bytes = bytes } in
+    let a : Addition = record { sourceOffset = offset; repairTime = repair; last = last; outside = outside; list = list; bytes = bytes; texts = []; lengths = [] } in
     let r = appended sourceLimit buffer n a in
     answered (λ m. m ∷ []) r ++ written (result buffer n a) r buffer
 
@@ -134,6 +134,7 @@ sameAddition : Addition → Addition → Bool
 sameAddition a b =
     eqb (a .sourceOffset) (b .sourceOffset) && eqb (a .repairTime) (b .repairTime) && eqb (flag (a .last)) (flag (b .last))
     && eqb (flag (a .outside)) (flag (b .outside)) && same (a .list) (b .list) && same (a .bytes) (b .bytes)
+    && same (a .texts) (b .texts) && same (a .lengths) (b .lengths)
 
 keptAt : List ℕ → List ℕ → List Segment → List Segment → Addition → List ℕ → List ℕ
 keptAt f g ss ts a [] = []
@@ -143,7 +144,7 @@ keptAt f g ss ts a (p ∷ ps) = flag (sameByte (served g ts p) (orElse (served f
 unfoldable pub demandsOf : List ℕ → ℕ → ℕ → ℕ → Bool → Bool → List ℕ → List ℕ → List ℕ → List ℕ
 unfolding flag same sameSegments sameByte sameAddition keptAt computing
 demandsOf buffer n offset repair last outside list bytes ps =
-    let a : Addition = record { sourceOffset = offset; repairTime = repair; last = last; outside = outside; list = list; bytes = bytes } in
+    let a : Addition = record { sourceOffset = offset; repairTime = repair; last = last; outside = outside; list = list; bytes = bytes; texts = []; lengths = [] } in
     let f = fileIn (lent buffer n) in
     let g = fileIn (append sourceLimit (lent buffer n) a) in
     elim (heading f)

@@ -1,28 +1,32 @@
 -- Laws of what append is refused by what was read of the file and counted of the addition: each test, and the answer by
 -- the first that fails.
 use Prim.Native.Nat.{ℕ, _+_, _-_, _%_, _^_, _≤_, _<_, min}
-use mathlib.Core.Bool.{Bool, true, false}
-use mathlib.Core.List.{List, [], _∷_, _++_, map}
-use mathlib.Core.Path.{_≡_, refl, sym, ap, ap₂, _∙_}
+use mathlib.Core.Bool.{Bool, true, false, _&&_, true≢false}
+use mathlib.Core.List.{List, [], _∷_, _++_, map, append-nil}
+use mathlib.Core.Logic.{inl, inr}
+use mathlib.Core.Path.{_≡_, refl, sym, ap, ap₂, subst, _∙_}
 use native.Mathlib.Nat.{mod-lt}
 use native.Mathlib.Decide.{decLe}
 use native.Mathlib.Omega.{arith}
-use borrow.Author.Tests.{le-leb, lt-leb, leb-true, eqb-true, eqb-false}
-use lib.Dec.{leb, lit<}
+use borrow.Author.Tests.{le-leb, lt-leb, leb-true, eq-eqb, ne-eqb, eqb-true, eqb-false}
+use lib.Dec.{leb, eqb, lit<}
 use lib.ListN.{length}
 use Rattle.boxes.specs.Answer.{Answer, refused, given, _>>=_}
-use Rattle.boxes.proofs.AnswerLaws.{then-then}
+use Rattle.boxes.specs.Kinds.{pseg, those}
+use Rattle.boxes.proofs.AnswerLaws.{then-then, both-given, held, given-same}
 use Rattle.boxes.specs.Framing.{boxLimit}
-use Rattle.additions.specs.Addition.{Addition, items, flagsFor}
-use Rattle.additions.specs.Append.{added, addedBoxes, newSegment, psegPlace, admission, admitted}
+use Rattle.additions.specs.Addition.{Addition, items, flagsFor, surls}
+use Rattle.additions.specs.Append.{added, addedBoxes, innerBoxes, newSegment, psegPlace, admission, admitted}
 use Rattle.partial.specs.Heading.{Heading}
 use Rattle.partial.specs.Index.{indexed}
 use Rattle.partial.specs.Limits.{fileLimit, segmentLimit, chunkLimit, sourceLimit}
 use Rattle.partial.specs.Meaning.{agree}
 use Rattle.partial.specs.Segments.{Segment, isLast, endOf, chunksOf}
 use Rattle.partial.specs.Sequences.{sum}
-use Rattle.partial.specs.Sources.{sourceBeside, agreed}
-use Rattle.partial.proofs.Reading.OneSourceLaws.{all-plain, agreed-more}
+use Rattle.partial.specs.Sources.{ofSource, agreed}
+use Rattle.partial.specs.Reading.{segmentsFrom, segments}
+use Rattle.partial.proofs.Meaning.SequenceLaws.{which, all-members}
+use Rattle.partial.proofs.Meaning.SourceLaws.{of-append, agreed-of}
 use Rattle.partial.proofs.Reading.RefusalLaws.{earlier-read}
 use Rattle.additions.specs.declared.header.SegmentHeader.{SegmentHeader}
 use Rattle.additions.proofs.NewSegmentLaws.{length-new, end-new}
@@ -33,8 +37,10 @@ use Rattle.outside.specs.declared.chunks.Outside.{Outside}
 use Rattle.reading.specs.declared.judging.Judged.{Judged}
 use Rattle.adding.specs.Admission.{Tells, Known, indexedBeside, admittedBeside, Beside, Asked, admittedLength}
 use Rattle.adding.specs.Counts.{capped}
+use Rattle.adding.specs.Texts.{textsOf}
 use Rattle.adding.specs.declared.counts.Counts.{Counts}
 use Rattle.adding.specs.declared.layout.Layout.{Layout}
+use Rattle.adding.specs.declared.texts.Texts.{Texts}
 use Rattle.adding.proofs.CountLaws.{counted-items, counted-sum}
 
 -- a sum ends by a limit or not, also where a part of it is cut above the limit
@@ -82,10 +88,45 @@ module _ (ss : List Segment) {s : Segment} {g : Gathered} {header : SegmentHeade
   unfolding endOf
   source-end test = omega (arith, leb-true (header .offset .0 + c .sum) sourceLimit (sym test), tells .offset, tells .sum)
 
--- 25 of segments of one source, and of one more that has no URLs of its own
-pub sizes-all : {f : List ℕ} {h : Heading} (ss : List Segment) {inPfil : Bool} → Known f h ss inPfil → (s : Segment) → s .urls ≡ h .urls → s .source ≡ sourceBeside ss (h .urls)
-    → agree (ss ++ (s ∷ [])) ≡ agreed (ss ++ (s ∷ []))
-sizes-all {f} {h} ss file s urls number = sym (agreed-more h ss s (all-plain sourceLimit f h (earlier-read sourceLimit f (file .head) (file .read))) urls number)
+-- 25 of the segments with one more: the sizes of its source agree with it, since those of every other source do
+module _ (ss : List Segment) (s : Segment) where
+  own : ofSource (s .source) (ss ++ (s ∷ [])) ≡ ofSource (s .source) ss ++ (s ∷ [])
+  unfolding ofSource
+  own = of-append (s .source) ss (s ∷ []) ∙ rw (ofSource, eq-eqb (s .source) (s .source) refl)
+
+  others : (n : ℕ) → (s .source ≡ n → ⊥) → ofSource n (ss ++ (s ∷ [])) ≡ ofSource n ss
+  unfolding ofSource
+  others n other = of-append n ss (s ∷ []) ∙ rw (ofSource, ne-eqb (s .source) n other) (append-nil (ofSource n ss))
+
+  pub agreed-beside : agreed ss ≡ true → agree (ofSource (s .source) ss ++ (s ∷ [])) ≡ agreed (ss ++ (s ∷ []))
+  unfolding agreed
+  agreed-beside before =
+      elim (which (agree (ofSource (s .source) ss ++ (s ∷ [])))) [
+        | inl e ↦ e ∙ sym (all-members _ (ss ++ (s ∷ [])) (λ t _. each e (t .source)))
+        | inr e ↦
+            elim (which (agreed (ss ++ (s ∷ [])))) [
+              | inl passed ↦ absurd (true≢false (sym (agreed-of (ss ++ (s ∷ [])) passed (s .source)) ∙ ap agree own ∙ e))
+              | inr lacks ↦ e ∙ sym lacks
+            ]
+      ]
+    where
+      each : agree (ofSource (s .source) ss ++ (s ∷ [])) ≡ true → (n : ℕ) → agree (ofSource n (ss ++ (s ∷ []))) ≡ true
+      each e n =
+          elim (which (eqb (s .source) n)) [
+            | inl same ↦
+                let k = eqb-true (s .source) n same in
+                subst (λ (m : ℕ). agree (ofSource m (ss ++ (s ∷ []))) ≡ true) k (ap agree own ∙ e)
+            | inr other ↦ ap agree (others n (eqb-false (s .source) n other)) ∙ agreed-of ss before n
+          ]
+
+-- those of a file that append takes agree
+pub earlier-agreed : {f : List ℕ} {h : Heading} {ss : List Segment} {inPfil : Bool} → Known f h ss inPfil → agreed ss ≡ true
+unfolding segments
+earlier-agreed {f} {h} {ss} file =
+    let (_, e1) = held 13 (leb (length (those pseg (h .boxes))) segmentLimit) _ (earlier-read sourceLimit f (file .head) (file .read)) in
+    let (ts, _, e2) = both-given (segmentsFrom sourceLimit f h [] (those pseg (h .boxes))) _ e1 in
+    let (agrees, same) = held 25 (agreed ts) _ e2 in
+    subst (λ (us : List Segment). agreed us ≡ true) (given-same same) agrees
 
 -- the answer, by the first test that fails
 module _ (f : List ℕ) (h : Heading) (ss : List Segment) (s : Segment) where
@@ -116,7 +157,7 @@ module _ (f : List ℕ) (h : Heading) (ss : List Segment) (s : Segment) where
 -- ---- an addition to a file
 
 -- the tests, by what the code has at hand
-module _ {f : List ℕ} {h : Heading} {ss : List Segment} {j : Judged} {z : List ℕ} {a : Addition} {header : SegmentHeader} {c : Counts} {o : Outside} {l : Layout} (n : ℕ) (beside : Beside f h ss j z) (asked : Asked a header c o l) where
+module _ {f : List ℕ} {h : Heading} {ss : List Segment} {j : Judged} {a : Addition} {header : SegmentHeader} {c : Counts} {o : Outside} {t : Texts} {l : Layout} (n : ℕ) (beside : Beside f h ss j) (asked : Asked a header c o t l) where
   pub file-test : {b : Bool} → b ≡ leb (n + l .added) fileLimit → b ≡ leb (n + length (added a)) fileLimit
   file-test test =
       test
@@ -129,6 +170,10 @@ module _ {f : List ℕ} {h : Heading} {ss : List Segment} {j : Judged} {z : List
   pub box-test : {more : ℕ} {b : Bool} → more ≡ capped (addedBoxes a) → b ≡ leb (j .head .boxes + more) 512 → b ≡ leb (length (h .boxes) + addedBoxes a) boxLimit
   unfolding boxLimit
   box-test more test = test ∙ ap₂ (λ (n m : ℕ). leb (n + m) 512) (beside .boxes) more ∙ capped-ends (length (h .boxes)) (addedBoxes a) 512 (2 ^ 64 - 1) (omega arith)
+
+  pub inner-test : {b : Bool} → b ≡ leb (2 + t .surls) 512 → b ≡ leb (innerBoxes a) boxLimit
+  unfolding boxLimit innerBoxes surls textsOf
+  inner-test test = test ∙ ap (λ (x : Texts). leb (2 + x .surls) 512) (asked .texted .counts)
 
   -- the segment that it makes is told of
   sizes-new : sum (map (λ c. c .size) (new h ss n a .chunks)) ≡ sum (map (λ i. i .size) (items (a .list)))
@@ -156,12 +201,16 @@ module _ (f : List ℕ) (h : Heading) (ss : List Segment) (n : ℕ) (a : Additio
     unfolding admittedLength admission
     admission-6 over = rw (← small, ← over)
 
-    module _ (boxes : true ≡ leb (length (h .boxes) + addedBoxes a) boxLimit) where
+    pub admission-6-inner : true ≡ leb (length (h .boxes) + addedBoxes a) boxLimit → false ≡ leb (innerBoxes a) boxLimit → refused 6 ≡ admittedLength f h ss n a
+    unfolding admittedLength admission
+    admission-6-inner boxes over = rw (← small, ← boxes, ← over)
+
+    module _ (boxes : true ≡ leb (length (h .boxes) + addedBoxes a) boxLimit) (inner : true ≡ leb (innerBoxes a) boxLimit) where
       -- and else by whether its segment is admitted
       pub admission-by : (admittedBeside f h ss (new h ss n a) >>= λ _. given (n + length (added a))) ≡ admittedLength f h ss n a
       unfolding admittedLength admission admittedBeside
       admission-by =
-          rw (← small, ← boxes) (go (admitted sourceLimit ss (new h ss n a)))
+          rw (← small, ← boxes, ← inner) (go (admitted sourceLimit ss (new h ss n a)))
         where
           go : (x : Answer (List Segment))
               → (_>>=_ {B = Unit {0}} x (λ ts. indexed sourceLimit f h ts >>= λ _. given tt) >>= λ _. given (n + length (added a)))

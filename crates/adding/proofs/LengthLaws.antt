@@ -17,8 +17,8 @@ use Rattle.partial.specs.Sequences.{sum}
 use Rattle.partial.specs.Segments.{present}
 use Rattle.partial.specs.Limits.{fileLimit}
 use Rattle.partial.specs.Reading.{offsetWidth}
-use Rattle.additions.specs.Addition.{Addition, Item, items, sizeOf, goesOut}
-use Rattle.additions.specs.Append.{Placed, placedWith, placed, flagByte, entryBytes, lengthSize, offsetSize, plocBody, versionFor, psegBody}
+use Rattle.additions.specs.Addition.{Addition, Item, items, sizeOf, goesOut, surls}
+use Rattle.additions.specs.Append.{Placed, placedWith, placed, flagByte, entryBytes, lengthSize, offsetSize, plocBody, versionFor, surlBoxes, psegBody}
 use Rattle.partial.proofs.Meaning.SequenceLaws.{which}
 use Rattle.additions.proofs.FieldsBackLaws.{length-pshd}
 use Rattle.additions.proofs.PlacedLaws.{length-placed}
@@ -102,7 +102,8 @@ ploc-cut n p l o few =
     ]
 
 -- the body of a `pseg`
-pub pseg-long : (a : Addition) → length (psegBody a) ≡ 28 + offsetWidth (versionFor (a .sourceOffset)) + length (plocBody (placed (a .outside) (items (a .list))))
+pub pseg-long : (a : Addition) → length (psegBody a)
+    ≡ 28 + offsetWidth (versionFor (a .sourceOffset)) + length (plocBody (placed (a .outside) (items (a .list)))) + length (surlBoxes (surls a))
 unfolding psegBody
 pseg-long a = simp (length-append, length-boxed, front-size, length-pshd) (omega arith)
 
@@ -115,3 +116,7 @@ pub ploc-counted : (outside : Bool) (is : List Item) (c : Counts) → Whole is c
 ploc-counted outside is c whole n p l o n-is p-is l-is o-is =
     rw (n-is, p-is, l-is, o-is, counted-items is (whole .counts), counted-present is (whole .counts), ploc-long outside is)
     (ploc-cut (length is) (presentOf is) (lengthSize (placed outside is)) (offsetSize (placed outside is)) (present-most is))
+
+-- the `surl` boxes, by their counts cut
+pub surls-cut : (n m : ℕ) → min (min n (fileLimit + 1) * 14 + min m (fileLimit + 1)) (fileLimit + 1) ≡ min (14 * n + m) (fileLimit + 1)
+surls-cut n m = omega arith

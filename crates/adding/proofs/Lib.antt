@@ -4,4 +4,5 @@ pub mod CountLaws
 pub mod Determined
 pub mod LengthLaws
 pub mod OutsideLaws
+pub mod TextLaws
 pub mod WidthLaws

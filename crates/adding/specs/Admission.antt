@@ -7,13 +7,14 @@ use mathlib.Core.Path.{_≡_}
 use lib.ListN.{length}
 use Rattle.boxes.specs.Answer.{Answer, refused, given, _>>=_}
 use Rattle.additions.specs.Addition.{Addition}
-use Rattle.additions.specs.Append.{added, admission, admitted}
+use Rattle.additions.specs.Append.{added, newUrls, admission, admitted}
 use Rattle.partial.specs.Heading.{Heading, heading}
 use Rattle.partial.specs.Index.{hasIndex, indexed}
 use Rattle.partial.specs.Limits.{sourceLimit}
 use Rattle.partial.specs.Reading.{earlierSegments}
 use Rattle.partial.specs.Segments.{Segment, isLast}
 use Rattle.partial.specs.Sequences.{sum}
+use Rattle.partial.specs.Sources.{sameUrls, sourceBeside, ofSource}
 use Rattle.additions.specs.declared.header.SegmentHeader.{SegmentHeader}
 use Rattle.ends.specs.Sizes.{sizesOf}
 use Rattle.ends.specs.Table.{sizesIn}
@@ -22,10 +23,13 @@ use Rattle.outside.specs.declared.chunks.Outside.{Outside}
 use Rattle.reading.specs.declared.judging.Judged.{Judged}
 use Rattle.adding.specs.Counts.{capped, Sorted}
 use Rattle.adding.specs.Layout.{Laid}
+use Rattle.adding.specs.Texts.{Texted}
+use Rattle.adding.specs.declared.admission.Target.{Target}
 use Rattle.adding.specs.declared.admission.Verdict.{Verdict}
 use Rattle.adding.specs.declared.admission.Verdict.the-variants.{Refused, Taken}
 use Rattle.adding.specs.declared.counts.Counts.{Counts}
 use Rattle.adding.specs.declared.layout.Layout.{Layout}
+use Rattle.adding.specs.declared.texts.Texts.{Texts}
 
 -- what a header and the counts of a chunk list tell of a new segment
 pub record Tells (s : Segment) (header : SegmentHeader) (c : Counts) : Type 0 where
@@ -58,21 +62,27 @@ unfoldable pub admittedAnswer : Verdict → Answer (Unit {0})
 admittedAnswer (Refused n) = refused n
 admittedAnswer Taken = given tt
 
--- what was read of a file: how many boxes it has, what its segments say together, what their ends say in a table, and
--- whether its `pfil` has an index
-pub record Beside (f : List ℕ) (h : Heading) (ss : List Segment) (j : Judged) (z : List ℕ) : Type 0 where
+-- what was read of a file: how many boxes it has, what its segments say together, and whether its `pfil` has an index
+pub record Beside (f : List ℕ) (h : Heading) (ss : List Segment) (j : Judged) : Type 0 where
   pub file : Known f h ss (j .head .indexed)
   pub boxes : j .head .boxes ≡ length (h .boxes)
   pub segments : j .gathered ≡ gatheredOf ss
-  pub sizes : sizesIn z 0 ≡ sizesOf ss
 
--- what is asked of append, by the header, the counts of the chunk list, what goes outside, each chunk whole boxes, and
--- the layout
-pub record Asked (a : Addition) (header : SegmentHeader) (c : Counts) (o : Outside) (l : Layout) : Type 0 where
+-- the source that an addition goes to beside the segments of a file, what their ends say of it in a table, and whether
+-- its list of URLs is that in `pfil`
+pub record Goes (h : Heading) (ss : List Segment) (a : Addition) (z : List ℕ) (target : Target) : Type 0 where
+  pub number : target .source ≡ sourceBeside ss (newUrls h a)
+  pub sizes : sizesIn z (target .source) ≡ sizesOf (ofSource (target .source) ss)
+  pub list : target .«in_pfil» ≡ sameUrls (h .urls) (newUrls h a)
+
+-- what is asked of append, by the header, the counts of the chunk list, what goes outside, each chunk whole boxes, the
+-- counts of the texts, and the layout
+pub record Asked (a : Addition) (header : SegmentHeader) (c : Counts) (o : Outside) (t : Texts) (l : Layout) : Type 0 where
   pub offset : header .offset .0 ≡ a .sourceOffset
   pub last : isLast (header .flags) ≡ a .last
   pub sorted : Sorted a c o
   pub whole : o .right ≡ true
+  pub texted : Texted a t
   pub laid : Laid a l
 
 -- the length of a file of n bytes with the addition, or its refusal

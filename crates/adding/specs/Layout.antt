@@ -22,7 +22,7 @@ pub record PlocLaid (outside : Bool) (is : List Item) (l : Layout) : Type 0 wher
   pub offsets : l .«offset_size» ≡ offsetSize (placed outside is)
   pub body : l .ploc ≡ min (length (plocBody (placed outside is))) (fileLimit + 1)
 
--- of a `pseg`, which holds both
+-- of a `pseg`, which holds both and the `surl` boxes
 pub record PsegLaid (a : Addition) (l : Layout) : Type 0 where
   pub pshd : PshdLaid (a .sourceOffset) l
   pub ploc : PlocLaid (a .outside) (items (a .list)) l

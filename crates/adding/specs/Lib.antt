@@ -1,3 +1,4 @@
 pub mod Counts
+pub mod Texts
 pub mod Layout
 pub mod Admission

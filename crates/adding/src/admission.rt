@@ -1,12 +1,15 @@
 // Whether a file takes an addition: 35, and then 1, 6, 13, 22, 23, 25, 36, 37 or 39 if the result would have it.
 use crate::counts::Counts;
 use crate::layout::Layout;
+use crate::texts::Texts;
 use additions::header::SegmentHeader;
 use boxes::limits::BOX_LIMIT;
 use boxes::refusals::TOO_MANY_BOXES;
+use ends::sizes::Sizes;
 use ends::sizes::gives_size;
 use ends::table::ALL_SIZES;
 use ends::table::ONE_SOURCE;
+use ends::table::put_sizes;
 use ends::table::sizes_at;
 use gathering::gathered::Gathered;
 use indexing::end::End;
@@ -27,6 +30,7 @@ use partial::refusals::TOO_MANY_CHUNKS;
 use partial::refusals::TOO_MANY_SEGMENTS;
 use reading::indexed::index_stages;
 use reading::judging::Judged;
+use sources::numbers::ALL_SOURCES;
 ghost use mathlib.Core.Bool.{true};
 ghost use mathlib.Core.List.{List, [], _∷_};
 ghost use mathlib.Core.Path.{_≡_};
@@ -36,16 +40,20 @@ ghost use Rattle.additions.specs.Addition.{Addition, items, outsideRight};
 ghost use Rattle.additions.specs.Append.{addedBoxes};
 ghost use Rattle.partial.specs.Answers.{writtenAnswer};
 ghost use Rattle.partial.specs.Heading.{Heading};
-ghost use Rattle.partial.specs.Meaning.{knownSize};
-ghost use Rattle.partial.specs.Segments.{Segment};
-ghost use Rattle.partial.specs.Sources.{sourceBeside};
+ghost use Rattle.partial.specs.Index.{sizeFor};
+ghost use Rattle.partial.specs.Meaning.{givesSize};
+ghost use Rattle.partial.specs.Segments.{Segment, endOf as segmentEnd};
+ghost use Rattle.partial.specs.Sources.{sameUrls, sourceBeside, ofSource};
 ghost use Rattle.ends.specs.Sizes.{sizesOf};
 ghost use Rattle.ends.specs.Table.{sizesIn};
 ghost use Rattle.gathering.specs.Gathered.{gatheredOf};
 ghost use Rattle.indexing.specs.Ends.{endOf};
-ghost use Rattle.adding.specs.Admission.{Tells, Known, indexedBeside, admittedBeside, admittedAnswer, Beside, Asked, admittedLength};
+ghost use Rattle.adding.specs.Admission.{Tells, Known, indexedBeside, admittedBeside, admittedAnswer, Beside, Goes, Asked, admittedLength};
 ghost use Rattle.outside.specs.Chunks.{outsideOf};
 ghost use Rattle.adding.specs.Counts.{capped, Sorted};
+
+// The boxes of a `pseg` without texts: its `pshd` and its `ploc`.
+const PLAIN_BOXES: u64 = 2;
 
 // Whether the chunks may go outside: there is none, or the file is mixed and each is whole allowed boxes.
 pub fn outside_right(mixed: bool, outside: Outside) -> bool
@@ -73,36 +81,70 @@ pub enum Verdict {
     Taken,
 }
 
-// 36, 37 and 39 of the file's own index beside a new segment, which has none, of a source that ends there. The index of
-// a file that has a segment was told when it was read, and is told again.
+// The source that an addition goes to: its number, and whether its list of URLs is that in `pfil`.
+pub struct Target {
+    pub source: u64,
+    pub in_pfil: bool,
+}
+
+// Where the source of the list in `pfil` ends beside a new segment alone, which is of that source or not, and gives its
+// size or not.
+fn end_beside(in_pfil: bool, gives: bool, end: Position) -> End
+    ensures { λ r. ⌜ ((h : Heading) (s : Segment) → in_pfil ≡ sameUrls (h .urls) (s .urls) → gives ≡ givesSize s → end .0 ≡ segmentEnd s
+        → endOf r ≡ sizeFor (s ∷ []) (h .urls)) ⌝ }
+{
+    if in_pfil {
+        return End {
+            known: gives,
+            at: end,
+        };
+    }
+    End {
+        known: false,
+        at: Position(0),
+    }
+}
+
+// 36, 37 and 39 of the file's own index beside a new segment, which has none, where the source of the list in `pfil`
+// ends there. The index of a file that has a segment was told when it was read, and is told again.
 fn index_beside(file: &[u8], indexed: bool, segments: u64, size: End) -> Verdict
     ensures { λ r. ⌜ ((h : Heading) (ss : List Segment) (s : Segment) → Known (now (file .entry)) h ss indexed
-        → segments ≡ length ss → those fidx (s .inner) ≡ [] → endOf size ≡ knownSize (s ∷ [])
+        → segments ≡ length ss → those fidx (s .inner) ≡ [] → s .source ≡ sourceBeside ss (s .urls) → endOf size ≡ sizeFor (s ∷ []) (h .urls)
         → admittedAnswer r ≡ indexedBeside (now (file .entry)) h ss s) ⌝ }
 {
     if segments != 0 {
         return Verdict::Taken;
     }
-    match index_stages(file, indexed, false, size) {
+    let at = size.at;
+    let mut sizes = [0; ALL_SIZES];
+    let sources = [0; ALL_SOURCES];
+    let said = Sizes {
+        known: size.known,
+        size: at,
+        largest: at,
+        same: true,
+    };
+    put_sizes(&mut sizes, ONE_SOURCE, said);
+    match index_stages(file, indexed, false, &sizes, &sources, ONE_SOURCE) {
         Counted::Refused(k) => Verdict::Refused(k),
         Counted::Rows(_) => Verdict::Taken,
     }
 }
 
-// 13, 22, 23 and 25 of the new segment, by what was gathered of those before it and what their ends say, and then the
-// index beside it.
+// 13, 22, 23 and 25 of the new segment, by what was gathered of those before it and what the ends of its own source
+// say, since the sizes of every other agree, and then the index beside it.
 fn admitted(
     file: &[u8],
     indexed: bool,
     gathered: Gathered,
     sizes: &[u64; ALL_SIZES],
+    target: Target,
     header: SegmentHeader,
     counts: Counts,
 ) -> Verdict
     ensures { λ r. ⌜ ((h : Heading) (ss : List Segment) (s : Segment) → Known (now (file .entry)) h ss indexed
-        → gathered ≡ gatheredOf ss → sizesIn (now (sizes .entry)) 0 ≡ sizesOf ss
-        → Tells s header counts → those fidx (s .inner) ≡ []
-        → s .urls ≡ h .urls → s .source ≡ sourceBeside ss (h .urls)
+        → gathered ≡ gatheredOf ss → sizesIn (now (sizes .entry)) (target .source) ≡ sizesOf (ofSource (target .source) ss)
+        → s .source ≡ sourceBeside ss (s .urls) → s .source ≡ target .source → target .«in_pfil» ≡ sameUrls (h .urls) (s .urls) → Tells s header counts → those fidx (s .inner) ≡ []
         → admittedAnswer r ≡ admittedBeside (now (file .entry)) h ss s) ⌝ }
 {
     let offset = header.offset;
@@ -116,32 +158,33 @@ fn admitted(
         return Verdict::Refused(SOURCE_TOO_LONG);
     }
     let gives = gives_size(header.flags as u64 % 2, counts.items);
-    let said = sizes_at(sizes, ONE_SOURCE);
+    let said = sizes_at(sizes, target.source);
     let end = offset.0 + counts.sum;
     let with = said.with(Position(end), gives);
     if !with.agree() {
         return Verdict::Refused(SIZES_DIFFER);
     }
-    let size = End {
-        known: gives,
-        at: Position(end),
-    };
+    let size = end_beside(target.in_pfil, gives, Position(end));
     index_beside(file, indexed, gathered.segments, size)
 }
 
-// The length of a file of n bytes with the addition, or the number of the first refusal that the result would have.
+// The length of a file of n bytes with the addition, which goes to that source, or the number of the first refusal that
+// the result would have.
 pub fn admission(
     file: &[u8],
     judged: Judged,
     sizes: &[u64; ALL_SIZES],
+    target: Target,
     n: u64,
     header: SegmentHeader,
     counts: Counts,
     outside: Outside,
+    texts: Texts,
     layout: Layout,
 ) -> Written
-    ensures { λ r. ⌜ ((h : Heading) (ss : List Segment) (a : Addition) → Beside (now (file .entry)) h ss judged (now (sizes .entry))
-        → Asked a header counts outside layout → writtenAnswer r ≡ admittedLength (now (file .entry)) h ss n a) ⌝ }
+    ensures { λ r. ⌜ ((h : Heading) (ss : List Segment) (a : Addition) → Beside (now (file .entry)) h ss judged
+        → Goes h ss a (now (sizes .entry)) target → Asked a header counts outside texts layout
+        → writtenAnswer r ≡ admittedLength (now (file .entry)) h ss n a) ⌝ }
 {
     let head = judged.head;
     if !ends_by(n, layout.added, FILE_LIMIT) {
@@ -150,7 +193,18 @@ pub fn admission(
     if !ends_by(head.boxes, added_boxes(counts, outside), BOX_LIMIT) {
         return Written::Refused(TOO_MANY_BOXES);
     }
-    match admitted(file, head.indexed, judged.gathered, sizes, header, counts) {
+    if !ends_by(PLAIN_BOXES, texts.surls, BOX_LIMIT) {
+        return Written::Refused(TOO_MANY_BOXES);
+    }
+    match admitted(
+        file,
+        head.indexed,
+        judged.gathered,
+        sizes,
+        target,
+        header,
+        counts,
+    ) {
         Verdict::Refused(k) => Written::Refused(k),
         Verdict::Taken => Written::Length(n + layout.added),
     }

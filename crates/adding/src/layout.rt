@@ -1,6 +1,7 @@
 // How the boxes are laid out that append adds. A size past the file limit counts as one more than that, so that no sum
 // wraps.
 use crate::counts::Counts;
+use crate::texts::Texts;
 use boxes::framing::FRONT_SIZE;
 use numerals::numbers::Offset;
 use numerals::numbers::width_of;
@@ -13,12 +14,13 @@ ghost use mathlib.Core.Bool.{Bool};
 ghost use mathlib.Core.List.{List};
 ghost use mathlib.Core.Path.{_≡_};
 ghost use lib.ListN.{length};
-ghost use Rattle.additions.specs.Addition.{Addition, Item};
-ghost use Rattle.additions.specs.Append.{placed, lengthSize, offsetSize, plocBody, versionFor, stored};
+ghost use Rattle.additions.specs.Addition.{Addition, Item, surls};
+ghost use Rattle.additions.specs.Append.{placed, lengthSize, offsetSize, plocBody, versionFor, stored, surlBoxes};
 ghost use Rattle.partial.specs.Limits.{fileLimit};
 ghost use Rattle.partial.specs.Reading.{offsetWidth};
 ghost use Rattle.adding.specs.Counts.{Whole, Sorted};
 ghost use Rattle.adding.specs.Layout.{Laid};
+ghost use Rattle.adding.specs.Texts.{Texted};
 
 // The widest source offset of a `pshd` of version 0.
 const VERSION_0_LAST: u64 = 0xffff_ffff;
@@ -28,6 +30,9 @@ const PSHD_REST: u64 = 12;
 
 // Version, flags, both widths, the data reference index and the chunk count of `ploc`.
 const PLOC_REST: u64 = 9;
+
+// The header of a `surl`, its version and flags, and the zero bytes that close its two texts.
+const SURL_REST: u64 = FRONT_SIZE + 6;
 
 // Both widths of `ploc`, the bytes of `source_byte_offset`, the bodies of `pshd`, `ploc` and `pseg`, and all that is
 // added.
@@ -98,16 +103,23 @@ fn data_size(counts: Counts, outside: Outside) -> u64
     within(FRONT_SIZE + bytes)
 }
 
-// The layout of what append adds: the data and the `pseg`, which holds `pshd` and `ploc`.
-pub fn layout_of(counts: Counts, outside: Outside, offset: Position) -> Layout
-    ensures { λ r. ⌜ ((a : Addition) → Sorted a counts outside → offset .0 ≡ a .sourceOffset → Laid a r) ⌝ }
+// The `surl` boxes, with their texts.
+fn surls_size(texts: Texts) -> u64
+    ensures { λ r. ⌜ (r ≤ fileLimit + 1) × ((a : Addition) → Texted a texts → r ≡ min (length (surlBoxes (surls a))) (fileLimit + 1)) ⌝ }
+{
+    within(within(texts.surls) * SURL_REST + within(texts.bytes))
+}
+
+// The layout of what append adds: the data and the `pseg`, which holds `pshd`, `ploc` and the `surl` boxes.
+pub fn layout_of(counts: Counts, outside: Outside, texts: Texts, offset: Position) -> Layout
+    ensures { λ r. ⌜ ((a : Addition) → Sorted a counts outside → Texted a texts → offset .0 ≡ a .sourceOffset → Laid a r) ⌝ }
 {
     let sizes = length_size(counts);
     let offsets = offset_size(counts);
     let width = offset_width(offset);
     let pshd = PSHD_REST + width;
     let ploc = ploc_size(counts, sizes, offsets);
-    let pseg = within(FRONT_SIZE + pshd + FRONT_SIZE + ploc);
+    let pseg = within(FRONT_SIZE + pshd + FRONT_SIZE + ploc + surls_size(texts));
     let added = within(data_size(counts, outside) + FRONT_SIZE + pseg);
     Layout {
         length_size: sizes,

@@ -2,3 +2,4 @@
 pub mod admission;
 pub mod counts;
 pub mod layout;
+pub mod texts;

@@ -6,13 +6,14 @@ use Rattle.additions.specs.Addition.{Addition}
 use Rattle.additions.specs.Runs.{fileIn}
 use Rattle.additions.specs.Demands.{Reasons, Demand3}
 use Rattle.additions.proofs.RefusalLaws.{demand1}
-use Rattle.partial.proofs.Reading.RefusalLaws.{takes, earlier-headed}
+use Rattle.partial.proofs.Reading.RefusalLaws.{takes}
+use Rattle.partial.proofs.Meaning.SequenceLaws.{passes}
 use Rattle.additions.proofs.IndexReasonLaws.{by-index}
-use Rattle.additions.proofs.ReasonLaws.{length-over, file-refused, list-wrong, data-wrong, outside-wrong}
+use Rattle.additions.proofs.ReasonLaws.{length-over, file-refused, lists-wrong, bytes-wrong, outside-wrong, texts-wrong}
 use Rattle.additions.proofs.ResultLaws.{by-result, too-many}
 use Rattle.additions.proofs.BegunLaws.{just-begun, begins}
 use Rattle.additions.proofs.BufferLaws.{earlier-kept, behind-kept, as-long}
-use Rattle.additions.proofs.AcceptedLaws.{after-addition, stands, accepts}
+use Rattle.additions.proofs.AcceptedLaws.{extends, after-addition, stands, accepts}
 
 -- an addition is refused exactly where a numbered reason for additions holds, in their order
 pub reasons : (limit : ℕ) (buffer : List ℕ) (n : ℕ) (a : Addition) → Reasons limit buffer n a
@@ -21,9 +22,10 @@ reasons limit buffer n a =
     record {
       lengthOver = length-over limit buffer n a;
       fileRefused = λ k fits e other. file-refused limit buffer n a fits (takes limit (take n buffer) .itsOwn k e other);
-      listWrong = λ ss fits e. list-wrong limit buffer n a fits (earlier-headed limit (take n buffer) e .1) e;
-      dataWrong = λ ss fits e. data-wrong limit buffer n a fits (earlier-headed limit (take n buffer) e .1) e;
-      outsideWrong = λ h ss fits head read. outside-wrong limit buffer n a fits head read;
+      listsWrong = λ file. lists-wrong limit buffer n a (file .enough) (file .headed) (file .before);
+      bytesWrong = λ file lists. bytes-wrong limit buffer n a (file .enough) (file .headed) (file .before) (passes _ lists);
+      outsideWrong = λ file lists bytes. outside-wrong limit buffer n a (file .enough) (file .headed) (file .before) (passes _ lists) (passes _ bytes);
+      textsWrong = λ file lists bytes outer. texts-wrong limit buffer n a (file .enough) (file .headed) (file .before) (passes _ lists) (passes _ bytes) (passes _ outer);
       byIndex = by-index limit buffer n a;
       byResult = by-result limit buffer n a;
       tooMany = too-many limit buffer n a;
@@ -40,7 +42,8 @@ demand3 limit below =
       earlierKept = earlier-kept limit;
       behindKept = behind-kept limit;
       asLong = as-long limit;
-      accepted = after-addition limit below;
+      extends = extends limit;
+      accepted = λ buffer n a size file plain e. after-addition limit buffer n a size file e below plain;
       refusedExactly = reasons limit;
       unchanged = demand1 limit .appendKept;
     }

@@ -8,18 +8,22 @@ use native.Mathlib.Omega.{arith}
 use borrow.Author.Tests.{eqb-true}
 use lib.ListN.{length, take, drop, length-append}
 use lib.Seq.{take-add, take-all}
-use Rattle.boxes.specs.Framing.{boxed}
+use Rattle.boxes.specs.Framing.{frontSize, boxed}
 use Rattle.boxes.specs.Kinds.{pseg}
 use Rattle.partial.specs.Sequences.{allOf}
 use Rattle.partial.specs.Segments.{present, isLast, Segment}
 use Rattle.partial.specs.Heading.{Heading, bytesIn}
-use Rattle.additions.specs.Addition.{Item, items, Addition, flagsFor, listRight, sizeOf, dataSize, dataRight, goesOut}
+use Rattle.additions.specs.Begin.{isText}
+use Rattle.additions.specs.Addition.{Item, items, Addition, flagsFor, listRight, lengthsRight, sizeOf, dataSize, dataRight, textsRight, surls, goesOut}
 use Rattle.additions.specs.Append.{back, placedWith, placed, newChunks, newSegment, added, psegPlace, psegBody, stored}
-use Rattle.additions.specs.Again.{dataOf, listFor, someOutside, again, settled}
+use Rattle.additions.specs.Again.{dataOf, listFor, someOutside, surlsIn, textsFor, lengthsFor, again, settled}
 use Rattle.partial.proofs.Meaning.SequenceLaws.{which, both}
 use Rattle.additions.proofs.DataLaws.{data-nothing, data-cons, data-one, data-none, data-past, data-length}
 use Rattle.additions.proofs.PlacedLaws.{place-present, formed, formed-some, list-formed}
 use Rattle.additions.proofs.StoredLaws.{Stored, stored-within, stored-part, stored-rest, stored-added}
+use Rattle.additions.proofs.SurlLaws.{cut-joined}
+use Rattle.additions.proofs.InnerLaws.{surls-told, body-stands, body-inside}
+use Rattle.additions.proofs.NewSegmentLaws.{inner-new}
 
 -- the flag that is written for last_segment is read as it
 last-again : (last : Bool) → isLast (flagsFor last) ≡ last
@@ -54,7 +58,8 @@ module _ (g : List ℕ) (at : ℕ) (inside : at ≤ length g) (o : Bool) (out : 
         | inr e ↦ rw (e, rest, data-none i e, data-past i is e)
       ]
 
-module _ (f more : List ℕ) (a : Addition) (h k : Heading) (ss : List Segment) (list : listRight (a .list) ≡ true) (right : dataRight a ≡ true) where
+module _ (f more : List ℕ) (a : Addition) (h k : Heading) (ss : List Segment) (list : listRight (a .list) ≡ true) (right : dataRight a ≡ true)
+    (lengths : lengthsRight (a .lengths) ≡ true) (texts : textsRight a ≡ true) (text : isText (a .texts) ≡ true) where
   bytes-again : dataOf ((f ++ added a) ++ more) (newSegment k ss (psegPlace (length f) a) a .chunks) ≡ a .bytes
   unfolding added newSegment psegPlace placed
   bytes-again =
@@ -67,7 +72,17 @@ module _ (f more : List ℕ) (a : Addition) (h k : Heading) (ss : List Segment) 
       (data-again (f ++ (stored a ++ rest)) (psegPlace (length f) a) within (a .outside) (sizeOf (goesOut (a .outside)) is) (a .sourceOffset) is (a .bytes) (list-formed (a .list) list) (stored-added f rest a right)
       ∙ take-all (dataSize is) (a .bytes) (omega (arith, data-length a right)))
 
-  -- a segment's fields, chunks and bytes are those that were asked for, whatever was added after it
+  -- the texts of its `surl` boxes are those that were cut
+  texts-again : let us = surlsIn ((f ++ added a) ++ more) (newSegment k ss (psegPlace (length f) a) a .inner) in
+      (textsFor us ≡ a .texts) × (lengthsFor us ≡ a .lengths)
+  unfolding surls lengthsRight textsRight
+  texts-again =
+      let g : List ℕ = (f ++ added a) ++ more in
+      let at = psegPlace (length f) a in
+      let told = surls-told g (at + frontSize) a (body-stands f more a) text (body-inside f more a) in
+      rw (inner-new k ss at a, told) (cut-joined (a .texts) (a .lengths) (eqb-true _ _ lengths) (eqb-true _ _ texts))
+
+  -- a segment's fields, chunks, bytes and texts are those that were asked for, whatever was added after it
   pub same-again : let s = newSegment k ss (psegPlace (length f) a) a in
       someOutside (h .boxes) (s .chunks) ≡ settled a .outside
       → again ((f ++ added a) ++ more) h s ≡ settled a
@@ -82,4 +97,6 @@ module _ (f more : List ℕ) (a : Addition) (h k : Heading) (ss : List Segment) 
         outside = outside-told i;
         list = list-again (a .outside) (sizeOf (goesOut (a .outside)) (items (a .list))) (psegPlace (length f) a) (a .sourceOffset) (a .list) even i;
         bytes = bytes-again i;
+        texts = texts-again .0 i;
+        lengths = texts-again .1 i;
       }

@@ -1,15 +1,14 @@
 -- A file just begun has a heading and no segment, so that append takes it.
-use Prim.Native.Nat.{ℕ, zero, suc, _+_, _-_, _≤_, _<_, _/_, _%_, _^_}
-use mathlib.Core.Bool.{Bool, true, false, not, _&&_, _||_, or-false}
+use Prim.Native.Nat.{ℕ, _+_, _-_, _≤_, _<_, _/_, _%_, _^_}
+use mathlib.Core.Bool.{Bool, true, false, _&&_, _||_, or-false}
 use mathlib.Core.List.{List, [], _∷_, _++_}
 use mathlib.Core.Logic.{_↔_, inl, inr}
 use mathlib.Core.Path.{_≡_, refl, sym, ap, _∙_}
 use native.Mathlib.Nat.{add-assoc, zero-add, add-zero}
-use native.Mathlib.Numerals.{add-one}
 use native.Mathlib.Omega.{arith}
 use borrow.Author.Tests.{le-leb, leb-true, eq-eqb}
 use lib.Dec.{leb, eqb, lit<, T}
-use lib.ListN.{length, getD, drop, length-append}
+use lib.ListN.{length, drop, length-append}
 use lib.Seq.{take-at}
 use Rattle.boxes.specs.Answer.{given}
 use Rattle.numerals.specs.Numbers.{number, bytesOf}
@@ -21,78 +20,21 @@ use Rattle.numerals.proofs.NumberLaws.{length-bytesOf, number-byte, bytesOf-zer
 use Rattle.boxes.proofs.BoxedLaws.{length-boxed, boxed-stand}
 use Rattle.boxes.proofs.KindLaws.{some-right, right-some, firstOf-those, one-right, is-eqb, boxAt-getD, first-is}
 use Rattle.partial.specs.Limits.{fileLimit}
-use Rattle.partial.specs.Sequences.{someOf, allOf, stretch}
+use Rattle.partial.specs.Sequences.{someOf, allOf}
 use Rattle.partial.specs.Heading.{Heading, paff, pmff, ftypRight, brandsFrom, brands, branded, brandRight, pfilRight, pfhdFormed, urlsIn}
-use Rattle.partial.specs.Heading.{pfhdRight, text, url, mime, surlFormed, surlRight}
+use Rattle.partial.specs.Heading.{pfhdRight, url, mime, surlRight}
 use Rattle.partial.specs.Reading.{earlierSegments}
 use Rattle.partial.specs.Memory.{after, filled}
 use Rattle.partial.specs.declared.brand.Brand.{Brand}
 use Rattle.partial.specs.declared.brand.Brand.the-variants.{Paff, Pmff}
-use Rattle.additions.specs.Begin.{versionAndFlags, brandCode, beginning, isText, begun}
+use Rattle.additions.specs.Begin.{versionAndFlags, surlBody, brandCode, beginning, isText, begun}
 use Rattle.additions.specs.Runs.{lent, fileIn, sizeAfter, begin}
 use Rattle.partial.proofs.Meaning.SequenceLaws.{both, passes, which}
-use Rattle.additions.proofs.StandsLaws.{Stands, stands-behind, stands-head, stands-tail, stands-left, stands-right}
-use Rattle.additions.proofs.StandsLaws.{stands-number}
+use Rattle.additions.proofs.StandsLaws.{Stands, stands-behind, stands-right, stands-number}
+use Rattle.additions.proofs.SurlLaws.{url-back, mime-back, surl-back}
 use Rattle.additions.proofs.BoxesStandLaws.{stands-two, only-second, second-box, neither, only-first, first-box}
 use Rattle.partial.proofs.Reading.HeadingAppendLaws.{Headed, heading-of}
 use Rattle.partial.proofs.Reading.RefusalLaws.{earlier-none}
-
--- a text with no zero byte ends where the first zero byte stands
-text-back : (f : List ℕ) (u rest : List ℕ) (at more : ℕ) → Stands f at (u ++ (0 ∷ rest)) → isText u ≡ true → length u < more
-    → stretch (λ i. not (eqb (getD f i 0) 0)) more at ≡ length u
-unfolding stretch isText allOf
-text-back f [] rest at zero stands plain room = absurd (omega arith)
-text-back f [] rest at (suc more) stands plain room = rw (stretch, stands-head f at 0 rest stands)
-text-back f (b ∷ u) rest at zero stands plain room = absurd (omega arith)
-text-back f (b ∷ u) rest at (suc more) stands plain room =
-    let (here, there) = both (not (eqb b 0)) (isText u) plain in
-    rw (stretch, stands-head f at b (u ++ (0 ∷ rest)) stands, here) (ap suc (text-back f u rest (suc at) more (rw add-one at (stands-tail f at b (u ++ (0 ∷ rest)) stands)) there (omega arith)))
-
--- a `surl` as we write it is well-formed, wherever its body stands
-module _ (u m : List ℕ) where
-  abbrev pub sourceBody : List ℕ
-  sourceBody = versionAndFlags ++ (u ++ (0 ∷ (m ++ (0 ∷ []))))
-
-  pub source-long : length sourceBody ≡ 4 + (length u + (1 + (length m + 1)))
-  source-long = simp (length-append, length-bytesOf) (omega arith)
-
-  module _ (f : List ℕ) (b : Box) (stands : Stands f (b .body) sourceBody) (ends : b .body + length sourceBody ≡ b .end)
-      (plain-url : isText u ≡ true) (plain-mime : isText m ≡ true) where
-    after-front : Stands f (b .body + 4) (u ++ (0 ∷ (m ++ (0 ∷ []))))
-    after-front = rw (length-bytesOf 4 0) at (stands-right f (b .body) versionAndFlags (u ++ (0 ∷ (m ++ (0 ∷ [])))) stands)
-
-    pub url-stands : Stands f (b .body + 4) u
-    url-stands = stands-left f (b .body + 4) u (0 ∷ (m ++ (0 ∷ []))) after-front
-
-    after-url : Stands f (b .body + 4 + length u + 1) (m ++ (0 ∷ []))
-    after-url = stands-tail f (b .body + 4 + length u) 0 (m ++ (0 ∷ [])) (stands-right f (b .body + 4) u (0 ∷ (m ++ (0 ∷ []))) after-front)
-
-    pub mime-stands : Stands f (b .body + 4 + length u + 1) m
-    mime-stands = stands-left f (b .body + 4 + length u + 1) m (0 ∷ []) after-url
-
-    pub url-back : url f b ≡ record { place = b .body + 4; size = length u }
-    unfolding url text
-    url-back =
-        let long = source-long in
-        rw (text-back f u (m ++ (0 ∷ [])) (b .body + 4) (b .end - (b .body + 4)) after-front plain-url (omega arith))
-
-    pub mime-back : mime f b ≡ record { place = b .body + 4 + length u + 1; size = length m }
-    unfolding mime text
-    mime-back =
-        let long = source-long in
-        let at : ℕ = b .body + 4 in
-        let second : ℕ = at + length u + 1 in
-        rw (url-back, text-back f m [] second (b .end - second) after-url plain-mime (omega arith))
-
-    surl-back : surlFormed f b ≡ true
-    unfolding surlFormed
-    surl-back =
-        let long = source-long in
-        rw (
-          le-leb (b .body + 4) (b .end) (omega arith),
-          stands-number f (b .body) 4 0 (lit< tt) (stands-left f (b .body) versionAndFlags (u ++ (0 ∷ (m ++ (0 ∷ [])))) stands),
-          mime-back,
-        ) (eq-eqb (b .body + 4 + length u + 1 + length m + 1) (b .end) (omega arith))
 
 -- a brand fits its four bytes
 brand-fits : (brand : Brand) → brandCode brand < 256 ^ 4
@@ -116,7 +58,7 @@ module _ (brand : Brand) (u m : List ℕ) where
   brandBody = bytesOf 4 (brandCode brand) ++ (bytesOf 4 0 ++ bytesOf 4 (brandCode brand))
 
   abbrev fileBody : List ℕ
-  fileBody = boxed (pfhd .code) versionAndFlags ++ boxed (surl .code) (sourceBody u m)
+  fileBody = boxed (pfhd .code) versionAndFlags ++ boxed (surl .code) (surlBody u m)
 
   abbrev filePlace : ℕ
   filePlace = 0 + (frontSize + length brandBody) + frontSize
@@ -132,7 +74,7 @@ module _ (brand : Brand) (u m : List ℕ) where
 
   -- its `surl`
   abbrev pub sourceBox : Box
-  sourceBox = boxedAt (filePlace + (frontSize + length versionAndFlags)) (surl .code) (length (sourceBody u m))
+  sourceBox = boxedAt (filePlace + (frontSize + length versionAndFlags)) (surl .code) (length (surlBody u m))
 
   abbrev pub begunHeading : Heading
   begunHeading = record { boxes = brandBox ∷ fileBox ∷ []; inner = plainBox ∷ sourceBox ∷ []; urls = urlsIn (beginning brand u m) (plainBox ∷ sourceBox ∷ []); mixed = isMixed brand }
@@ -159,13 +101,13 @@ module _ (brand : Brand) (u m : List ℕ) where
       let long = length-append (boxed (ftyp .code) brandBody) (boxed (pfil .code) fileBody) in
       let long-file = length-boxed (pfil .code) fileBody in
       rw (add-assoc (0 + (frontSize + length brandBody)) frontSize (length fileBody)) at
-      (boxed-stand Pfil (pfhd .code) (surl .code) versionAndFlags (sourceBody u m) (lit< tt) (lit< tt) refl refl (omega arith) (beginning brand u m) filePlace stands-file)
+      (boxed-stand Pfil (pfhd .code) (surl .code) versionAndFlags (surlBody u m) (lit< tt) (lit< tt) refl refl (omega arith) (beginning brand u m) filePlace stands-file)
 
-  pub source-stands : Stands (beginning brand u m) (sourceBox .body) (sourceBody u m)
-  source-stands = stands-two (beginning brand u m) filePlace (pfhd .code) (surl .code) versionAndFlags (sourceBody u m) stands-file .1
+  pub source-stands : Stands (beginning brand u m) (sourceBox .body) (surlBody u m)
+  source-stands = stands-two (beginning brand u m) filePlace (pfhd .code) (surl .code) versionAndFlags (surlBody u m) stands-file .1
 
-  pub source-ends : sourceBox .body + length (sourceBody u m) ≡ sourceBox .end
-  source-ends = add-assoc (filePlace + (frontSize + length versionAndFlags)) frontSize (length (sourceBody u m))
+  pub source-ends : sourceBox .body + length (surlBody u m) ≡ sourceBox .end
+  source-ends = add-assoc (filePlace + (frontSize + length versionAndFlags)) frontSize (length (surlBody u m))
 
   pub source-inside : sourceBox .end ≤ length (beginning brand u m)
   unfolding beginning
@@ -234,7 +176,7 @@ module _ (brand : Brand) (u m : List ℕ) where
       let one = one-right Pfil pfhd (begunHeading .inner) refl (ap length (only-first pfhd plainBox sourceBox (is-eqb pfhd plainBox) (is-eqb pfhd sourceBox))) in
       let first = first-is pfhd (lit< tt) (begunHeading .inner) (rw (first-box pfhd plainBox sourceBox) (is-eqb pfhd plainBox)) ∙ first-box pfhd plainBox sourceBox in
       let long = length-bytesOf 4 0 in
-      let plain = stands-two (beginning brand u m) filePlace (pfhd .code) (surl .code) versionAndFlags (sourceBody u m) stands-file .0 in
+      let plain = stands-two (beginning brand u m) filePlace (pfhd .code) (surl .code) versionAndFlags (surlBody u m) stands-file .0 in
       let zero-byte : number (beginning brand u m) (plainBox .body) 1 ≡ 0 = number-byte (beginning brand u m) (plainBox .body) ∙ rw add-zero at (plain 0 (rw long (omega arith))) ∙ bytesOf-zero 4 0 in
       rw (one, first, eq-eqb (filePlace + frontSize + 4) (filePlace + (frontSize + length versionAndFlags)) (omega arith), zero-byte)
 

@@ -18,9 +18,9 @@ use Rattle.boxes.proofs.BoxedLaws.{boxed-parts}
 use Rattle.partial.specs.Sequences.{someOf, sum}
 use Rattle.partial.specs.Segments.{Segment, good, present}
 use Rattle.partial.specs.Heading.{Heading}
-use Rattle.additions.specs.Addition.{Item, items, Addition, sizeOf, dataSize, dataRight, goesOut, goesIn, dataFor, boxesFor, outsideRight}
+use Rattle.additions.specs.Addition.{Item, items, Addition, sizeOf, dataSize, dataRight, goesOut, goesIn, dataFor, boxesFor, outsideRight, surls}
 use Rattle.additions.specs.Append.{insideData, outsideData, anyInside, dataBox, stored, addedBoxes, back, Placed, placedWith, placed}
-use Rattle.additions.specs.Append.{pshdBody, psegBody, added, psegPlace, newInner, newSegment, admission}
+use Rattle.additions.specs.Append.{pshdBody, psegBody, innerBoxes, added, psegPlace, newInner, newUrls, newSegment, admission}
 use Rattle.additions.specs.Again.{settled}
 use Rattle.partial.proofs.Meaning.SequenceLaws.{which, both, Each}
 
@@ -323,7 +323,7 @@ module _ (a : Addition) where
       (placed-same (settled a .outside) (a .outside) (sizeOf (goesOut (a .outside)) (items (a .list))) (items (a .list)) out-settled)
 
   pub settled-added : added (settled a) ≡ added a
-  unfolding added psegBody pshdBody
+  unfolding added psegBody pshdBody surls
   settled-added = rw (stored-settled, placed-settled)
 
   settled-place : (n : ℕ) → psegPlace n (settled a) ≡ psegPlace n a
@@ -334,8 +334,12 @@ module _ (a : Addition) where
   unfolding addedBoxes
   settled-boxes = rw (any-settled, outside-settled)
 
+  settled-inner : innerBoxes (settled a) ≡ innerBoxes a
+  unfolding innerBoxes surls
+  settled-inner = refl
+
   settled-segment : (h : Heading) (ss : List Segment) (at : ℕ) → newSegment h ss at (settled a) ≡ newSegment h ss at a
-  unfolding newSegment newInner pshdBody
+  unfolding newSegment newInner newUrls pshdBody surls
   settled-segment h ss at = rw placed-settled
 
   -- and is as right
@@ -349,4 +353,4 @@ module _ (a : Addition) where
 
   pub settled-admission : (limit : ℕ) (h : Heading) (ss : List Segment) (n : ℕ) → admission limit h ss n (settled a) ≡ admission limit h ss n a
   unfolding admission
-  settled-admission limit h ss n = rw (settled-added, settled-boxes, settled-place n, settled-segment h ss (psegPlace n a))
+  settled-admission limit h ss n = rw (settled-added, settled-boxes, settled-inner, settled-place n, settled-segment h ss (psegPlace n a))

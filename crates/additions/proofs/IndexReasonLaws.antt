@@ -11,17 +11,20 @@ use Rattle.boxes.specs.Answer.{Answer, refused, given}
 use Rattle.boxes.proofs.AnswerLaws.{only-held, only-given, not-both, given-same, refused-same}
 use Rattle.partial.specs.Segments.{Segment}
 use Rattle.partial.specs.Heading.{Heading, heading}
+use Rattle.partial.specs.Sources.{sourceBeside}
 use Rattle.partial.specs.Index.{indexed}
 use Rattle.partial.specs.Reading.{reading, earlierSegments}
-use Rattle.additions.specs.Addition.{Addition, listRight, dataRight, outsideRight}
+use Rattle.additions.specs.Begin.{isText}
+use Rattle.additions.specs.Addition.{Addition, listsRight, bytesRight, outsideRight}
 use Rattle.additions.specs.Append.{added, newSegment, psegPlace, admission, appended}
 use Rattle.partial.specs.ReadingDemands.{ofIndex}
 use Rattle.partial.proofs.Reading.AgreementReadLaws.{passed-on, passed, refused-first, of-index, not-index}
 use Rattle.partial.proofs.Reading.IndexedLaws.{indexed-more, no-38}
+use Rattle.partial.proofs.Reading.NumberedLaws.{reading-numbered}
 use Rattle.partial.proofs.Reading.ReadingLaws.{reading-known}
 use Rattle.partial.proofs.Reading.RefusalLaws.{heading-only, twelve-apart}
 use Rattle.additions.proofs.RefusalLaws.{admission-only}
-use Rattle.additions.proofs.NewSegmentLaws.{no-index-new}
+use Rattle.additions.proofs.NewSegmentLaws.{urls-new, source-new, no-index-new}
 use Rattle.additions.proofs.ReadsBackLaws.{admits}
 use Rattle.additions.proofs.ReasonLaws.{file-refused}
 
@@ -44,11 +47,12 @@ module _ (limit : ℕ) (buffer : List ℕ) (n : ℕ) (a : Addition) (k : ℕ) (o
       let (_, e1) = passed 30 (leb n (length buffer)) _ (λ same. omega arith) e in
       let (h, head, e2) = passed-on (heading f) _ (heading-only NotIt known f) e1 in
       let (us, read, e′) = passed-on (earlierSegments limit f) _ (λ m z. absurd (not-both (sym z ∙ before))) e2 in
-      let (_, e3) = passed 31 (listRight (a .list)) _ (λ same. omega arith) e′ in
-      let (_, e4) = passed 32 (dataRight a) _ (λ same. omega arith) e3 in
+      let (_, e3) = passed 31 (listsRight a) _ (λ same. omega arith) e′ in
+      let (_, e4) = passed 32 (bytesRight a) _ (λ same. omega arith) e3 in
       let (_, e5) = passed 35 (outsideRight h a) _ (λ same. omega arith) e4 in
-      let (ts, admitted-there, e6) = passed-on (admission limit h us n a) _ (admission-only NotIt known (λ same. omega arith) limit h us n a) e5 in
-      let told = refused-first (indexed limit f h ts) _ e6 (λ _. only-held NotIt 33 (leb size (length buffer)) _ (λ same. omega arith) (only-given NotIt size)) in
+      let (_, e6) = passed 34 (isText (a .texts)) _ (λ same. omega arith) e5 in
+      let (ts, admitted-there, e7) = passed-on (admission limit h us n a) _ (admission-only NotIt known (λ same. omega arith) limit h us n a) e6 in
+      let told = refused-first (indexed limit f h ts) _ e7 (λ _. only-held NotIt 33 (leb size (length buffer)) _ (λ same. omega arith) (only-given NotIt size)) in
       let there : indexed limit f h (us ++ (new h us ∷ [])) ≡ refused k = ap (indexed limit f h) (sym (admits limit h us n a admitted-there .1)) ∙ told in
       (h, head, subst (λ (vs : List Segment). indexed limit f h (vs ++ (new h vs ∷ [])) ≡ refused k) (given-same (sym read ∙ before)) there)
 
@@ -66,7 +70,9 @@ module _ (limit : ℕ) (buffer : List ℕ) (n : ℕ) (a : Addition) (k : ℕ) (o
       own same (given ss) before =
           let (h, head, told) = beside-new before e in
           let (is, r) = reading-known limit (take n buffer) head (same ∙ before) in
-          absurd (not-both (sym told ∙ indexed-more limit (take n buffer) h (new h ss) (no-index-new h ss (psegPlace n a) a) ss (r .told)))
+          let beside : new h ss .source ≡ sourceBeside ss (new h ss .urls) = source-new h ss (psegPlace n a) a ∙ ap (sourceBeside ss) (sym (urls-new h ss (psegPlace n a) a)) in
+          let numbered = reading-numbered limit (take n buffer) (same ∙ before) in
+          absurd (not-both (sym told ∙ indexed-more limit (take n buffer) h (new h ss) (no-index-new h ss (psegPlace n a) a) ss numbered beside (r .told)))
 
       begun : earlierSegments limit (take n buffer) ≡ given [] → k ≡ 38 → ⊥
       begun before =

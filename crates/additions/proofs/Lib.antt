@@ -15,6 +15,7 @@ pub mod Examples
 pub mod FieldsBackLaws
 pub mod GrownLaws
 pub mod IndexReasonLaws
+pub mod InnerLaws
 pub mod NewSegmentLaws
 pub mod OutsideLaws
 pub mod PlacedLaws
@@ -27,6 +28,7 @@ pub mod ResultLaws
 pub mod RunAgainLaws
 pub mod StandsLaws
 pub mod StoredLaws
+pub mod SurlLaws
 pub mod ToldOutsideLaws
 pub mod WholeLaws
 pub mod WriterLaws

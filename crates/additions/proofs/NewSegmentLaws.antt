@@ -1,7 +1,7 @@
 -- The segment that append adds is read from its box in the longer file, as what was added.
 use Prim.Native.Nat.{ℕ, suc, _+_, _-_, _^_, _≤_, _<_}
 use mathlib.Core.Bool.{Bool, true, false}
-use mathlib.Core.List.{List, [], _∷_, _++_, map}
+use mathlib.Core.List.{List, [], _∷_, _++_, map, append-nil}
 use mathlib.Core.Path.{_≡_, refl, ap, _∙_}
 use native.Mathlib.Nat.{add-assoc}
 use native.Mathlib.Decide.{decLe}
@@ -11,27 +11,29 @@ use lib.Dec.{leb, lit<}
 use lib.ListN.{length}
 use Rattle.boxes.specs.Answer.{Answer, refused, given, _>>=_, hold}
 use Rattle.numerals.specs.Numbers.{holds}
-use Rattle.boxes.specs.Framing.{Box, frontSize, boxed, boxedAt}
+use Rattle.boxes.specs.Framing.{Box, frontSize, boxedAt, boxLimit}
 use Rattle.boxes.specs.Kinds.{pseg, pshd, ploc, fidx, right, boxAt, firstOf, those, surl}
 use Rattle.boxes.specs.declared.kinds.Container.the-variants.{Pseg}
-use Rattle.boxes.proofs.BoxedLaws.{boxed-stand}
 use Rattle.boxes.proofs.KindLaws.{first-is, one-right, firstOf-those, is-eqb, boxAt-getD}
 use Rattle.partial.specs.Limits.{chunkLimit}
 use Rattle.partial.specs.Sequences.{allOf, sum}
 use Rattle.partial.specs.Segments.{Segment, endOf, chunksOf}
-use Rattle.partial.specs.Heading.{Heading, urlsIn}
-use Rattle.partial.specs.Sources.{urlsFor, sourceBeside}
+use Rattle.partial.specs.Heading.{Heading}
+use Rattle.partial.specs.Sources.{sourceBeside}
 use Rattle.partial.specs.Reading.{pshdRight, segment, pshdFields}
+use Rattle.additions.specs.Begin.{isText}
 use Rattle.additions.specs.Addition.{items, Addition, flagsFor, sizeOf, dataSize, dataRight, goesOut}
-use Rattle.additions.specs.Append.{stored, plocBody, pshdBody, added, newChunks, newInner, newSegment, Placed, placed, psegBody, psegPlace}
+use Rattle.additions.specs.Append.{plocBody, pshdBody, added, newChunks, surlsAt, newInner, newUrls, newSegment, Placed, placed, psegBody, innerBoxes, psegPlace}
+use Rattle.additions.specs.Demands.{Plain}
 use Rattle.partial.proofs.Reading.HeadingAppendLaws.{withBoxes}
 use Rattle.additions.proofs.DataLaws.{sizes-split}
 use Rattle.additions.proofs.PlacedLaws.{formed, sizes-placed, length-placed, OutLie, placed-tell, offsets-eight}
-use Rattle.additions.proofs.StandsLaws.{Stands, stands-behind, stands-right}
+use Rattle.additions.proofs.StandsLaws.{Stands}
 use Rattle.additions.proofs.EntriesBackLaws.{chunks-back}
 use Rattle.additions.proofs.FieldsBackLaws.{fields-back, plocOf, head-back, sizes-held, offsets-held}
 use Rattle.additions.proofs.AddedBoxesLaws.{data-low, InLie}
-use Rattle.additions.proofs.BoxesStandLaws.{stands-body, stands-two, only-second, first-box, only-first, neither}
+use Rattle.additions.proofs.InnerLaws.{headerBox, locationPlace, locationBox, inners, only-header, only-location, only-surls, no-index, surls-none}
+use Rattle.additions.proofs.InnerLaws.{header-stands, location-stands, inners-framed, urls-told, body-stands, body-inside}
 
 -- the new chunks are as many as the items, and as long
 length-chunks : (at start : ℕ) (ps : List Placed) → length (newChunks at start ps) ≡ length ps
@@ -53,22 +55,25 @@ module _ (h : Heading) (ss : List Segment) (at : ℕ) (a : Addition) where
   unfolding newSegment endOf
   end-new = rw (sizes-chunks at (a .sourceOffset) (placed (a .outside) (items (a .list))), sizes-placed (a .outside) (items (a .list)))
 
-  -- a new segment has no URLs of its own and no index
-  pub urls-new : newSegment h ss at a .urls ≡ h .urls
+  -- a new segment is of the source with the URLs of the addition, and has no index
+  pub urls-new : newSegment h ss at a .urls ≡ newUrls h a
   unfolding newSegment
   urls-new = refl
 
-  pub source-new : newSegment h ss at a .source ≡ sourceBeside ss (h .urls)
+  pub source-new : newSegment h ss at a .source ≡ sourceBeside ss (newUrls h a)
   unfolding newSegment
   source-new = refl
 
-  pub no-index-new : those fidx (newSegment h ss at a .inner) ≡ []
+  pub inner-new : newSegment h ss at a .inner ≡ inners (at + frontSize) a
   unfolding newSegment newInner
-  no-index-new = neither fidx _ _ (is-eqb fidx _) (is-eqb fidx _)
+  inner-new = refl
+
+  pub no-index-new : those fidx (newSegment h ss at a .inner) ≡ []
+  no-index-new = rw inner-new (no-index (at + frontSize) a)
 
   -- it is the same with more boxes in the heading
   pub new-longer : (more : List Box) → newSegment (withBoxes h more) ss at a ≡ newSegment h ss at a
-  unfolding newSegment
+  unfolding newSegment newUrls
   new-longer more = refl
 
 -- what the fields of an addition have to be for its bytes to say them
@@ -80,39 +85,40 @@ pub record Sayable (a : Addition) : Type 0 where
 
 -- the segment of a `pseg` box at a place, whose body stands there and before which its data lies
 module _ (limit : ℕ) (g : List ℕ) (h : Heading) (before : List Segment) (a : Addition) (at : ℕ) where
-  abbrev headerBox : Box
-  headerBox = boxedAt (at + frontSize) (pshd .code) (length (pshdBody a))
+  abbrev here : ℕ
+  here = at + frontSize
 
-  abbrev locationBox : Box
-  locationBox = boxedAt (at + frontSize + (frontSize + length (pshdBody a))) (ploc .code) (length (plocBody (placed (a .outside) (items (a .list)))))
+  -- `pshd` is first and single, and `ploc` is single
+  first-header : boxAt 0 (inners here a) ≡ headerBox here a
+  first-header = boxAt-getD 0 (inners here a)
 
-  abbrev inners : List Box
-  inners = headerBox ∷ locationBox ∷ []
+  header-found : firstOf pshd (inners here a) ≡ headerBox here a
+  header-found = first-is pshd (lit< tt) (inners here a) (rw first-header (is-eqb pshd (headerBox here a))) ∙ first-header
 
-  -- `pshd` is first and single, `ploc` is single, and there is no `surl`
-  first-header : firstOf pshd inners ≡ headerBox
-  first-header = first-is pshd (lit< tt) inners (rw (first-box pshd headerBox locationBox) (is-eqb pshd headerBox)) ∙ first-box pshd headerBox locationBox
-
-  one-header : right Pseg pshd inners ≡ true
-  one-header = one-right Pseg pshd inners refl (ap length (only-first pshd headerBox locationBox (is-eqb pshd headerBox) (is-eqb pshd locationBox)))
-
-  only-location : those ploc inners ≡ locationBox ∷ []
-  only-location = only-second ploc headerBox locationBox (is-eqb ploc headerBox) (is-eqb ploc locationBox)
-
-  first-location : firstOf ploc inners ≡ locationBox
-  first-location = firstOf-those ploc inners ∙ ap (boxAt 0) only-location ∙ boxAt-getD 0 (locationBox ∷ [])
-
-  no-source : those surl inners ≡ []
-  no-source = neither surl headerBox locationBox (is-eqb surl headerBox) (is-eqb surl locationBox)
-
-  header-right : pshdFields g headerBox .end ≡ headerBox .end → pshdRight g inners ≡ true
+  header-right : pshdFields g (headerBox here a) .end ≡ headerBox here a .end → pshdRight g (inners here a) ≡ true
   unfolding pshdRight
-  header-right whole = rw (first-box pshd headerBox locationBox, is-eqb pshd headerBox, one-header, eq-eqb _ _ whole)
+  header-right whole =
+      rw (first-header, is-eqb pshd (headerBox here a), one-right Pseg pshd (inners here a) refl (ap length (only-header here a)), eq-eqb _ _ whole)
+
+  location-right : right Pseg ploc (inners here a) ≡ true
+  location-right = one-right Pseg ploc (inners here a) refl (ap length (only-location here a))
+
+  location-found : firstOf ploc (inners here a) ≡ locationBox here a
+  location-found = firstOf-those ploc (inners here a) ∙ ap (boxAt 0) (only-location here a) ∙ boxAt-getD 0 (locationBox here a ∷ [])
+
+  -- there is no `surl` where the addition has no texts
+  no-source : Plain a → those surl (inners here a) ≡ []
+  unfolding surlsAt
+  no-source plain = only-surls here a ∙ rw (surls-none a plain)
 
   segment-at : Sayable a
+      → Plain a
+      → innerBoxes a ≤ boxLimit
+      → isText (a .texts) ≡ true
       → allOf formed (items (a .list)) ≡ true
       → length (psegBody a) < 2 ^ 32
-      → Stands g (at + frontSize) (psegBody a)
+      → Stands g here (psegBody a)
+      → here + length (psegBody a) ≤ length g
       → dataSize (items (a .list)) ≤ at
       → dataSize (items (a .list)) < 2 ^ 63
       → InLie h at a
@@ -120,34 +126,33 @@ module _ (limit : ℕ) (g : List ℕ) (h : Heading) (before : List Segment) (a :
       → segment limit g h before (boxedAt at (pseg .code) (length (psegBody a)))
       ≡ (hold 22 (leb (length (chunksOf before) + length (newSegment h before at a .chunks)) chunkLimit)
       >>= λ _. hold 23 (leb (endOf (newSegment h before at a)) limit) >>= λ _. given (newSegment h before at a))
-  unfolding segment newSegment newInner psegBody placed urlsIn urlsFor
-  segment-at says listed small stands data-low data-small lie outer =
+  unfolding segment newSegment newInner newUrls placed
+  segment-at says plain few texts listed small stands inside data-low data-small lie outer =
       let list = items (a .list) in
       let ps = placed (a .outside) list in
       let all = sizes-split (a .outside) list in
-      let here : ℕ = at + frontSize in
-      let second : ℕ = here + (frontSize + length (pshdBody a)) in
+      let second = locationPlace here a in
       let total : ℕ = a .sourceOffset + sum (map (λ p. p .size) ps) in
-      let (stands-fields, stands-ploc) = stands-two g here (pshd .code) (ploc .code) (pshdBody a) (plocBody ps) stands in
-      let fields = fields-back g headerBox a stands-fields (says .offset) (says .time) in
-      let (head, stands-entries, ends) = head-back g locationBox ps stands-ploc (add-assoc second frontSize (length (plocBody ps))) (rw length-placed (says .count)) in
+      let fields = fields-back g (headerBox here a) a (header-stands g here a stands) (says .offset) (says .time) in
+      let (head, stands-entries, ends) = head-back g (locationBox here a) ps (location-stands g here a stands) (add-assoc second frontSize (length (plocBody ps))) (rw length-placed (says .count)) in
       let whole : here + frontSize + length (pshdBody a) ≡ here + (frontSize + length (pshdBody a)) = omega arith in
       let same-end : here + length (psegBody a) ≡ at + (frontSize + length (psegBody a)) = omega arith in
-      let boxes = rw same-end at (boxed-stand Pseg (pshd .code) (ploc .code) (pshdBody a) (plocBody ps) (lit< tt) (lit< tt) refl refl small g here stands) in
+      let boxes = rw same-end at (inners-framed g here a stands few small) in
       let long : here + (frontSize + length (pshdBody a)) - (here + frontSize) ≡ length (pshdBody a) = omega arith in
       let right-header = header-right (rw fields whole) in
-      let chunks = chunks-back limit g h at (plocOf locationBox ps) ps (record { at = second + frontSize + 9; start = a .sourceOffset }) stands-entries ends
+      let chunks = chunks-back limit g h at (plocOf (locationBox here a) ps) ps (record { at = second + frontSize + 9; start = a .sourceOffset }) stands-entries ends
       (placed-tell h at (a .outside) (sizeOf (goesOut (a .outside)) list) list listed (omega arith) (omega arith) lie outer) (sizes-held ps (says .sizes))
       (offsets-held ps (offsets-eight (a .outside) list data-small)) in
       let sizes = sizes-placed (a .outside) list in
       let count = length-placed (a .outside) list in
+      let urls = urls-told g here a stands texts inside in
       rw (length-new h before at a, end-new h before at a, ← sizes, ← count)
       (elim (decLe (a .sourceOffset) limit) [
         | yes low ↦
-            rw (boxes, right-header, one-right Pseg ploc inners refl (ap length only-location), no-source, first-location, head, first-header, fields, le-leb (a .sourceOffset) limit low, chunks low, long)
+            rw (boxes, right-header, location-right, urls, no-source plain, location-found, head, header-found, fields, le-leb (a .sourceOffset) limit low, chunks low, long)
             (both-tests (leb (length (chunksOf before) + length ps) chunkLimit) (leb total limit))
         | no over ↦
-            rw (boxes, right-header, one-right Pseg ploc inners refl (ap length only-location), no-source, first-location, head, first-header, fields, lt-leb (a .sourceOffset) limit (omega arith), lt-leb total limit (omega arith))
+            rw (boxes, right-header, location-right, no-source plain, location-found, head, header-found, fields, lt-leb (a .sourceOffset) limit (omega arith), lt-leb total limit (omega arith))
             (one-test (leb (length (chunksOf before) + length ps) chunkLimit))
       ])
     where
@@ -155,8 +160,8 @@ module _ (limit : ℕ) (g : List ℕ) (h : Heading) (before : List Segment) (a :
           → (hold 22 few >>= λ _. hold 23 low >>= (λ _. given (newChunks at (a .sourceOffset) (placed (a .outside) (items (a .list))))) >>= λ cs. given (record {
             place = at;
             inner = newInner at a;
-            urls = h .urls;
-            source = sourceBeside before (h .urls);
+            urls = newUrls h a;
+            source = sourceBeside before (newUrls h a);
             sourceOffset = a .sourceOffset;
             flags = flagsFor (a .last);
             repairTime = a .repairTime;
@@ -173,6 +178,9 @@ module _ (limit : ℕ) (g : List ℕ) (h : Heading) (before : List Segment) (a :
 
 -- the same of a file that an addition was put behind
 pub new-segment : (limit : ℕ) (f : List ℕ) (h : Heading) (before : List Segment) (a : Addition) → Sayable a
+    → Plain a
+    → innerBoxes a ≤ boxLimit
+    → isText (a .texts) ≡ true
     → allOf formed (items (a .list)) ≡ true
     → length (psegBody a) < 2 ^ 32
     → dataRight a ≡ true
@@ -182,10 +190,8 @@ pub new-segment : (limit : ℕ) (f : List ℕ) (h : Heading) (before : List Segm
     → segment limit (f ++ added a) h before (boxedAt (psegPlace (length f) a) (pseg .code) (length (psegBody a)))
     ≡ (hold 22 (leb (length (chunksOf before) + length (newSegment h before (psegPlace (length f) a) a .chunks)) chunkLimit)
     >>= λ _. hold 23 (leb (endOf (newSegment h before (psegPlace (length f) a) a)) limit) >>= λ _. given (newSegment h before (psegPlace (length f) a) a))
-unfolding added psegPlace
-new-segment limit f h before a says listed small right data-small lie outer =
-    let at : ℕ = length f + length (stored a) in
-    let g = f ++ added a in
-    let stands : Stands g at (boxed (pseg .code) (psegBody a)) = stands-right g (length f) (stored a) (boxed (pseg .code) (psegBody a)) (stands-behind f (added a)) in
-    let stands-seg = stands-body g at (pseg .code) (psegBody a) stands in
-    segment-at limit g h before a at says listed small stands-seg (omega (arith, data-low a right)) data-small lie outer
+unfolding psegPlace
+new-segment limit f h before a says plain few texts listed small right data-small lie outer =
+    let stands = rw append-nil at (body-stands f [] a) in
+    let inside = rw append-nil at (body-inside f [] a) in
+    segment-at limit (f ++ added a) h before a (psegPlace (length f) a) says plain few texts listed small stands inside (omega (arith, data-low a right)) data-small lie outer

@@ -1,6 +1,7 @@
 -- What a higher source limit leaves as it was: an addition has the same answer and the same bytes, or had 23 or 36; and
 -- with the laws of reading all that is stated.
 use Prim.Native.Nat.{ℕ, _+_, _≤_}
+use mathlib.Core.Bool.{_&&_}
 use mathlib.Core.List.{List}
 use mathlib.Core.Logic.{inl}
 use mathlib.Core.Path.{_≡_, refl}
@@ -14,8 +15,9 @@ use Rattle.partial.specs.Heading.{Heading, heading}
 use Rattle.partial.specs.Reading.{earlierSegments}
 use Rattle.additions.specs.Append.{admitted}
 use Rattle.partial.specs.Index.{indexed}
-use Rattle.additions.specs.Addition.{Addition, listRight, dataRight, outsideRight}
-use Rattle.additions.specs.Append.{addedBoxes, added, psegPlace, newSegment, admission, appended}
+use Rattle.additions.specs.Begin.{isText}
+use Rattle.additions.specs.Addition.{Addition, listsRight, bytesRight, outsideRight}
+use Rattle.additions.specs.Append.{addedBoxes, innerBoxes, added, psegPlace, newSegment, admission, appended}
 use Rattle.additions.specs.Runs.{lent, append}
 use Rattle.additions.specs.Raised.{Raised}
 use Rattle.partial.proofs.Reading.RaisedLaws.{Same, kept, same-then, same-after, same-held, earlier-same, indexed-same, raised-reading}
@@ -34,7 +36,7 @@ module _ (low high : ℕ) (raised : low ≤ high) where
   admission-same h ss n a =
       same-after (hold 1 (leb (n + length (added a)) fileLimit)) _ _
       (λ _.
-      same-after (hold 6 (leb (length (h .boxes) + addedBoxes a) boxLimit)) _ _
+      same-after (hold 6 (leb (length (h .boxes) + addedBoxes a) boxLimit && leb (innerBoxes a) boxLimit)) _ _
       (λ _. admitted-same ss (newSegment h ss (psegPlace n a) a)))
 
   appended-same : (buffer : List ℕ) (n : ℕ) (a : Addition) → Same (appended low buffer n a) (appended high buffer n a)
@@ -47,14 +49,16 @@ module _ (low high : ℕ) (raised : low ≤ high) where
       (λ h.
       same-then (earlierSegments low f) (earlierSegments high f) _ _ (earlier-same low high raised f)
       (λ ss.
-      same-after (hold 31 (listRight (a .list))) _ _
+      same-after (hold 31 (listsRight a)) _ _
       (λ _.
-      same-after (hold 32 (dataRight a)) _ _
+      same-after (hold 32 (bytesRight a)) _ _
       (λ _.
       same-after (hold 35 (outsideRight h a)) _ _
       (λ _.
+      same-after (hold 34 (isText (a .texts))) _ _
+      (λ _.
       same-then (admission low h ss n a) (admission high h ss n a) _ _ (admission-same h ss n a)
-      (λ ts. same-then (indexed low f h ts) (indexed high f h ts) _ _ (indexed-same low high raised f h ts) (λ _. inl refl))))))))
+      (λ ts. same-then (indexed low f h ts) (indexed high f h ts) _ _ (indexed-same low high raised f h ts) (λ _. inl refl)))))))))
 
   bytes-same : (buffer : List ℕ) (n : ℕ) (a : Addition) (size : ℕ) → appended low buffer n a ≡ given size → append high (lent buffer n) a ≡ append low (lent buffer n) a
   unfolding append

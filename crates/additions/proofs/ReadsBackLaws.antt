@@ -1,6 +1,6 @@
 -- A segment that append adds reads back: the longer file has the segments of the file before and then the new one.
 use Prim.Native.Nat.{ℕ, _+_, _^_, _≤_, _<_}
-use mathlib.Core.Bool.{Bool, true, false}
+use mathlib.Core.Bool.{Bool, true, false, _&&_}
 use mathlib.Core.List.{List, [], _∷_, _++_, map}
 use mathlib.Core.Path.{_≡_, refl, sym, ap, subst, _∙_}
 use native.Mathlib.Decide.{decLe}
@@ -23,13 +23,16 @@ use Rattle.partial.specs.Segments.{Segment, endOf, chunksOf}
 use Rattle.partial.specs.Heading.{Heading, heading, fileBoxes}
 use Rattle.partial.specs.Mixed.{allowed}
 use Rattle.partial.specs.Sources.{agreed}
-use Rattle.partial.specs.Index.{Indexed, indexed}
+use Rattle.partial.specs.Index.{SourceBox, indexed}
 use Rattle.partial.specs.Reading.{segment, segmentsFrom, segments, reading, earlierSegments}
 use Rattle.additions.specs.Append.{admitted}
 use Rattle.partial.specs.Memory.{after, filled}
-use Rattle.additions.specs.Addition.{items, Addition, listRight, dataRight, outsideRight}
-use Rattle.additions.specs.Append.{addedBoxes, added, newSegment, appended, result, admission, psegPlace, placed}
+use Rattle.additions.specs.Begin.{isText}
+use Rattle.additions.specs.Addition.{items, Addition, listRight, lengthsRight, listsRight, dataRight, textsRight, bytesRight, outsideRight}
+use Rattle.additions.specs.Append.{addedBoxes, innerBoxes, added, newSegment, appended, result, admission, psegPlace, placed}
 use Rattle.additions.specs.Runs.{lent, fileIn, sizeAfter, append}
+use Rattle.additions.specs.Demands.{Plain, Taking, Sound}
+use Rattle.partial.proofs.Meaning.SequenceLaws.{both, passes}
 use Rattle.additions.proofs.PlacedLaws.{list-formed, sizes-placed}
 use Rattle.partial.proofs.Reading.HeadingAppendLaws.{headed, heading-of, headed-appended, inner-lie, lies, boxes-lie, those-all, withBoxes}
 use Rattle.partial.proofs.Reading.KeptLaws.{segments-kept, segments-inside}
@@ -42,6 +45,7 @@ use Rattle.additions.proofs.FieldsBackLaws.{sizes-eight}
 use Rattle.additions.proofs.WholeLaws.{allowed-other, filled-row, row-starts}
 use Rattle.additions.proofs.AddedBoxesLaws.{segmentBox, newBoxes, boxes-added, added-moved, those-new, data-low, length-added}
 use Rattle.additions.proofs.AddedBoxesLaws.{added-many, lie-longer, lie-new, out-lie}
+use Rattle.additions.proofs.InnerLaws.{plain-few}
 use Rattle.additions.proofs.NewSegmentLaws.{Sayable, length-new, new-segment, end-new, no-index-new, new-longer}
 
 -- segments are read box by box
@@ -59,19 +63,52 @@ pub record Offered (limit : ℕ) (f : List ℕ) (h : Heading) (ss : List Segment
   pub headed : heading f ≡ given h
   pub before : earlierSegments limit f ≡ given ss
   pub list : listRight (a .list) ≡ true
+  pub lengths : lengthsRight (a .lengths) ≡ true
   pub carried : dataRight a ≡ true
+  pub texts : textsRight a ≡ true
   pub outside : outsideRight h a ≡ true
+  pub text : isText (a .texts) ≡ true
+
+-- it has the tests of 31 and 32 two by two
+module _ (limit : ℕ) (f : List ℕ) (h : Heading) (ss : List Segment) (a : Addition) where
+  pub offered-of : heading f ≡ given h → earlierSegments limit f ≡ given ss → Sound h a → Offered limit f h ss a
+  unfolding listsRight bytesRight
+  offered-of head before sound =
+      let (list, lengths) = both (listRight (a .list)) (lengthsRight (a .lengths)) (passes _ (sound .lists)) in
+      let (carried, texts) = both (dataRight a) (textsRight a) (passes _ (sound .bytes)) in
+      record {
+        headed = head;
+        before = before;
+        list = list;
+        lengths = lengths;
+        carried = carried;
+        texts = texts;
+        outside = passes _ (sound .outside);
+        text = passes _ (sound .texts);
+      }
+
+  pub lists-offered : Offered limit f h ss a → listsRight a ≡ true
+  unfolding listsRight
+  lists-offered t = rw (t .list, t .lengths)
+
+  pub bytes-offered : Offered limit f h ss a → bytesRight a ≡ true
+  unfolding bytesRight
+  bytes-offered t = rw (t .carried, t .texts)
+
+  pub sound-offered : Offered limit f h ss a → Sound h a
+  sound-offered t = record { lists = rw (lists-offered t) tt; bytes = rw (bytes-offered t) tt; outside = rw (t .outside) tt; texts = rw (t .text) tt }
 
 -- and one that is admitted, beside an index that is told
 pub record Taken (limit : ℕ) (f : List ℕ) (h : Heading) (ss : List Segment) (a : Addition) : Type 0 where
   pub offered : Offered limit f h ss a
   pub admits : admission limit h ss (length f) a ≡ given (ss ++ (newSegment h ss (psegPlace (length f) a) a ∷ []))
-  pub index : (is : List Indexed) × (indexed limit f h (ss ++ (newSegment h ss (psegPlace (length f) a) a ∷ [])) ≡ given is)
+  pub index : (is : List SourceBox) × (indexed limit f h (ss ++ (newSegment h ss (psegPlace (length f) a) a ∷ [])) ≡ given is)
 
 -- what admission tests
 pub record Admits (limit : ℕ) (h : Heading) (ss : List Segment) (n : ℕ) (a : Addition) : Type 0 where
   pub small : n + length (added a) ≤ fileLimit
   pub boxes : length (h .boxes) + addedBoxes a ≤ boxLimit
+  pub inner : innerBoxes a ≤ boxLimit
   pub few : length ss + 1 ≤ segmentLimit
   pub chunks : length (chunksOf ss) + length (items (a .list)) ≤ chunkLimit
   pub low : a .sourceOffset + sum (map (λ i. i .size) (items (a .list))) ≤ limit
@@ -83,7 +120,8 @@ module _ (limit : ℕ) (h : Heading) (ss : List Segment) (n : ℕ) (a : Addition
   admits e =
       let new : Segment = newSegment h ss (psegPlace n a) a in
       let (small, e6) = held 1 (leb (n + length (added a)) fileLimit) _ e in
-      let (boxes, e7) = held 6 (leb (length (h .boxes) + addedBoxes a) boxLimit) _ e6 in
+      let (boxes-both, e7) = held 6 (leb (length (h .boxes) + addedBoxes a) boxLimit && leb (innerBoxes a) boxLimit) _ e6 in
+      let (boxes, inner) = both (leb (length (h .boxes) + addedBoxes a) boxLimit) (leb (innerBoxes a) boxLimit) boxes-both in
       let (few, e8) = held 13 (leb (length ss + 1) segmentLimit) _ e7 in
       let (chunks, e9) = held 22 (leb (length (chunksOf ss) + length (new .chunks)) chunkLimit) _ e8 in
       let (low, e10) = held 23 (leb (endOf new) limit) _ e9 in
@@ -91,6 +129,7 @@ module _ (limit : ℕ) (h : Heading) (ss : List Segment) (n : ℕ) (a : Addition
         record {
           small = leb-true (n + length (added a)) fileLimit small;
           boxes = leb-true (length (h .boxes) + addedBoxes a) boxLimit boxes;
+          inner = leb-true (innerBoxes a) boxLimit inner;
           few = leb-true (length ss + 1) segmentLimit few;
           chunks = rw (length-new h ss (psegPlace n a) a) at (leb-true (length (chunksOf ss) + length (new .chunks)) chunkLimit chunks);
           low = rw (end-new h ss (psegPlace n a) a) at (leb-true (endOf new) limit low);
@@ -105,6 +144,7 @@ module _ (limit : ℕ) (h : Heading) (ss : List Segment) (n : ℕ) (a : Addition
       rw (
         le-leb (n + length (added a)) fileLimit (t .small),
         le-leb (length (h .boxes) + addedBoxes a) boxLimit (t .boxes),
+        le-leb (innerBoxes a) boxLimit (t .inner),
         le-leb (length ss + 1) segmentLimit (t .few),
         length-new h ss (psegPlace n a) a,
         le-leb (length (chunksOf ss) + length (items (a .list))) chunkLimit (t .chunks),
@@ -132,19 +172,21 @@ taken-any limit buffer n a size e =
     let (lent-enough, e1) = held 30 (leb n (length buffer)) _ e in
     let (h, head, e2) = both-given (heading f) _ e1 in
     let (ss, before, e3) = both-given (earlierSegments limit f) _ e2 in
-    let (list, e4) = held 31 (listRight (a .list)) _ e3 in
-    let (carried, e5) = held 32 (dataRight a) _ e4 in
+    let (lists, e4) = held 31 (listsRight a) _ e3 in
+    let (bytes, e5) = held 32 (bytesRight a) _ e4 in
     let (outer, e6) = held 35 (outsideRight h a) _ e5 in
-    let (us, admitted-there, e7) = both-given (admission limit h ss n a) _ e6 in
-    let (is, told, e8) = both-given (indexed limit f h us) _ e7 in
-    let (room, e9) = held 33 (leb (n + length (added a)) (length buffer)) _ e8 in
+    let (text, e7) = held 34 (isText (a .texts)) _ e6 in
+    let (us, admitted-there, e8) = both-given (admission limit h ss n a) _ e7 in
+    let (is, told, e9) = both-given (indexed limit f h us) _ e8 in
+    let (room, e10) = held 33 (leb (n + length (added a)) (length buffer)) _ e9 in
     let long : length f ≡ n = length-take-le n buffer (leb-true n (length buffer) lent-enough) in
     let (ok, same) = admits limit h ss n a {ts = us} admitted-there in
-    let total = given-same e9 in (
+    let sound : Sound h a = record { lists = rw lists tt; bytes = rw bytes tt; outside = rw outer tt; texts = rw text tt } in
+    let total = given-same e10 in (
       h,
       ss,
       record {
-        offered = record { headed = head; before = before; list = list; carried = carried; outside = outer };
+        offered = offered-of limit f h ss a head before sound;
         admits = rw long (admission-of limit h ss n a ok);
         index = (is, rw long (ap (indexed limit f h) (sym same) ∙ told));
       },
@@ -153,14 +195,16 @@ taken-any limit buffer n a size e =
       omega (arith, leb-true (n + length (added a)) (length buffer) room),
     )
 
--- of a file whose segments are known
-pub taken : (limit : ℕ) (buffer : List ℕ) (n : ℕ) (a : Addition) (size : ℕ) (ss : List Segment) → earlierSegments limit (take n buffer) ≡ given ss
+-- of a file whose heading and segments are known
+pub taken : (limit : ℕ) (buffer : List ℕ) (n : ℕ) (a : Addition) (size : ℕ) (h : Heading) (ss : List Segment) → heading (take n buffer) ≡ given h
+    → earlierSegments limit (take n buffer) ≡ given ss
     → appended limit buffer n a ≡ given size
-    → (h : Heading) × Taken limit (take n buffer) h ss a × (n ≡ length (take n buffer)) × (size ≡ n + length (added a))
-taken limit buffer n a size ss before e =
-    let (h, ts, t, long, total, _) = taken-any limit buffer n a size e in
+    → Taken limit (take n buffer) h ss a × (n ≡ length (take n buffer)) × (size ≡ n + length (added a))
+taken limit buffer n a size h ss head before e =
+    let (k, ts, t, long, total, _) = taken-any limit buffer n a size e in
+    let same-head : k ≡ h = given-same (sym (t .offered .headed) ∙ head) in
     let same : ts ≡ ss = given-same (sym (t .offered .before) ∙ before) in
-    (h, subst (λ us. Taken limit (take n buffer) h us a) same t, long, total)
+    (subst (λ us. Taken limit (take n buffer) h us a) same (subst (λ (j : Heading). Taken limit (take n buffer) j ts a) same-head t), long, total)
 
 module _ (limit : ℕ) (f : List ℕ) (h : Heading) (ss : List Segment) (a : Addition) where
   -- the heading of the longer file
@@ -229,12 +273,13 @@ module _ (limit : ℕ) (f : List ℕ) (h : Heading) (ss : List Segment) (a : Add
           let head = headed f h (t .headed) in
           let lie = those-all pseg (lies n) (h .boxes) (boxes-lie File f 0 n (h .boxes) (head .boxes)) in
           let new : Segment = newSegment h ss (psegPlace n a) a in
-          indexed-kept f (added a) limit h grownHeading refl new (no-index-new h ss (psegPlace n a) a) ss (inner-lie f h head) (segments-inside limit f h old [] lie refl (read ∙ e3))
+          indexed-kept f (added a) limit h grownHeading refl refl new (no-index-new h ss (psegPlace n a) a) ss (inner-lie f h head) (segments-inside limit f h old [] lie refl (read ∙ e3))
 
       segments-added : Sayable a
+          → Plain a
           → segments limit (f ++ added a) grownHeading ≡ admitted limit ss (newSegment h ss (psegPlace (length f) a) a)
       unfolding segments segmentsFrom admitted
-      segments-added says =
+      segments-added says plain =
           let n = length f in
           let new : Segment = newSegment h ss (psegPlace n a) a in
           let old : List Box = those pseg (h .boxes) in
@@ -250,7 +295,7 @@ module _ (limit : ℕ) (f : List ℕ) (h : Heading) (ss : List Segment) (a : Add
           let long : length (old ++ (newBox ∷ [])) ≡ length ss + 1 = length-append old (newBox ∷ []) ∙ omega arith in
           let size = length-added a in
           let longer = new-longer h ss (psegPlace n a) a (newBoxes n a) in
-          let read-new = rw longer at (new-segment limit f grownHeading ss a says (list-formed (a .list) (t .list)) (omega arith) (t .carried) (omega (arith, data-low a (t .carried))) (lie-new h n a (t .carried)) (out-lie h a (t .list) (t .carried) (t .outside) n first)) in
+          let read-new = rw longer at (new-segment limit f grownHeading ss a says plain (plain-few a plain) (t .text) (list-formed (a .list) (t .list)) (omega arith) (t .carried) (omega (arith, data-low a (t .carried))) (lie-new h n a (t .carried)) (out-lie h a (t .list) (t .carried) (t .outside) n first)) in
           rw (psegs-added, long, segments-on limit (f ++ added a) grownHeading old (newBox ∷ []) [] kept, read-new)
           (go (leb (length ss + 1) segmentLimit) (leb (length (chunksOf ss) + length (new .chunks)) chunkLimit) (leb (endOf new) limit))
         where
@@ -264,9 +309,9 @@ module _ (limit : ℕ) (f : List ℕ) (h : Heading) (ss : List Segment) (a : Add
           go false chunks low = refl
 
     -- reading the longer file: the refusals that the result would have, in their order, or its segments
-    pub reading-result : Sayable a → reading limit (f ++ added a) ≡ (admission limit h ss (length f) a >>= λ ts. indexed limit f h ts >>= λ _. given ts)
+    pub reading-result : Sayable a → Plain a → reading limit (f ++ added a) ≡ (admission limit h ss (length f) a >>= λ ts. indexed limit f h ts >>= λ _. given ts)
     unfolding admission
-    reading-result says =
+    reading-result says plain =
         let size : ℕ = length f + length (added a) in
         let many : ℕ = length (h .boxes) + addedBoxes a in
         elim (decLe size fileLimit) [
@@ -278,10 +323,10 @@ module _ (limit : ℕ) (f : List ℕ) (h : Heading) (ss : List Segment) (a : Add
                     ∙ rw (le-leb size fileLimit small, lt-leb many boxLimit (omega arith))
                 | yes room ↦
                     reading-some limit (f ++ added a) (heading-added small room) pseg-there
-                    ∙ rw (segments-added small says, le-leb size fileLimit small, le-leb many boxLimit room)
+                    ∙ rw (segments-added small says plain, le-leb size fileLimit small, le-leb many boxLimit room, le-leb (innerBoxes a) boxLimit (plain-few a plain))
                     (then-known (admitted limit ss (newSegment h ss (psegPlace (length f) a) a)) _ _ (λ ts e.
                     let same = admitted-given limit ss (newSegment h ss (psegPlace (length f) a) a) e in
-                    rw same (ap (λ (x : Answer (List Indexed)). x >>= λ _. given (ss ++ (newSegment h ss (psegPlace (length f) a) a ∷ []))) (index-added small))))
+                    rw same (ap (λ (x : Answer (List SourceBox)). x >>= λ _. given (ss ++ (newSegment h ss (psegPlace (length f) a) a ∷ []))) (index-added small))))
               ]
         ]
 
@@ -291,9 +336,9 @@ taken-sayable limit f h ss a t below time =
     let (ok, same) = admits limit h ss (length f) a (t .admits) in
     record { offset = omega arith; time = time; sizes = sizes-eight (placed (a .outside) (items (a .list))) (rw sizes-placed (omega arith)); count = omega arith }
 
-pub reading-added : (limit : ℕ) (f : List ℕ) (h : Heading) (ss : List Segment) (a : Addition) → Taken limit f h ss a → Sayable a
+pub reading-added : (limit : ℕ) (f : List ℕ) (h : Heading) (ss : List Segment) (a : Addition) → Taken limit f h ss a → Sayable a → Plain a
     → reading limit (f ++ added a) ≡ given (ss ++ (newSegment h ss (psegPlace (length f) a) a ∷ []))
-reading-added limit f h ss a t says = reading-result limit f h ss a (t .offered) says ∙ rw (t .admits, t .index .1)
+reading-added limit f h ss a t says plain = reading-result limit f h ss a (t .offered) says plain ∙ rw (t .admits, t .index .1)
 
 -- the file that an accepted addition leaves
 pub file-after : (limit : ℕ) (buffer : List ℕ) (n : ℕ) (a : Addition) (size : ℕ) → appended limit buffer n a ≡ given size → n ≡ length (take n buffer)
@@ -305,15 +350,15 @@ file-after limit buffer n a size e long total =
     rw e (take-at (take n buffer ++ added a) (drop (length (take n buffer ++ added a)) buffer) size whole)
 
 -- a segment that our writer adds reads back with its fields and chunks
-pub reads-back : (limit : ℕ) → limit < 2 ^ 64 → (buffer : List ℕ) (n : ℕ) (a : Addition) (size : ℕ) (h : Heading) (ss : List Segment)
+pub reads-back : (limit : ℕ) → limit < 2 ^ 64 → (buffer : List ℕ) (n : ℕ) (a : Addition) (size : ℕ) (file : Taking limit buffer n)
+    → Plain a
     → a .repairTime < 2 ^ 64
-    → heading (fileIn (lent buffer n)) ≡ given h
-    → earlierSegments limit (fileIn (lent buffer n)) ≡ given ss
     → appended limit buffer n a ≡ given size
-    → reading limit (fileIn (append limit (lent buffer n) a)) ≡ given (ss ++ (newSegment h ss (psegPlace n a) a ∷ []))
+    → reading limit (fileIn (append limit (lent buffer n) a)) ≡ given (file .ss ++ (newSegment (file .h) (file .ss) (psegPlace n a) a ∷ []))
 unfolding fileIn
-reads-back limit below buffer n a size h ss time head before e =
-    let (h′, t′, long, total) = taken limit buffer n a size ss before e in
-    let t : Taken limit (take n buffer) h ss a = subst (λ (k : Heading). Taken limit (take n buffer) k ss a) (given-same (sym (t′ .offered .headed) ∙ head)) t′ in
+reads-back limit below buffer n a size file plain time e =
+    let h = file .h in
+    let ss = file .ss in
+    let (t, long, total) = taken limit buffer n a size h ss (file .headed) (file .before) e in
     rw (file-after limit buffer n a size e long total)
-    (reading-added limit (take n buffer) h ss a t (taken-sayable limit (take n buffer) h ss a t below time) ∙ ap (λ (m : ℕ). given (ss ++ (newSegment h ss (psegPlace m a) a ∷ []))) (sym long))
+    (reading-added limit (take n buffer) h ss a t (taken-sayable limit (take n buffer) h ss a t below time) plain ∙ ap (λ (m : ℕ). given (ss ++ (newSegment h ss (psegPlace m a) a ∷ []))) (sym long))

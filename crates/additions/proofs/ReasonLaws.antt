@@ -1,5 +1,5 @@
--- Demand 3, the reasons for which an addition is refused before its result is looked at: 30, the file's own, 31, 32 and
--- 35, in that order.
+-- Demand 3, the reasons for which an addition is refused before its result is looked at: 30, the file's own, 31, 32, 35
+-- and 34, in that order.
 use Prim.Native.Nat.{ℕ, _≤_, _<_}
 use mathlib.Core.Bool.{true, false}
 use mathlib.Core.List.{List}
@@ -11,7 +11,8 @@ use Rattle.boxes.proofs.AnswerLaws.{refused-same}
 use Rattle.partial.specs.Segments.{Segment}
 use Rattle.partial.specs.Heading.{Heading, heading}
 use Rattle.partial.specs.Reading.{earlierSegments}
-use Rattle.additions.specs.Addition.{Addition, listRight, dataRight, outsideRight}
+use Rattle.additions.specs.Begin.{isText}
+use Rattle.additions.specs.Addition.{Addition, listsRight, bytesRight, outsideRight}
 use Rattle.additions.specs.Append.{appended}
 use Rattle.partial.proofs.Reading.RefusalLaws.{earlier-headless}
 
@@ -30,15 +31,20 @@ module _ (limit : ℕ) (buffer : List ℕ) (n : ℕ) (a : Addition) where
         go (given h) head = rw (le-leb n (length buffer) fits, head, e)
 
     module _ {h : Heading} {ss : List Segment} (head : heading (take n buffer) ≡ given h) (stands : earlierSegments limit (take n buffer) ≡ given ss) where
-      pub list-wrong : listRight (a .list) ≡ false → appended limit buffer n a ≡ refused 31
+      pub lists-wrong : listsRight a ≡ false → appended limit buffer n a ≡ refused 31
       unfolding appended
-      list-wrong wrong = rw (le-leb n (length buffer) fits, head, stands, wrong)
+      lists-wrong wrong = rw (le-leb n (length buffer) fits, head, stands, wrong)
 
-      module _ (list : listRight (a .list) ≡ true) where
-        pub data-wrong : dataRight a ≡ false → appended limit buffer n a ≡ refused 32
+      module _ (lists : listsRight a ≡ true) where
+        pub bytes-wrong : bytesRight a ≡ false → appended limit buffer n a ≡ refused 32
         unfolding appended
-        data-wrong wrong = rw (le-leb n (length buffer) fits, head, stands, list, wrong)
+        bytes-wrong wrong = rw (le-leb n (length buffer) fits, head, stands, lists, wrong)
 
-        pub outside-wrong : dataRight a ≡ true → outsideRight h a ≡ false → appended limit buffer n a ≡ refused 35
-        unfolding appended
-        outside-wrong carried wrong = rw (le-leb n (length buffer) fits, head, stands, list, carried, wrong)
+        module _ (bytes : bytesRight a ≡ true) where
+          pub outside-wrong : outsideRight h a ≡ false → appended limit buffer n a ≡ refused 35
+          unfolding appended
+          outside-wrong wrong = rw (le-leb n (length buffer) fits, head, stands, lists, bytes, wrong)
+
+          pub texts-wrong : outsideRight h a ≡ true → isText (a .texts) ≡ false → appended limit buffer n a ≡ refused 34
+          unfolding appended
+          texts-wrong outer wrong = rw (le-leb n (length buffer) fits, head, stands, lists, bytes, outer, wrong)

@@ -22,8 +22,8 @@ use Rattle.partial.specs.declared.brand.Brand.{Brand}
 use Rattle.partial.proofs.Reading.RefusalLaws as reading
 use Rattle.partial.proofs.Reading.RefusalLaws.{heading-only, told-only, beside, known-file, rest-file, earlier-only, memory-kept}
 use Rattle.additions.specs.Begin.{beginning, isText, begun}
-use Rattle.additions.specs.Addition.{Addition, listRight, dataRight, outsideRight}
-use Rattle.additions.specs.Append.{addedBoxes, newSegment, added, admitted, appended, admission, psegPlace}
+use Rattle.additions.specs.Addition.{Addition, listsRight, bytesRight, outsideRight}
+use Rattle.additions.specs.Append.{addedBoxes, innerBoxes, newSegment, added, admitted, appended, admission, psegPlace}
 use Rattle.additions.specs.Runs.{lent, sizeAfter, append}
 use Rattle.additions.specs.Demands.{NeverWritten, Demand1}
 
@@ -34,7 +34,7 @@ module _ (P : ℕ → Type 0) (known : (n : ℕ) → T (beforeAgreement n) → P
   admission-only last limit h ss n a =
       let new = newSegment h ss (psegPlace n a) a in
       only-held P 1 (leb (n + length (added a)) fileLimit) _ (known 1 tt)
-      (only-held P 6 (leb (length (h .boxes) + addedBoxes a) boxLimit) _ (known 6 tt)
+      (only-held P 6 (leb (length (h .boxes) + addedBoxes a) boxLimit && leb (innerBoxes a) boxLimit) _ (known 6 tt)
       (only-held P 13 (leb (length ss + 1) segmentLimit) _ (known 13 tt)
       (only-held P 22 (leb (length (chunksOf ss) + length (new .chunks)) chunkLimit) _ (known 22 tt)
       (only-held P 23 (leb (endOf new) limit) _ (known 23 tt)
@@ -42,14 +42,18 @@ module _ (P : ℕ → Type 0) (known : (n : ℕ) → T (beforeAgreement n) → P
 
 -- the numbers of each call
 module _ (limit : ℕ) where
+  -- those of append alone
+  abbrev ownNumbers : List ℕ
+  ownNumbers = 30 ∷ 31 ∷ 32 ∷ 33 ∷ 34 ∷ 35 ∷ []
+
   abbrev OfAddition : ℕ → Type 0
-  OfAddition n = T (ofStages n || someOf (eqb n) (30 ∷ 31 ∷ 32 ∷ 33 ∷ 35 ∷ []))
+  OfAddition n = T (ofStages n || someOf (eqb n) ownNumbers)
 
   known-added : (n : ℕ) → T (beforeAgreement n) → OfAddition n
-  known-added n before = beside (ofStages n) (someOf (eqb n) (30 ∷ 31 ∷ 32 ∷ 33 ∷ 35 ∷ [])) (known-file n before)
+  known-added n before = beside (ofStages n) (someOf (eqb n) ownNumbers) (known-file n before)
 
   rest-added : (n : ℕ) → T (eqb n 25 || ofIndex n) → OfAddition n
-  rest-added n other = beside (ofStages n) (someOf (eqb n) (30 ∷ 31 ∷ 32 ∷ 33 ∷ 35 ∷ [])) (rest-file n other)
+  rest-added n other = beside (ofStages n) (someOf (eqb n) ownNumbers) (rest-file n other)
 
   appended-only : (buffer : List ℕ) (n : ℕ) (a : Addition) → Only OfAddition (appended limit buffer n a)
   unfolding appended within someOf
@@ -61,13 +65,14 @@ module _ (limit : ℕ) where
       (λ h.
       only-then OfAddition (earlierSegments limit f) _ (earlier-only limit f OfAddition known-added rest-added)
       (λ ss.
-      only-held OfAddition 31 (listRight (a .list)) _ tt
-      (only-held OfAddition 32 (dataRight a) _ tt
+      only-held OfAddition 31 (listsRight a) _ tt
+      (only-held OfAddition 32 (bytesRight a) _ tt
       (only-held OfAddition 35 (outsideRight h a) _ tt
+      (only-held OfAddition 34 (isText (a .texts)) _ tt
       (only-then OfAddition (admission limit h ss n a) _ (admission-only OfAddition known-added (rest-added 25 tt) limit h ss n a)
       (λ ts.
       only-then OfAddition (indexed limit f h ts) _ (told-only OfAddition known-added rest-added limit f h ts)
-      (λ _. only-held OfAddition 33 (leb size (length buffer)) _ tt (only-given OfAddition size)))))))))
+      (λ _. only-held OfAddition 33 (leb size (length buffer)) _ tt (only-given OfAddition size))))))))))
 
 abbrev OfBegin : ℕ → Type 0
 OfBegin n = T (someOf (eqb n) (34 ∷ 1 ∷ 33 ∷ []))

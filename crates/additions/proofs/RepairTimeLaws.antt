@@ -18,16 +18,16 @@ use Rattle.partial.specs.Sequences.{allOf}
 use Rattle.partial.specs.Segments.{Segment, isOpen, endOf, chunksOf}
 use Rattle.partial.specs.Heading.{Heading}
 use Rattle.partial.specs.Meaning.{givesSize, knownSize, agree}
-use Rattle.partial.specs.Sources.{ofSource, agreed}
-use Rattle.partial.specs.Index.{indexed}
+use Rattle.partial.specs.Sources.{sourceBeside, ofSource, ofUrls, agreed}
+use Rattle.partial.specs.Index.{sizeFor, indexed}
 use Rattle.partial.specs.Reading.{offsetWidth}
 use Rattle.additions.specs.Append.{admitted}
-use Rattle.additions.specs.Addition.{items, Addition, flagsFor, dataRight, outsideRight}
+use Rattle.additions.specs.Addition.{items, Addition, flagsFor, dataRight, textsRight, surls, outsideRight}
 use Rattle.additions.specs.Append.{insideData, outsideData, anyInside, dataBox, stored, addedBoxes, placed, plocBody, versionFor}
-use Rattle.additions.specs.Append.{pshdBody, psegBody, added, psegPlace, newSegment, admission}
+use Rattle.additions.specs.Append.{pshdBody, surlBoxes, psegBody, innerBoxes, added, psegPlace, newUrls, newSegment, admission}
 use Rattle.additions.specs.Carried.{carried}
 use Rattle.partial.proofs.Meaning.SequenceLaws.{which, all-append, all-same}
-use Rattle.partial.proofs.Meaning.SourceLaws.{of-append}
+use Rattle.partial.proofs.Meaning.SourceLaws.{of-append, beside-last}
 use Rattle.partial.proofs.Reading.IndexedLaws.{indexed-alike}
 use Rattle.additions.proofs.NewSegmentLaws.{no-index-new}
 use Rattle.additions.proofs.ReadsBackLaws.{Offered, Taken, Admits, admission-of, admits}
@@ -56,15 +56,27 @@ module _ (s t : Segment) (source : s .source ≡ t .source) (ends : endOf s ≡ 
       go none = refl
       go (some n) = rw (all-append (fits n) ss (s ∷ []), all-append (fits n) ss (t ∷ []), ends, gives)
 
-  -- so do those of each source
-  of-same : (ss : List Segment) (n : ℕ) → agree (ofSource n (ss ++ (s ∷ []))) ≡ agree (ofSource n (ss ++ (t ∷ [])))
+  -- what does not tell them apart at the end of segments does not at the end of those of a source
+  of-last : {A : Type 0} (said : List Segment → A) → ((ss : List Segment) → said (ss ++ (s ∷ [])) ≡ said (ss ++ (t ∷ [])))
+      → (ss : List Segment) (n : ℕ) → said (ofSource n (ss ++ (s ∷ []))) ≡ said (ofSource n (ss ++ (t ∷ [])))
   unfolding ofSource
-  of-same ss n =
+  of-last said same ss n =
       rw (of-append n ss (s ∷ []), of-append n ss (t ∷ []))
       (elim (which (eqb (t .source) n)) [
-        | inl e ↦ rw (ofSource, source, e) (agree-same (ofSource n ss))
+        | inl e ↦ rw (ofSource, source, e) (same (ofSource n ss))
         | inr e ↦ rw (ofSource, source, e)
       ])
+
+  of-same : (ss : List Segment) (n : ℕ) → agree (ofSource n (ss ++ (s ∷ []))) ≡ agree (ofSource n (ss ++ (t ∷ [])))
+  of-same = of-last agree agree-same
+
+  -- and where each source ends
+  sizes-same : s .urls ≡ t .urls → (ss : List Segment) → sizeFor (ss ++ (s ∷ [])) ≡ sizeFor (ss ++ (t ∷ []))
+  unfolding sizeFor ofUrls
+  sizes-same urls ss = λ i us. (ap (λ (n : ℕ). knownSize (ofSource n (ss ++ (s ∷ [])))) (beside-last ss s t urls source us) ∙ known-of (sourceBeside (ss ++ (t ∷ [])) us)) i
+    where
+      known-of : (n : ℕ) → knownSize (ofSource n (ss ++ (s ∷ []))) ≡ knownSize (ofSource n (ss ++ (t ∷ [])))
+      known-of n = of-last knownSize known-same ss n
 
   agreed-same : (ss : List Segment) → agreed (ss ++ (s ∷ [])) ≡ agreed (ss ++ (t ∷ []))
   unfolding agreed allOf
@@ -85,14 +97,16 @@ cut a =
       outside = a .outside;
       list = a .list;
       bytes = a .bytes;
+      texts = a .texts;
+      lengths = a .lengths;
     }
 
 pub added-cut : (a : Addition) → added (cut a) ≡ added a
-unfolding added psegBody pshdBody stored dataBox anyInside insideData outsideData
+unfolding added psegBody pshdBody stored dataBox anyInside insideData outsideData surls
 added-cut a =
     ap (λ (time : List ℕ). stored a ++ boxed (pseg .code)
     (boxed (pshd .code) (versionFor (a .sourceOffset) ∷ (bytesOf 3 (flagsFor (a .last)) ++ (bytesOf (offsetWidth (versionFor (a .sourceOffset))) (a .sourceOffset) ++ time)))
-    ++ boxed (ploc .code) (plocBody (placed (a .outside) (items (a .list)))))) (bytesOf-mod 8 (a .repairTime))
+    ++ (boxed (ploc .code) (plocBody (placed (a .outside) (items (a .list)))) ++ surlBoxes (surls a)))) (bytesOf-mod 8 (a .repairTime))
 
 -- what append tests of an addition is the same of that one
 module _ (a : Addition) where
@@ -104,28 +118,32 @@ module _ (a : Addition) where
   unfolding addedBoxes anyInside outsideData
   boxes-cut = refl
 
+  inner-cut : innerBoxes (cut a) ≡ innerBoxes a
+  unfolding innerBoxes surls
+  inner-cut = refl
+
   agreed-cut : (h : Heading) (ss : List Segment) (at : ℕ) → agreed (ss ++ (newSegment h ss at (cut a) ∷ [])) ≡ agreed (ss ++ (newSegment h ss at a ∷ []))
-  unfolding newSegment endOf givesSize isOpen
+  unfolding newSegment newUrls surls endOf givesSize isOpen
   agreed-cut h ss at = agreed-same (newSegment h ss at (cut a)) (newSegment h ss at a) refl refl refl ss
 
-  -- nor does the index, for which the size of the source is the same
+  -- nor does the index, for which each source ends where it did
   pub index-cut : (limit : ℕ) (f : List ℕ) (h : Heading) (ss : List Segment) (at : ℕ)
       → indexed limit f h (ss ++ (newSegment h ss at (cut a) ∷ [])) ≡ indexed limit f h (ss ++ (newSegment h ss at a ∷ []))
-  unfolding newSegment endOf givesSize isOpen
+  unfolding newSegment newUrls surls endOf givesSize isOpen
   index-cut limit f h ss at =
       indexed-alike limit f h ss (newSegment h ss at (cut a)) (newSegment h ss at a) (no-index-new h ss at (cut a)) (no-index-new h ss at a)
-      (known-same (newSegment h ss at (cut a)) (newSegment h ss at a) refl refl refl ss)
+      (sizes-same (newSegment h ss at (cut a)) (newSegment h ss at a) refl refl refl refl ss)
 
 module _ (limit : ℕ) (h : Heading) (ss : List Segment) (n : ℕ) (a : Addition) where
   -- the same refusals, and whatever follows that tells the two segments not apart
   pub admission-cut : {C : Type 0} (rest : List Segment → Answer C)
       → rest (ss ++ (newSegment h ss (psegPlace n a) (cut a) ∷ [])) ≡ rest (ss ++ (newSegment h ss (psegPlace n a) a ∷ []))
       → (admission limit h ss n (cut a) >>= rest) ≡ (admission limit h ss n a >>= rest)
-  unfolding admission admitted newSegment endOf
+  unfolding admission admitted newSegment newUrls surls endOf
   admission-cut rest same =
       let at = psegPlace n a in
-      rw (added-cut a, boxes-cut a, place-cut a n, agreed-cut a h ss at)
-      (go (leb (n + length (added a)) fileLimit) (leb (length (h .boxes) + addedBoxes a) boxLimit) (leb (length ss + 1) segmentLimit)
+      rw (added-cut a, boxes-cut a, inner-cut a, place-cut a n, agreed-cut a h ss at)
+      (go (leb (n + length (added a)) fileLimit) (leb (length (h .boxes) + addedBoxes a) boxLimit && leb (innerBoxes a) boxLimit) (leb (length ss + 1) segmentLimit)
       (leb (length (chunksOf ss) + length (newSegment h ss at a .chunks)) chunkLimit) (leb (endOf (newSegment h ss at a)) limit) (agreed (ss ++ (newSegment h ss at a ∷ []))))
     where
       go : (t1 t6 t13 t22 t23 t25 : Bool)
@@ -144,6 +162,7 @@ module _ (limit : ℕ) (h : Heading) (ss : List Segment) (n : ℕ) (a : Addition
       record {
         small = rw added-cut (t .small);
         boxes = rw boxes-cut (t .boxes);
+        inner = rw inner-cut (t .inner);
         few = t .few;
         chunks = t .chunks;
         low = t .low;
@@ -152,8 +171,8 @@ module _ (limit : ℕ) (h : Heading) (ss : List Segment) (n : ℕ) (a : Addition
 
 module _ (limit : ℕ) (f : List ℕ) (h : Heading) (ss : List Segment) (a : Addition) where
   pub offered-cut : Offered limit f h ss a → Offered limit f h ss (cut a)
-  unfolding dataRight outsideRight
-  offered-cut t = record { headed = t .headed; before = t .before; list = t .list; carried = t .carried; outside = t .outside }
+  unfolding dataRight textsRight outsideRight
+  offered-cut t = record { headed = t .headed; before = t .before; list = t .list; lengths = t .lengths; carried = t .carried; texts = t .texts; outside = t .outside; text = t .text }
 
   pub taken-cut : Taken limit f h ss a → Taken limit f h ss (cut a)
   taken-cut t =

@@ -18,16 +18,17 @@ use Rattle.numerals.proofs.WidthLaws.{below-holds}
 use Rattle.partial.specs.Limits.{fileLimit, segmentLimit, chunkLimit}
 use Rattle.partial.specs.Sequences.{allOf}
 use Rattle.partial.specs.Segments.{Segment, chunksOf}
-use Rattle.partial.specs.Heading.{Heading, heading}
-use Rattle.partial.specs.Index.{Indexed, indexed}
-use Rattle.partial.specs.Reading.{reading, earlierSegments}
+use Rattle.partial.specs.Heading.{Heading}
+use Rattle.partial.specs.Index.{SourceBox, indexed}
+use Rattle.partial.specs.Reading.{reading}
 use Rattle.additions.specs.Append.{admitted}
-use Rattle.additions.specs.Addition.{items, Addition, listRight, dataRight, outsideRight, sayable}
-use Rattle.additions.specs.Append.{addedBoxes, added, appended, result, placedWith, placed, admission, psegPlace}
-use Rattle.additions.specs.Runs.{lent, fileIn}
+use Rattle.additions.specs.Addition.{items, Addition, sayable}
+use Rattle.additions.specs.Append.{addedBoxes, innerBoxes, added, appended, result, placedWith, placed, admission, psegPlace}
+use Rattle.additions.specs.Runs.{fileIn}
+use Rattle.additions.specs.Demands.{Plain, Taking, Sound}
 use Rattle.partial.proofs.Meaning.SequenceLaws.{both, passes}
 use Rattle.additions.proofs.NewSegmentLaws.{Sayable, length-new}
-use Rattle.additions.proofs.ReadsBackLaws.{Offered, reading-result}
+use Rattle.additions.proofs.ReadsBackLaws.{Offered, offered-of, lists-offered, bytes-offered, reading-result}
 use Rattle.additions.proofs.RepairTimeLaws.{cut, added-cut, offered-cut, admission-cut, index-cut}
 
 -- the sizes of a list whose numbers 64 bits hold
@@ -65,49 +66,43 @@ module _ (limit : ℕ) (buffer : List ℕ) (n : ℕ) (a : Addition) where
       ≡ (admission limit h ss n a
       >>= λ ts. indexed limit (take n buffer) h ts >>= λ _. hold 33 (leb (n + length (added a)) (length buffer)) >>= λ _. given (n + length (added a)))
   unfolding appended
-  appended-offered h ss fits t = rw (le-leb n (length buffer) fits, t .headed, t .before, t .list, t .carried, t .outside)
+  appended-offered h ss fits t = rw (le-leb n (length buffer) fits, t .headed, t .before, lists-offered limit (take n buffer) h ss a t, bytes-offered limit (take n buffer) h ss a t, t .outside, t .text)
 
-  pub by-result : (h : Heading) (ss : List Segment) → n ≤ length buffer
-      → heading (fileIn (lent buffer n)) ≡ given h
-      → earlierSegments limit (fileIn (lent buffer n)) ≡ given ss
-      → listRight (a .list) ≡ true
-      → dataRight a ≡ true
-      → outsideRight h a ≡ true
-      → T (sayable a)
+  pub by-result : (file : Taking limit buffer n) → Sound (file .h) a → Plain a → T (sayable a)
       → let g = result buffer n a in
       appended limit buffer n a ≡ (reading limit g >>= λ _. hold 33 (leb (length g) (length buffer)) >>= λ _. given (length g))
   unfolding fileIn result
-  by-result h ss fits head read list carried outer says =
+  by-result file sound plain says =
       let f : List ℕ = take n buffer in
-      let long : length f ≡ n = length-take-le n buffer fits in
-      let offered : Offered limit f h ss a = record { headed = head; before = read; list = list; carried = carried; outside = outer } in
+      let h = file .h in
+      let ss = file .ss in
+      let long : length f ≡ n = length-take-le n buffer (file .enough) in
+      let offered = offered-of limit f h ss a (file .headed) (file .before) sound in
       let whole : length (f ++ added a) ≡ n + length (added a) = length-append f (added a) ∙ ap (λ (m : ℕ). m + length (added a)) long in
-      let same : reading limit (f ++ added a) ≡ (admission limit h ss n (cut a) >>= λ ts. indexed limit f h ts >>= λ _. given ts) = rw (added-cut a, long) at (reading-result limit f h ss (cut a) (offered-cut limit f h ss a offered) (said a says)) in
+      let same : reading limit (f ++ added a) ≡ (admission limit h ss n (cut a) >>= λ ts. indexed limit f h ts >>= λ _. given ts) = rw (added-cut a, long) at (reading-result limit f h ss (cut a) (offered-cut limit f h ss a offered) (said a says) plain) in
       let last : Answer ℕ = hold 33 (leb (n + length (added a)) (length buffer)) >>= λ _. given (n + length (added a)) in
-      appended-offered h ss fits offered
+      appended-offered h ss (file .enough) offered
       ∙ rw (whole, same)
       (sym
       (passed-by (admission limit h ss n (cut a)) (indexed limit f h) last
       ∙ admission-cut limit h ss n a (λ ts. indexed limit f h ts >>= λ _. last)
-      (ap (λ (x : Answer (List Indexed)). x >>= λ _. last) (index-cut a limit f h ss (psegPlace n a)))))
+      (ap (λ (x : Answer (List SourceBox)). x >>= λ _. last) (index-cut a limit f h ss (psegPlace n a)))))
 
   -- of more chunks than `chunk_count` can say it is 22, unless 1, 6 or 13 comes before
-  pub too-many : (h : Heading) (ss : List Segment) → n ≤ length buffer
-      → heading (fileIn (lent buffer n)) ≡ given h
-      → earlierSegments limit (fileIn (lent buffer n)) ≡ given ss
-      → listRight (a .list) ≡ true
-      → dataRight a ≡ true
-      → outsideRight h a ≡ true
-      → 2 ^ 16 ≤ length (items (a .list))
+  pub too-many : (file : Taking limit buffer n) → Sound (file .h) a → 2 ^ 16 ≤ length (items (a .list))
       → appended limit buffer n a
       ≡ (hold 1 (leb (n + length (added a)) fileLimit)
-      >>= λ _. hold 6 (leb (length (h .boxes) + addedBoxes a) boxLimit) >>= λ _. hold 13 (leb (length ss + 1) segmentLimit) >>= λ _. refused 22)
+      >>= λ _. hold 6 (leb (length (file .h .boxes) + addedBoxes a) boxLimit && leb (innerBoxes a) boxLimit)
+      >>= λ _. hold 13 (leb (length (file .ss) + 1) segmentLimit)
+      >>= λ _. refused 22)
   unfolding fileIn admission admitted
-  too-many h ss fits head read list carried outer many =
+  too-many file sound many =
+      let h = file .h in
+      let ss = file .ss in
       let over = lt-leb (length (chunksOf ss) + length (items (a .list))) chunkLimit (omega arith) in
-      appended-offered h ss fits (record { headed = head; before = read; list = list; carried = carried; outside = outer })
+      appended-offered h ss (file .enough) (offered-of limit (take n buffer) h ss a (file .headed) (file .before) sound)
       ∙ rw (length-new h ss (psegPlace n a) a, over)
-      (go _ (leb (n + length (added a)) fileLimit) (leb (length (h .boxes) + addedBoxes a) boxLimit) (leb (length ss + 1) segmentLimit))
+      (go _ (leb (n + length (added a)) fileLimit) (leb (length (h .boxes) + addedBoxes a) boxLimit && leb (innerBoxes a) boxLimit) (leb (length ss + 1) segmentLimit))
     where
       go : (rest : List Segment → Answer ℕ) (t1 t6 t13 : Bool)
           → (_>>=_ {A = List Segment} (hold 1 t1 >>= λ _. hold 6 t6 >>= λ _. hold 13 t13 >>= λ _. refused 22) rest)

@@ -2,7 +2,7 @@
 -- the whole file fits.
 use Prim.Native.Nat.{ℕ, _+_, _^_, _≤_, _<_}
 use mathlib.Core.Bool.{true}
-use mathlib.Core.List.{List, [], _∷_, _++_, map, append-assoc, append-nil}
+use mathlib.Core.List.{List, [], _∷_, _++_, map, append-assoc, append-nil, List·Memᴰ·head, List·Memᴰ·tail}
 use mathlib.Core.Path.{_≡_, refl, sym, ap, subst, _∙_}
 use native.Mathlib.Nat.{mod-lt}
 use native.Mathlib.Omega.{arith}
@@ -13,16 +13,16 @@ use lib.Seq.{take-at}
 use Rattle.boxes.specs.Answer.{Answer, refused, given}
 use Rattle.boxes.specs.Framing.{Box}
 use Rattle.boxes.specs.declared.kinds.Container.the-variants.{File}
-use Rattle.boxes.proofs.AnswerLaws.{given-same}
 use Rattle.partial.specs.Sequences.{allOf}
 use Rattle.partial.specs.Segments.{Segment}
 use Rattle.partial.specs.Heading.{Heading, heading}
 use Rattle.partial.specs.Reading.{earlierSegments}
 use Rattle.partial.specs.Memory.{after, filled}
-use Rattle.additions.specs.Addition.{Addition, dataRight}
+use Rattle.additions.specs.Addition.{Addition, listsRight, dataRight, textsRight, bytesRight}
 use Rattle.additions.specs.Append.{added, newSegment, appended, result, psegPlace}
 use Rattle.additions.specs.Runs.{Lent, lent, fileIn, sizeAfter, append, appendAll}
 use Rattle.additions.specs.Again.{again, settled}
+use Rattle.additions.specs.Demands.{Plain, AllPlain}
 use Rattle.partial.proofs.Meaning.SequenceLaws.{both, all-append}
 use Rattle.partial.proofs.Reading.HeadingAppendLaws.{headed, boxes-lie}
 use Rattle.partial.proofs.Reading.RefusalLaws.{takes}
@@ -68,7 +68,7 @@ append-refused limit buffer n a k e = rw e
 -- what can be told of an addition from the file is appended as the addition is
 module _ (limit : ℕ) (a : Addition) where
   settled-appended : (buffer : List ℕ) (n : ℕ) → appended limit buffer n (settled a) ≡ appended limit buffer n a
-  unfolding appended dataRight
+  unfolding appended listsRight bytesRight dataRight textsRight
   settled-appended buffer n = simp (settled-right, settled-admission, settled-added)
 
   settled-append : (l : Lent) → append limit l (settled a) ≡ append limit l a
@@ -116,7 +116,7 @@ module _ (limit : ℕ) (f : List ℕ) (h : Heading) (ss : List Segment) (a : Add
   says-whole more k later j us boxes behind =
       let n = length f in
       let lie = boxes-lie File f 0 n (h .boxes) (headed f h (t .offered .headed) .boxes) in
-      same-again f more a k j us (t .offered .list) (t .offered .carried)
+      same-again f more a k j us (t .offered .list) (t .offered .carried) (t .offered .lengths) (t .offered .texts) (t .offered .text)
       (rw boxes (outside-told h n a (t .offered .list) (t .offered .carried) (t .offered .outside) lie later (rw length-append at behind) j us))
 
 module _ (limit : ℕ) (below : limit < 2 ^ 64) where
@@ -147,7 +147,7 @@ module _ (limit : ℕ) (below : limit < 2 ^ 64) where
             (r .rewritten (filled (f ++ added a) other) (filled-take (f ++ added a) other) (rw (filled-long (f ++ added a) other (omega arith)) room));
       }
 
-  step-rewrite : (l : Lent) (a : Addition) (whole : List ℕ) (h : Heading) (ss : List Segment) → heading (fileIn l) ≡ given h
+  step-rewrite : (l : Lent) (a : Addition) → Plain a → (whole : List ℕ) (h : Heading) (ss : List Segment) → heading (fileIn l) ≡ given h
       → earlierSegments limit (fileIn l) ≡ given ss
       → ((k : Heading) (ts : List Segment)
       → heading (fileIn (append limit l a)) ≡ given k
@@ -155,7 +155,7 @@ module _ (limit : ℕ) (below : limit < 2 ^ 64) where
       → Rewrites limit (fileIn (append limit l a)) k ts whole)
       → Rewrites limit (fileIn l) h ss whole
   unfolding fileIn
-  step-rewrite (lent buffer n) a whole h ss head read rest = go (appended limit buffer n a) refl
+  step-rewrite (lent buffer n) a plain whole h ss head read rest = go (appended limit buffer n a) refl
     where
       f : List ℕ
       f = take n buffer
@@ -165,24 +165,23 @@ module _ (limit : ℕ) (below : limit < 2 ^ 64) where
           let same : fileIn (append limit (lent buffer n) a) ≡ f = append-refused limit buffer n a k e in
           subst (λ (g : List ℕ). Rewrites limit g h ss whole) same (rest h ss (rw same head) (rw same read))
       go (given size) e =
-          let (h′, t′, long, total) = taken limit buffer n a size ss read e in
-          let t : Taken limit f h ss a = subst (λ (k : Heading). Taken limit f k ss a) (given-same (sym (t′ .offered .headed) ∙ head)) t′ in
+          let (t, long, total) = taken limit buffer n a size h ss head read e in
           let c = cut a in
           let u = taken-cut limit f h ss a t in
           let same : fileIn (append limit (lent buffer n) a) ≡ f ++ added c = file-after limit buffer n a size e long total ∙ ap (λ (bytes : List ℕ). f ++ bytes) (sym (added-cut a)) in
           let k = grownHeading limit f h ss c in
           let (ok, _) = admits limit h ss (length f) c (u .admits) in
           let new-head = heading-added limit f h ss c (u .offered) (ok .small) (ok .boxes) in
-          let new-read = takes limit (f ++ added c) .acceptable _ (reading-added limit f h ss c u (taken-sayable limit f h ss c u below (mod-lt (a .repairTime) (lit< tt)))) in
+          let new-read = takes limit (f ++ added c) .acceptable _ (reading-added limit f h ss c u (taken-sayable limit f h ss c u below (mod-lt (a .repairTime) (lit< tt))) plain) in
           let ts = ss ++ (newSegment h ss (psegPlace (length f) c) c ∷ []) in
           one-rewrite f h ss c u whole
           (subst (λ (g : List ℕ). Rewrites limit g k ts whole) same (rest k ts (rw same new-head) (rw same new-read)))
 
-  pub rewrites : (additions : List Addition) (l : Lent) (h : Heading) (ss : List Segment) → heading (fileIn l) ≡ given h
+  pub rewrites : (additions : List Addition) → AllPlain additions → (l : Lent) (h : Heading) (ss : List Segment) → heading (fileIn l) ≡ given h
       → earlierSegments limit (fileIn l) ≡ given ss
       → Rewrites limit (fileIn l) h ss (fileIn (appendAll limit l additions))
   unfolding appendAll fileIn allOf
-  rewrites [] l h ss head read =
+  rewrites [] plain l h ss head read =
       record {
         more = [];
         longer = sym (append-nil (fileIn l));
@@ -197,5 +196,6 @@ module _ (limit : ℕ) (below : limit < 2 ^ 64) where
         read = rw append-nil read;
         rewritten = λ other same room. same;
       }
-  rewrites (a ∷ more) l h ss head read =
-      step-rewrite l a (fileIn (appendAll limit (append limit l a) more)) h ss head read (λ k ts. rewrites more (append limit l a) k ts)
+  rewrites (a ∷ more) plain l h ss head read =
+      step-rewrite l a (plain a (List·Memᴰ·head refl)) (fileIn (appendAll limit (append limit l a) more)) h ss head read
+      (λ k ts. rewrites more (λ b there. plain b (List·Memᴰ·tail there)) (append limit l a) k ts)

@@ -26,12 +26,14 @@ use Rattle.additions.specs.Addition.{Addition}
 use Rattle.additions.specs.Append.{appended}
 use Rattle.additions.specs.Runs.{Lent, lent, fileIn, sizeAfter, begin, append, appendAll}
 use Rattle.additions.specs.Again.{writeAgain}
+use Rattle.additions.specs.Demands.{AllPlain}
 use Rattle.partial.proofs.Reading.ReadingLaws.{reading-headless}
 use Rattle.partial.proofs.Reading.RefusalLaws.{takes}
 use Rattle.partial.proofs.Reading.HeadingAppendLaws.{heading-of, url-kept, mime-kept}
 use Rattle.additions.proofs.BegunLaws.{isMixed, begunHeading, sourceBox, begun-url, begun-mime, begun-headed, begun-taken}
-use Rattle.additions.proofs.BegunLaws.{first-source, source-inside, url-stands, mime-stands, source-stands, source-ends}
-use Rattle.additions.proofs.BegunLaws.{source-long, begin-given, begin-fits}
+use Rattle.additions.proofs.BegunLaws.{first-source, source-inside, source-stands, source-ends}
+use Rattle.additions.proofs.BegunLaws.{begin-given, begin-fits}
+use Rattle.additions.proofs.SurlLaws.{surl-long, url-stands, mime-stands}
 use Rattle.additions.proofs.RunAgainLaws.{Rewrites, rewrites, filled-take, filled-long}
 use Rattle.additions.proofs.StandsLaws.{Stands, part-stands, stands-longer}
 
@@ -57,7 +59,7 @@ module _ (limit : ℕ) (brand : Brand) (u m more : List ℕ) (plain-url : isText
       let b = sourceBox brand u m in
       let part = url-kept (beginning brand u m) more b (source-inside brand u m) ∙ begun-url brand u m plain-url plain-mime in
       let stands = url-stands u m (beginning brand u m) b (source-stands brand u m) (source-ends brand u m) plain-url plain-mime in
-      rw (text-from url, part) (part-again (b .body + 4) u stands (omega (arith, source-inside brand u m, source-ends brand u m, source-long u m)))
+      rw (text-from url, part) (part-again (b .body + 4) u stands (omega (arith, source-inside brand u m, source-ends brand u m, surl-long u m)))
 
   mime-again : bytesIn (beginning brand u m ++ more) (textOf mime limit (beginning brand u m ++ more)) ≡ m
   unfolding bytesIn
@@ -65,7 +67,7 @@ module _ (limit : ℕ) (brand : Brand) (u m more : List ℕ) (plain-url : isText
       let b = sourceBox brand u m in
       let part = mime-kept (beginning brand u m) more b (source-inside brand u m) ∙ begun-mime brand u m plain-url plain-mime in
       let stands = mime-stands u m (beginning brand u m) b (source-stands brand u m) (source-ends brand u m) plain-url plain-mime in
-      rw (text-from mime, part) (part-again (b .body + 4 + length u + 1) m stands (omega (arith, source-inside brand u m, source-ends brand u m, source-long u m)))
+      rw (text-from mime, part) (part-again (b .body + 4 + length u + 1) m stands (omega (arith, source-inside brand u m, source-ends brand u m, surl-long u m)))
 
 -- and so is the brand
 brand-again : (brand : Brand) → brandFor (isMixed brand) ≡ brand
@@ -119,12 +121,13 @@ module _ (limit : ℕ) (brand : Brand) (u m : List ℕ) (plain-url : isText u �
 -- of a file that begin and append alone made, written into any buffer that it fits
 pub written-again : (limit : ℕ) → limit < 2 ^ 64 → (buffer : List ℕ) (brand : Brand) (u m : List ℕ) (additions : List Addition) (other : List ℕ)
     (h : Heading) (ss : List Segment)
+    → AllPlain additions
     → let f = fileIn (appendAll limit (begin buffer brand u m) additions) in
     heading f ≡ given h
     → reading limit f ≡ given ss
     → length f ≤ length other
     → fileIn (writeAgain limit other f h ss) ≡ f
-written-again limit below buffer brand u m additions other h ss known read room = go (begun buffer brand u m) refl
+written-again limit below buffer brand u m additions other h ss plain known read room = go (begun buffer brand u m) refl
   where
     f : List ℕ
     f = fileIn (appendAll limit (begin buffer brand u m) additions)
@@ -136,5 +139,5 @@ written-again limit below buffer brand u m additions other h ss known read room 
     go (given n) e =
         let (plain-url, plain-mime, small, file) = begin-given buffer brand u m n e in
         let head = heading-of (beginning brand u m) (begunHeading brand u m) (begun-headed brand u m small plain-url plain-mime) in
-        let r = rewrites limit below additions (begin buffer brand u m) (begunHeading brand u m) [] (rw file head) (rw file (begun-taken brand u m limit small plain-url plain-mime)) in
+        let r = rewrites limit below additions plain (begin buffer brand u m) (begunHeading brand u m) [] (rw file head) (rw file (begun-taken brand u m limit small plain-url plain-mime)) in
         on-again limit brand u m plain-url plain-mime small f h ss (subst (λ (g : List ℕ). Rewrites limit g (begunHeading brand u m) [] f) file r) known read other room

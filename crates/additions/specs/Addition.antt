@@ -1,4 +1,4 @@
--- Document 01, "Append": what it is asked to add, and whether that is right, 31, 32 and 35.
+-- Document 01, "Append", and document 02, [8]: what it is asked to add, and whether that is right, 31, 32 and 35.
 use Prim.Native.Nat.{ℕ, _%_, _^_}
 use mathlib.Core.Bool.{Bool, true, false, not, _&&_, _||_}
 use mathlib.Core.List.{List, [], _∷_, _++_, map}
@@ -11,7 +11,8 @@ use Rattle.partial.specs.Segments.{elsewhere, good, present, isLast}
 use Rattle.partial.specs.Heading.{Heading}
 use Rattle.partial.specs.Mixed.{areBoxes}
 
--- the fields of `pshd`, whether the good chunks go outside `pdat`, the chunk list, and the data in chunk order
+-- the fields of `pshd`, whether the good chunks go outside `pdat`, the chunk list and the data in chunk order; the
+-- texts of the `surl` boxes to write and the list of their lengths, URL and MIME by turns
 pub record Addition : Type 0 where
   pub sourceOffset : ℕ
   pub repairTime : ℕ
@@ -19,6 +20,8 @@ pub record Addition : Type 0 where
   pub outside : Bool
   pub list : List ℕ
   pub bytes : List ℕ
+  pub texts : List ℕ
+  pub lengths : List ℕ
 
 -- last_segment, and no other flag
 abbrev pub flagsFor : Bool → ℕ
@@ -30,8 +33,8 @@ abbrev pub writable : Position → ℕ → Bool → SegmentHeader
 writable offset repair last = record { offset = offset; repair = repair; flags = flagsFor last }
 
 -- what the arguments of append ask of it; of the header's flags it takes last_segment and no other
-unfoldable pub asks : SegmentHeader → Bool → List ℕ → List ℕ → Addition
-asks h outside list bytes =
+unfoldable pub asks : SegmentHeader → Bool → List ℕ → List ℕ → List ℕ → List ℕ → Addition
+asks h outside list bytes texts lengths =
     record {
       sourceOffset = h .offset .0;
       repairTime = h .repair;
@@ -39,6 +42,8 @@ asks h outside list bytes =
       outside = outside;
       list = list;
       bytes = bytes;
+      texts = texts;
+      lengths = lengths;
     }
 
 -- an item of the chunk list: a size and a state
@@ -60,6 +65,14 @@ isState n = leb n elsewhere
 unfoldable pub listRight : List ℕ → Bool
 listRight list = eqb (length list % 2) 0 && allOf (λ i. not (eqb (i .size) 0) && isState (i .state)) (items list)
 
+-- 31: a length for each URL and one for each MIME text
+unfoldable pub lengthsRight : List ℕ → Bool
+lengthsRight lengths = eqb (length lengths % 2) 0
+
+-- 31: both lists, in one stage
+unfoldable pub listsRight : Addition → Bool
+listsRight a = listRight (a .list) && lengthsRight (a .lengths)
+
 -- the sizes, in sum, of the items that pass a test
 abbrev pub sizeOf : (Item → Bool) → List Item → ℕ
 sizeOf test is = sum (map (λ i. elim (test i) [ true ↦ i .size | false ↦ 0 ]) is)
@@ -71,6 +84,31 @@ dataSize is = sizeOf (λ i. present (i .state)) is
 -- 32: as many data bytes as that
 unfoldable pub dataRight : Addition → Bool
 dataRight a = eqb (length (a .bytes)) (dataSize (items (a .list)))
+
+-- 32: as many text bytes as the sum of their lengths
+unfoldable pub textsRight : Addition → Bool
+textsRight a = eqb (length (a .texts)) (sum (a .lengths))
+
+-- 32: both, in one stage
+unfoldable pub bytesRight : Addition → Bool
+bytesRight a = dataRight a && textsRight a
+
+-- the two texts of a `surl`
+pub record Surl : Type 0 where
+  pub url : List ℕ
+  pub mime : List ℕ
+
+-- texts cut by a list of their lengths, URL and MIME by turns
+unfoldable pub surlsOf : List ℕ → List ℕ → List Surl
+surlsOf texts [] = []
+surlsOf texts (urlLength ∷ []) = []
+surlsOf texts (urlLength ∷ mimeLength ∷ rest) =
+    let behind = drop urlLength texts in
+    record { url = take urlLength texts; mime = take mimeLength behind } ∷ surlsOf (drop mimeLength behind) rest
+
+-- the `surl` boxes of an addition, by their texts
+unfoldable pub surls : Addition → List Surl
+surls a = surlsOf (a .texts) (a .lengths)
 
 -- whether an item's data goes outside `pdat`: it is good, and the good ones go there
 unfoldable pub goesOut : Bool → Item → Bool

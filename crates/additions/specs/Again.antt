@@ -2,15 +2,17 @@
 use Prim.Native.Nat.{ℕ}
 use mathlib.Core.Bool.{Bool, true, false, not, _&&_}
 use mathlib.Core.List.{List, [], _∷_, _++_, map}
+use lib.ListN.{length}
 use lib.Dec.{eqb}
 use Rattle.boxes.specs.Framing.{Box}
+use Rattle.boxes.specs.Kinds.{surl, those}
 use Rattle.partial.specs.Sequences.{someOf}
 use Rattle.partial.specs.Segments.{Chunk, Segment, good, present, isLast}
 use Rattle.partial.specs.Heading.{Heading, url, mime, bytesIn}
 use Rattle.partial.specs.Entries.{inData}
 use Rattle.partial.specs.Tables.{textOf}
 use Rattle.additions.specs.Begin.{brandFor}
-use Rattle.additions.specs.Addition.{Addition, items, goesOut}
+use Rattle.additions.specs.Addition.{Addition, items, Surl, goesOut}
 use Rattle.additions.specs.Runs.{Lent, begin, appendAll}
 
 -- the bytes of the present chunks of a list, in their order
@@ -28,7 +30,21 @@ listFor (c ∷ cs) = c .size ∷ c .state ∷ listFor cs
 unfoldable pub someOutside : List Box → List Chunk → Bool
 someOutside bs cs = someOf (λ c. eqb (c .state) good && not (inData bs (c .place) (c .size))) cs
 
--- a segment's fields, where its good chunks lie, its chunks and bytes, to be written again
+-- the two texts of each `surl` among these boxes, in their order
+unfoldable pub surlsIn : List ℕ → List Box → List Surl
+surlsIn f bs = map (λ b. record { url = bytesIn f (url f b); mime = bytesIn f (mime f b) }) (those surl bs)
+
+-- those texts one behind the other, and their lengths, URL and MIME by turns
+unfoldable pub textsFor : List Surl → List ℕ
+textsFor [] = []
+textsFor (s ∷ ss) = s .url ++ (s .mime ++ textsFor ss)
+
+unfoldable pub lengthsFor : List Surl → List ℕ
+lengthsFor [] = []
+lengthsFor (s ∷ ss) = length (s .url) ∷ length (s .mime) ∷ lengthsFor ss
+
+-- a segment's fields, where its good chunks lie, its chunks and bytes, and the texts of its own `surl` boxes, to be
+-- written again
 unfoldable pub again : List ℕ → Heading → Segment → Addition
 again f h s =
     record {
@@ -38,6 +54,8 @@ again f h s =
       outside = someOutside (h .boxes) (s .chunks);
       list = listFor (s .chunks);
       bytes = dataOf f (s .chunks);
+      texts = textsFor (surlsIn f (s .inner));
+      lengths = lengthsFor (surlsIn f (s .inner));
     }
 
 -- what of an addition can be told from the file: with no good chunk, whether the good ones go outside says nothing
@@ -50,10 +68,12 @@ settled a =
       outside = someOf (goesOut (a .outside)) (items (a .list));
       list = a .list;
       bytes = a .bytes;
+      texts = a .texts;
+      lengths = a .lengths;
     }
 
 -- writing again, into a buffer, a file with a heading and segments: begin with the brand, the URL and the MIME text
--- read, then append each segment with its fields, chunks and bytes
+-- read, then append each segment with its fields, chunks and bytes, and its own texts
 unfoldable pub writeAgain : ℕ → List ℕ → List ℕ → Heading → List Segment → Lent
 writeAgain limit buffer f h ss =
     appendAll limit (begin buffer (brandFor (h .mixed)) (bytesIn f (textOf url limit f)) (bytesIn f (textOf mime limit f))) (map (again f h) ss)

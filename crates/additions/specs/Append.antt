@@ -1,14 +1,15 @@
--- Document 01, "Append": the bytes that it writes, the segment that they say, and its refusals in order.
+-- Document 01, "Append", and document 02, [8]: the bytes that it writes, the segment that they say, and its refusals in
+-- order.
 use Prim.Native.Nat.{ℕ, _+_, _*_}
-use mathlib.Core.Bool.{Bool, true, false}
-use mathlib.Core.List.{List, [], _∷_, _++_}
+use mathlib.Core.Bool.{Bool, true, false, _&&_}
+use mathlib.Core.List.{List, [], _∷_, _++_, map}
 use mathlib.Core.Option.{Option·getD}
 use lib.ListN.{length, take}
 use lib.Dec.{leb}
 use Rattle.boxes.specs.Answer.{Answer, given, _>>=_, hold}
 use Rattle.numerals.specs.Numbers.{bytesOf, twosComplement, holds, holdsOffset, leastWidth}
 use Rattle.boxes.specs.Framing.{Box, frontSize, boxed, boxedAt, boxLimit}
-use Rattle.boxes.specs.Kinds.{pseg, pshd, ploc, pdat}
+use Rattle.boxes.specs.Kinds.{pseg, pshd, ploc, pdat, surl}
 use Rattle.numerals.specs.declared.numbers.Offset.{Offset}
 use Rattle.numerals.specs.declared.numbers.Offset.the-variants.{Ahead, Back}
 use Rattle.partial.specs.Limits.{fileLimit, segmentLimit, chunkLimit}
@@ -16,12 +17,12 @@ use Rattle.partial.specs.Sequences.{someOf, allOf}
 use Rattle.partial.specs.Segments.{Chunk, Segment, present, corrupted, hasPlace, endOf, chunksOf}
 use Rattle.partial.specs.Heading.{Heading, heading}
 use Rattle.partial.specs.Entries.{offsetPlace}
-use Rattle.partial.specs.Sources.{sourceBeside, agreed}
+use Rattle.partial.specs.Sources.{urlsFor, sourceBeside, agreed}
 use Rattle.partial.specs.Reading.{offsetWidth, earlierSegments}
 use Rattle.partial.specs.Index.{indexed}
-use Rattle.additions.specs.Begin.{versionAndFlags}
+use Rattle.additions.specs.Begin.{versionAndFlags, surlBody, surlBox, isText}
 use Rattle.partial.specs.Mixed.{boxesMany}
-use Rattle.additions.specs.Addition.{Addition, flagsFor, Item, items, listRight, sizeOf, dataRight, goesOut, goesIn, dataFor, outsideRight}
+use Rattle.additions.specs.Addition.{Addition, flagsFor, Item, items, listsRight, sizeOf, bytesRight, Surl, surls, goesOut, goesIn, dataFor, outsideRight}
 
 -- the data that goes into `pdat`, and that of the chunks outside, each in chunk order
 unfoldable pub insideData : Addition → List ℕ
@@ -112,9 +113,20 @@ pshdBody a =
     let version = versionFor (a .sourceOffset) in
     version ∷ (bytesOf 3 (flagsFor (a .last)) ++ (bytesOf (offsetWidth version) (a .sourceOffset) ++ bytesOf 8 (a .repairTime)))
 
--- the body of the `pseg`: `pshd` and `ploc`
+-- `surl` boxes with these texts, in their order
+unfoldable pub surlBoxes : List Surl → List ℕ
+surlBoxes [] = []
+surlBoxes (s ∷ ss) = surlBox (s .url) (s .mime) ++ surlBoxes ss
+
+-- the body of the `pseg`: `pshd`, `ploc`, and after it the `surl` boxes
 unfoldable pub psegBody : Addition → List ℕ
-psegBody a = boxed (pshd .code) (pshdBody a) ++ boxed (ploc .code) (plocBody (placed (a .outside) (items (a .list))))
+psegBody a =
+    boxed (pshd .code) (pshdBody a)
+    ++ (boxed (ploc .code) (plocBody (placed (a .outside) (items (a .list)))) ++ surlBoxes (surls a))
+
+-- how many boxes the `pseg` holds
+unfoldable pub innerBoxes : Addition → ℕ
+innerBoxes a = 2 + length (surls a)
 
 -- what append adds to a file: the data, then the `pseg`
 unfoldable pub added : Addition → List ℕ
@@ -136,24 +148,35 @@ newChunks at start (p ∷ ps) =
     }
     ∷ newChunks at (start + p .size) ps
 
--- the boxes inside a new `pseg` at a place: its `pshd` and its `ploc`
+-- those `surl` boxes, from a place on
+unfoldable pub surlsAt : ℕ → List Surl → List Box
+surlsAt at [] = []
+surlsAt at (s ∷ ss) =
+    let n = length (surlBody (s .url) (s .mime)) in
+    boxedAt at (surl .code) n ∷ surlsAt (at + (frontSize + n)) ss
+
+-- the boxes inside a new `pseg` at a place: its `pshd`, its `ploc` and its `surl` boxes
 unfoldable pub newInner : ℕ → Addition → List Box
 newInner at a =
-    let first = at + frontSize in
+    let pshdAt = at + frontSize in
     let pshdSize = length (pshdBody a) in
-    boxedAt first (pshd .code) pshdSize
-    ∷ boxedAt (first + (frontSize + pshdSize)) (ploc .code) (length (plocBody (placed (a .outside) (items (a .list)))))
-    ∷ []
+    let plocAt = pshdAt + (frontSize + pshdSize) in
+    let plocSize = length (plocBody (placed (a .outside) (items (a .list)))) in
+    boxedAt pshdAt (pshd .code) pshdSize ∷ boxedAt plocAt (ploc .code) plocSize ∷ surlsAt (plocAt + (frontSize + plocSize)) (surls a)
 
--- the segment that an addition makes beside those of a file with that heading, its `pseg` at a place: it has no URLs of
--- its own; the body of its `pshd` stands after two headers
+-- the URLs of the source that an addition goes to: its own, or those of `pfil` where it has none
+unfoldable pub newUrls : Heading → Addition → List (List ℕ)
+newUrls h a = urlsFor (map (λ s. s .url) (surls a)) (h .urls)
+
+-- the segment that an addition makes beside those of a file with that heading, its `pseg` at a place; the body of its
+-- `pshd` stands after two headers
 unfoldable pub newSegment : Heading → List Segment → ℕ → Addition → Segment
 newSegment h before at a =
     record {
       place = at;
       inner = newInner at a;
-      urls = h .urls;
-      source = sourceBeside before (h .urls);
+      urls = newUrls h a;
+      source = sourceBeside before (newUrls h a);
       sourceOffset = a .sourceOffset;
       flags = flagsFor (a .last);
       repairTime = a .repairTime;
@@ -171,11 +194,11 @@ admitted limit before s = do
   _ ← hold 25 (agreed (before ++ (s ∷ [])))
   given (before ++ (s ∷ []))
 
--- 1, 6, 13, 22, 23 or 25 if the result would have it; else the result's segments
+-- 1, 6, 13, 22, 23 or 25 if the result would have it, 6 also of the new `pseg` itself; else the result's segments
 unfoldable pub admission : ℕ → Heading → List Segment → ℕ → Addition → Answer (List Segment)
 admission limit h ss n a = do
   _ ← hold 1 (leb (n + length (added a)) fileLimit)
-  _ ← hold 6 (leb (length (h .boxes) + addedBoxes a) boxLimit)
+  _ ← hold 6 (leb (length (h .boxes) + addedBoxes a) boxLimit && leb (innerBoxes a) boxLimit)
   admitted limit ss (newSegment h ss (psegPlace n a) a)
 
 -- what append answers for the first n bytes of a buffer: its refusals in order, or the length of the result; 36, 37 and
@@ -187,9 +210,10 @@ appended limit buffer n a = do
   let f = take n buffer
   h ← heading f
   ss ← earlierSegments limit f
-  _ ← hold 31 (listRight (a .list))
-  _ ← hold 32 (dataRight a)
+  _ ← hold 31 (listsRight a)
+  _ ← hold 32 (bytesRight a)
   _ ← hold 35 (outsideRight h a)
+  _ ← hold 34 (isText (a .texts))
   ts ← admission limit h ss n a
   _ ← indexed limit f h ts
   let size = n + length (added a)

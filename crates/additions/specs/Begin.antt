@@ -28,13 +28,19 @@ unfoldable pub brandCode : Brand → ℕ
 brandCode Paff = paff
 brandCode Pmff = pmff
 
+-- a `surl`: version 0, flags 0, the two texts, each closed by a zero byte
+abbrev pub surlBody : List ℕ → List ℕ → List ℕ
+surlBody urlText mimeText = versionAndFlags ++ (urlText ++ (0 ∷ (mimeText ++ (0 ∷ []))))
+
+abbrev pub surlBox : List ℕ → List ℕ → List ℕ
+surlBox urlText mimeText = boxed (surl .code) (surlBody urlText mimeText)
+
 -- `ftyp` (the brand as major, minor 0, the brand as the one compatible), then `pfil` holding `pfhd` (flags 0) and one
 -- `surl`
 unfoldable pub beginning : Brand → List ℕ → List ℕ → List ℕ
 beginning brand urlText mimeText =
     boxed (ftyp .code) (bytesOf 4 (brandCode brand) ++ (bytesOf 4 0 ++ bytesOf 4 (brandCode brand)))
-    ++ boxed (pfil .code)
-    (boxed (pfhd .code) versionAndFlags ++ boxed (surl .code) (versionAndFlags ++ (urlText ++ (0 ∷ (mimeText ++ (0 ∷ []))))))
+    ++ boxed (pfil .code) (boxed (pfhd .code) versionAndFlags ++ surlBox urlText mimeText)
 
 -- no zero byte
 unfoldable pub isText : List ℕ → Bool

@@ -37,15 +37,15 @@ P8 =
     }
 
 -- a segment with its good chunks outside `pdat` or not, at an offset, last or not, with a chunk list and data
-abbrev segmentWith : Bool → ℕ → Bool → List ℕ → List ℕ → Addition
+abbrev pub segmentWith : Bool → ℕ → Bool → List ℕ → List ℕ → Addition
 segmentWith outside offset last list bytes =
-    record { sourceOffset = offset; repairTime = 0; last = last; outside = outside; list = list; bytes = bytes }
+    record { sourceOffset = offset; repairTime = 0; last = last; outside = outside; list = list; bytes = bytes; texts = []; lengths = [] }
 
 abbrev pub segmentAt : ℕ → Bool → List ℕ → List ℕ → Addition
 segmentAt = segmentWith false
 
 -- the file that append makes of a file
-abbrev grownBy : List ℕ → Addition → List ℕ
+abbrev pub grownBy : List ℕ → Addition → List ℕ
 grownBy f a = fileIn (append sourceLimit (lent (f ++ spare) (length f)) a)
 
 -- what it answers

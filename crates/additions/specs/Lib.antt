@@ -6,5 +6,6 @@ pub mod Again
 pub mod Carried
 pub mod Examples
 pub mod IndexExamples
+pub mod SurlExamples
 pub mod Demands
 pub mod Raised

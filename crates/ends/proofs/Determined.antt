@@ -8,14 +8,16 @@ use lib.ListN.{length}
 use Rattle.numerals.proofs.Determined.{OneResult, OneKnown, OneLeft, OneLeftKnown}
 use Rattle.partial.specs.Meaning.{givesSize}
 use Rattle.partial.specs.Segments.{Segment, endOf}
+use Rattle.partial.specs.Sources.{sourceCount}
 use Rattle.ends.specs.Sizes.{sizesOf}
-use Rattle.ends.specs.Table.{allSizes, sizesIn}
+use Rattle.ends.specs.Table.{allSizes, sizesIn, Holds}
 use Rattle.ends.proofs.TableLaws.{put-one}
 use Rattle.ends.proofs.sizes.Sizes.agree.Reads as agree
 use Rattle.ends.proofs.sizes.Sizes.described.Reads as described
 use Rattle.ends.proofs.sizes.Sizes.none.Reads as none
 use Rattle.ends.proofs.sizes.Sizes.with.Reads as with
 use Rattle.ends.proofs.sizes.gives_size.Reads as gives-size
+use Rattle.ends.proofs.table.all_agree.Reads as all-agree
 use Rattle.ends.proofs.table.clear_sizes.Reads as clear-sizes
 use Rattle.ends.proofs.table.put_sizes.Reads as put-sizes
 use Rattle.ends.proofs.table.sizes_at.Reads as sizes-at
@@ -45,3 +47,6 @@ put-sizes-entries κs args known long x y after after′ p q = λ i k. put-one l
 
 clear-sizes-entries : OneLeft clear-sizes.Post (λ κs after. sizesIn (now (after .0)))
 clear-sizes-entries κs args x y after after′ p q = λ i k. (p .none k ∙ sym (q .none k)) i
+
+all-agree-result : OneKnown all-agree.Post (λ κs args (ss : List Segment). (args .1 .0 ≡ sourceCount ss) × Holds (now (args .0)) ss)
+all-agree-result κs args ss (many, holds) x y after after′ p q = p ss many holds ∙ sym (q ss many holds)

@@ -1,18 +1,23 @@
 -- Laws of the table of what the ends of segments say: an entry that is put is read back, the others stay, and zeros are
--- the entries of no segment.
+-- the entries of no segment; what a table holds of each source with one segment more, and 25 by it.
 use Prim.Native.Nat.{ℕ, _+_, _*_, _≤_, _<_}
-use mathlib.Core.Bool.{Bool, true, false, not}
-use mathlib.Core.List.{List, [], _∷_, _++_}
-use mathlib.Core.Path.{_≡_, refl, sym, _∙_}
+use mathlib.Core.Bool.{Bool, true, false, not, false≢true}
+use mathlib.Core.List.{List, [], _∷_, _++_, append-nil}
+use mathlib.Core.Logic.{inl, inr}
+use mathlib.Core.Path.{_≡_, refl, sym, ap, subst, _∙_}
 use mir.Val.{boolByte}
 use native.Mathlib.Decide.{decLe, ℕ-discrete}
 use native.Mathlib.Nat.{add-zero}
 use native.Mathlib.Omega.{arith}
-use borrow.Author.Tests.{le-ltb, lt-ltb}
+use borrow.Author.Tests.{le-ltb, lt-ltb, eq-eqb, ne-eqb}
 use lib.Dec.{eqb, ltb}
 use lib.ListN.{length, getD, set, replicate, length-set, length-replicate, getD-replicate}
 use lib.Seq.{getD-set-same, getD-set-other}
+use Rattle.partial.specs.Meaning.{agree}
 use Rattle.partial.specs.Segments.{Segment}
+use Rattle.partial.specs.Sources.{sourceCount, ofSource, agreed}
+use Rattle.partial.proofs.Meaning.SequenceLaws.{which, all-members}
+use Rattle.partial.proofs.Meaning.SourceLaws.{of-append, agreed-of, source-low}
 use Rattle.ends.specs.declared.sizes.Sizes.{Sizes}
 use Rattle.ends.specs.Sizes.{sizesOf}
 use Rattle.ends.specs.Table.{entryLength, sources, allSizes, entryIn, sizesIn, SizesPut, Cleared, Holds}
@@ -147,8 +152,45 @@ put-one {t} {t′} {t″} {source} long p q k =
       | no other ↦ p .others k other ∙ sym (q .others k other)
     ]
 
--- with one segment more
-pub holds-more : {t t′ : List ℕ} {source : ℕ} {ss : List Segment} (s : Segment) {x : Sizes} → source < sources → Holds t source ss → x ≡ sizesOf (ss ++ (s ∷ []))
+-- of no segment
+pub holds-none : {t : List ℕ} → Cleared t → Holds t []
+unfolding ofSource
+holds-none clear = record { long = clear .long; said = clear .none }
+
+-- the segments of a source with one more
+of-last : (ss : List Segment) (s : Segment) → ofSource (s .source) (ss ++ (s ∷ [])) ≡ ofSource (s .source) ss ++ (s ∷ [])
+unfolding ofSource
+of-last ss s = of-append (s .source) ss (s ∷ []) ∙ rw (eq-eqb (s .source) (s .source) refl, ofSource)
+
+of-other : (n : ℕ) (ss : List Segment) (s : Segment) → (s .source ≡ n → ⊥) → ofSource n (ss ++ (s ∷ [])) ≡ ofSource n ss
+unfolding ofSource
+of-other n ss s other = of-append n ss (s ∷ []) ∙ rw (ne-eqb (s .source) n other, ofSource) (append-nil (ofSource n ss))
+
+-- with one segment more, whose source has an entry
+pub holds-more : {t t′ : List ℕ} {ss : List Segment} (s : Segment) {x : Sizes} {source : ℕ} → source ≡ s .source → s .source < sources → Holds t ss
+    → x ≡ sizesOf (ofSource (s .source) ss ++ (s ∷ []))
     → SizesPut t source x t′
-    → Holds t′ source (ss ++ (s ∷ []))
-holds-more s there holds with put = record { long = put .long ∙ holds .long; said = put .here there (holds .long) ∙ with }
+    → Holds t′ (ss ++ (s ∷ []))
+holds-more {t} {t′} {ss} s {x} number there holds with put-source =
+    let put = subst (λ (n : ℕ). SizesPut t n x t′) number put-source in
+    record {
+      long = put .long ∙ holds .long;
+      said = λ n.
+          elim (ℕ-discrete n (s .source)) [
+            | yes same ↦ rw (same, of-last ss s) (put .here there (holds .long) ∙ with)
+            | no other ↦ put .others n other ∙ holds .said n ∙ ap sizesOf (sym (of-other n ss s (λ e. other (sym e))))
+          ];
+    }
+
+-- 25 of all sources, by what is held of each
+module _ (ss : List Segment) where
+  pub all-agree : ((n : ℕ) → n < sourceCount ss → agree (ofSource n ss) ≡ true) → true ≡ agreed ss
+  unfolding agreed
+  all-agree each = sym (all-members _ ss (λ s there. each (s .source) (source-low ss s there)))
+
+  pub one-differs : (n : ℕ) → agree (ofSource n ss) ≡ false → false ≡ agreed ss
+  one-differs n differs =
+      elim (which (agreed ss)) [
+        | inl passed ↦ absurd (false≢true (sym differs ∙ agreed-of ss passed n))
+        | inr not-passed ↦ sym not-passed
+      ]

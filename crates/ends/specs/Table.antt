@@ -6,6 +6,7 @@ use mathlib.Core.Path.{_≡_}
 use lib.Dec.{eqb, ltb}
 use lib.ListN.{length, getD}
 use Rattle.partial.specs.Segments.{Segment}
+use Rattle.partial.specs.Sources.{ofSource}
 use Rattle.ends.specs.Sizes.{sizesOf}
 use Rattle.ends.specs.declared.sizes.Sizes.{Sizes}
 
@@ -13,9 +14,9 @@ use Rattle.ends.specs.declared.sizes.Sizes.{Sizes}
 abbrev pub entryLength : ℕ
 entryLength = 4
 
--- the sources of a file
+-- as many sources as a file may have segments
 abbrev pub sources : ℕ
-sources = 1
+sources = 64
 
 -- the numbers of the table
 abbrev pub allSizes : ℕ
@@ -47,7 +48,7 @@ pub record Cleared (table : List ℕ) : Type 0 where
   pub long : length table ≡ allSizes
   pub none : (source : ℕ) → sizesIn table source ≡ sizesOf []
 
--- a table that holds of a source what the ends of these segments say
-pub record Holds (table : List ℕ) (source : ℕ) (ss : List Segment) : Type 0 where
+-- a table that holds of each source what the ends of its segments say
+pub record Holds (table : List ℕ) (ss : List Segment) : Type 0 where
   pub long : length table ≡ allSizes
-  pub said : sizesIn table source ≡ sizesOf ss
+  pub said : (n : ℕ) → sizesIn table n ≡ sizesOf (ofSource n ss)

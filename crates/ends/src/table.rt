@@ -1,13 +1,16 @@
 // What the ends of segments say, in a table that has an entry for each source.
 use crate::sizes::Sizes;
 use partial::position::Position;
+ghost use mathlib.Core.List.{List};
 ghost use mathlib.Core.Path.{_≡_};
-ghost use Rattle.ends.specs.Table.{sizesIn, SizesPut, Cleared};
+ghost use Rattle.partial.specs.Segments.{Segment};
+ghost use Rattle.partial.specs.Sources.{sourceCount, agreed};
+ghost use Rattle.ends.specs.Table.{sizesIn, SizesPut, Cleared, Holds};
 
 // The numbers of an entry.
 const ENTRY: u64 = 4;
-// The entries of as many sources as a file may have.
-pub const ALL_SIZES: usize = 4;
+// The entries of as many sources as a file may have segments: 25 is asked before sources are counted.
+pub const ALL_SIZES: usize = 256;
 // The number of the source of a file.
 pub const ONE_SOURCE: u64 = 0;
 
@@ -46,4 +49,19 @@ pub fn clear_sizes(table: &mut [u64; ALL_SIZES])
     ensures { λ _. ⌜ Cleared (now (table .exit)) ⌝ }
 {
     *table = [0; ALL_SIZES];
+}
+
+// 25, per source: whether what a table holds of each of so many sources agrees.
+pub fn all_agree(table: &[u64; ALL_SIZES], many: u64) -> bool
+    ensures { λ r. ⌜ ((ss : List Segment) → many ≡ sourceCount ss → Holds (now (table .entry)) ss → r ≡ agreed ss) ⌝ }
+{
+    let mut n = 0;
+    while n < many {
+        let said = sizes_at(table, n);
+        if !said.agree() {
+            return false;
+        }
+        n += 1;
+    }
+    true
 }

@@ -1,4 +1,5 @@
 pub mod SegmentLaws
+pub mod SourceRowLaws
 pub mod PartLaws
 pub mod HeadingLaws
 pub mod PassLaws

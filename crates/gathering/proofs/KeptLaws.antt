@@ -61,14 +61,15 @@ module _ (numbers : List ℕ) (at : ℕ) (cs : List Chunk) (i start : ℕ) where
 -- ---- the segments of a file, of which so many were taken
 
 -- the next one
-pub record NextSegment (rows numbers : List ℕ) (ss : List Segment) (k at : ℕ) : Type 0 where
+pub record NextSegment (rows sources numbers : List ℕ) (ss : List Segment) (k at : ℕ) : Type 0 where
   pub s : Segment
   pub taken : take (k + 1) ss ≡ take k ss ++ (s ∷ [])
   pub count : getD rows (segmentRowLength * k + 4) 0 ≡ length (s .chunks)
   pub fits : at + getD rows (segmentRowLength * k + 4) 0 ≤ chunkLimit
   pub kept : ChunksKept numbers at (getD rows (segmentRowLength * k + 1) 0) (s .chunks)
   pub behind : at + getD rows (segmentRowLength * k + 4) 0 ≡ length (chunksOf (take (k + 1) ss))
-  pub ahead : SegmentsKept rows numbers (k + 1) (at + getD rows (segmentRowLength * k + 4) 0) (drop (k + 1) ss)
+  pub source : getD sources k 0 ≡ s .source
+  pub ahead : SegmentsKept rows sources numbers (k + 1) (at + getD rows (segmentRowLength * k + 4) 0) (drop (k + 1) ss)
 
 noSegment : Segment
 noSegment = record { place = 0; inner = []; urls = []; source = 0; sourceOffset = 0; flags = 0; repairTime = 0; headerPlace = 0; headerLength = 0; chunks = [] }
@@ -83,15 +84,15 @@ taken-few ss k =
       length-append (chunksOf (take k ss)) (chunksOf (drop k ss)),
     )
 
-pub next-segment : (rows numbers : List ℕ) (ss : List Segment) (k at : ℕ) → k < length ss → length (chunksOf ss) ≤ chunkLimit
+pub next-segment : (rows sources numbers : List ℕ) (ss : List Segment) (k at : ℕ) → k < length ss → length (chunksOf ss) ≤ chunkLimit
     → at ≡ length (chunksOf (take k ss))
-    → SegmentsKept rows numbers k at (drop k ss)
-    → NextSegment rows numbers ss k at
-next-segment rows numbers ss k at some few here kept =
+    → SegmentsKept rows sources numbers k at (drop k ss)
+    → NextSegment rows sources numbers ss k at
+next-segment rows sources numbers ss k at some few here kept =
     let s = getD ss k noSegment in
     let one : suc k ≡ k + 1 = omega arith in
     let taken : take (k + 1) ss ≡ take k ss ++ (s ∷ []) = rw (add-one, take-suc ss k noSegment) in
-    let (offset, count, chunks, ahead) = rw (drop-cons ss k noSegment some) at kept in
+    let (offset, count, source, chunks, ahead) = rw (drop-cons ss k noSegment some) at kept in
     let behind : at + getD rows (segmentRowLength * k + 4) 0 ≡ length (chunksOf (take (k + 1) ss)) =
     omega (arith, here, count, ap (λ (x : List Segment). length (chunksOf x)) taken, chunks-last (take k ss) s) in
     record {
@@ -101,11 +102,12 @@ next-segment rows numbers ss k at some few here kept =
       fits = omega (arith, behind, few, taken-few ss (k + 1));
       kept = rw offset chunks;
       behind = behind;
-      ahead = subst (λ (x : ℕ × ℕ). SegmentsKept rows numbers (k + 1) (at + x .0) (drop (x .1) ss)) (λ j. (sym count j, one j)) ahead;
+      source = source;
+      ahead = subst (λ (x : ℕ × ℕ). SegmentsKept rows sources numbers (k + 1) (at + x .0) (drop (x .1) ss)) (λ j. (sym count j, one j)) ahead;
     }
 
 -- its rows behind those before it
-pub rows-more : {rows numbers : List ℕ} (ss : List Segment) {k at : ℕ} → k < length ss → at ≡ length (chunksOf (take k ss)) → (n : NextSegment rows numbers ss k at) → {t₀ t t′ : List ℕ}
+pub rows-more : {rows sources numbers : List ℕ} (ss : List Segment) {k at : ℕ} → k < length ss → at ≡ length (chunksOf (take k ss)) → (n : NextSegment rows sources numbers ss k at) → {t₀ t t′ : List ℕ}
     → Put t₀ 0 (chunkRows (take k ss)) t
     → Put t (chunkRowLength * at) (chunkRowsOf k 0 (n .s .chunks)) t′
     → Put t₀ 0 (chunkRows (take (k + 1) ss)) t′

@@ -1,4 +1,5 @@
--- The rows of an accepted file's segments and the numbers of its chunks, put into two tables, keep the file.
+-- The rows of an accepted file's segments, the numbers of their sources and those of its chunks, put into three tables,
+-- keep the file.
 use Prim.Native.Nat.{ℕ, _+_, _*_, _<_, _≤_}
 use mathlib.Core.Bool.{true, false}
 use mathlib.Core.List.{List, [], _∷_, _++_, map, append-assoc}
@@ -8,13 +9,14 @@ use native.Mathlib.Decide.{decLe}
 use native.Mathlib.Nat.{add-zero}
 use native.Mathlib.Omega.{arith}
 use borrow.Author.Tests.{lt-ltb, le-ltb}
-use lib.ListN.{length, getD, drop, length-append}
+use lib.ListN.{length, getD, drop, take-append-drop, length-append}
 use lib.Seq.{getD-append-add}
 use Rattle.partial.specs.Limits.{segmentLimit, chunkLimit, sourceLimit}
 use Rattle.partial.specs.Segments.{Chunk, Segment, present, hasPlace, chunksOf}
 use Rattle.partial.specs.Tables.{segmentRowLength, segmentRow, segmentRows}
 use Rattle.partial.proofs.Reading.RowLaws.{segment-rows-long}
 use Rattle.partial.proofs.Reading.SmallLaws.{Small, SmallFrom, AllSmall}
+use Rattle.sources.specs.Held.{SourcesHeld}
 use Rattle.filling.specs.Rows.{Put}
 use Rattle.filling.proofs.RowLaws.{put-fills}
 use Rattle.gathering.specs.Kept.{ChunksKept, SegmentsKept, Kept}
@@ -61,46 +63,59 @@ row-at : (front rest : List ℕ) (k : ℕ) (s : Segment) → length front ≡ se
     → getD (front ++ (segmentRow s ++ rest)) (segmentRowLength * k + j) 0 ≡ getD (segmentRow s ++ rest) j 0
 row-at front rest k s long j = ap (λ (n : ℕ). getD (front ++ (segmentRow s ++ rest)) (n + j) 0) (sym long) ∙ getD-append-add front (segmentRow s ++ rest) j 0
 
-all-kept : (front rest : List ℕ) (k : ℕ) → length front ≡ segmentRowLength * k → (before behind : List ℕ) (at : ℕ) → length before ≡ at → (ss : List Segment) → AllSmall sourceLimit ss
-    → SegmentsKept (front ++ (segmentRows ss ++ rest)) (before ++ (numbersOf ss ++ behind)) k at ss
+-- the number of a source behind others
+source-at : (front rest : List ℕ) (k source : ℕ) → length front ≡ k → getD (front ++ (source ∷ rest)) k 0 ≡ source
+source-at front rest k source long =
+    ap (λ (n : ℕ). getD (front ++ (source ∷ rest)) n 0) (sym long ∙ sym (add-zero (length front))) ∙ getD-append-add front (source ∷ rest) 0 0
+
+all-kept : (front rest : List ℕ) (k : ℕ) → length front ≡ segmentRowLength * k → (former later : List ℕ) → length former ≡ k → (before behind : List ℕ) (at : ℕ) → length before ≡ at
+    → (ss : List Segment) → AllSmall sourceLimit ss
+    → SegmentsKept (front ++ (segmentRows ss ++ rest)) (former ++ (map (λ s. s .source) ss ++ later)) (before ++ (numbersOf ss ++ behind)) k at ss
 unfolding segmentRows segmentRow numbersOf chunksOf
-all-kept front rest k long before behind at many [] small = tt
-all-kept front rest k long before behind at many (s ∷ ss) (one, others) =
+all-kept front rest k long former later short before behind at many [] small = tt
+all-kept front rest k long former later short before behind at many (s ∷ ss) (one, others) =
     let row = segmentRow s in
     let more = segmentRows ss ++ rest in
     let mine = map numberOf (s .chunks) in
-    let later = map numberOf (chunksOf ss) ++ behind in
+    let others-chunks = map numberOf (chunksOf ss) ++ behind in
+    let others-sources = map (λ s. s .source) ss ++ later in
     let rows = front ++ (row ++ more) in
-    let numbers = before ++ (mine ++ later) in
+    let sources = former ++ (s .source ∷ others-sources) in
+    let numbers = before ++ (mine ++ others-chunks) in
     let split : before ++ (map numberOf (s .chunks ++ chunksOf ss) ++ behind) ≡ numbers =
     ap (λ (l : List ℕ). before ++ l) (ap (λ (l : List ℕ). l ++ behind) (map-both (s .chunks) (chunksOf ss)) ∙ append-assoc mine (map numberOf (chunksOf ss)) behind) in
     let rows-on : (front ++ row) ++ more ≡ rows = append-assoc front row more in
-    let numbers-on : (before ++ mine) ++ later ≡ numbers = append-assoc before mine later in
+    let sources-on : (former ++ (s .source ∷ [])) ++ others-sources ≡ sources = append-assoc former (s .source ∷ []) others-sources in
+    let numbers-on : (before ++ mine) ++ others-chunks ≡ numbers = append-assoc before mine others-chunks in
     let row-long : length (front ++ row) ≡ segmentRowLength * (k + 1) = omega (arith, length-append front row) in
     let numbers-long : length (before ++ mine) ≡ at + length (s .chunks) = omega (arith, length-append before mine, map-long (s .chunks)) in
-    let rest-kept = all-kept (front ++ row) rest (k + 1) row-long (before ++ mine) behind (at + length (s .chunks)) numbers-long ss others in
-    subst (λ (t : List ℕ). SegmentsKept rows t k at (s ∷ ss)) (sym split) (
+    let sources-long : length (former ++ (s .source ∷ [])) ≡ k + 1 = omega (arith, length-append former (s .source ∷ [])) in
+    let rest-kept = all-kept (front ++ row) rest (k + 1) row-long (former ++ (s .source ∷ [])) later sources-long (before ++ mine) behind (at + length (s .chunks)) numbers-long ss others in
+    subst (λ (t : List ℕ). SegmentsKept rows sources t k at (s ∷ ss)) (sym split) (
       row-at front more k s long 1,
       row-at front more k s long 4,
-      chunks-kept before later at many (s .sourceOffset) (s .chunks) one,
-      subst (λ (x : List ℕ × List ℕ). SegmentsKept (x .0) (x .1) (k + 1) (at + length (s .chunks)) ss) (λ i. (rows-on i, numbers-on i)) rest-kept,
+      source-at former others-sources k (s .source) short,
+      chunks-kept before others-chunks at many (s .sourceOffset) (s .chunks) one,
+      subst (λ (x : List ℕ × List ℕ × List ℕ). SegmentsKept (x .0) (x .1) (x .2) (k + 1) (at + length (s .chunks)) ss) (λ i. (rows-on i, sources-on i, numbers-on i)) rest-kept,
     )
 
-pub kept-put : (ss : List Segment) → AllSmall sourceLimit ss → length ss ≤ segmentLimit → length (chunksOf ss) ≤ chunkLimit → {many : ℕ} → many ≡ length ss → {t₀ t u₀ u : List ℕ}
+pub kept-put : (ss : List Segment) → AllSmall sourceLimit ss → length ss ≤ segmentLimit → length (chunksOf ss) ≤ chunkLimit → {many : ℕ} → many ≡ length ss → {t₀ t n u₀ u : List ℕ}
     → segmentRowLength * segmentLimit ≤ length t₀
     → chunkLimit ≤ length u₀
     → Put t₀ 0 (segmentRows ss) t
+    → SourcesHeld n ss
     → Put u₀ 0 (numbersOf ss) u
-    → Kept t many u ss
+    → Kept t many n u ss
 unfolding numbersOf
-kept-put ss small few chunks count {t₀} {u₀ = u₀} room space rows numbers =
+kept-put ss small few chunks count {t₀} {n = n} {u₀ = u₀} room space rows sources numbers =
     let full = put-fills (segmentRows ss) rows (omega (arith, segment-rows-long ss)) in
+    let held : n ≡ map (λ s. s .source) ss ++ drop (length ss) n = sym (take-append-drop (length ss) n) ∙ ap (λ (ns : List ℕ). ns ++ drop (length ss) n) (sources .numbers) in
     let told = put-fills (numbersOf ss) numbers (omega (arith, map-long (chunksOf ss))) in
     record {
       count = count;
       few = few;
       chunks = chunks;
       segments =
-          subst (λ (x : List ℕ × List ℕ). SegmentsKept (x .0) (x .1) 0 0 ss) (λ i. (sym full i, sym told i))
-          (all-kept [] (drop (length (segmentRows ss)) t₀) 0 refl [] (drop (length (numbersOf ss)) u₀) 0 refl ss small);
+          subst (λ (x : List ℕ × List ℕ × List ℕ). SegmentsKept (x .0) (x .1) (x .2) 0 0 ss) (λ i. (sym full i, sym held i, sym told i))
+          (all-kept [] (drop (length (segmentRows ss)) t₀) 0 refl [] (drop (length ss) n) refl [] (drop (length (numbersOf ss)) u₀) 0 refl ss small);
     }

@@ -6,7 +6,7 @@ use mathlib.Core.Path.{_≡_, refl, sym, ap, subst, _∙_}
 use native.Mathlib.Omega.{arith}
 use borrow.Author.Tests.{le-leb, lt-leb, eqb-true}
 use lib.Dec.{leb, eqb, lit<}
-use lib.ListN.{length}
+use lib.ListN.{length, drop-of-length-le}
 use Rattle.boxes.specs.Answer.{Answer, refused, given, _>>=_, hold}
 use Rattle.boxes.specs.Framing.{Box, boxesIn, boxOf}
 use Rattle.boxes.specs.Kinds.{pshd, ploc, surl, is, right, those, boxAt, firstOf}
@@ -24,9 +24,11 @@ use Rattle.partial.specs.Segments.{Chunk, Segment, chunksOf, endOf}
 use Rattle.partial.specs.Sources.{urlsFor, sourceBeside}
 use Rattle.partial.specs.Tables.{segmentRowLength, segmentRow}
 use Rattle.partial.proofs.Meaning.SequenceLaws.{both}
+use Rattle.partial.proofs.Meaning.SourceLaws.{beside-most, count-most}
 use Rattle.fields.specs.Fields.{valuesOf}
 use Rattle.fields.specs.declared.fields.Fields.{Fields}
-use Rattle.ends.specs.Table.{Holds}
+use Rattle.surls.specs.declared.body.Body.{Body}
+use Rattle.sources.proofs.HeldLaws.{Next, pfil-stands, pfil-urls, joined-number, joined}
 use Rattle.segment.specs.declared.chunk.Cursor.{Cursor}
 use Rattle.filling.specs.Rows.{Put}
 use Rattle.filling.proofs.RowLaws.{put-same}
@@ -35,11 +37,11 @@ use Rattle.gathering.specs.Forms.{formLength, putsOf}
 use Rattle.gathering.specs.Gathered.{gatheredOf}
 use Rattle.gathering.specs.Parts.{Parts, headerIn, partsIn, partsOf}
 use Rattle.gathering.specs.Rows.{rowBy}
-use Rattle.gathering.specs.Step.{Segmented}
+use Rattle.gathering.specs.Step.{Beside, Entered, Segmented}
 use Rattle.gathering.specs.declared.gathered.Gathered.{Gathered}
 use Rattle.gathering.specs.declared.parts.Parts.{Parts as CodeParts}
 use Rattle.gathering.specs.declared.step.SegmentRead.the-variants.{Given}
-use Rattle.gathering.proofs.GatheredLaws.{gathered-segments, gathered-chunks}
+use Rattle.gathering.proofs.GatheredLaws.{gathered-segments, gathered-chunks, gathered-sources}
 
 -- the `pshd` of a segment ends behind the start of its body
 pub header-whole : (f : List ℕ) (b : Box) {p : Parts} → partsIn f b ≡ given p → p .header .body ≤ p .header .end
@@ -140,6 +142,29 @@ module _ (f : List ℕ) (h : Heading) (ss : List Segment) (b : Framed) where
         let (l, _, e) = both-given (plocHead f (firstOf ploc (inside .0))) _ e in
         sym (ap (λ p. p .indexed) (given-same e))
 
+    -- none of them is a `surl`
+    listless : those surl (inside .0) ≡ []
+    listless =
+        let (header, _, e) = both-given (headerIn f (inside .0)) _ (sym (parts-with (inside .1)) ∙ parts) in
+        let (_, e) = held 15 (right Pseg ploc (inside .0)) _ e in
+        let (none, _) = held 16 (eqb (length (those surl (inside .0))) 0) _ e in
+        drop-of-length-le (those surl (inside .0)) {i = 0} (omega (arith, eqb-true (length (those surl (inside .0))) 0 none))
+
+    -- so that its list of URLs is that in `pfil`
+    pub next-list : {before : Gathered} {list : Body} {z n l : List ℕ} → Beside f h list before z n l ss → (cs : List Chunk)
+        → Next f h ss (before .segments) (before .sources) list (built f h ss (b .at .0) (inside .0) (partsOf p) cs)
+    next-list beside cs =
+        let s = built f h ss (b .at .0) (inside .0) (partsOf p) cs in
+        record {
+          segments = gathered-segments ss (beside .gathered);
+          few = beside .few;
+          sources = gathered-sources ss (beside .gathered);
+          numbered = beside .numbered;
+          stands = pfil-stands f h (beside .inPfil) s listless;
+          urls = pfil-urls f h (beside .inPfil) s listless refl;
+          number = refl;
+        }
+
     by-parts : segment sourceLimit f h ss (boxOf b) ≡ judged sourceLimit f h ss (b .at .0) (inside .0) (partsOf p)
     by-parts = segment-with (inside .1) ∙ rw (sym (parts-with (inside .1)) ∙ parts)
 
@@ -164,21 +189,26 @@ module _ (f : List ℕ) (h : Heading) (ss : List Segment) (b : Framed) where
         pub segment-read : {cs : List Chunk} → chunksBy f h (b .at .0) (p .location) first ≡ given cs → segment sourceLimit f h ss (boxOf b) ≡ given (built f h ss (b .at .0) (inside .0) (partsOf p) cs)
         segment-read e = by-chunks ∙ rw e
 
-        pub segment-told : {before g : Gathered} {numbered : Bool} {t₀ t u₀ u z : List ℕ} {cs : List Chunk} {c : Cursor} → before ≡ gatheredOf ss
+        pub segment-told : {before g : Gathered} {list : Body} {numbered : Bool} {t₀ t u₀ u z₀ z n₀ n l₀ l : List ℕ} {cs : List Chunk} {c : Cursor} → Beside f h list before z₀ n₀ l₀ ss
             → chunksBy f h (b .at .0) (p .location) first ≡ given cs → length cs ≡ p .location .count → Ran f (h .boxes) first before numbered u₀ cs c u
-            → Put t₀ (segmentRowLength * before .segments) (rowBy (b .at .0) (p .fields) (p .location .count) (boxOf (p .header))) t
-            → ((s : Segment) → p .location .count ≡ length (s .chunks) → p .indexed ≡ hasIndex (s .inner) → g ≡ gatheredOf (ss ++ (s ∷ [])))
-            → ((s : Segment) → p .fields .flags ≡ s .flags → p .location .count ≡ length (s .chunks) → c .start .0 ≡ endOf s → Holds z 0 (ss ++ (s ∷ [])))
-            → Segmented f h ss (boxOf b) numbered t₀ t u₀ u z (Given g (c .last))
+            → Entered f list before (b .at .0) p (c .start .0) t₀ t z₀ z n₀ n l₀ l g
+            → Segmented f h ss (boxOf b) numbered t₀ t u₀ u z n l (Given g (c .last))
         unfolding Segmented endOf segmentRow
-        segment-told {numbered = numbered} {cs = cs} so-far e many ran put gathers ends =
+        segment-told {numbered = numbered} {cs = cs} beside e many ran entered =
             let s = built f h ss (b .at .0) (inside .0) (partsOf p) cs in
-            let number = gathered-segments ss so-far in (
+            let next = next-list beside cs in
+            let sourced = beside .noted .sourced in
+            let source = joined-number next sourced (entered .joins) in
+            let low : s .source ≤ length ss = omega (arith, beside-most ss (s .urls), count-most ss (beside .numbered)) in
+            let number = gathered-segments ss (beside .gathered) in (
               s,
               segment-read e,
-              gathers s (sym many) flagged,
+              entered .gathers ss s (beside .gathered) (sym many) source (omega arith) flagged,
               ran .known,
-              put-same (ap (λ (n : ℕ). segmentRowLength * n) number) (ap (λ (n : ℕ). rowBy (b .at .0) (p .fields) n (boxOf (p .header))) (sym many)) put,
-              put-same (ap (λ (n : ℕ). formLength numbered * n) (gathered-chunks ss so-far)) (ap (λ (n : ℕ). putsOf numbered n cs) number) (ran .rows),
-              ends s refl (sym many) (ran .ends),
+              put-same (ap (λ (n : ℕ). segmentRowLength * n) number) (ap (λ (n : ℕ). rowBy (b .at .0) (p .fields) n (boxOf (p .header))) (sym many)) (entered .row),
+              put-same (ap (λ (n : ℕ). formLength numbered * n) (gathered-chunks ss (beside .gathered))) (ap (λ (n : ℕ). putsOf numbered n cs) number) (ran .rows),
+              record {
+                sizes = entered .sizes ss s source (omega (arith, beside .few)) (beside .noted .sizes) refl (sym many) (ran .ends);
+                sourced = joined next sourced (entered .joins);
+              },
             )

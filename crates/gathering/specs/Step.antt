@@ -1,6 +1,6 @@
 -- Document 01, "In one `pseg`: framing, 14, 15, 16, then 17 (head), 18, 19, 22, 23 (offset), entries": what is told of
 -- one segment.
-use Prim.Native.Nat.{ℕ, _+_, _*_, _≤_}
+use Prim.Native.Nat.{ℕ, _+_, _*_, _<_, _≤_}
 use mathlib.Core.Bool.{Bool}
 use mathlib.Core.List.{List, [], _∷_, _++_}
 use mathlib.Core.Path.{_≡_}
@@ -8,16 +8,22 @@ use lib.ListN.{length}
 use Rattle.boxes.specs.Answer.{refused, given}
 use Rattle.boxes.specs.Framing.{Box, boxOf}
 use Rattle.partial.specs.Heading.{Heading}
-use Rattle.partial.specs.Limits.{chunkLimit, sourceLimit}
+use Rattle.partial.specs.Index.{hasIndex}
+use Rattle.partial.specs.Limits.{segmentLimit, chunkLimit, sourceLimit}
 use Rattle.partial.specs.Reading.{segment}
-use Rattle.partial.specs.Segments.{Segment, chunksOf}
+use Rattle.partial.specs.ReadingDemands.{Numbered}
+use Rattle.partial.specs.Segments.{Segment, chunksOf, endOf}
 use Rattle.partial.specs.Tables.{segmentRowLength, segmentRow}
-use Rattle.ends.specs.Table.{Holds}
+use Rattle.surls.specs.declared.body.Body.{Body}
+use Rattle.sources.specs.Held.{PfilList, Sourced, Joins}
+use Rattle.ends.specs.Table.{sources, Holds}
 use Rattle.segment.specs.Data.{Searched}
 use Rattle.filling.specs.Rows.{Put}
 use Rattle.gathering.specs.Forms.{formLength, putsOf}
 use Rattle.gathering.specs.Gathered.{gatheredOf}
+use Rattle.gathering.specs.Rows.{rowBy}
 use Rattle.gathering.specs.declared.gathered.Gathered.{Gathered}
+use Rattle.gathering.specs.declared.parts.Parts.{Parts}
 use Rattle.gathering.specs.declared.step.SegmentRead.{SegmentRead}
 use Rattle.gathering.specs.declared.step.SegmentRead.the-variants.{Refused, Given}
 
@@ -26,15 +32,43 @@ unfoldable pub Counted : Gathered → SegmentRead → Type 0
 Counted before (Refused n) = Unit {0}
 Counted before (Given g last) = (g .segments ≡ before .segments + 1) × (g .chunks ≤ chunkLimit)
 
+-- tables of the caller's own hold what the ends of segments say of each source, the source of each segment, and where
+-- the list of each source stands
+pub record Noted (f : List ℕ) (h : Heading) (z n l : List ℕ) (ss : List Segment) : Type 0 where
+  pub sizes : Holds z ss
+  pub sourced : Sourced f h n l ss
+
+-- the segments before are those of which that was gathered and is noted; one more is not too many, and where it has no
+-- list of URLs of its own it has that in `pfil`
+pub record Beside (f : List ℕ) (h : Heading) (list : Body) (before : Gathered) (z n l : List ℕ) (ss : List Segment) : Type 0 where
+  pub gathered : before ≡ gatheredOf ss
+  pub few : length ss < segmentLimit
+  pub numbered : Numbered ss
+  pub inPfil : PfilList f h list
+  pub noted : Noted f h z n l ss
+
+-- the row, the source and the end of a segment of these parts were put, and it was gathered
+pub record Entered (f : List ℕ) (list : Body) (before : Gathered) (place : ℕ) (p : Parts) (end : ℕ) (t₀ t z₀ z n₀ n l₀ l : List ℕ) (r : Gathered) : Type 0 where
+  pub source : ℕ
+  pub row : Put t₀ (segmentRowLength * before .segments) (rowBy place (p .fields) (p .location .count) (boxOf (p .header))) t
+  pub joins : Joins f list (before .segments) (before .sources) n₀ l₀ source n l
+  pub sizes : (ss : List Segment) (s : Segment) → source ≡ s .source → s .source < sources → Holds z₀ ss → p .fields .flags ≡ s .flags → p .location .count ≡ length (s .chunks)
+      → end ≡ endOf s
+      → Holds z (ss ++ (s ∷ []))
+  pub segments : r .segments ≡ before .segments + 1
+  pub chunks : r .chunks ≡ before .chunks + p .location .count
+  pub gathers : (ss : List Segment) (s : Segment) → before ≡ gatheredOf ss → p .location .count ≡ length (s .chunks) → source ≡ s .source → source ≤ length ss → p .indexed ≡ hasIndex (s .inner)
+      → r ≡ gatheredOf (ss ++ (s ∷ []))
+
 -- what an answer about a segment says: its refusal, or that it was read, with its row and its chunks behind
--- those of the segments before it, and what its end says with what theirs say
-unfoldable pub Segmented : List ℕ → Heading → List Segment → Box → Bool → List ℕ → List ℕ → List ℕ → List ℕ → List ℕ → SegmentRead → Type 0
-Segmented f h ss b numbered t₀ t u₀ u z (Refused n) = segment sourceLimit f h ss b ≡ refused n
-Segmented f h ss b numbered t₀ t u₀ u z (Given g last) =
+-- those of the segments before it, and noted with them
+unfoldable pub Segmented : List ℕ → Heading → List Segment → Box → Bool → List ℕ → List ℕ → List ℕ → List ℕ → List ℕ → List ℕ → List ℕ → SegmentRead → Type 0
+Segmented f h ss b numbered t₀ t u₀ u z n l (Refused m) = segment sourceLimit f h ss b ≡ refused m
+Segmented f h ss b numbered t₀ t u₀ u z n l (Given g last) =
     (s : Segment)
     × (segment sourceLimit f h ss b ≡ given s)
     × (g ≡ gatheredOf (ss ++ (s ∷ [])))
     × Searched f (boxOf last) (h .boxes)
     × Put t₀ (segmentRowLength * length ss) (segmentRow s) t
     × Put u₀ (formLength numbered * length (chunksOf ss)) (putsOf numbered (length ss) (s .chunks)) u
-    × Holds z 0 (ss ++ (s ∷ []))
+    × Noted f h z n l (ss ++ (s ∷ []))

@@ -3,6 +3,8 @@ use ends::sizes::gives_size;
 use ends::table::ALL_SIZES;
 use ends::table::put_sizes;
 use ends::table::sizes_at;
+use numerals::order::larger;
+use numerals::order::sum_of;
 use partial::position::Position;
 ghost use Prim.Native.Nat.{_+_, _≤_, _<_};
 ghost use mathlib.Core.List.{List, [], _∷_, _++_};
@@ -15,10 +17,12 @@ ghost use Rattle.partial.specs.Segments.{Segment, endOf};
 ghost use Rattle.ends.specs.Table.{sources, Holds};
 ghost use Rattle.gathering.specs.Gathered.{gatheredOf};
 
-// How many segments there are, how many chunks they have, and whether some segment has an index.
+// How many segments there are, how many chunks they have, of how many sources they are, and whether some segment has an
+// index.
 pub struct Gathered {
     pub segments: u64,
     pub chunks: u64,
+    pub sources: u64,
     pub indexed: bool,
 }
 
@@ -30,26 +34,28 @@ impl Gathered {
         Gathered {
             segments: 0,
             chunks: 0,
+            sources: 0,
             indexed: false,
         }
     }
 
-    // With one segment more, of so many chunks, that has an index or none.
-    pub(crate) fn with(self, count: u64, indexed: bool) -> Self
+    // With one segment more, of so many chunks and of a source, that has an index or none.
+    pub(crate) fn with(self, count: u64, source: u64, indexed: bool) -> Self
         requires { ⌜ (self .segments ≤ boxLimit) × (self .chunks + count ≤ chunkLimit) ⌝ }
         ensures { λ r. ⌜ (r .segments ≡ self .segments + 1) × (r .chunks ≡ self .chunks + count)
             × ((ss : List Segment) (s : Segment) → self ≡ gatheredOf ss → count ≡ length (s .chunks)
-            → indexed ≡ hasIndex (s .inner) → r ≡ gatheredOf (ss ++ (s ∷ []))) ⌝ }
+            → source ≡ s .source → source ≤ length ss → indexed ≡ hasIndex (s .inner) → r ≡ gatheredOf (ss ++ (s ∷ []))) ⌝ }
     {
         Gathered {
             segments: self.segments + 1,
             chunks: self.chunks + count,
+            sources: larger(self.sources, sum_of(source, 1)),
             indexed: self.indexed | indexed,
         }
     }
 }
 
-// Puts the end of a segment of a source, of these flags and so many chunks, to those that the table holds of it.
+// Puts the end of a segment of a source, of these flags and so many chunks, to those that the table holds of that.
 pub(crate) fn add_end(
     sizes: &mut [u64; ALL_SIZES],
     source: u64,
@@ -57,8 +63,8 @@ pub(crate) fn add_end(
     count: u64,
     end: Position,
 )
-    ensures { λ _. ⌜ ((ss : List Segment) (s : Segment) → source < sources → Holds (now (sizes .entry)) source ss
-        → flags ≡ s .flags → count ≡ length (s .chunks) → end .0 ≡ endOf s → Holds (now (sizes .exit)) source (ss ++ (s ∷ []))) ⌝ }
+    ensures { λ _. ⌜ ((ss : List Segment) (s : Segment) → source ≡ s .source → s .source < sources → Holds (now (sizes .entry)) ss
+        → flags ≡ s .flags → count ≡ length (s .chunks) → end .0 ≡ endOf s → Holds (now (sizes .exit)) (ss ++ (s ∷ []))) ⌝ }
 {
     let before = sizes_at(sizes, source);
     put_sizes(sizes, source, before.with(end, gives_size(flags, count)));

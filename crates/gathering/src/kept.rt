@@ -8,7 +8,7 @@ use partial::position::Position;
 use partial::rows::ALL_NUMBERS;
 use partial::rows::ALL_SEGMENT_ROWS;
 use partial::rows::SEGMENT_ROW;
-ghost use Prim.Native.Nat.{_+_, _*_, _≤_};
+ghost use Prim.Native.Nat.{ℕ, _+_, _*_, _≤_};
 ghost use mathlib.Core.List.{List};
 ghost use mathlib.Core.Path.{_≡_};
 ghost use lib.ListN.{length};
@@ -48,7 +48,7 @@ pub fn fill_rows(
     numbers: &[u64; ALL_NUMBERS],
     table: &mut [u64],
 )
-    ensures { λ _. ⌜ ((ss : List Segment) → Kept (now (segments .entry)) many (now (numbers .entry)) ss → Put (now (table .entry)) 0 (chunkRows ss) (now (table .exit))) ⌝ }
+    ensures { λ _. ⌜ ((sources : List ℕ) (ss : List Segment) → Kept (now (segments .entry)) many sources (now (numbers .entry)) ss → Put (now (table .entry)) 0 (chunkRows ss) (now (table .exit))) ⌝ }
 {
     if SEGMENT_LIMIT < many {
         return;

@@ -12,14 +12,17 @@ use numerals::place::Place;
 use segment::tops::NO_TOP;
 use segment::tops::TOPS;
 use segment::tops::tops_of;
+use sources::lists::ALL_LISTS;
+use sources::lists::clear_lists;
+use sources::numbers::ALL_SOURCES;
+use sources::numbers::clear_sources;
+use surls::body::Body;
 use tallying::find::NO_BOX;
-ghost use mathlib.Core.Path.{_≡_};
-ghost use lib.ListN.{length};
-ghost use Rattle.boxes.specs.Answer.{given};
-ghost use Rattle.boxes.specs.Framing.{boxesIn};
-ghost use Rattle.boxes.specs.declared.kinds.Container.the-variants.{File};
+ghost use Prim.Native.Nat.{ℕ};
+ghost use mathlib.Core.List.{List, []};
 ghost use Rattle.partial.specs.Heading.{Heading};
-ghost use Rattle.gathering.specs.Pass.{Gathers};
+ghost use Rattle.gathering.specs.Pass.{Opened, Gathers};
+ghost use Rattle.gathering.specs.Step.{Noted};
 
 // What is gathered of all segments, or the number of a refusal.
 pub enum Passed {
@@ -27,25 +30,41 @@ pub enum Passed {
     Given(Gathered),
 }
 
-// Judges the segments of a file, which is mixed or not, in their order, and puts their rows and the numbers or the
-// rows of their chunks into the tables that have room for them all, and what their ends say into the caller's own
-// table, which may hold anything after a refusal.
+// Makes the caller's own tables those of no segment.
+fn clear_tables(
+    sizes: &mut [u64; ALL_SIZES],
+    sources: &mut [u64; ALL_SOURCES],
+    lists: &mut [u64; ALL_LISTS],
+)
+    ensures { λ _. ⌜ ((f : List ℕ) (h : Heading) → Noted f h (now (sizes .exit)) (now (sources .exit)) (now (lists .exit)) []) ⌝ }
+{
+    clear_sizes(sizes);
+    clear_sources(sources);
+    clear_lists(lists);
+}
+
+// Judges the segments of a file, which is mixed or not and whose `pfil` has its list of URLs in that container, in their
+// order, and puts their rows and the numbers or the rows of their chunks into the tables that have room for them all.
+// What their ends say, their sources and where the lists of these stand go into the caller's own tables, which may hold
+// anything after a refusal.
 pub fn pass(
     file: &[u8],
     mixed: bool,
+    list: Body,
     numbered: bool,
     segments: &mut [u64],
     chunks: &mut [u64],
     sizes: &mut [u64; ALL_SIZES],
+    sources: &mut [u64; ALL_SOURCES],
+    lists: &mut [u64; ALL_LISTS],
 ) -> Passed
-    ensures { λ r. ⌜ ((h : Heading)
-        → boxesIn File (now (file .entry)) 0 (length (now (file .entry))) ≡ given (h .boxes) → mixed ≡ h .mixed
+    ensures { λ r. ⌜ ((h : Heading) → Opened (now (file .entry)) mixed list h
         → Gathers (now (file .entry)) h numbered (now (segments .entry)) (now (segments .exit)) (now (chunks .entry)) (now (chunks .exit))
-        (now (sizes .exit)) r) ⌝ }
+        (now (sizes .exit)) (now (sources .exit)) (now (lists .exit)) r) ⌝ }
 {
     let mut tops = [NO_TOP; TOPS];
     tops_of(file, &mut tops);
-    clear_sizes(sizes);
+    clear_tables(sizes, sources, lists);
     let mut walk = Walk::new(Container::File, Place(0), Place(file.len() as u64));
     let mut gathered = Gathered::none();
     // No box held a chunk before the first.
@@ -59,6 +78,7 @@ pub fn pass(
                         file,
                         &tops,
                         mixed,
+                        list,
                         b,
                         gathered,
                         last,
@@ -66,6 +86,8 @@ pub fn pass(
                         segments,
                         chunks,
                         sizes,
+                        sources,
+                        lists,
                     ) {
                         SegmentRead::Refused(n) => return Passed::Refused(n),
                         SegmentRead::Given(more, held) => {

@@ -3,30 +3,34 @@ use crate::chunks::ChunksRead;
 use crate::chunks::chunks_of;
 use crate::gathered::Gathered;
 use crate::gathered::add_end;
+use crate::parts::Parts;
 use crate::parts::PartsRead;
 use crate::parts::parts_of;
 use crate::rows::put_segment;
 use boxes::framing::Framed;
 use ends::table::ALL_SIZES;
-use ends::table::ONE_SOURCE;
+use numerals::place::Place;
 use partial::limits::CHUNK_LIMIT;
 use partial::limits::SOURCE_LIMIT;
+use partial::position::Position;
 use partial::refusals::SOURCE_TOO_LONG;
 use partial::refusals::TOO_MANY_CHUNKS;
 use segment::chunk::Cursor;
 use segment::tops::TOPS;
-ghost use Prim.Native.Nat.{_≤_};
+use sources::join::join;
+use sources::lists::ALL_LISTS;
+use sources::numbers::ALL_SOURCES;
+use surls::body::Body;
+ghost use Prim.Native.Nat.{_+_, _≤_};
 ghost use mathlib.Core.List.{List};
 ghost use mathlib.Core.Path.{_≡_};
 ghost use Rattle.boxes.specs.Framing.{boxLimit, boxOf};
 ghost use Rattle.partial.specs.Heading.{Heading};
 ghost use Rattle.partial.specs.Limits.{chunkLimit};
 ghost use Rattle.partial.specs.Segments.{Segment};
-ghost use Rattle.ends.specs.Table.{Holds};
 ghost use Rattle.segment.specs.Data.{Searched};
 ghost use Rattle.segment.specs.Tops.{Tops};
-ghost use Rattle.gathering.specs.Gathered.{gatheredOf};
-ghost use Rattle.gathering.specs.Step.{Counted, Segmented};
+ghost use Rattle.gathering.specs.Step.{Entered, Beside, Counted, Segmented};
 
 // What is gathered with one segment more, and the data box that held the last chunk; or the number of a refusal.
 pub enum SegmentRead {
@@ -34,11 +38,40 @@ pub enum SegmentRead {
     Given(Gathered, Framed),
 }
 
-// The segment of a `pseg` box, beside what was gathered before it, by the table of the file's boxes.
+// Puts the row, the source and the end of a segment that was read into the tables: its chunks end at that position, and
+// its list of URLs stands in that container. What is gathered with it.
+fn put_read(
+    file: &[u8],
+    list: Body,
+    before: Gathered,
+    place: Place,
+    p: Parts,
+    end: Position,
+    segments: &mut [u64],
+    sizes: &mut [u64; ALL_SIZES],
+    sources: &mut [u64; ALL_SOURCES],
+    lists: &mut [u64; ALL_LISTS],
+) -> Gathered
+    requires { ⌜ (before .segments ≤ boxLimit) × (before .chunks + p .location .count ≤ chunkLimit) × (p .header .body .0 ≤ p .header .end .0) ⌝ }
+    ensures { λ r. ⌜ Entered (now (file .entry)) list before (place .0) p (end .0) (now (segments .entry)) (now (segments .exit))
+        (now (sizes .entry)) (now (sizes .exit)) (now (sources .entry)) (now (sources .exit)) (now (lists .entry)) (now (lists .exit)) r ⌝ }
+{
+    let fields = p.fields;
+    let header = p.header;
+    let count = p.location.count;
+    put_segment(segments, before.segments, place, fields, count, header);
+    let source = join(file, list, before.segments, before.sources, sources, lists);
+    add_end(sizes, source, fields.flags, count, end);
+    before.with(count, source, p.indexed)
+}
+
+// The segment of a `pseg` box, beside what was gathered before it, by the table of the file's boxes. It has no list of
+// URLs of its own, so its list is that in `pfil`.
 pub(crate) fn segment_of(
     file: &[u8],
     tops: &[u64; TOPS],
     mixed: bool,
+    list: Body,
     b: Framed,
     before: Gathered,
     last: Framed,
@@ -46,23 +79,24 @@ pub(crate) fn segment_of(
     segments: &mut [u64],
     chunks: &mut [u64],
     sizes: &mut [u64; ALL_SIZES],
+    sources: &mut [u64; ALL_SOURCES],
+    lists: &mut [u64; ALL_LISTS],
 ) -> SegmentRead
     requires { ⌜ (before .segments ≤ boxLimit) × (before .chunks ≤ chunkLimit) ⌝ }
     ensures { λ r. ⌜ Counted before r × ((h : Heading) (ss : List Segment) → mixed ≡ h .mixed
         → Searched (now (file .entry)) (boxOf last) (h .boxes) → Tops (h .boxes) (now (tops .entry))
-        → before ≡ gatheredOf ss → Holds (now (sizes .entry)) 0 ss
+        → Beside (now (file .entry)) h list before (now (sizes .entry)) (now (sources .entry)) (now (lists .entry)) ss
         → Segmented (now (file .entry)) h ss (boxOf b) numbered (now (segments .entry)) (now (segments .exit))
-        (now (chunks .entry)) (now (chunks .exit)) (now (sizes .exit)) r) ⌝ }
+        (now (chunks .entry)) (now (chunks .exit)) (now (sizes .exit)) (now (sources .exit)) (now (lists .exit)) r) ⌝ }
 {
     let place = b.at;
     match parts_of(file, b) {
         PartsRead::Refused(n) => SegmentRead::Refused(n),
         PartsRead::Given(p) => {
             let fields = p.fields;
-            let location = p.location;
-            let header = p.header;
-            let at = location.first;
-            let count = location.count;
+            let l = p.location;
+            let at = l.first;
+            let count = l.count;
             let start = fields.offset;
             if CHUNK_LIMIT - before.chunks < count {
                 return SegmentRead::Refused(TOO_MANY_CHUNKS);
@@ -71,23 +105,24 @@ pub(crate) fn segment_of(
                 return SegmentRead::Refused(SOURCE_TOO_LONG);
             }
             let first = Cursor { at, start, last };
-            match chunks_of(
-                file,
-                tops,
-                mixed,
-                place,
-                location,
-                first,
-                before,
-                numbered,
-                chunks,
-            ) {
+            match chunks_of(file, tops, mixed, place, l, first, before, numbered, chunks) {
                 ChunksRead::Refused(n) => SegmentRead::Refused(n),
                 ChunksRead::Given(cursor) => {
-                    put_segment(segments, before.segments, place, fields, count, header);
-                    add_end(sizes, ONE_SOURCE, fields.flags, count, cursor.start);
+                    let end = cursor.start;
                     let held = cursor.last;
-                    SegmentRead::Given(before.with(count, p.indexed), held)
+                    let gathered = put_read(
+                        file,
+                        list,
+                        before,
+                        place,
+                        p,
+                        end,
+                        segments,
+                        sizes,
+                        sources,
+                        lists,
+                    );
+                    SegmentRead::Given(gathered, held)
                 }
             }
         }

@@ -14,6 +14,7 @@ head-told g h e =
       segments = e i .segments;
       mixed = e i .mixed;
       indexed = e i .indexed;
+      list = e i .list;
       url = record { place = record { 0 = e i .url .place }; size = e i .url .size };
       mime = record { place = record { 0 = e i .mime .place }; size = e i .mime .size };
     }

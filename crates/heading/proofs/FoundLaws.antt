@@ -13,13 +13,16 @@ use Rattle.boxes.specs.Framing.{Box, boxesIn, boxOf}
 use Rattle.boxes.specs.Kinds.{those, noBox, boxAt, firstOf}
 use Rattle.boxes.specs.declared.framing.Framed.{Framed}
 use Rattle.boxes.specs.declared.kinds.Container.{Container}
+use Rattle.boxes.specs.declared.kinds.Container.the-variants.{File}
 use Rattle.boxes.specs.declared.kinds.Kind.{Kind}
 use Rattle.boxes.proofs.KindLaws.{boxAt-getD, boxAt-second, firstOf-those}
 use Rattle.boxes.proofs.ToldLaws.{box-fields}
+use Rattle.partial.specs.Heading.{Heading, heading}
 use Rattle.partial.specs.Sequences.{allOf}
 use Rattle.partial.proofs.Meaning.SequenceLaws.{both}
-use Rattle.partial.proofs.Reading.HeadingAppendLaws.{lies, boxes-lie, all-boxAt, those-all}
+use Rattle.partial.proofs.Reading.HeadingAppendLaws.{headed, lies, boxes-lie, all-boxAt, those-all}
 use Rattle.surls.specs.Parts.{Within}
+use Rattle.heading.specs.Facts.{pfilBody}
 
 -- ---- the box of a number
 
@@ -55,3 +58,10 @@ module _ (c : Container) (s : List ℕ) (start end : ℕ) {bs : List Box} (known
   pub first-within : (k : Kind) → boxOf b ≡ firstOf k bs → Within end b
   first-within k same =
       lies-within end b (rw (same, firstOf-those) (number-lies end 0 (those k bs) (those-all k (lies end) bs (boxes-lie c s start end bs known))))
+
+-- the body of `pfil` lies in the file
+pub pfil-inside : (f : List ℕ) (h : Heading) → heading f ≡ given h → pfilBody (h .boxes) .end .0 ≤ length f
+pfil-inside f h known =
+    let b = boxAt 1 (h .boxes) in
+    let lie = number-lies (length f) 1 (h .boxes) (boxes-lie File f 0 (length f) (h .boxes) (headed f h known .boxes)) in
+    leb-true (b .end) (length f) (both (leb (b .body) (b .end)) (leb (b .end) (length f)) lie .1)

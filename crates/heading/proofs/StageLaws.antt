@@ -2,7 +2,7 @@
 use Prim.Native.Nat.{ℕ, _≤_, _<_}
 use mathlib.Core.Bool.{Bool, true, false}
 use mathlib.Core.List.{List}
-use mathlib.Core.Path.{_≡_}
+use mathlib.Core.Path.{_≡_, sym, ap, _∙_}
 use borrow.Author.Tests.{le-leb, lt-leb}
 use lib.ListN.{length}
 use Rattle.boxes.specs.Answer.{refused, given}
@@ -17,7 +17,7 @@ use Rattle.partial.specs.Index.{hasIndex}
 use Rattle.surls.specs.Parts.{partOf}
 use Rattle.heading.specs.declared.answers.Head.{Head}
 use Rattle.heading.specs.declared.answers.Headed.the-variants.{Found}
-use Rattle.heading.specs.Facts.{factsOf, headedAnswer}
+use Rattle.heading.specs.Facts.{pfilBody, factsOf, headedAnswer}
 use Rattle.heading.specs.Steps.{Fronted}
 
 module _ (f : List ℕ) where
@@ -66,12 +66,20 @@ module _ (f : List ℕ) where
         unfolding judged
         all-right pfhd surl = rw (t .ftyp, t .brand, t .pfil, ← same, box-fields b, inner, pfhd, surl, ← (t .brands))
 
+  -- where the second box has its body
+  pub body-told : (bs : List Box) (b : Framed) → boxOf b ≡ boxAt 1 bs → record { container = Pfil; start = b .body; end = b .end } ≡ pfilBody bs
+  body-told bs b same =
+      let body : b .body .0 ≡ boxAt 1 bs .body = sym (ap (λ x. x .body) (box-fields b)) ∙ ap (λ x. x .body) same in
+      let end : b .end .0 ≡ boxAt 1 bs .end = sym (ap (λ x. x .end) (box-fields b)) ∙ ap (λ x. x .end) same in
+      λ i. record { container = Pfil; start = record { 0 = body i }; end = record { 0 = end i } }
+
   -- what is told where there is no refusal
   pub found-told : (bs is : List Box) (h : Head) → h .boxes ≡ length bs → h .segments ≡ length (those pseg bs)
       → h .indexed ≡ hasIndex is
+      → h .list ≡ pfilBody bs
       → partOf (h .url) ≡ url f (firstOf surl is)
       → partOf (h .mime) ≡ mime f (firstOf surl is)
       → headedAnswer (Found h) ≡ given (factsOf f (record { boxes = bs; inner = is; urls = urlsIn f is; mixed = h .mixed }))
   unfolding headedAnswer factsOf
-  found-told bs is h boxes segments indexed url mime =
-      λ i. given (record { boxes = boxes i; segments = segments i; mixed = h .mixed; indexed = indexed i; url = url i; mime = mime i })
+  found-told bs is h boxes segments indexed list url mime =
+      λ i. given (record { boxes = boxes i; segments = segments i; mixed = h .mixed; indexed = indexed i; list = list i; url = url i; mime = mime i })

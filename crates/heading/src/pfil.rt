@@ -12,6 +12,7 @@ use numerals::numbers::unsigned;
 use numerals::place::Place;
 use partial::refusals::PFHD_WRONG;
 use partial::refusals::SURL_WRONG;
+use surls::body::Body;
 use surls::formed::surls_formed;
 use surls::texts::mime_of;
 use surls::texts::url_of;
@@ -106,6 +107,11 @@ pub(crate) fn inner_of(file: &[u8], b: Framed, boxes: Tally, mixed: bool) -> Hea
         segments: boxes.of(PSEG),
         mixed,
         indexed: inner.of(FIDX) != 0,
+        list: Body {
+            container: Container::Pfil,
+            start,
+            end,
+        },
         url: url_of(file, first),
         mime: mime_of(file, first),
     })

@@ -1,4 +1,4 @@
--- Laws of the list had of a file whose segments are kept: it is the file's, and has room where it is put.
+-- Laws of the list had of a source of a file whose segments are kept: it is the source's, and has room where it is put.
 use Prim.Native.Nat.{ℕ, _*_, _≤_}
 use mathlib.Core.List.{List, _++_}
 use mathlib.Core.Path.{_≡_, sym, ap, _∙_}
@@ -10,23 +10,25 @@ use Rattle.partial.specs.Heading.{Heading, heading}
 use Rattle.partial.specs.Limits.{chunkLimit, sourceLimit}
 use Rattle.partial.specs.Meaning.{describedLength}
 use Rattle.partial.specs.Memory.{filled}
-use Rattle.partial.specs.Ranges.{had, hadList}
+use Rattle.partial.specs.Ranges.{hadList}
 use Rattle.partial.specs.Reading.{segments}
 use Rattle.partial.specs.Segments.{Segment, good, chunksOf}
-use Rattle.partial.specs.Tables.{rangeRowLength, hadRows}
+use Rattle.partial.specs.Sources.{ofSource}
+use Rattle.partial.specs.Tables.{rangeRowLength, rangeRows}
 use Rattle.partial.proofs.Meaning.ListingLaws.{listing}
-use Rattle.partial.proofs.Reading.OneSourceLaws.{accepted}
+use Rattle.partial.proofs.Reading.ReadingLaws.{accepted-of}
+use Rattle.ends.specs.Table.{Holds}
 use Rattle.gathering.specs.Kept.{Kept}
 use Rattle.gathering.proofs.RowLaws.{put-filled}
 use Rattle.spans.specs.Chunks.{manyOf, SpansOf}
 use Rattle.spans.specs.Spans.{classBy}
-use Rattle.spans.proofs.ChunkLaws.{many-few}
+use Rattle.spans.proofs.ChunkLaws.{many-few, source-few}
 use Rattle.spans.proofs.FileLaws.{spanned-by}
 use Rattle.listing.specs.Lists.{Lists}
 use Rattle.listing.specs.declared.lists.Totals.{Totals}
-use Rattle.listing.proofs.CallsLaws.{of-file}
+use Rattle.listing.proofs.CallsLaws.{spanned-lists}
 use Rattle.listing.proofs.ListLaws.{range-rows-long}
-use Rattle.listing.proofs.ManyLaws.{class-few}
+use Rattle.listing.proofs.ManyLaws.{had-few}
 use Rattle.indexrows.specs.Marking.{rangeLimit, AcceptedIn}
 use Rattle.indexrows.specs.Serving.{HadIn}
 
@@ -38,40 +40,42 @@ starts-filled rows t₀ e =
 
 -- ---- an accepted file
 
--- its lists are as they should be, and it has no more ranges than it may
-pub accepted-in : (f : List ℕ) (h : Heading) {rows : List ℕ} {many : ℕ} {numbers : List ℕ} {end : ℕ} {ss : List Segment} → heading f ≡ given h → segments sourceLimit f h ≡ given ss
-    → Kept rows many numbers ss → end ≡ describedLength ss
-    → AcceptedIn rows many numbers end ss
-unfolding hadList
-accepted-in f h {ss = ss} head all kept described =
-    let ok = accepted sourceLimit f h head all in
+-- the lists of its sources are as they should be, and none has more ranges than it may
+pub accepted-in : (f : List ℕ) (h : Heading) {rows : List ℕ} {many : ℕ} {sources numbers sizes : List ℕ} {ss : List Segment} → heading f ≡ given h → segments sourceLimit f h ≡ given ss
+    → Kept rows many sources numbers ss → Holds sizes ss
+    → AcceptedIn rows many sources numbers sizes ss
+accepted-in f h {ss = ss} head all kept held =
     record {
       kept = kept;
-      described = described;
-      lists = listing ss (ok .agreed) (ok .order);
-      few = omega (arith, class-few had ss (ok .order), kept .few, kept .chunks);
+      ends = held;
+      lists = λ source.
+          let ok = accepted-of sourceLimit f h head all source in
+          listing (ofSource source ss) (ok .agreed) (ok .order);
+      few = λ source. omega (arith, had-few source ss (accepted-of sourceLimit f h head all source .order), kept .few, kept .chunks);
     }
 
-module _ {rows : List ℕ} {many : ℕ} {numbers : List ℕ} {end : ℕ} {ss : List Segment} (a : AcceptedIn rows many numbers end ss) where
-  -- no more of its chunks are good than a file may have
-  pub good-few : manyOf good (chunksOf ss) ≤ chunkLimit
-  good-few = omega (arith, many-few good (chunksOf ss), a .kept .chunks)
+module _ {rows : List ℕ} {many : ℕ} {sources numbers sizes : List ℕ} {ss : List Segment} (a : AcceptedIn rows many sources numbers sizes ss) (source : ℕ) where
+  -- no more of a source's chunks are good than a file may have
+  pub good-few : manyOf good (chunksOf (ofSource source ss)) ≤ chunkLimit
+  good-few = omega (arith, many-few good (chunksOf (ofSource source ss)), source-few source ss, a .kept .chunks)
 
-  pub had-many : {t : List ℕ} {n : ℕ} {had₀ had₁ missing₀ missing₁ : List ℕ} {totals : Totals} → SpansOf good (chunksOf ss) end t n
+  pub had-many : {end : ℕ} {t : List ℕ} {n : ℕ} {had₀ had₁ missing₀ missing₁ : List ℕ} {totals : Totals} → end ≡ describedLength (ofSource source ss)
+      → SpansOf good (chunksOf (ofSource source ss)) end t n
       → Lists (classBy t n) end had₀ had₁ missing₀ missing₁ totals
       → rangeRowLength * rangeLimit ≤ length had₀
-      → HadIn ss had₁ (totals .had)
-  unfolding hadRows
-  had-many spans listed room =
-      let lists = of-file (spanned-by (a .described) spans) listed in
+      → HadIn (ofSource source ss) had₁ (totals .had)
+  had-many described spans listed room =
+      let lists = spanned-lists (spanned-by described spans) listed in
+      let mine = hadList (ofSource source ss) in
       record {
-        lists = a .lists;
+        lists = a .lists source;
         long = lists .counts .hadMany;
-        rows = starts-filled (hadRows ss) _ (put-filled (hadRows ss) (lists .had) (omega (arith, range-rows-long (hadList ss), a .few)));
+        rows = starts-filled (rangeRows mine) _ (put-filled (rangeRows mine) (lists .had) (omega (arith, range-rows-long mine, a .few source)));
       }
 
 -- a table that starts with them has room for them
 pub had-room : {ss : List Segment} {t : List ℕ} {n : ℕ} → HadIn ss t n → rangeRowLength * n ≤ length t
-unfolding filled hadRows
+unfolding filled
 had-room {ss} {t} h =
-    omega (arith, h .long, range-rows-long (hadList ss), ap length (h .rows), length-append (hadRows ss) (drop (length (hadRows ss)) t))
+    let rows = rangeRows (hadList ss) in
+    omega (arith, h .long, range-rows-long (hadList ss), ap length (h .rows), length-append rows (drop (length rows) t))

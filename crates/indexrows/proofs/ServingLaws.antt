@@ -16,7 +16,7 @@ use Rattle.partial.specs.Meaning.{supplied, describedLength}
 use Rattle.partial.specs.Memory.{filled}
 use Rattle.partial.specs.Ranges.{Range, had, classOf, rangesOf, hadList, among, apart}
 use Rattle.partial.specs.Segments.{Segment}
-use Rattle.partial.specs.Tables.{rangeRowLength, rangeRows, hadRows}
+use Rattle.partial.specs.Tables.{rangeRowLength, rangeRows}
 use Rattle.partial.proofs.Meaning.RangeLaws.{among-ranges}
 use Rattle.partial.proofs.Meaning.SequenceLaws.{which, both, passes, inside, past, within-true, some-at, some-by}
 use Rattle.partial.proofs.Reading.IndexServedLaws.{served-as-said}
@@ -89,8 +89,8 @@ pub all-of-none : (ss : List Segment) (place size : ℕ) → size ≡ 0 → serv
 all-of-none ss place size none = served-as-said ss place size .all .1 (λ i low. absurd (omega arith))
 
 module _ {ss : List Segment} {t : List ℕ} {many : ℕ} (h : HadIn ss t many) where
-  starts : t ≡ rangeRows (hadList ss) ++ drop (length (hadRows ss)) t
-  unfolding filled hadRows
+  starts : t ≡ rangeRows (hadList ss) ++ drop (length (rangeRows (hadList ss))) t
+  unfolding filled
   starts = h .rows
 
   had-first : (k : ℕ) → k < many → rowFirst t k ≡ getD (hadList ss) k nowhere .first

@@ -1,4 +1,4 @@
--- Document 02, [7], "whether none, some or all of its bytes are served": the ranges had of a file in a table, and the
+-- Document 02, [7], "whether none, some or all of its bytes are served": the ranges had of a source in a table, and the
 -- first of them that ends behind a place.
 use Prim.Native.Nat.{ℕ, _+_, _-_, _*_, _≤_, _<_}
 use mathlib.Core.List.{List}
@@ -8,13 +8,13 @@ use Rattle.partial.specs.ReadingDemands.{Listing}
 use Rattle.partial.specs.Memory.{filled}
 use Rattle.partial.specs.Ranges.{hadList}
 use Rattle.partial.specs.Segments.{Segment}
-use Rattle.partial.specs.Tables.{rangeRowLength, hadRows}
+use Rattle.partial.specs.Tables.{rangeRowLength, rangeRows}
 
--- a table starts with the ranges had of segments, so many, and these are as document 01, "Lists", says
+-- a table starts with the ranges had of the segments of a source, so many, and these are as document 01, "Lists", says
 pub record HadIn (ss : List Segment) (table : List ℕ) (many : ℕ) : Type 0 where
   pub lists : Listing ss
   pub long : many ≡ length (hadList ss)
-  pub rows : table ≡ filled (hadRows ss) table
+  pub rows : table ≡ filled (rangeRows (hadList ss)) table
 
 -- the first position of a range in a table, its length and its end
 abbrev pub rowFirst : List ℕ → ℕ → ℕ

@@ -8,17 +8,15 @@ use native.Mathlib.Omega.{arith}
 use borrow.Author.Tests.{eqb-true}
 use lib.Dec.{eqb}
 use lib.ListN.{length}
-use Rattle.partial.specs.Limits.{sourceLimit}
 use Rattle.partial.specs.Meaning.{describedLength}
 use Rattle.partial.specs.Ranges.{Range, had, missing, classOf, rangesOf, ofClass, hadList, missingList}
 use Rattle.partial.specs.Segments.{Segment, chunksOf}
+use Rattle.partial.specs.Sources.{ofSource}
 use Rattle.partial.proofs.Meaning.DescribedLaws.{InOrder}
 use Rattle.partial.proofs.Meaning.EdgeLaws.{listed-few}
 use Rattle.partial.proofs.Meaning.RangeLaws.{Cut, done, next, cut, ordered}
 use Rattle.partial.proofs.Meaning.SequenceLaws.{which}
-use Rattle.partial.proofs.Reading.OneSourceLaws.{accepted}
-use Rattle.reading.specs.Judged.{Judged}
-use Rattle.reading.proofs.JudgedLaws.{Accepted}
+use Rattle.spans.proofs.ChunkLaws.{of-few, source-few}
 
 module _ (class : ℕ → ℕ) (c : ℕ) where
   -- no more than half and one are of a class, and no more than half where the first is not
@@ -40,15 +38,12 @@ pub class-few : (c : ℕ) (ss : List Segment) → InOrder ss → 2 * length (ofC
 unfolding rangesOf
 class-few c ss order = omega (arith, half (classOf ss) c (cut (classOf ss) (describedLength ss) 0) .0, listed-few ss order)
 
--- the lists of an accepted file
-module _ {f : List ℕ} {j : Judged} (a : Accepted f j) where
-  order : InOrder (a .ss)
-  order = accepted sourceLimit f (a .h) (a .head) (a .all) .order
-
-  pub had-few : 2 * length (hadList (a .ss)) ≤ 2 + length (a .ss) + length (chunksOf (a .ss))
+-- the lists of a source, whose segments are in order
+module _ (source : ℕ) (ss : List Segment) (order : InOrder (ofSource source ss)) where
+  pub had-few : 2 * length (hadList (ofSource source ss)) ≤ 2 + length ss + length (chunksOf ss)
   unfolding hadList
-  had-few = class-few had (a .ss) order
+  had-few = omega (arith, class-few had (ofSource source ss) order, of-few source ss, source-few source ss)
 
-  pub missing-few : 2 * length (missingList (a .ss)) ≤ 2 + length (a .ss) + length (chunksOf (a .ss))
+  pub missing-few : 2 * length (missingList (ofSource source ss)) ≤ 2 + length ss + length (chunksOf ss)
   unfolding missingList
-  missing-few = class-few missing (a .ss) order
+  missing-few = omega (arith, class-few missing (ofSource source ss) order, of-few source ss, source-few source ss)

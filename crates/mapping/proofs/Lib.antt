@@ -3,3 +3,4 @@ pub mod Determined
 pub mod LineLaws
 pub mod OutlineLaws
 pub mod RangesLaws
+pub mod ToldLaws

@@ -1,7 +1,8 @@
--- Laws of what is told of a file by two tables of spans: the ranges and the text are the file's.
-use Prim.Native.Nat.{ℕ, suc, _+_, _-_, _*_, _<_, _≤_}
+-- Laws of what is told of a source by two tables of spans: the ranges and the text are the source's; and of the text of
+-- all sources.
+use Prim.Native.Nat.{ℕ, zero, suc, _+_, _-_, _*_, _<_, _≤_}
 use mathlib.Core.Bool.{Bool, true, false, _&&_}
-use mathlib.Core.List.{List, [], _∷_, _++_, map}
+use mathlib.Core.List.{List, [], _∷_, _++_, map, append-nil, append-assoc}
 use mathlib.Core.Path.{_≡_, refl, sym, ap, subst, _∙_}
 use native.Mathlib.Omega.{arith}
 use borrow.Rule.Slice.PartMut.{putMid, same-len-mid}
@@ -11,11 +12,13 @@ use Rattle.ends.specs.Sizes.{sizesOf}
 use Rattle.ends.specs.declared.sizes.Sizes.{Sizes}
 use Rattle.numerals.proofs.StoredLaws.{stored-none}
 use Rattle.partial.specs.Limits.{sourceLimit}
-use Rattle.partial.specs.Map.{ascii, decimal, line, sourceLine, rangeLines, totalLine, mapOf, missmapOf, textFor, mapText, missmapText}
+use Rattle.partial.specs.Map.{ascii, decimal, line, sourceLine, rangeLines, totalLine}
+use Rattle.partial.specs.Map.{sourceMap, sourceMissmap, eachSource, perSource, mapOf, missmapOf, textFor, mapText, missmapText}
 use Rattle.partial.specs.Meaning.{supplied, describedLength, isClosed}
 use Rattle.partial.specs.Naming.{held, lost, damagedAt, namedClass, namedRanges, heldList, lostList}
 use Rattle.partial.specs.Ranges.{Range as Stretch, missing, had, ranges, classOf, rangesOf, hadList, missingList, total}
 use Rattle.partial.specs.Segments.{Segment, good, damaged, chunksOf}
+use Rattle.partial.specs.Sources.{sourceCount, ofSource}
 use Rattle.partial.specs.declared.position.Position.{Position}
 use Rattle.partial.specs.declared.answers.Written.{Written}
 use Rattle.partial.specs.declared.answers.Written.the-variants.{Refused}
@@ -32,7 +35,7 @@ use Rattle.spans.proofs.SpanLaws.{front-same, front-ordered}
 use Rattle.texts.specs.Pieces.{PutsPiece}
 use Rattle.texts.specs.Writes.{Writes}
 use Rattle.texts.proofs.WritesLaws.{writes-short}
-use Rattle.mapping.specs.Outline.{textOf, classIn, wordOf, listsOf, behind, Damage, Drawn, rangesIn, rangesFor, Outlined}
+use Rattle.mapping.specs.Outline.{textOf, sourceText, classIn, wordOf, listsOf, behind, Damage, Drawn, rangesIn, rangesFor, Outlined}
 use Rattle.mapping.specs.Totals.{Counts, toldOf}
 use Rattle.mapping.specs.declared.outline.Outline.{Outline}
 use Rattle.mapping.specs.declared.totals.Totals.{Totals}
@@ -69,14 +72,13 @@ class-by false ss t n u m q class covers =
     let same = same-had (coveredBy t n q) (supplied ss q) class in
     λ i. elim (same i) [ true ↦ had | false ↦ elim (covers i) [ true ↦ held | false ↦ lost ] ]
 
-pub outlined-by : {ss : List Segment} {t u : List ℕ} {n m most : ℕ} {end : Position} {closed named : Bool} → length (rangesFor named ss) ≤ most → Spanned ss t n (end .0) → Damage ss named u m (end .0) → closed ≡ isClosed ss
-    → Outlined ss t u (record { good = n; damaged = m; most = most; end = end; closed = closed; named = named })
+pub outlined-by : {ss : List Segment} {t u : List ℕ} {n m : ℕ} {end : Position} {closed named : Bool} → Spanned ss t n (end .0) → Damage ss named u m (end .0) → closed ≡ isClosed ss
+    → Outlined ss t u (record { good = n; damaged = m; end = end; closed = closed; named = named })
 unfolding classIn
-outlined-by {ss} {t} {u} {n} {m} {named = named} few spanned damage known =
+outlined-by {ss} {t} {u} {n} {m} {named = named} spanned damage known =
     record {
       long = spanned .long;
       closed = known;
-      few = few;
       class = λ q below. class-by named ss t n u m q (spanned .class q below) (damage .covers q below);
     }
 
@@ -98,16 +100,16 @@ module _ (t : List ℕ) (n : ℕ) (d : List ℕ) (room : 2 * n ≤ length t) (lo
       let size : length d ≡ length both - 2 * n = omega (arith, long, length-take-le (length t - 2 * n) (drop (2 * n) t) (omega (arith, length-drop (2 * n) t)), both-long) in
       ap (take (length both - 2 * n)) (drop-at (take (2 * n) t) _ (2 * n) (length-take-le (2 * n) t room)) ∙ take-at d _ (length both - 2 * n) size
 
-  pub drawn-both : {m : ℕ} {most : ℕ} {end : Position} {closed named : Bool} → end .0 ≤ sourceLimit → Ordered t n (end .0) → Ordered d m (end .0)
-      → Drawn both (behind both n) (record { good = n; damaged = m; most = most; end = end; closed = closed; named = named })
+  pub drawn-both : {m : ℕ} {end : Position} {closed named : Bool} → end .0 ≤ sourceLimit → Ordered t n (end .0) → Ordered d m (end .0)
+      → Drawn both (behind both n) (record { good = n; damaged = m; end = end; closed = closed; named = named })
   drawn-both low good others = record { low = low; ofGood = front-ordered both-long both-front good; ofDamaged = rw both-behind others }
 
   -- of a file
-  pub outlined-both : {ss : List Segment} {m most : ℕ} {end : Position} {closed named : Bool} → length (rangesFor named ss) ≤ most → end .0 ≡ describedLength ss → closed ≡ isClosed ss → SpansOf good (chunksOf ss) (end .0) t n
+  pub outlined-both : {ss : List Segment} {m : ℕ} {end : Position} {closed named : Bool} → end .0 ≡ describedLength ss → closed ≡ isClosed ss → SpansOf good (chunksOf ss) (end .0) t n
       → Damage ss named d m (end .0)
-      → Outlined ss both (behind both n) (record { good = n; damaged = m; most = most; end = end; closed = closed; named = named })
-  outlined-both few ends is-closed spans damage =
-      outlined-by few (spanned-by ends (spans-ordered spans (front-same both-long both-front))) (rw both-behind damage) is-closed
+      → Outlined ss both (behind both n) (record { good = n; damaged = m; end = end; closed = closed; named = named })
+  outlined-both ends is-closed spans damage =
+      outlined-by (spanned-by ends (spans-ordered spans (front-same both-long both-front))) (rw both-behind damage) is-closed
 
 -- what is counted of them are the totals of the file's lists
 total-for : (named : Bool) (ss : List Segment) {totals : Totals} → Counts (rangesFor named ss) totals → line (ascii "total") (map decimal (toldOf named totals)) ≡ totalLine (listsOf named ss)
@@ -118,14 +120,10 @@ total-for true ss counts =
 total-for false ss counts = λ i. line (ascii "total") (decimal (counts .received i) ∷ decimal (counts .lost i) ∷ [])
 
 module _ {ss : List Segment} {t u : List ℕ} {o : Outline} (outlined : Outlined ss t u o) where
-  outlined-ranges : rangesIn t u o ≡ rangesFor (o .named) ss
+  pub outlined-ranges : rangesIn t u o ≡ rangesFor (o .named) ss
   outlined-ranges =
       ranges-same (nameBy t (o .good) u (o .damaged)) (classIn (o .named) ss) (o .end .0) 0 (λ q from below. outlined .class q (omega arith))
       ∙ ap (λ (end : ℕ). ranges (classIn (o .named) ss) end 0) (outlined .long)
-
-  -- no more than the outline says
-  pub ranges-most : length (rangesIn t u o) ≤ o .most
-  ranges-most = rw outlined-ranges (outlined .few)
 
   -- the lines of the ranges
   pub range-lines : rangeLines (wordOf (o .named)) (rangesIn t u o) ≡ rangeLines (wordOf (o .named)) (rangesFor (o .named) ss)
@@ -141,11 +139,33 @@ unfolding classIn namedRanges rangesOf
 ranges-few true ss order = named-few ss order
 ranges-few false ss order = listed-few ss order
 
--- the text of a file is its lines
-pub text-lines : (named : Bool) (ss : List Segment) → sourceLine ss ++ (rangeLines (wordOf named) (rangesFor named ss) ++ totalLine (listsOf named ss)) ≡ textOf named ss
-unfolding textOf wordOf classIn listsOf mapOf missmapOf namedRanges rangesOf
+-- the text of a source is its lines
+pub text-lines : (named : Bool) (ss : List Segment) → sourceLine ss ++ (rangeLines (wordOf named) (rangesFor named ss) ++ totalLine (listsOf named ss)) ≡ sourceText named ss
+unfolding sourceText wordOf classIn listsOf sourceMap sourceMissmap namedRanges rangesOf
 text-lines true ss = refl
 text-lines false ss = refl
+
+-- the text of a file is that of each source, one behind the other
+each-last : (of : List Segment → List ℕ) (ss : List Segment) (many n : ℕ) → eachSource of ss (many + 1) n ≡ eachSource of ss many n ++ of (ofSource (n + many) ss)
+unfolding eachSource
+each-last of ss zero n = append-nil (of (ofSource n ss)) ∙ ap (λ (k : ℕ). of (ofSource k ss)) {x = n} {y = n + zero} (omega arith)
+each-last of ss (suc many) n =
+    let one : suc many + 1 ≡ suc (many + 1) = omega arith in
+    let on : suc n + many ≡ n + suc many = omega arith in
+    ap (λ (m : ℕ). eachSource of ss m n) one
+    ∙ ap (λ (text : List ℕ). of (ofSource n ss) ++ text) (each-last of ss many (suc n) ∙ ap (λ (k : ℕ). eachSource of ss many (suc n) ++ of (ofSource k ss)) on)
+    ∙ sym (append-assoc (of (ofSource n ss)) (eachSource of ss many (suc n)) (of (ofSource (n + suc many) ss)))
+
+pub each-next : (of : List Segment → List ℕ) (ss : List Segment) (many : ℕ) → eachSource of ss (many + 1) 0 ≡ eachSource of ss many 0 ++ of (ofSource many ss)
+each-next of ss many = each-last of ss many 0 ∙ ap (λ (k : ℕ). eachSource of ss many 0 ++ of (ofSource k ss)) {x = 0 + many} {y = many} (omega arith)
+
+text-each : (named : Bool) (ss : List Segment) → eachSource (sourceText named) ss (sourceCount ss) 0 ≡ textOf named ss
+unfolding textOf sourceText mapOf missmapOf perSource
+text-each true ss = refl
+text-each false ss = refl
+
+pub text-all : (named : Bool) (ss : List Segment) {many : ℕ} → many ≡ sourceCount ss → eachSource (sourceText named) ss many 0 ≡ textOf named ss
+text-all named ss e = ap (λ (n : ℕ). eachSource (sourceText named) ss n 0) e ∙ text-each named ss
 
 pub known-closed : (ss : List Segment) {x : Sizes} → x ≡ sizesOf ss → x .known ≡ isClosed ss
 unfolding sizesOf

@@ -1,12 +1,7 @@
 // The maps of a file as text.
-use crate::lines::put_source;
-use crate::lines::put_total;
-use crate::outline::Outline;
-use crate::outline::outline_of;
-use crate::ranges::put_ranges;
+use crate::each::put_all;
 use ends::table::ALL_SIZES;
-use ends::table::ONE_SOURCE;
-use ends::table::sizes_at;
+use gathering::gathered::Gathered;
 use partial::answers::Written;
 use partial::refusals::BUFFER_TOO_SHORT;
 use partial::refusals::INPUT_TOO_LONG;
@@ -14,60 +9,79 @@ use partial::rows::ALL_NUMBERS;
 use partial::rows::ALL_SEGMENT_ROWS;
 use reading::judging::Judgement;
 use reading::judging::judge_into;
+use sources::lists::ALL_LISTS;
+use sources::numbers::ALL_SOURCES;
 use spans::chunks::ALL_SPANS;
 use texts::lines::put_refused;
-ghost use Prim.Native.Nat.{_+_, _*_, _≤_};
+ghost use Prim.Native.Nat.{_+_, _*_, _≤_, _^_};
 ghost use mathlib.Core.Bool.{true};
 ghost use mathlib.Core.List.{List};
 ghost use mathlib.Core.Path.{_≡_};
-ghost use lib.ListN.{length};
-ghost use Rattle.filling.specs.Rows.{Puts};
-ghost use Rattle.partial.specs.Limits.{sourceLimit};
+ghost use Rattle.partial.specs.Limits.{segmentLimit, sourceLimit};
 ghost use Rattle.partial.specs.Map.{textFor, mapText, missmapText, refusedLine};
 ghost use Rattle.partial.specs.Segments.{Segment};
 ghost use Rattle.texts.specs.Writes.{Writes};
-ghost use Rattle.mapping.specs.Outline.{textOf, behind, Drawn, Outlined, rangesIn};
+ghost use Rattle.mapping.specs.Outline.{textOf, Told};
 
-// The bytes of the line of a range are no more than this; those of the first line and the last together are no more
-// than three times as many.
+// The bytes of the line of a range are no more than this; those of the first line and the last of a source together are
+// no more than three times as many.
 const LINE: u64 = 50;
 
-// Whether a text with so many ranges surely fits.
-fn surely_fits(room: u64, ranges: u64) -> bool
-    ensures { λ r. ⌜ (r ≡ true → 150 + 50 * ranges ≤ room) ⌝ }
+// Whether the maps of so many sources, each of no more ranges than so many, surely fit.
+fn surely_fits(room: u64, many: u64, ranges: u64) -> bool
+    requires { ⌜ (many ≤ segmentLimit) × (ranges ≤ 2 ^ 32) ⌝ }
+    ensures { λ r. ⌜ (r ≡ true → many * (150 + 50 * ranges) ≤ room) ⌝ }
 {
-    let lines = room / LINE;
-    2 < lines && ranges < lines - 2
+    many * (ranges + 3) <= room / LINE
 }
 
-// Puts the map of a file by the spans in both tables.
-fn put_outline(buffer: &mut [u8], good: &[u64], damaged: &[u64], o: Outline) -> u64
-    requires { ⌜ Drawn (now good) (now damaged) o ⌝ }
-    ensures { λ r. ⌜ ((ss : List Segment) → Outlined ss (now (good .entry)) (now (damaged .entry)) o
-        → Puts (now (buffer .entry)) 0 (textOf (o .named) ss) (now (buffer .exit)) r)
-        × (r ≤ 150 + 50 * length (rangesIn (now (good .entry)) (now (damaged .entry)) o)) ⌝ }
+// Writes the maps of all sources of a file by what is kept of it. Where they may not fit, they are first put where
+// there is no room for them, to learn how long they are, since a buffer that is too short is left as it was.
+fn write_all(
+    buffer: &mut [u8],
+    sources: &[u64; ALL_SOURCES],
+    rows: &[u64; ALL_SEGMENT_ROWS],
+    numbers: &[u64; ALL_NUMBERS],
+    sizes: &[u64; ALL_SIZES],
+    gathered: Gathered,
+    named: bool,
+) -> Written
+    requires { ⌜ ((ss : List Segment) × Told (now rows) (now sources) (now numbers) (now sizes) gathered ss) ⌝ }
+    ensures { λ r. ⌜ ((ss : List Segment)
+        → Told (now (rows .entry)) (now (sources .entry)) (now (numbers .entry)) (now (sizes .entry)) gathered ss
+        → Writes (textOf named ss) (now (buffer .entry)) (now (buffer .exit)) r) ⌝ }
 {
-    let first = put_source(buffer, o.end, o.closed);
-    let ranges = put_ranges(buffer, first, good, damaged, o);
-    put_total(buffer, ranges.next, ranges.totals, o.named)
-}
-
-// Writes the map of a file by the spans in one table. Where it may not fit, it is first put where there is no room for
-// it, to learn how long it is, since a buffer that is too short is left as it was.
-fn write_outline(buffer: &mut [u8], spans: &[u64], o: Outline) -> Written
-    requires { ⌜ Drawn (now spans) (behind (now spans) (o .good)) o ⌝ }
-    ensures { λ r. ⌜ ((ss : List Segment) → Outlined ss (now (spans .entry)) (behind (now (spans .entry)) (o .good)) o → Writes (textOf (o .named) ss) (now (buffer .entry)) (now (buffer .exit)) r) ⌝ }
-{
-    let behind = 2 * o.good;
-    let damaged = &spans[behind..];
-    if !surely_fits(buffer.len() as u64, o.most) {
+    let mut spans = [0; ALL_SPANS];
+    let many = gathered.sources;
+    let most = gathered.segments + gathered.chunks + 1;
+    if !surely_fits(buffer.len() as u64, many, most) {
         let mut no_room = [0; 1];
-        let size = put_outline(&mut no_room, spans, damaged, o);
+        let size = put_all(
+            &mut no_room,
+            many,
+            sources,
+            rows,
+            numbers,
+            sizes,
+            gathered,
+            named,
+            &mut spans,
+        );
         if (buffer.len() as u64) < size {
             return Written::Refused(BUFFER_TOO_SHORT);
         }
     }
-    Written::Length(put_outline(buffer, spans, damaged, o))
+    Written::Length(put_all(
+        buffer,
+        many,
+        sources,
+        rows,
+        numbers,
+        sizes,
+        gathered,
+        named,
+        &mut spans,
+    ))
 }
 
 // Writes the line of a refusal. It is one piece, put whole or not at all, so that nothing has to be measured first.
@@ -91,23 +105,20 @@ fn write_map(file: &[u8], most: u64, buffer: &mut [u8], named: bool) -> Written
     let mut rows = [0; ALL_SEGMENT_ROWS];
     let mut numbers = [0; ALL_NUMBERS];
     let mut sizes = [0; ALL_SIZES];
-    match judge_into(file, &mut rows, &mut numbers, &mut sizes) {
+    let mut sources = [0; ALL_SOURCES];
+    let mut lists = [0; ALL_LISTS];
+    match judge_into(
+        file,
+        &mut rows,
+        &mut numbers,
+        &mut sizes,
+        &mut sources,
+        &mut lists,
+    ) {
         Judgement::Refused(n) => write_refused(buffer, n),
         Judgement::Given(judged) => {
             let gathered = judged.gathered;
-            let said = sizes_at(&sizes, ONE_SOURCE);
-            let end = said.described();
-            let mut spans = [0; ALL_SPANS];
-            let o = outline_of(
-                &rows,
-                &numbers,
-                gathered,
-                end,
-                said.known,
-                named,
-                &mut spans,
-            );
-            write_outline(buffer, &spans, o)
+            write_all(buffer, &sources, &rows, &numbers, &sizes, gathered, named)
         }
     }
 }

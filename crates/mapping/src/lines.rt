@@ -36,10 +36,11 @@ fn put_last(buffer: &mut [u8], at: u64, n: u64) -> u64
 }
 
 // `source`, the described length, `closed` or `open`.
-pub(crate) fn put_source(buffer: &mut [u8], described: Position, closed: bool) -> u64
-    ensures { λ r. ⌜ ((ss : List Segment) → described .0 ≡ describedLength ss → closed ≡ isClosed ss → Puts (now (buffer .entry)) 0 (sourceLine ss) (now (buffer .exit)) r) × (r ≤ 50) ⌝ }
+pub(crate) fn put_source(buffer: &mut [u8], at: u64, described: Position, closed: bool) -> u64
+    requires { ⌜ at < 2 ^ 61 ⌝ }
+    ensures { λ r. ⌜ ((ss : List Segment) → described .0 ≡ describedLength ss → closed ≡ isClosed ss → Puts (now (buffer .entry)) at (sourceLine ss) (now (buffer .exit)) r) × (r ≤ at + 50) ⌝ }
 {
-    let word = put_field(buffer, 0, b"source\t", described.0);
+    let word = put_field(buffer, at, b"source\t", described.0);
     if closed {
         return put_text(buffer, word, b"\tclosed\n");
     }

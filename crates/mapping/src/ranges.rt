@@ -5,7 +5,7 @@ use crate::totals::Totals;
 use partial::position::Position;
 use sweeping::naming::Sweeps;
 use sweeping::naming::named_at;
-ghost use Prim.Native.Nat.{_+_, _*_, _≤_};
+ghost use Prim.Native.Nat.{_+_, _*_, _<_, _≤_, _^_};
 ghost use lib.ListN.{length};
 ghost use Rattle.filling.specs.Rows.{Puts};
 ghost use Rattle.partial.specs.Map.{rangeLines};
@@ -26,10 +26,10 @@ pub(crate) fn put_ranges(
     damaged: &[u64],
     o: Outline,
 ) -> RangesPut
-    requires { ⌜ (at ≤ 50) × Drawn (now good) (now damaged) o ⌝ }
+    requires { ⌜ (at < 2 ^ 60) × Drawn (now good) (now damaged) o ⌝ }
     ensures { λ r. ⌜ Puts (now (buffer .entry)) at (rangeLines (wordOf (o .named)) (rangesIn (now (good .entry)) (now (damaged .entry)) o)) (now (buffer .exit)) (r .next)
-        × (r .next ≤ 50 + 50 * o .end .0)
-        × (r .next ≤ 50 + 50 * length (rangesIn (now (good .entry)) (now (damaged .entry)) o))
+        × (r .next ≤ at + 50 * o .end .0)
+        × (r .next ≤ at + 50 * length (rangesIn (now (good .entry)) (now (damaged .entry)) o))
         × Counts (rangesIn (now (good .entry)) (now (damaged .entry)) o) (r .totals) ⌝ }
 {
     let mut next = at;

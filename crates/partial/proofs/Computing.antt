@@ -35,22 +35,23 @@ unfolding
     Mixed.allowed Mixed.fillUp Mixed.wholeBoxes Mixed.boxesOf Mixed.areBoxes Mixed.boxesMany
     Entries.plocHead Entries.state Entries.stateOf Entries.entry Entries.inData Entries.mayLie Entries.offsetPlace Entries.placeOf
     Entries.chunkStep Entries.chunksFrom
-    Sources.urlsFor Sources.sameList Sources.sameText Sources.sameUrls Sources.sourceCount Sources.sourceAmong Sources.sourceBeside Sources.ofSource Sources.agreed
+    Sources.urlsFor Sources.sameList Sources.sameText Sources.sameUrls Sources.sourceCount Sources.sourceAmong Sources.sourceBeside Sources.ofSource Sources.ofUrls Sources.agreed
     Reading.offsetWidth Reading.pshdFields Reading.pshdRight Reading.segment Reading.segmentsFrom Reading.segments Reading.reading
     Reading.earlierSegments
     Meaning.givesSize Meaning.knownSize Meaning.describedLength Meaning.isClosed Meaning.agree Meaning.covers Meaning.supplier
     Meaning.supplied Meaning.placeOfByte Meaning.served Meaning.onward Meaning.servedRun Meaning.missingRun Meaning.reply
     Index.sizeBy Index.frontBy Index.indexFields Index.isKnown Index.endFrom Index.wherever Index.endRight Index.frontPart Index.listFramed
     Index.lastOrSized Index.noneFollows Index.withRest Index.inARow Index.untold Index.indexList Index.indexIn
-    Index.indexOfSegments Index.indexOf Index.hasIndex Index.indexed Index.servedOf Index.indexedSize Index.indexRow Index.indexRows
+    Index.boxesAlone Index.belonging Index.sizeFor Index.indexFor Index.indexOfSegments Index.indexOf Index.hasIndex Index.indexed Index.servedOf Index.indexedSize Index.indexRow Index.indexRows
     Ranges.joined Ranges.ranges Ranges.classOf Ranges.rangesOf Ranges.ofClass Ranges.hadList Ranges.missingList Ranges.total
     Ranges.among Ranges.apart Ranges.inRow
     Memory.fits Memory.filled Memory.after Memory.textWritten
     Tables.segmentRow Tables.segmentRows Tables.chunkRow Tables.chunkRowsOf Tables.chunkRowsFrom Tables.chunkRows Tables.rangeRows
     Tables.hadRows Tables.missingRows Tables.tabled Tables.listed Tables.summary Tables.totals Tables.nowhere
-    Tables.servedPart Tables.asked Tables.textOf Tables.indexTabled
+    Tables.partOf Tables.servedPart Tables.asked Tables.textOf Tables.indexTabled
     Naming.damagedAt Naming.namedClass Naming.namedRanges Naming.heldList Naming.lostList
-    Map.ascii Map.decimal Map.line Map.refusedLine Map.sourceLine Map.rangeLine Map.rangeLines Map.totalLine Map.mapWord Map.mapOf Map.missWord Map.missmapOf
+    Map.ascii Map.decimal Map.line Map.refusedLine Map.sourceLine Map.rangeLine Map.rangeLines Map.totalLine Map.mapWord Map.sourceMap Map.missWord Map.sourceMissmap
+    Map.eachSource Map.perSource Map.mapOf Map.missmapOf
     Map.textFor Map.mapText Map.missmapText
     BoxList.hex BoxList.prints BoxList.shown BoxList.each BoxList.typeBytes BoxList.userBytes BoxList.boxLine BoxList.faultLine BoxList.walkLines BoxList.boxesText
 computing = tt

@@ -3,10 +3,12 @@ use Prim.Native.Nat.{ℕ}
 use Rattle.partial.specs.Limits.{sourceLimit, programBuffer}
 use Rattle.partial.specs.Map.{mapOf, missmapOf}
 use Rattle.partial.specs.ReadingDemands.{NeverShort, Demand2OfReading}
+use Rattle.partial.proofs.Meaning.AskedLaws.{received-sum, missing-sum, absent}
 use Rattle.partial.proofs.Reading.AgreementReadLaws.{agrees, disagrees, index-refused}
 use Rattle.partial.proofs.Reading.IndexingLaws.{indexing}
 use Rattle.partial.proofs.Reading.PartLaws.{part-empty}
 use Rattle.partial.proofs.Reading.PrintedLaws.{printed}
+use Rattle.partial.proofs.Reading.NumberedLaws.{reading-numbered}
 use Rattle.partial.proofs.Reading.OneSourceLaws.{one-source}
 use Rattle.partial.proofs.Reading.ReadingLaws.{mapped-of}
 use Rattle.partial.proofs.Reading.TextLengthLaws.{never-short, map-fits, missmap-fits}
@@ -14,8 +16,12 @@ use Rattle.partial.proofs.Reading.TextLengthLaws.{never-short, map-fits
 pub demand2-of-reading : (limit : ℕ) → Demand2OfReading limit
 demand2-of-reading limit =
     record {
+      numbered = λ f ss read. reading-numbered limit f read;
       mapped = λ f h ss head read. mapped-of limit f head read;
       oneSource = λ f ss read. one-source limit f read;
+      absent = absent;
+      receivedTotal = received-sum;
+      missingTotal = missing-sum;
       agrees = agrees limit;
       disagrees = disagrees limit;
       indexRefused = index-refused limit;

@@ -1,6 +1,7 @@
 -- Laws of a list of segments: supply, the described length, the lists, serving and asking, and its sources.
 pub mod AgreementLaws
 pub mod AlikeLaws
+pub mod AskedLaws
 pub mod DescribedLaws
 pub mod EdgeLaws
 pub mod KnownLaws

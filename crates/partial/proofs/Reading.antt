@@ -11,6 +11,7 @@ pub mod IndexingLaws
 pub mod KeptLaws
 pub mod LieLaws
 pub mod LimitLaws
+pub mod NumberedLaws
 pub mod OneSourceLaws
 pub mod PartLaws
 pub mod BoxListLaws

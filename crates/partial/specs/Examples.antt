@@ -24,7 +24,7 @@ use Rattle.partial.specs.Memory.{after}
 use Rattle.partial.specs.Tables.{missingRows, tabled, summary, segmentRows, chunkRows, servedPart, textOf}
 use Rattle.partial.specs.Segments.{Segment, lost}
 use Rattle.partial.specs.Sources.{sourceBeside, agreed}
-use Rattle.partial.specs.Map.{ascii, sourceLine, mapText, missmapText, textFor, refusedLine}
+use Rattle.partial.specs.Map.{mapOf, ascii, sourceLine, mapText, missmapText, textFor, refusedLine}
 use Rattle.partial.specs.BoxList.{boxesText}
 use Rattle.partial.specs.Lesson.{begunBytes, firstBytes, secondBytes}
 
@@ -99,7 +99,7 @@ P7 = record { defined = widthBack 129; paper = pos 2 ∷ [] }
 abbrev pub missingIn : List ℕ → Answer (List ℤ)
 missingIn f = do
   ss ← reading sourceLimit f
-  given (map pos (missingRows ss))
+  given (map pos (missingRows 0 ss))
 
 -- P9's file: missing is (4, 6)
 abbrev P9 : Example
@@ -151,7 +151,7 @@ carrying header state bytes = boxed (pdat .code) bytes ++ foreign header state (
 abbrev lengthIn : List ℕ → Answer (List ℤ)
 lengthIn f = do
   ss ← reading sourceLimit f
-  given (pos (describedLength ss) ∷ elim (isClosed ss) [ true ↦ pos 1 | false ↦ pos 0 ] ∷ map pos (missingRows ss))
+  given (pos (describedLength ss) ∷ elim (isClosed ss) [ true ↦ pos 1 | false ↦ pos 0 ] ∷ map pos (missingRows 0 ss))
 
 -- P11: one open segment at 100: described length 100, missing (0, 100), open
 abbrev P11 : Example
@@ -209,7 +209,7 @@ mapUnder =
 abbrev rowsIn : ℕ → ℕ → List ℤ
 rowsIn m n =
     let answer = tabled sourceLimit (begunBytes ++ (firstBytes ++ secondBytes)) (replicate m 9) (replicate n 9) in
-    says (answer >>= λ ss. given (map pos (summary ss .segments ∷ summary ss .chunks ∷ [])))
+    says (answer >>= λ ss. given (map pos (summary 0 ss .segments ∷ summary 0 ss .chunks ∷ [])))
     ++ map pos (after segmentRows answer (replicate m 9) ++ after chunkRows answer (replicate n 9))
 
 -- tables just long enough, and one number longer
@@ -355,7 +355,7 @@ abbrev servedOf : List ℕ → List ℕ → ℕ → ℕ → ℕ → List ℤ
 servedOf brands boxes flags size back =
     let start = boxed (ftyp .code) (bytesOf 4 0 ++ (bytesOf 4 0 ++ brands)) ++ drop 20 begunBytes in
     let f = start ++ (boxes ++ foreign (version0 0 0) flags size ((256 - back) ∷ [])) in
-    says (reading sourceLimit f >>= λ ss. given (map pos (bytesIn f (servedPart (given ss) 0))))
+    says (reading sourceLimit f >>= λ ss. given (map pos (bytesIn f (servedPart (given ss) 0 0))))
 
 -- "A good chunk may then also lie in the file outside `pdat`, if it is exactly one or several neighbouring whole
 -- top-level boxes": `moof`, `mdat`, both
@@ -476,6 +476,24 @@ sizesPerSource =
       paper = pos 1 ∷ pos 0 ∷ [];
     }
 
+-- the lists of each source, and those of a number that is not in the file
+abbrev listsPerSource : Example
+listsPerSource =
+    let ss = segmentWith (ascii "a" ∷ []) 0 1 4 ∷ segmentWith (ascii "b" ∷ []) 1 0 9 ∷ segmentWith (ascii "a" ∷ []) 0 0 3 ∷ [] in
+    record {
+      defined = map pos (missingRows 0 ss ++ (missingRows 1 ss ++ (summary 2 ss .described ∷ missingRows 2 ss)));
+      paper = map pos (0 ∷ 4 ∷ 0 ∷ 9 ∷ 0 ∷ []);
+    }
+
+-- the map of two sources, whose segments alternate: the lines of the one, then those of the other
+abbrev mapPerSource : Example
+mapPerSource =
+    let ss = segmentWith (ascii "b" ∷ []) 0 0 3 ∷ segmentWith (ascii "a" ∷ []) 1 1 2 ∷ segmentWith (ascii "b" ∷ []) 0 1 4 ∷ [] in
+    record {
+      defined = map pos (mapOf ss);
+      paper = map pos (ascii "source\t4\tclosed\nlost\t0\t4\ntotal\t0\t0\t4\nsource\t2\tclosed\nlost\t0\t2\ntotal\t0\t0\t2\n");
+    }
+
 unfoldable pub table : List Example
 table =
     P1 ∷ P2 ∷ P3 ∷ P4 ∷ P5 ∷ P6 ∷ P7 ∷ P9 ∷ P10 ∷ P11 ∷ P12 ∷
@@ -484,7 +502,7 @@ table =
     wholeServed ∷ notWhole ∷ byBrand ∷ elsewhereRead ∷ elsewhereMissing ∷
     highestRead ∷ bothForms ∷ servedFar ∷
     map10 ∷ mapNamed ∷ mapUnder ∷
-    sourcesNumbered ∷ sizesPerSource ∷ []
+    sourcesNumbered ∷ sizesPerSource ∷ listsPerSource ∷ mapPerSource ∷ []
 
 -- at every row the definitions say what the paper says
 abbrev pub AsThePaperSays : Type 0

@@ -1,5 +1,5 @@
 -- Document 02, [7], with 5.2.2, 5.2.3 and 5.2.6 of source document 000: the box index and refusals 36 to 39. An index
--- list holds indexed boxes, and each of those may hold a list.
+-- list holds indexed boxes, and each of those may hold a list. Document 02, [8]: each index belongs to a source.
 use Prim.Native.Nat.{ℕ, zero, suc, _+_, _-_}
 use mathlib.Core.Bool.{Bool, true, false, not, _&&_, _||_}
 use mathlib.Core.List.{List, [], _∷_, _++_, map}
@@ -16,6 +16,7 @@ use Rattle.partial.specs.Sequences.{someOf, allOf, stretch}
 use Rattle.partial.specs.Segments.{Segment}
 use Rattle.partial.specs.Heading.{Heading}
 use Rattle.partial.specs.Meaning.{knownSize, supplied}
+use Rattle.partial.specs.Sources.{ofUrls}
 
 -- ---- an indexed box
 
@@ -163,19 +164,43 @@ indexIn limit f c bs size start = do
       given (told .boxes)
   ]
 
--- those of segments, each from its `source_byte_offset` on
-unfoldable pub indexOfSegments : ℕ → List ℕ → Option ℕ → List Segment → Answer (List Indexed)
+-- a box of the index of a file, with the URLs of its source
+pub record SourceBox : Type 0 where
+  pub urls : List (List ℕ)
+  pub box : Indexed
+
+-- the boxes alone
+unfoldable pub boxesAlone : List SourceBox → List Indexed
+boxesAlone is = map (λ i. i .box) is
+
+-- the boxes of an index that belongs to the source with these URLs
+unfoldable pub belonging : List (List ℕ) → List Indexed → List SourceBox
+belonging us is = map (λ i. record { urls = us; box = i }) is
+
+-- where the source with these URLs ends, by the segments of a file: not known of a list that none uses
+unfoldable pub sizeFor : List Segment → List (List ℕ) → Option ℕ
+sizeFor ss us = knownSize (ofUrls us ss)
+
+-- the index in a container that belongs to the source with these URLs, by where each source ends
+unfoldable pub indexFor : ℕ → List ℕ → (List (List ℕ) → Option ℕ) → List (List ℕ) → Container → List Box → ℕ → Answer (List SourceBox)
+indexFor limit f size us c bs start = do
+  boxes ← indexIn limit f c bs (size us) start
+  given (belonging us boxes)
+
+-- those of segments, each of its segment's source, from the `source_byte_offset` on
+unfoldable pub indexOfSegments : ℕ → List ℕ → (List (List ℕ) → Option ℕ) → List Segment → Answer (List SourceBox)
 indexOfSegments limit f size [] = given []
 indexOfSegments limit f size (s ∷ ss) = do
-  first ← indexIn limit f Pseg (s .inner) size (s .sourceOffset)
+  first ← indexFor limit f size (s .urls) Pseg (s .inner) (s .sourceOffset)
   later ← indexOfSegments limit f size ss
   given (first ++ later)
 
--- 36: the index in `pfil`, from the first byte of the source on, and those in segments, in file order
-unfoldable pub indexOf : ℕ → List ℕ → Heading → List Segment → Answer (List Indexed)
+-- 36: the index in `pfil`, of the source of the list in `pfil`, from its first byte on, and those in segments, in file
+-- order
+unfoldable pub indexOf : ℕ → List ℕ → Heading → List Segment → Answer (List SourceBox)
 indexOf limit f h ss = do
-  first ← indexIn limit f Pfil (h .inner) (knownSize ss) 0
-  later ← indexOfSegments limit f (knownSize ss) ss
+  first ← indexFor limit f (sizeFor ss) (h .urls) Pfil (h .inner) 0
+  later ← indexOfSegments limit f (sizeFor ss) ss
   given (first ++ later)
 
 -- whether a container has an index
@@ -183,12 +208,12 @@ unfoldable pub hasIndex : List Box → Bool
 hasIndex bs = ltb 0 (length (those fidx bs))
 
 -- stages 36 to 39, each over the whole file: no box of a ninth level, indexes in `pfil` or in segments, every end known
-unfoldable pub indexed : ℕ → List ℕ → Heading → List Segment → Answer (List Indexed)
+unfoldable pub indexed : ℕ → List ℕ → Heading → List Segment → Answer (List SourceBox)
 indexed limit f h ss = do
   boxes ← indexOf limit f h ss
-  _ ← hold 37 (allOf (λ i. leb (i .level) levelLimit) boxes)
+  _ ← hold 37 (allOf (λ i. leb (i .level) levelLimit) (boxesAlone boxes))
   _ ← hold 38 (not (hasIndex (h .inner) && someOf (λ s. hasIndex (s .inner)) ss))
-  _ ← hold 39 (allOf (λ i. isKnown (i .end)) boxes)
+  _ ← hold 39 (allOf (λ i. isKnown (i .end)) (boxesAlone boxes))
   given boxes
 
 -- ---- its rows
@@ -209,10 +234,12 @@ indexedSize i = elim (i .end) [ some end ↦ end - i .place | none ↦ 0 ]
 abbrev pub indexRowLength : ℕ
 indexRowLength = 5
 
--- level, source place, size, type, whether none, some or all of its bytes are served
-unfoldable pub indexRow : List Segment → Indexed → List ℕ
-indexRow ss i = i .level ∷ i .place ∷ indexedSize i ∷ i .kind ∷ servedOf ss (i .place) (indexedSize i) ∷ []
+-- level, source place, size, type, whether none, some or all of its bytes are served by the segments of its source
+unfoldable pub indexRow : List Segment → SourceBox → List ℕ
+indexRow ss i =
+    i .box .level ∷ i .box .place ∷ indexedSize (i .box) ∷ i .box .kind
+    ∷ servedOf (ofUrls (i .urls) ss) (i .box .place) (indexedSize (i .box)) ∷ []
 
-unfoldable pub indexRows : List Segment → List Indexed → List ℕ
+unfoldable pub indexRows : List Segment → List SourceBox → List ℕ
 indexRows ss [] = []
 indexRows ss (i ∷ is) = indexRow ss i ++ indexRows ss is

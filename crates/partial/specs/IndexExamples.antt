@@ -12,10 +12,11 @@ use Rattle.boxes.specs.Framing.{Box, uuid, boxed, boxesIn}
 use Rattle.boxes.specs.Kinds.{pfil, fidx, bidx, frpa}
 use Rattle.boxes.specs.declared.kinds.Container.the-variants.{Pfil, Pseg}
 use Rattle.partial.specs.Limits.{sourceLimit}
-use Rattle.partial.specs.Segments.{Segment, lost}
-use Rattle.partial.specs.Index.{Indexed, indexIn, indexed}
+use Rattle.partial.specs.Segments.{Chunk, Segment, good, lost}
+use Rattle.partial.specs.Index.{Indexed, boxesAlone, indexIn, indexed, indexRow}
 use Rattle.partial.specs.Reading.{reading}
 use Rattle.partial.specs.Tables.{indexTabled, indexTable}
+use Rattle.partial.specs.Map.{ascii}
 use Rattle.partial.specs.Lesson.{begunBytes}
 use Rattle.partial.specs.Examples.{Example, says, version0, foreignWith}
 
@@ -175,32 +176,41 @@ wrongInside =
 
 -- ---- the indexes of a file
 
--- a segment of lost bytes with these boxes, with flags, from an offset on
-abbrev segmentOf : ℕ → ℕ → ℕ → List Box → Segment
-segmentOf flags start size inner =
+-- a chunk of a state, from a position on
+abbrev chunkOf : ℕ → ℕ → ℕ → Chunk
+chunkOf state start size = record { start = start; size = size; state = state; place = 0 }
+
+-- a segment of the source with these URLs and that number, with flags, of one chunk, with these boxes
+abbrev segmentOf : List (List ℕ) → ℕ → ℕ → Chunk → List Box → Segment
+segmentOf urls source flags chunk inner =
     record {
       place = 0;
       inner = inner;
-      urls = [];
-      source = 0;
-      sourceOffset = start;
+      urls = urls;
+      source = source;
+      sourceOffset = chunk .start;
       flags = flags;
       repairTime = 0;
       headerPlace = 0;
       headerLength = 0;
-      chunks = record { start = start; size = size; state = lost; place = 0 } ∷ [];
+      chunks = chunk ∷ [];
     }
+
+-- what is told of the index of a file whose `pfil` has these URLs and boxes, with these segments
+abbrev tellsOf : List ℕ → List (List ℕ) → List Box → List Segment → List ℤ
+tellsOf f urls inner ss = tells (indexed sourceLimit f (record { boxes = []; inner = inner; urls = urls; mixed = false }) ss >>= λ is. given (boxesAlone is))
 
 -- of a file whose `pfil` holds some boxes, and two segments others: one at 4 of 4 bytes, and one at 8 of 88, which is
 -- last or not
 abbrev indexes : ℕ → List ℕ → List ℕ → List ℕ → List ℤ
 indexes flags inFile inFirst inSecond =
     let f = inFile ++ (inFirst ++ inSecond) in
-    tells
+    says
     (boxesIn Pfil f 0 (length inFile)
     >>= λ inner. boxesIn Pseg f (length inFile) (length inFile + length inFirst)
     >>= λ first. boxesIn Pseg f (length inFile + length inFirst) (length f)
-    >>= λ second. indexed sourceLimit f (record { boxes = []; inner = inner; urls = []; mixed = false }) (segmentOf 0 4 4 first ∷ segmentOf flags 8 88 second ∷ []))
+    >>= λ second.
+    given (tellsOf f [] inner (segmentOf [] 0 0 (chunkOf lost 4 4) first ∷ segmentOf [] 0 flags (chunkOf lost 8 88) second ∷ [])))
 
 -- boxes in boxes, each with a size of 0, on so many levels, with what the list of the last holds
 abbrev nested : ℕ → List ℕ → List ℕ
@@ -266,6 +276,49 @@ unknownEnd =
       paper = map pos (39 ∷ 39 ∷ []);
     }
 
+-- ---- the indexes of sources
+
+-- two lists of URLs
+abbrev a : List (List ℕ)
+a = ascii "a" ∷ []
+
+abbrev b : List (List ℕ)
+b = ascii "b" ∷ []
+
+-- document 02, [8]: an index of one box that runs to the end in a `pfil` with the list a, beside segments: it ends
+-- where that source does, known or not, and not where the first does; of a list that no segment uses that is not known
+abbrev inPfilOfSource : Example
+inPfilOfSource =
+    let told : List Segment → List ℤ = λ ss. says (boxesIn Pfil toTheEnd 0 (length toTheEnd) >>= λ inner. given (tellsOf toTheEnd a inner ss)) in
+    let first : Segment = segmentOf b 0 1 (chunkOf lost 0 40) [] in
+    record {
+      defined =
+          told (first ∷ segmentOf a 1 1 (chunkOf lost 0 9) [] ∷ [])
+          ++ (told (first ∷ segmentOf a 1 0 (chunkOf lost 0 9) [] ∷ []) ++ told (first ∷ []));
+      paper = map pos (1 ∷ 0 ∷ 9 ∷ mdat ∷ 39 ∷ 39 ∷ []);
+    }
+
+-- in two segments, each ends with its own source
+abbrev inSegmentsOfSources : Example
+inSegmentsOfSources =
+    record {
+      defined =
+          says
+          (boxesIn Pseg toTheEnd 0 (length toTheEnd)
+          >>= λ inner. given (tellsOf toTheEnd b [] (segmentOf b 0 1 (chunkOf lost 0 40) inner ∷ segmentOf a 1 1 (chunkOf lost 0 9) inner ∷ [])));
+      paper = map pos (1 ∷ 0 ∷ 40 ∷ mdat ∷ 1 ∷ 0 ∷ 9 ∷ mdat ∷ []);
+    }
+
+-- of a box of a source the bytes of that source alone are served; of a list that no segment uses none are
+abbrev servedOfSource : Example
+servedOfSource =
+    let row : List (List ℕ) → List ℕ = λ urls. drop 4
+    (indexRow (segmentOf b 0 0 (chunkOf good 0 9) [] ∷ segmentOf a 1 0 (chunkOf good 0 4) [] ∷ []) (record {
+      urls = urls;
+      box = record { level = 1; place = 0; end = some 9; kind = mdat };
+    })) in
+    record { defined = map pos (row a ++ (row b ++ row (ascii "c" ∷ []))); paper = map pos (1 ∷ 2 ∷ 0 ∷ []) }
+
 -- ---- whole files
 
 -- P8's file with these boxes besides in its `pfil`
@@ -293,7 +346,8 @@ justBegun = record { defined = rowsOf 5 (begunWith toTheEnd) ++ rowsOf 5 (begunW
 abbrev pub indexExamples : List Example
 indexExamples =
     twoLevels ∷ headers ∷ fromOffset ∷ rightIndexes ∷ wrongIndexes ∷ wrongInside ∷
-    inSegments ∷ faultsFirst ∷ depths ∷ inBoth ∷ unknownEnd ∷ inItsSegment ∷ justBegun ∷ []
+    inSegments ∷ faultsFirst ∷ depths ∷ inBoth ∷ unknownEnd ∷
+    inPfilOfSource ∷ inSegmentsOfSources ∷ servedOfSource ∷ inItsSegment ∷ justBegun ∷ []
 
 -- the definitions say what the paper says
 abbrev pub IndexAsThePaperSays : Type 0

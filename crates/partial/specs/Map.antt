@@ -1,5 +1,5 @@
--- Document 01, "The map program", and document 02, [6]: the bytes that the two map programs print.
-use Prim.Native.Nat.{ℕ, _^_}
+-- Document 01, "The map program", and document 02, [6] and [8]: the bytes that the two map programs print.
+use Prim.Native.Nat.{ℕ, zero, suc, _^_}
 use Prim.Native.String as Str
 use Prim.Native.String.{String}
 use Prim.Native.Char.{code}
@@ -12,6 +12,7 @@ use Rattle.boxes.specs.Answer.{refused, given}
 use Rattle.numerals.specs.Numbers.{least}
 use Rattle.partial.specs.Segments.{Segment}
 use Rattle.partial.specs.Meaning.{describedLength, isClosed}
+use Rattle.partial.specs.Sources.{sourceCount, ofSource}
 use Rattle.partial.specs.Reading.{reading}
 use Rattle.partial.specs.Ranges.{Range, rangesOf, hadList, missingList, total, had}
 use Rattle.partial.specs.Naming.{held, namedRanges, heldList, lostList}
@@ -55,17 +56,33 @@ totalLine lists = line (ascii "total") (map (λ rs. decimal (total rs)) lists)
 unfoldable pub mapWord : ℕ → List ℕ
 mapWord class = elim (eqb class had) [ true ↦ ascii "have" | false ↦ elim (eqb class held) [ true ↦ ascii "held" | false ↦ ascii "lost" ] ]
 
--- the map of an accepted file: the ranges of all three merged ascending; received, held, lost
-unfoldable pub mapOf : List Segment → List ℕ
-mapOf ss = sourceLine ss ++ (rangeLines mapWord (namedRanges ss) ++ totalLine (hadList ss ∷ heldList ss ∷ lostList ss ∷ []))
+-- the map of the segments of a source: the ranges of all three merged ascending; received, held, lost
+unfoldable pub sourceMap : List Segment → List ℕ
+sourceMap ss = sourceLine ss ++ (rangeLines mapWord (namedRanges ss) ++ totalLine (hadList ss ∷ heldList ss ∷ lostList ss ∷ []))
 
 -- `have` or `miss`
 unfoldable pub missWord : ℕ → List ℕ
 missWord class = elim (eqb class had) [ true ↦ ascii "have" | false ↦ ascii "miss" ]
 
 -- the map that does not name damage: both lists merged ascending; received, missing
+unfoldable pub sourceMissmap : List Segment → List ℕ
+sourceMissmap ss = sourceLine ss ++ (rangeLines missWord (rangesOf ss) ++ totalLine (hadList ss ∷ missingList ss ∷ []))
+
+-- what is printed of each of so many sources from a number on, by what is printed of the segments of one
+unfoldable pub eachSource : (List Segment → List ℕ) → List Segment → ℕ → ℕ → List ℕ
+eachSource of ss zero source = []
+eachSource of ss (suc more) source = of (ofSource source ss) ++ eachSource of ss more (suc source)
+
+-- document 02, [8]: "The map prints its lines per source, in number order"
+unfoldable pub perSource : (List Segment → List ℕ) → List Segment → List ℕ
+perSource of ss = eachSource of ss (sourceCount ss) 0
+
+-- both maps of an accepted file
+unfoldable pub mapOf : List Segment → List ℕ
+mapOf = perSource sourceMap
+
 unfoldable pub missmapOf : List Segment → List ℕ
-missmapOf ss = sourceLine ss ++ (rangeLines missWord (rangesOf ss) ++ totalLine (hadList ss ∷ missingList ss ∷ []))
+missmapOf = perSource sourceMissmap
 
 -- what a program prints that takes an input of at most so many bytes, by what it prints of an accepted file; 27
 -- precedes all others

@@ -20,14 +20,14 @@ use Rattle.partial.specs.Heading.{Part, Heading, heading, bytesIn}
 use Rattle.partial.specs.Mixed.{allowed}
 use Rattle.partial.specs.Meaning.{givesSize, describedLength, covers, supplier, supplied, chunkNo, chunkFor, served, servedRun, missingRun}
 use Rattle.partial.specs.Meaning.{reply, servedFor, missingFor, notBelow}
-use Rattle.partial.specs.Sources.{ofSource}
-use Rattle.partial.specs.Index.{Indexed, indexed, indexedSize}
+use Rattle.partial.specs.Sources.{sourceCount, ofSource, ofUrls}
+use Rattle.partial.specs.Index.{SourceBox, boxesAlone, indexed, indexedSize}
 use Rattle.partial.specs.IndexShape.{InOrder, ServedAsSaid}
 use Rattle.partial.specs.Reading.{segmentsFrom, reading, earlierSegments}
 use Rattle.partial.specs.Ranges.{had, rangesOf, ofClass, hadList, missingList, total, among, apart, inRow}
 use Rattle.partial.specs.Naming.{damagedAt, namedRanges, heldList, lostList}
 use Rattle.partial.specs.Memory.{after, written, textWritten}
-use Rattle.partial.specs.Tables.{tabled, listed, indexTabled, indexTable, totals, servedPart, asked, textOf}
+use Rattle.partial.specs.Tables.{hadRows, missingRows, tabled, listed, indexTabled, indexTable, summary, totals, partOf, servedPart, asked, textOf}
 use Rattle.partial.specs.Map.{decimal, line, refusedLine, textFor}
 use Rattle.partial.specs.BoxList.{each, boxLine, boxesText}
 
@@ -51,8 +51,8 @@ ofStages n = beforeAgreement n || (eqb n 25 || ofIndex n)
 -- of the box list the framing's
 pub record NeverRead (limit n : ℕ) : Type 0 where
   pub read : (f a b : List ℕ) → tabled limit f a b ≡ refused n → ⊥
-  pub ask : (f a b : List ℕ) (p : ℕ) → asked (tabled limit f a b) p ≡ refused n → ⊥
-  pub list : (f a b h m : List ℕ) → listed limit f a b h m ≡ refused n → ⊥
+  pub ask : (f a b : List ℕ) (source p : ℕ) → asked (tabled limit f a b) source p ≡ refused n → ⊥
+  pub list : (f a b h m : List ℕ) (source : ℕ) → listed limit f source a b h m ≡ refused n → ⊥
   pub index : (f t : List ℕ) → indexTabled limit f t ≡ refused n → ⊥
   pub text : (text buffer : List ℕ) → textWritten text buffer ≡ refused n → ⊥
   pub mapped : (input : List ℕ) → reading limit input ≡ refused n → ⊥
@@ -63,13 +63,13 @@ pub record NeverRead (limit n : ℕ) : Type 0 where
 pub record Demand1OfReading (limit : ℕ) : Type 0 where
   -- one numbered refusal, of those that the paper has for the call
   pub readNumbers : (f a b : List ℕ) (n : ℕ) → tabled limit f a b ≡ refused n → T (ofStages n || oneOf (12 ∷ 26 ∷ []) n)
-  pub listNumbers : (f a b h m : List ℕ) (n : ℕ) → listed limit f a b h m ≡ refused n → T (ofStages n || oneOf (12 ∷ 26 ∷ []) n)
+  pub listNumbers : (f a b h m : List ℕ) (source n : ℕ) → listed limit f source a b h m ≡ refused n → T (ofStages n || oneOf (12 ∷ 26 ∷ []) n)
   pub indexNumbers : (f t : List ℕ) (n : ℕ) → indexTabled limit f t ≡ refused n → T (ofStages n || oneOf (12 ∷ 26 ∷ []) n)
   pub textNumbers : (text buffer : List ℕ) (n : ℕ) → textWritten text buffer ≡ refused n → n ≡ 33
   -- document 02, [4]: none of them is 21
   pub no21 : NeverRead limit 21
   -- asking answers that number too, and the two texts are empty
-  pub askNumbers : (f a b : List ℕ) (p n : ℕ) → tabled limit f a b ≡ refused n → asked (tabled limit f a b) p ≡ refused n
+  pub askNumbers : (f a b : List ℕ) (source p n : ℕ) → tabled limit f a b ≡ refused n → asked (tabled limit f a b) source p ≡ refused n
   pub textsEmpty : (which : List ℕ → Box → Part) (f : List ℕ) (n : ℕ) → reading limit f ≡ refused n → bytesIn f (textOf which limit f) ≡ []
   -- after a refusal all lent memory holds what it held
   pub tablesKept :
@@ -77,13 +77,13 @@ pub record Demand1OfReading (limit : ℕ) : Type 0 where
       → tabled limit f a b ≡ refused n
       → after rows (tabled limit f a b) table ≡ table
   pub listsKept :
-      (rows : List Segment → List ℕ) (f a b h m table : List ℕ) (n : ℕ)
-      → listed limit f a b h m ≡ refused n
-      → after rows (listed limit f a b h m) table ≡ table
+      (rows : List Segment → List ℕ) (f a b h m table : List ℕ) (source n : ℕ)
+      → listed limit f source a b h m ≡ refused n
+      → after rows (listed limit f source a b h m) table ≡ table
   pub indexKept : (f table : List ℕ) (n : ℕ) → indexTabled limit f table ≡ refused n → after indexTable (indexTabled limit f table) table ≡ table
   pub textKept : (text buffer : List ℕ) (n : ℕ) → textWritten text buffer ≡ refused n → written text (textWritten text buffer) buffer ≡ buffer
 
--- "Lists": of an accepted file's segments
+-- "Lists": of the segments of a source of an accepted file
 pub record Listing (ss : List Segment) : Type 0 where
   -- each position below the described length is in exactly one list: among the had exactly if it is supplied, else
   -- among the missing
@@ -97,12 +97,10 @@ pub record Listing (ss : List Segment) : Type 0 where
   pub missingApart : T (apart 0 (missingList ss))
   -- merged they are ascending too, one range behind the other up to the described length
   pub merged : T (inRow 0 (describedLength ss) (rangesOf ss))
-  -- the totals that listing answers are the sums of the lengths, and together they are the described length
-  pub receivedTotal : totals ss .receivedTotal ≡ total (hadList ss)
-  pub missingTotal : totals ss .missingTotal ≡ total (missingList ss)
+  -- the sums of the lengths are together the described length
   pub together : total (hadList ss) + total (missingList ss) ≡ describedLength ss
 
--- document 02, [6]: the missing positions of an accepted file's segments, by name
+-- document 02, [6]: the missing positions of the segments of a source of an accepted file, by name
 pub record Naming (ss : List Segment) : Type 0 where
   -- a missing position below the described length is in exactly one list: among the held exactly if some damaged chunk
   -- covers it, else among the lost
@@ -150,7 +148,7 @@ pub record Whole (h : Heading) (c : Chunk) : Type 0 where
   pub ends : boxAt (first + more) (h .boxes) .end ≡ c .place + c .size
   pub each : (k : ℕ) → k ≤ more → T (allowed (boxAt (first + k) (h .boxes)))
 
--- "Serving": of a position that is supplied
+-- "Serving", by the segments of a source: of a position that is supplied
 pub record Serving (f : List ℕ) (h : Heading) (ss : List Segment) (p : ℕ) : Type 0 where
   -- by the first good chunk that covers it
   pub there : supplier (chunksOf ss) p < length (chunksOf ss)
@@ -162,25 +160,35 @@ pub record Serving (f : List ℕ) (h : Heading) (ss : List Segment) (p : ℕ) : 
   -- the byte is the file's, as far behind the chunk's place as the position is behind the chunk's start
   pub byte : served f ss p ≡ some (getD f (chunkFor ss p .place + (p - chunkFor ss p .start)) 0)
   -- the part holds p and the positions after it, as long as they are supplied by the same chunk, and no longer
-  pub part : (i : ℕ) → i < servedRun ss p → served f ss (p + i) ≡ some (getD (bytesIn f (servedPart (given ss) p)) i 0)
-  pub long : length (bytesIn f (servedPart (given ss) p)) ≡ servedRun ss p
+  pub part : (i : ℕ) → i < servedRun ss p → served f ss (p + i) ≡ some (getD (bytesIn f (partOf ss p)) i 0)
+  pub long : length (bytesIn f (partOf ss p)) ≡ servedRun ss p
   pub sameChunk : (i : ℕ) → i < servedRun ss p → supplier (chunksOf ss) (p + i) ≡ supplier (chunksOf ss) p
   pub noLonger : supplier (chunksOf ss) (p + servedRun ss p) ≡ supplier (chunksOf ss) p → ⊥
   pub notEmpty : 0 < servedRun ss p
   -- and asking answers its length
   pub told : reply ss p ≡ servedFor (servedRun ss p)
 
--- "Serving": of a position below the described length that is not supplied
+-- of a position below the described length that is not supplied
 pub record Missing (f : List ℕ) (ss : List Segment) (p : ℕ) : Type 0 where
   -- no good chunk covers it
   pub uncovered : (k : ℕ) → k < length (chunksOf ss) → chunkNo ss k .state ≡ good → Beside p (chunkNo ss k)
   -- the part is empty
-  pub part : bytesIn f (servedPart (given ss) p) ≡ []
+  pub part : bytesIn f (partOf ss p) ≡ []
   -- asking answers for how many positions it is missing, up to the next supplied one or the described length
   pub told : reply ss p ≡ missingFor (missingRun ss p)
   pub notSupplied : (i : ℕ) → i < missingRun ss p → supplied ss (p + i) ≡ false
   pub upTo : (p + missingRun ss p ≡ describedLength ss) ⊎ T (supplied ss (p + missingRun ss p))
   pub notEmpty : 0 < missingRun ss p
+
+-- document 02, [8]: the numbers of the sources of a list of segments
+pub record Numbered (ss : List Segment) : Type 0 where
+  -- segments whose lists of URLs are byte-equal in the same order belong to one source, and no others do
+  pub sameNumber : (s t : Segment) → List·Memᴰ s ss → List·Memᴰ t ss → (s .source ≡ t .source) ↔ (s .urls ≡ t .urls)
+  -- given from 0 on, one to each source
+  pub below : (s : Segment) → List·Memᴰ s ss → s .source < sourceCount ss
+  pub used : (n : ℕ) → n < sourceCount ss → (s : Segment) × List·Memᴰ s ss × (s .source ≡ n)
+  -- in order of first appearance: a segment has the number of a source before it, or the next
+  pub inTurn : (before after : List Segment) (s : Segment) → ss ≡ before ++ (s ∷ after) → s .source ≤ sourceCount before
 
 -- no segment ends above, or differs from, a size that one of its source makes known
 abbrev pub InAgreement : List Segment → Type 0
@@ -196,14 +204,16 @@ pub record Reaches25 (limit : ℕ) (f : List ℕ) (ss : List Segment) : Type 0 w
   pub read : segmentsFrom limit f h [] (those pseg (h .boxes)) ≡ given ss
 
 -- document 02, [7]: the boxes of an accepted file's index
-pub record Indexing (ss : List Segment) (is : List Indexed) : Type 0 where
+pub record Indexing (h : Heading) (ss : List Segment) (is : List SourceBox) : Type 0 where
   -- each before those of its own list, which lie inside it, on one of eight levels
-  pub inOrder : InOrder is
-  -- none is empty, and of each is said whether all, some or none of its positions are served
-  pub notEmpty : (i : Indexed) → List·Memᴰ i is → 0 < indexedSize i
-  pub served : (i : Indexed) → List·Memᴰ i is → ServedAsSaid ss (i .place) (indexedSize i)
+  pub inOrder : InOrder (boxesAlone is)
+  -- document 02, [8]: each belongs to the source of the list in `pfil`, or to that of a segment
+  pub owned : (i : SourceBox) → List·Memᴰ i is → (i .urls ≡ h .urls) ⊎ ((s : Segment) × List·Memᴰ s ss × (i .urls ≡ s .urls))
+  -- none is empty, and of each is said whether all, some or none of its positions are served by its source
+  pub notEmpty : (i : SourceBox) → List·Memᴰ i is → 0 < indexedSize (i .box)
+  pub served : (i : SourceBox) → List·Memᴰ i is → ServedAsSaid (ofUrls (i .urls) ss) (i .box .place) (indexedSize (i .box))
 
--- an accepted file: its sizes agree, and each source byte is served or listed missing
+-- the segments of a source of an accepted file: its sizes agree, and each source byte is served or listed missing
 pub record Mapped (f : List ℕ) (h : Heading) (ss : List Segment) : Type 0 where
   pub agreed : InAgreement ss
   pub listing : Listing ss
@@ -211,6 +221,16 @@ pub record Mapped (f : List ℕ) (h : Heading) (ss : List Segment) : Type 0 wher
   pub serving : (p : ℕ) → T (supplied ss p) → Serving f h ss p
   pub missing : (p : ℕ) → p < describedLength ss → supplied ss p ≡ false → Missing f ss p
   pub beyond : (p : ℕ) → describedLength ss ≤ p → reply ss p ≡ notBelow
+
+-- "Every position of a source number not in the file is above its length": it has no positions, none is served, and its
+-- lists are empty
+pub record Absent (source : ℕ) (ss : List Segment) : Type 0 where
+  pub above : (p : ℕ) → asked (given ss) source p ≡ given notBelow
+  pub unserved : (f : List ℕ) (p : ℕ) → bytesIn f (servedPart (given ss) source p) ≡ []
+  pub described : summary source ss .described ≡ 0
+  pub unknown : summary source ss .closed ≡ false
+  pub had : hadRows source ss ≡ []
+  pub missing : missingRows source ss ≡ []
 
 -- "The map program": what a program prints for its input that prints that of an accepted file, whatever the most is
 -- that it takes, and what the call leaves that writes this into a lent buffer
@@ -261,16 +281,23 @@ pub record BoxesPrinted (most : ℕ) (input : List ℕ) : Type 0 where
 
 -- demand 2, of reading: in an accepted file each source byte is served or listed missing as document 01's rules say
 pub record Demand2OfReading (limit : ℕ) : Type 0 where
+  -- a source number is given in order of first appearance
+  pub numbered : (f : List ℕ) (ss : List Segment) → reading limit f ≡ given ss → Numbered ss
   -- of each source, of which a file has one
   pub mapped : (f : List ℕ) (h : Heading) (ss : List Segment) → heading f ≡ given h → reading limit f ≡ given ss → (n : ℕ) → Mapped f h (ofSource n ss)
   pub oneSource : (f : List ℕ) (ss : List Segment) → reading limit f ≡ given ss → ofSource 0 ss ≡ ss
+  -- of a source number that is not in a file
+  pub absent : (source : ℕ) (ss : List Segment) → sourceCount ss ≤ source → Absent source ss
+  -- the totals that listing answers are the sums of the lengths
+  pub receivedTotal : (source : ℕ) (ss : List Segment) → totals source ss .receivedTotal ≡ total (hadList (ofSource source ss))
+  pub missingTotal : (source : ℕ) (ss : List Segment) → totals source ss .missingTotal ≡ total (missingList (ofSource source ss))
   -- a file that reaches 25 is accepted exactly if its sizes agree and its index is told, and no other is; it is 25
   -- exactly if they do not. Its segments, over which serving, lists and maps are, are those that it reaches 25 with:
   -- the index never changes what is served
   pub agrees :
       (f : List ℕ) (ss : List Segment)
       → (reading limit f ≡ given ss)
-      ↔ ((reached : Reaches25 limit f ss) × InAgreement ss × ((is : List Indexed) × (indexed limit f (reached .h) ss ≡ given is)))
+      ↔ ((reached : Reaches25 limit f ss) × InAgreement ss × ((is : List SourceBox) × (indexed limit f (reached .h) ss ≡ given is)))
   pub disagrees : (f : List ℕ) → (reading limit f ≡ refused 25) ↔ ((ss : List Segment) × Reaches25 limit f ss × (InAgreement ss → ⊥))
   -- it is 36 to 39 exactly if its sizes agree and its index has that number
   pub indexRefused :
@@ -279,16 +306,16 @@ pub record Demand2OfReading (limit : ℕ) : Type 0 where
       ↔ ((ss : List Segment) × (reached : Reaches25 limit f ss) × InAgreement ss × (indexed limit f (reached .h) ss ≡ refused n))
   -- what is told of an accepted file's index
   pub indexing :
-      (f : List ℕ) (h : Heading) (ss : List Segment) (is : List Indexed)
+      (f : List ℕ) (h : Heading) (ss : List Segment) (is : List SourceBox)
       → heading f ≡ given h
       → reading limit f ≡ given ss
       → indexed limit f h ss ≡ given is
-      → Indexing ss is
+      → Indexing h ss is
   -- the part is empty exactly when the file is refused, a table is too short or p is not supplied
   pub partEmpty :
-      (f a b : List ℕ) (p : ℕ)
-      → (bytesIn f (servedPart (tabled limit f a b) p) ≡ [])
-      ↔ (((n : ℕ) × (tabled limit f a b ≡ refused n)) ⊎ ((ss : List Segment) × (tabled limit f a b ≡ given ss) × (supplied ss p ≡ false)))
+      (f a b : List ℕ) (source p : ℕ)
+      → (bytesIn f (servedPart (tabled limit f a b) source p) ≡ [])
+      ↔ (((n : ℕ) × (tabled limit f a b ≡ refused n)) ⊎ ((ss : List Segment) × (tabled limit f a b ≡ given ss) × (supplied (ofSource source ss) p ≡ false)))
   pub printed : (of : List Segment → List ℕ) (most : ℕ) (input : List ℕ) → Printed of limit most input
 
 -- "append takes an acceptable file, or one whose only refusal is 12, which counts as serving nothing with described

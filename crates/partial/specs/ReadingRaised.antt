@@ -30,16 +30,16 @@ pub record RaisedReading (low high : ℕ) : Type 0 where
   -- an accepted file has the same segments, and so the same rows in the tables and in the lists
   pub reads : (f : List ℕ) → Kept (reading low f) (reading high f)
   pub tables : (f a b : List ℕ) → Kept (tabled low f a b) (tabled high f a b)
-  pub lists : (f a b h m : List ℕ) → Kept (listed low f a b h m) (listed high f a b h m)
+  pub lists : (f a b h m : List ℕ) (source : ℕ) → Kept (listed low f source a b h m) (listed high f source a b h m)
   -- its index is the same
   pub indexes : (f table : List ℕ) → Kept (indexTabled low f table) (indexTabled high f table)
   -- asking of a position has the same answer
-  pub asks : (f a b : List ℕ) (p : ℕ) → Kept (asked (tabled low f a b) p) (asked (tabled high f a b) p)
+  pub asks : (f a b : List ℕ) (source p : ℕ) → Kept (asked (tabled low f a b) source p) (asked (tabled high f a b) source p)
   -- serving hands back the same part of an accepted file, and its URL and MIME text are the same parts
   pub serves :
-      (f a b : List ℕ) (p : ℕ) (ss : List Segment)
+      (f a b : List ℕ) (source p : ℕ) (ss : List Segment)
       → tabled low f a b ≡ given ss
-      → servedPart (tabled high f a b) p ≡ servedPart (tabled low f a b) p
+      → servedPart (tabled high f a b) source p ≡ servedPart (tabled low f a b) source p
   pub texts :
       (which : List ℕ → Box → Part) (f : List ℕ) (ss : List Segment)
       → reading low f ≡ given ss

@@ -46,6 +46,10 @@ unfoldable pub ofSource : ℕ → List Segment → List Segment
 ofSource n [] = []
 ofSource n (s ∷ ss) = elim (eqb (s .source) n) [ true ↦ s ∷ ofSource n ss | false ↦ ofSource n ss ]
 
+-- the segments of the source with these URLs; of a list that no segment uses none
+unfoldable pub ofUrls : List (List ℕ) → List Segment → List Segment
+ofUrls us ss = ofSource (sourceBeside ss us) ss
+
 -- 25, per source: the sizes of each segment's source agree
 unfoldable pub agreed : List Segment → Bool
 agreed ss = allOf (λ s. agree (ofSource (s .source) ss)) ss

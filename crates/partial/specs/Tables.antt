@@ -1,5 +1,6 @@
 -- Document 01, "Rows", "Serving", "Lists" and refusal 26, and document 02, [7], "give a table of each indexed box":
--- what the reading calls answer, hand back and leave in the lent tables.
+-- what the reading calls answer, hand back and leave in the lent tables. Document 02, [8]: "Described length, lists,
+-- serving .. are per source", told by its number.
 use Prim.Native.Nat.{ℕ, suc}
 use mathlib.Core.Bool.{Bool, true, false, _&&_}
 use mathlib.Core.List.{List, [], _∷_, _++_}
@@ -10,8 +11,9 @@ use Rattle.boxes.specs.Framing.{Box}
 use Rattle.partial.specs.Segments.{Chunk, Segment, chunksOf}
 use Rattle.partial.specs.Heading.{Part, heading}
 use Rattle.partial.specs.Meaning.{describedLength, isClosed, supplied, placeOfByte, servedRun, Reply, reply}
+use Rattle.partial.specs.Sources.{ofSource}
 use Rattle.partial.specs.Reading.{reading}
-use Rattle.partial.specs.Index.{Indexed, indexed, indexRows}
+use Rattle.partial.specs.Index.{SourceBox, indexed, indexRows}
 use Rattle.partial.specs.Ranges.{Range, hadList, missingList, total}
 use Rattle.partial.specs.Memory.{fits}
 
@@ -55,11 +57,12 @@ unfoldable pub rangeRows : List Range → List ℕ
 rangeRows [] = []
 rangeRows (r ∷ rs) = r .first ∷ r .length ∷ rangeRows rs
 
-unfoldable pub hadRows : List Segment → List ℕ
-hadRows ss = rangeRows (hadList ss)
+-- the two lists of a source
+unfoldable pub hadRows : ℕ → List Segment → List ℕ
+hadRows source ss = rangeRows (hadList (ofSource source ss))
 
-unfoldable pub missingRows : List Segment → List ℕ
-missingRows ss = rangeRows (missingList ss)
+unfoldable pub missingRows : ℕ → List Segment → List ℕ
+missingRows source ss = rangeRows (missingList (ofSource source ss))
 
 -- reading, serving and asking with the two lent tables: all stages of the file, then 26. A table is left as `after`
 -- says, by its rows: `segmentRows`, `chunkRows`, `hadRows` or `missingRows`
@@ -69,16 +72,16 @@ tabled limit f segmentTable chunkTable = do
   _ ← hold 26 (fits (segmentRows ss) segmentTable && fits (chunkRows ss) chunkTable)
   given ss
 
--- listing with the two tables and the two lent lists
-unfoldable pub listed : ℕ → List ℕ → List ℕ → List ℕ → List ℕ → List ℕ → Answer (List Segment)
-listed limit f segmentTable chunkTable hadTable missingTable = do
+-- listing a source with the two tables and the two lent lists
+unfoldable pub listed : ℕ → List ℕ → ℕ → List ℕ → List ℕ → List ℕ → List ℕ → Answer (List Segment)
+listed limit f source segmentTable chunkTable hadTable missingTable = do
   ss ← tabled limit f segmentTable chunkTable
-  _ ← hold 26 (fits (hadRows ss) hadTable && fits (missingRows ss) missingTable)
+  _ ← hold 26 (fits (hadRows source ss) hadTable && fits (missingRows source ss) missingTable)
   given ss
 
 -- the index with its lent table: the segments and the boxes of the index. The table is left as `after` says, by
 -- `indexTable`
-unfoldable pub indexTabled : ℕ → List ℕ → List ℕ → Answer (List Segment × List Indexed)
+unfoldable pub indexTabled : ℕ → List ℕ → List ℕ → Answer (List Segment × List SourceBox)
 indexTabled limit f table = do
   ss ← reading limit f
   h ← heading f
@@ -86,53 +89,65 @@ indexTabled limit f table = do
   _ ← hold 26 (fits (indexRows ss is) table)
   given (ss, is)
 
-abbrev pub indexTable : List Segment × List Indexed → List ℕ
+abbrev pub indexTable : List Segment × List SourceBox → List ℕ
 indexTable told = indexRows (told .0) (told .1)
 
 -- what is answered of the index: how many boxes it has
-abbrev pub indexCount : List Segment × List Indexed → ℕ
+abbrev pub indexCount : List Segment × List SourceBox → ℕ
 indexCount told = length (told .1)
 
--- what reading says of an accepted file: how many rows each table has, the described length, whether the size is known
+-- what reading says of an accepted file: how many rows each table has; of a source the described length, and whether
+-- its size is known
 pub record Summary : Type 0 where
   pub segments : ℕ
   pub chunks : ℕ
   pub described : ℕ
   pub closed : Bool
 
-unfoldable pub summary : List Segment → Summary
-summary ss = record { segments = length ss; chunks = length (chunksOf ss); described = describedLength ss; closed = isClosed ss }
+unfoldable pub summary : ℕ → List Segment → Summary
+summary source ss =
+    record {
+      segments = length ss;
+      chunks = length (chunksOf ss);
+      described = describedLength (ofSource source ss);
+      closed = isClosed (ofSource source ss);
+    }
 
--- what listing says: how many ranges each list has, and the received and missing totals
+-- what listing says: how many ranges each list of the source has, and the received and missing totals
 pub record Totals : Type 0 where
   pub hadRanges : ℕ
   pub missingRanges : ℕ
   pub receivedTotal : ℕ
   pub missingTotal : ℕ
 
-unfoldable pub totals : List Segment → Totals
-totals ss =
+unfoldable pub totals : ℕ → List Segment → Totals
+totals source ss =
     record {
-      hadRanges = length (hadList ss);
-      missingRanges = length (missingList ss);
-      receivedTotal = total (hadList ss);
-      missingTotal = total (missingList ss);
+      hadRanges = length (hadList (ofSource source ss));
+      missingRanges = length (missingList (ofSource source ss));
+      receivedTotal = total (hadList (ofSource source ss));
+      missingTotal = total (missingList (ofSource source ss));
     }
 
 -- an empty part
 unfoldable pub nowhere : Part
 nowhere = record { place = 0; size = 0 }
 
--- the part that serving hands back: that of p and the positions after it, as long as the same chunk supplies them
-unfoldable pub servedPart : Answer (List Segment) → ℕ → Part
-servedPart (refused n) p = nowhere
-servedPart (given ss) p = elim (supplied ss p) [ true ↦ record { place = placeOfByte ss p; size = servedRun ss p } | false ↦ nowhere ]
+-- the part that serves a position, by the segments of its source: that of p and the positions after it, as long as the
+-- same chunk supplies them
+unfoldable pub partOf : List Segment → ℕ → Part
+partOf ss p = elim (supplied ss p) [ true ↦ record { place = placeOfByte ss p; size = servedRun ss p } | false ↦ nowhere ]
 
--- what asking answers
-unfoldable pub asked : Answer (List Segment) → ℕ → Answer Reply
-asked read p = do
+-- the part that serving hands back of a position of a source
+unfoldable pub servedPart : Answer (List Segment) → ℕ → ℕ → Part
+servedPart (refused n) source p = nowhere
+servedPart (given ss) source p = partOf (ofSource source ss) p
+
+-- what asking answers of one
+unfoldable pub asked : Answer (List Segment) → ℕ → ℕ → Answer Reply
+asked read source p = do
   ss ← read
-  given (reply ss p)
+  given (reply (ofSource source ss) p)
 
 -- a text of the first `surl`, its URL or its MIME text: empty after a refusal
 unfoldable pub textOf : (List ℕ → Box → Part) → ℕ → List ℕ → Part

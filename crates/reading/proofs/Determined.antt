@@ -1,25 +1,29 @@
 -- Each public call's contract determines its answer, and what it leaves in the lent tables: two that it allows of the
 -- same arguments are equal. A part of the lent file is determined by where it lies and by its bytes. What `judge_into`
--- leaves in a table is determined where the file is accepted and all of that fits, what the ends of segments say where
--- it is accepted, and the stages of an index where the file's heading and segments are known and whether they have one.
-use Prim.Native.Nat.{ℕ, _≤_}
+-- leaves in a table is determined where the file is accepted and all of that fits, what the ends of segments say, their
+-- sources and the boxes where the lists of these stand where it is accepted, and the stages of an index where the file's heading and segments are known and whether they have one.
+use Prim.Native.Nat.{ℕ, _<_, _≤_}
 use mathlib.Core.List.{List}
 use mathlib.Core.Path.{_≡_, sym, ap, _∙_}
 use denote.Ref.{now, ptr}
-use lib.ListN.{length}
+use lib.ListN.{length, take}
 use Rattle.numerals.proofs.Determined.{OneResult, OneKnown, OneLeft, OneLeftKnown}
-use Rattle.boxes.specs.Answer.{given}
+use Rattle.boxes.specs.Answer.{Answer, given}
 use Rattle.boxes.proofs.ToldLaws.{Tells}
-use Rattle.ends.specs.Table.{sizesIn}
+use Rattle.sources.specs.Held.{Sourced}
+use Rattle.sources.specs.Lists.{listIn}
+use Rattle.ends.specs.Table.{sizesIn, Holds}
+use Rattle.fileindex.specs.File.{NumberedBy}
 use Rattle.gathering.specs.Numbers.{numbersOf}
-use Rattle.gathering.proofs.Determined.{one-put}
+use Rattle.gathering.proofs.Determined.{OneRead, one-put, boxesAt, one-list}
 use Rattle.heading.proofs.Determined.{head-told}
 use Rattle.partial.specs.Answers.{readAnswer, countedAnswer}
 use Rattle.partial.specs.Heading.{Part, Heading, heading}
 use Rattle.partial.specs.Limits.{sourceLimit}
 use Rattle.partial.specs.Reading.{segments, reading, earlierSegments}
 use Rattle.partial.specs.Segments.{Segment}
-use Rattle.partial.specs.Tables.{Summary, segmentRows}
+use Rattle.partial.specs.Sources.{sourceCount}
+use Rattle.partial.specs.Tables.{Summary, tabled, segmentRows}
 use Rattle.partial.specs.declared.answers.Counted.the-variants as Counted
 use Rattle.partial.specs.declared.answers.Read.the-variants as Read
 use Rattle.surls.specs.Parts.{partOf}
@@ -34,6 +38,7 @@ use Rattle.reading.proofs.judging.judge.Reads as judge
 use Rattle.reading.proofs.judging.judge_into.Reads as judge-into
 use Rattle.reading.proofs.parts.part_of.Reads as part-of
 use Rattle.reading.proofs.tables.read.Reads as read
+use Rattle.reading.proofs.tables.read_source.Reads as read-source
 use Rattle.reading.proofs.texts.mime.Reads as mime
 use Rattle.reading.proofs.texts.text_at.Reads as text-at
 use Rattle.reading.proofs.texts.url.Reads as url
@@ -43,6 +48,16 @@ module _ {L : Type 0} {A R E : L → Type 0} (post : (κs : L) → A κs → R �
   abbrev pub OneOf : {X : Type 0} → ((κs : L) → R κs → X) → Type 0
   OneOf of =
       (κs : L) (args : A κs) (x y : R κs) (after after′ : E κs) → post κs args x after → post κs args y after′ → of κs x ≡ of κs y
+
+-- the heading of a file, and its segments as they are read
+abbrev Headed : (List ℕ → Answer (List Segment)) → List ℕ → Heading × List Segment → Type 0
+Headed read f (h, ss) = (heading f ≡ given h) × (read f ≡ given ss)
+
+same-sizes : {z z′ : List ℕ} {ss : List Segment} → Holds z ss → Holds z′ ss → sizesIn z ≡ sizesIn z′
+same-sizes p q = λ i n. (p .said n ∙ sym (q .said n)) i
+
+same-sources : {f : List ℕ} {h : Heading} {n n′ l l′ : List ℕ} {ss : List Segment} → Sourced f h n l ss → Sourced f h n′ l′ ss → take (length ss) n ≡ take (length ss) n′
+same-sources p q = p .sources .numbers ∙ sym (q .sources .numbers)
 
 judged-told : Tells judgedAnswer
 unfolding judgedAnswer
@@ -89,14 +104,22 @@ one-part p q =
     λ i. ((memory i, place i), holds i)
 
 index-stages-result : OneKnown index-stages.Post
-    (λ κs args ((h, ss) : Heading × List Segment). (heading (now (args .0)) ≡ given h) × (segments sourceLimit (now (args .0)) h ≡ given ss) × HasIndexes h ss (args .1 .0) (args .1 .1 .0))
-index-stages-result κs args (h, ss) (head, known, has) x y after after′ p q = counted-told x y (p h ss head known has ∙ sym (q h ss head known has))
+    (λ κs args ((h, ss, number) : Heading × List Segment × (List (List ℕ) → ℕ)).
+    (heading (now (args .0)) ≡ given h) × (segments sourceLimit (now (args .0)) h ≡ given ss) × NumberedBy number h ss (now (args .1 .1 .1 .1 .0)) (args .1 .1 .1 .1 .1 .0) × HasIndexes h ss (args .1 .0) (args .1 .1 .0))
+index-stages-result κs args (h, ss, number) (head, known, by, has) x y after after′ p q = counted-told x y (p h ss number head known by has ∙ sym (q h ss number head known by has))
 
 earlier-of-result : OneResult earlier-of.Post
 earlier-of-result κs args x y after after′ p q = judged-told x y (p .0 ∙ sym (q .0))
 
-earlier-of-sizes : OneLeftKnown earlier-of.Post (λ κs args (ss : List Segment). earlierSegments sourceLimit (now (args .0)) ≡ given ss) (λ κs after. sizesIn (now (after .1 .0)) 0)
-earlier-of-sizes κs args ss read x y after after′ p q = p .1 ss read ∙ sym (q .1 ss read)
+earlier-of-sizes : OneLeftKnown earlier-of.Post (λ κs args (ss : List Segment). earlierSegments sourceLimit (now (args .0)) ≡ given ss) (λ κs after. sizesIn (now (after .1 .0)))
+earlier-of-sizes κs args ss read x y after after′ p q = same-sizes (p .1 ss read) (q .1 ss read)
+
+earlier-of-sources : OneRead earlier-of.Post (λ κs args (known : Heading × List Segment). Headed (earlierSegments sourceLimit) (now (args .0)) known) (λ κs args after known. take (length (known .1)) (now (after .1 .1 .0)))
+earlier-of-sources κs args (h, ss) (head, read) x y after after′ p q = same-sources (p .2 ss read h head) (q .2 ss read h head)
+
+earlier-of-lists : OneRead earlier-of.Post (λ κs args (known : (Heading × List Segment) × ℕ). Headed (earlierSegments sourceLimit) (now (args .0)) (known .0) × (known .1 < sourceCount (known .0 .1)))
+    (λ κs args after known. boxesAt (now (args .0)) (listIn (now (after .1 .1 .1 .0)) (known .1)))
+earlier-of-lists κs args ((h, ss), n) ((head, read), low) x y after after′ p q = one-list (p .2 ss read h head .lists .each n low) (q .2 ss read h head .lists .each n low)
 
 judge-into-result : OneResult judge-into.Post
 judge-into-result κs args x y after after′ p q = judged-told x y (p .0 ∙ sym (q .0))
@@ -111,14 +134,41 @@ judge-into-numbers : OneLeftKnown judge-into.Post
     (λ κs after. now (after .1 .1 .0))
 judge-into-numbers κs args ss (read, room) x y after after′ p q = one-put room (p .1 ss read .1) (q .1 ss read .1)
 
-judge-into-sizes : OneLeftKnown judge-into.Post (λ κs args (ss : List Segment). reading sourceLimit (now (args .0)) ≡ given ss) (λ κs after. sizesIn (now (after .1 .1 .1 .0)) 0)
-judge-into-sizes κs args ss read x y after after′ p q = p .2 ss read ∙ sym (q .2 ss read)
+judge-into-sizes : OneLeftKnown judge-into.Post (λ κs args (ss : List Segment). reading sourceLimit (now (args .0)) ≡ given ss) (λ κs after. sizesIn (now (after .1 .1 .1 .0)))
+judge-into-sizes κs args ss read x y after after′ p q = same-sizes (p .2 ss read) (q .2 ss read)
+
+judge-into-sources : OneRead judge-into.Post (λ κs args (known : Heading × List Segment). Headed (reading sourceLimit) (now (args .0)) known) (λ κs args after known. take (length (known .1)) (now (after .1 .1 .1 .1 .0)))
+judge-into-sources κs args (h, ss) (head, read) x y after after′ p q = same-sources (p .3 ss read h head) (q .3 ss read h head)
+
+judge-into-lists : OneRead judge-into.Post (λ κs args (known : (Heading × List Segment) × ℕ). Headed (reading sourceLimit) (now (args .0)) (known .0) × (known .1 < sourceCount (known .0 .1)))
+    (λ κs args after known. boxesAt (now (args .0)) (listIn (now (after .1 .1 .1 .1 .1 .0)) (known .1)))
+judge-into-lists κs args ((h, ss), n) ((head, read), low) x y after after′ p q = one-list (p .3 ss read h head .lists .each n low) (q .3 ss read h head .lists .each n low)
 
 judge-result : OneResult judge.Post
 judge-result κs args x y after after′ p q = judged-told x y (p .0 ∙ sym (q .0))
 
-judge-sizes : OneLeftKnown judge.Post (λ κs args (ss : List Segment). reading sourceLimit (now (args .0)) ≡ given ss) (λ κs after. sizesIn (now (after .1 .0)) 0)
-judge-sizes κs args ss read x y after after′ p q = p .1 ss read ∙ sym (q .1 ss read)
+judge-sizes : OneLeftKnown judge.Post (λ κs args (ss : List Segment). reading sourceLimit (now (args .0)) ≡ given ss) (λ κs after. sizesIn (now (after .1 .0)))
+judge-sizes κs args ss read x y after after′ p q = same-sizes (p .1 ss read) (q .1 ss read)
+
+judge-sources : OneRead judge.Post (λ κs args (known : Heading × List Segment). Headed (reading sourceLimit) (now (args .0)) known) (λ κs args after known. take (length (known .1)) (now (after .1 .1 .0)))
+judge-sources κs args (h, ss) (head, read) x y after after′ p q = same-sources (p .2 ss read h head) (q .2 ss read h head)
+
+judge-lists : OneRead judge.Post (λ κs args (known : (Heading × List Segment) × ℕ). Headed (reading sourceLimit) (now (args .0)) (known .0) × (known .1 < sourceCount (known .0 .1)))
+    (λ κs args after known. boxesAt (now (args .0)) (listIn (now (after .1 .1 .1 .0)) (known .1)))
+judge-lists κs args ((h, ss), n) ((head, read), low) x y after after′ p q = one-list (p .2 ss read h head .lists .each n low) (q .2 ss read h head .lists .each n low)
+
+read-source-result : OneResult read-source.Post
+read-source-result κs args x y after after′ p q = read-told x y (p .0 .answer ∙ sym (q .0 .answer))
+
+read-source-segments : OneLeft read-source.Post (λ κs after. now (after .1 .1 .0))
+read-source-segments κs args x y after after′ p q = p .0 .tables .segmentTable ∙ sym (q .0 .tables .segmentTable)
+
+read-source-chunks : OneLeft read-source.Post (λ κs after. now (after .1 .1 .1 .0))
+read-source-chunks κs args x y after after′ p q = p .0 .tables .chunkTable ∙ sym (q .0 .tables .chunkTable)
+
+read-source-sources : OneRead read-source.Post (λ κs args (ss : List Segment). tabled sourceLimit (now (args .0)) (now (args .1 .1 .0)) (now (args .1 .1 .1 .0)) ≡ given ss)
+    (λ κs args after ss. take (length ss) (now (after .1 .1 .1 .1 .0)))
+read-source-sources κs args ss read x y after after′ p q = p .1 ss read .numbers ∙ sym (q .1 ss read .numbers)
 
 read-result : OneResult read.Post
 read-result κs args x y after after′ p q = read-told x y (p .answer ∙ sym (q .answer))

@@ -4,8 +4,8 @@ use Prim.Native.Nat.{ℕ, _≤_, _<_}
 use mathlib.Core.Bool.{Bool, true, false}
 use mathlib.Core.List.{List, []}
 use mathlib.Core.Logic.{inl, inr}
-use mathlib.Core.Path.{_≡_, sym, ap, subst, _∙_}
-use borrow.Author.Tests.{le-leb, lt-leb}
+use mathlib.Core.Path.{_≡_, refl, sym, ap, subst, _∙_}
+use borrow.Author.Tests.{le-leb, lt-leb, leb-true}
 use lib.Dec.{leb}
 use lib.ListN.{length}
 use Rattle.boxes.specs.Answer.{Answer, refused, given, _>>=_, hold}
@@ -13,30 +13,30 @@ use Rattle.boxes.specs.Kinds.{pseg, those, right}
 use Rattle.boxes.specs.declared.kinds.Container.the-variants.{File}
 use Rattle.boxes.proofs.AnswerLaws.{not-both, refused-same, given-same, both-given, held}
 use Rattle.partial.specs.Heading.{Heading, heading}
-use Rattle.partial.specs.Index.{Indexed, hasIndex, indexed}
+use Rattle.partial.specs.Index.{SourceBox, hasIndex, indexed}
 use Rattle.partial.specs.Limits.{segmentLimit, sourceLimit}
-use Rattle.partial.specs.Meaning.{agree}
 use Rattle.partial.specs.Sources.{agreed}
 use Rattle.partial.specs.Reading.{segmentsFrom, segments, reading, earlierSegments}
 use Rattle.partial.specs.Segments.{Segment}
 use Rattle.partial.proofs.Meaning.SequenceLaws.{which}
-use Rattle.partial.proofs.Reading.OneSourceLaws.{segments-plain, agreed-all}
+use Rattle.partial.proofs.Reading.HeadingAppendLaws.{headed}
 use Rattle.partial.proofs.Reading.ReadingLaws.{reading-segments}
 use Rattle.partial.proofs.Reading.RefusalLaws.{no-segments, earlier-read}
 use Rattle.heading.specs.Facts.{Facts, factsOf, factsBy, told, headedAnswer}
 use Rattle.heading.specs.declared.answers.Head.{Head}
 use Rattle.heading.specs.declared.answers.Headed.{Headed}
 use Rattle.heading.specs.declared.answers.Headed.the-variants as Headed
-use Rattle.ends.specs.Sizes.{sizesOf}
-use Rattle.ends.specs.Table.{sizesIn}
+use Rattle.heading.proofs.FoundLaws.{pfil-inside}
+use Rattle.sources.specs.Held.{Sourced}
 use Rattle.gathering.specs.Forms.{allPuts}
 use Rattle.gathering.specs.Gathered.{gatheredOf}
-use Rattle.gathering.specs.Pass.{segmentsBy, Gathers}
+use Rattle.gathering.specs.Pass.{segmentsBy, Opened, Gathers}
+use Rattle.gathering.specs.Step.{Noted}
 use Rattle.gathering.proofs.PassLaws.{rows-put}
 use Rattle.gathering.specs.declared.gathered.Gathered.{Gathered}
 use Rattle.gathering.specs.declared.pass.Passed.{Passed}
 use Rattle.gathering.specs.declared.pass.Passed.the-variants as Passed
-use Rattle.reading.specs.Judged.{Judged, gatheredIn, indexedTold, judgedIn, earlierTold, readingTold, gatheredAnswer, judgedBy, judgedAnswer, WhereRead, KeptIn, SizedIn}
+use Rattle.reading.specs.Judged.{Judged, gatheredIn, indexedTold, judgedIn, earlierTold, readingTold, gatheredAnswer, judgedBy, judgedAnswer, WhereRead, KeptIn, SizedIn, SourcedIn}
 use Rattle.reading.specs.declared.judging.Judgement.{Judgement}
 use Rattle.reading.specs.declared.judging.Judgement.the-variants as Judgement
 use Rattle.reading.specs.declared.judging.Judged.{Judged as CodeJudged}
@@ -67,9 +67,13 @@ pub facts-indexed : (f : List ℕ) (h : Heading) (head : Head) → factsOf f h �
 unfolding factsOf
 facts-indexed f h head e = sym (ap (λ x. x .indexed) e)
 
-pub facts-mixed : (f : List ℕ) (h : Heading) {x : Facts} → factsOf f h ≡ x → x .mixed ≡ h .mixed
+-- the file as the pass over its segments is told of it
+pub opened : (f : List ℕ) (h : Heading) {x : Facts} → heading f ≡ given h → factsOf f h ≡ x → length (those pseg (h .boxes)) ≤ segmentLimit → Opened f (x .mixed) (x .list) h
 unfolding factsOf
-facts-mixed f h e = sym (ap (λ (x : Facts). x .mixed) e)
+opened f h known e few =
+    let t = headed f h known in
+    subst (λ (x : Facts). Opened f (x .mixed) (x .list) h) e
+    (record { boxes = t .boxes; few = few; mix = refl; inPfil = record { stands = record { boxes = t .inner; inside = pfil-inside f h known }; urls = t .urls } })
 
 -- ---- stages 13 to 25
 
@@ -84,17 +88,13 @@ module _ (f : List ℕ) (h : Heading) where
     gathered-refused fault = rw (le-leb (length (those pseg (h .boxes))) segmentLimit few, fault)
 
     module _ {ss : List Segment} (read : segmentsBy f h ≡ given ss) where
-      -- all are of one source
-      sizes-all : agreed ss ≡ agree ss
-      sizes-all = agreed-all h ss (segments-plain sourceLimit f h (those pseg (h .boxes)) [] tt read)
-
-      pub gathered-differ : agree ss ≡ false → gatheredIn f h ≡ refused 25
+      pub gathered-differ : agreed ss ≡ false → gatheredIn f h ≡ refused 25
       unfolding gatheredIn segments
-      gathered-differ differ = rw (le-leb (length (those pseg (h .boxes))) segmentLimit few, read, sizes-all ∙ differ)
+      gathered-differ differ = rw (le-leb (length (those pseg (h .boxes))) segmentLimit few, read, differ)
 
-      pub gathered-given : agree ss ≡ true → gatheredIn f h ≡ given (gatheredOf ss)
+      pub gathered-given : agreed ss ≡ true → gatheredIn f h ≡ given (gatheredOf ss)
       unfolding gatheredIn segments
-      gathered-given same = rw (le-leb (length (those pseg (h .boxes))) segmentLimit few, read, sizes-all ∙ same)
+      gathered-given same = rw (le-leb (length (those pseg (h .boxes))) segmentLimit few, read, same)
 
 -- the segments, before they are held against each other
 pub segments-by : (f : List ℕ) (h : Heading) {ss : List Segment} → segments sourceLimit f h ≡ given ss → segmentsBy f h ≡ given ss
@@ -105,26 +105,33 @@ segments-by f h e =
     let (_, same) = held 25 (agreed ss) _ e in
     read ∙ same
 
--- what the pass over them told
-module _ (f : List ℕ) (h : Heading) (t₀ t u₀ u z : List ℕ) (r : Passed) (gathers : Gathers f h true t₀ t u₀ u z r) where
-  pub passed-refused : {n : ℕ} → r ≡ Passed.Refused n → segmentsBy f h ≡ refused n
-  unfolding Gathers
-  passed-refused e = subst (Gathers f h true t₀ t u₀ u z) e gathers
+-- they are not too many
+pub few-segments : (f : List ℕ) (h : Heading) {ss : List Segment} → segments sourceLimit f h ≡ given ss → length (those pseg (h .boxes)) ≤ segmentLimit
+unfolding segments
+few-segments f h e =
+    let (few, _) = held 13 (leb (length (those pseg (h .boxes))) segmentLimit) _ e in
+    leb-true (length (those pseg (h .boxes))) segmentLimit few
 
-  pub passed-given : {g : Gathered} → r ≡ Passed.Given g → (ss : List Segment) × (segmentsBy f h ≡ given ss) × (g ≡ gatheredOf ss) × (sizesIn z 0 ≡ sizesOf ss)
+-- what the pass over them told
+module _ (f : List ℕ) (h : Heading) (t₀ t u₀ u z n l : List ℕ) (r : Passed) (gathers : Gathers f h true t₀ t u₀ u z n l r) where
+  pub passed-refused : {m : ℕ} → r ≡ Passed.Refused m → segmentsBy f h ≡ refused m
+  unfolding Gathers
+  passed-refused e = subst (Gathers f h true t₀ t u₀ u z n l) e gathers
+
+  pub passed-given : {g : Gathered} → r ≡ Passed.Given g → (ss : List Segment) × (segmentsBy f h ≡ given ss) × (g ≡ gatheredOf ss) × Noted f h z n l ss
   unfolding Gathers
   passed-given e =
-      let (ss, read, same, _, _, said) = subst (Gathers f h true t₀ t u₀ u z) e gathers in
-      (ss, read, same, said)
+      let (ss, read, same, _, _, noted) = subst (Gathers f h true t₀ t u₀ u z n l) e gathers in
+      (ss, read, same, noted)
 
   pub passed-kept : KeptIn (segments sourceLimit f h) t₀ t u₀ u
   unfolding allPuts
   passed-kept = λ ss all.
-      let (rows, numbers, _) = rows-put f h true z r gathers (segments-by f h all) in
+      let (rows, numbers, _) = rows-put f h true z n l r gathers (segments-by f h all) in
       (rows, numbers)
 
-  pub passed-sized : SizedIn (segments sourceLimit f h) z
-  passed-sized = λ ss all. rows-put f h true z r gathers (segments-by f h all) .2
+  pub passed-noted : WhereRead (segments sourceLimit f h) (Noted f h z n l)
+  passed-noted = λ ss all. rows-put f h true z n l r gathers (segments-by f h all) .2
 
 -- what each answer about the segments says
 module _ {r : Passed} {x : Answer Gathered} (answer : gatheredAnswer r ≡ x) where
@@ -152,6 +159,14 @@ module _ {P : List Segment → Type 0} (f : List ℕ) (h : Heading) where
 
   pub kept-earlier : heading f ≡ given h → WhereRead (segments sourceLimit f h) P → WhereRead (earlierSegments sourceLimit f) P
   kept-earlier known kept = λ ss all. kept ss (earlier-read sourceLimit f known all)
+
+-- what is noted of segments that were read, by the heading of their file
+module _ (f : List ℕ) (h : Heading) (known : heading f ≡ given h) {z n l : List ℕ} (noted : WhereRead (segments sourceLimit f h) (Noted f h z n l)) where
+  pub noted-sized : SizedIn (segments sourceLimit f h) z
+  noted-sized = λ ss all. noted ss all .sizes
+
+  pub noted-sourced : SourcedIn f (segments sourceLimit f h) n l
+  noted-sourced = λ ss all k head. subst (λ (h : Heading). Sourced f h n l ss) (given-same (sym known ∙ head)) (noted ss all .sourced)
 
 -- ---- the index
 
@@ -231,7 +246,7 @@ pub record Accepted (f : List ℕ) (j : Judged) : Type 0 where
   pub head : heading f ≡ given h
   pub some : right File pseg (h .boxes) ≡ true
   pub all : segments sourceLimit f h ≡ given ss
-  pub boxes : List Indexed
+  pub boxes : List SourceBox
   pub index : indexed sourceLimit f h ss ≡ given boxes
   pub facts : factsOf f h ≡ j .facts
   pub gathered : j .gathered ≡ gatheredOf ss
@@ -265,7 +280,7 @@ module _ (f : List ℕ) where
   read-refused {n} e = go (heading f) e
     where
       -- the index, then the segments, then 12
-      last : (h : Heading) (ss : List Segment) (x : Answer (List Indexed))
+      last : (h : Heading) (ss : List Segment) (x : Answer (List SourceBox))
           → _>>=_ {B = Judged} (x >>= λ is. given (length is)) (λ n. given (record { facts = factsOf f h; gathered = gatheredOf ss; index = n })) ≡ refused n
           → _>>=_ {B = List Segment} x (λ _. given ss) ≡ refused n
       last h ss (refused m) e = ap refused (refused-same e)
@@ -288,6 +303,10 @@ module _ (f : List ℕ) where
     pub read-given : reading sourceLimit f ≡ given (a .ss)
     unfolding reading
     read-given = rw (a .head, a .some, a .all, a .index)
+
+    -- as the pass over its segments is told of it
+    pub read-opened : Opened f (j .facts .mixed) (j .facts .list) (a .h)
+    read-opened = opened f (a .h) (a .head) (a .facts) (few-segments f (a .h) (a .all))
 
     pub read-segments : segmentsBy f (a .h) ≡ given (a .ss)
     read-segments = segments-by f (a .h) (a .all)

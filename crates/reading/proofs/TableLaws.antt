@@ -14,6 +14,7 @@ use Rattle.partial.specs.Meaning.{describedLength}
 use Rattle.partial.specs.Memory.{fits, filled, after}
 use Rattle.partial.specs.Reading.{reading}
 use Rattle.partial.specs.Segments.{Segment, chunksOf}
+use Rattle.partial.specs.Sources.{ofSource}
 use Rattle.partial.specs.Tables.{segmentRowLength, chunkRowLength, tabled, segmentRows, chunkRows, summary}
 use Rattle.partial.specs.declared.answers.Read.{Read}
 use Rattle.partial.specs.declared.answers.Read.the-variants as Read
@@ -31,7 +32,7 @@ use Rattle.partial.proofs.Reading.RowLaws.{segment-rows-long, all-rows-long}
 use Rattle.gathering.proofs.GatheredLaws.{gathered-segments}
 use Rattle.gathering.proofs.KeptPutLaws.{kept-put}
 use Rattle.gathering.proofs.RowLaws.{put-filled}
-use Rattle.reading.specs.Judged.{Judged, KeptIn}
+use Rattle.reading.specs.Judged.{Judged, KeptIn, SourcedIn}
 use Rattle.reading.specs.Tables.{Reads}
 use Rattle.reading.proofs.JudgedLaws.{Accepted, read-given}
 
@@ -63,21 +64,22 @@ module _ (f a b : List ℕ) where
         )
 
   -- after a refusal both tables are as they were
-  pub reads-refused : {n : ℕ} → tabled sourceLimit f a b ≡ refused n → Reads f a a b b (Read.Refused n)
+  pub reads-refused : (source : ℕ) {n : ℕ} → tabled sourceLimit f a b ≡ refused n → Reads f source a a b b (Read.Refused n)
   unfolding readAnswer after
-  reads-refused e = record { answer = rw e; tables = rw e (record { segmentTable = refl; chunkTable = refl }) }
+  reads-refused source e = record { answer = rw e; tables = rw e (record { segmentTable = refl; chunkTable = refl }) }
 
   -- of an accepted file they are filled
-  pub reads-given : {a′ b′ : List ℕ} {r : Read} (ss : List Segment) → tabled sourceLimit f a b ≡ given ss → readAnswer r ≡ given (summary ss)
-      → a′ ≡ filled (segmentRows ss) a → b′ ≡ filled (chunkRows ss) b → Reads f a a′ b b′ r
+  pub reads-given : {a′ b′ : List ℕ} {r : Read} (source : ℕ) (ss : List Segment) → tabled sourceLimit f a b ≡ given ss → readAnswer r ≡ given (summary source ss)
+      → a′ ≡ filled (segmentRows ss) a → b′ ≡ filled (chunkRows ss) b → Reads f source a a′ b b′ r
   unfolding after
-  reads-given ss e answer one two = record { answer = rw e answer; tables = rw e (record { segmentTable = one; chunkTable = two }) }
+  reads-given source ss e answer one two = record { answer = rw e answer; tables = rw e (record { segmentTable = one; chunkTable = two }) }
 
 -- what is gathered of segments and what their ends say is what is answered of them
-pub answered : {g : Gathered} {x : Sizes} (ss : List Segment) → g ≡ gatheredOf ss → x ≡ sizesOf ss → (described : Position) → described .0 ≡ describedLength ss
-    → readAnswer (Read.Tables (g .segments) (g .chunks) described (x .known)) ≡ given (summary ss)
+pub answered : {g : Gathered} {x : Sizes} (source : ℕ) (ss : List Segment) → g ≡ gatheredOf ss → x ≡ sizesOf (ofSource source ss)
+    → (described : Position) → described .0 ≡ describedLength (ofSource source ss)
+    → readAnswer (Read.Tables (g .segments) (g .chunks) described (x .known)) ≡ given (summary source ss)
 unfolding readAnswer summary gatheredOf sizesOf
-answered ss e said described length = λ i. given (record { segments = e i .segments; chunks = e i .chunks; described = length i; closed = said i .known })
+answered source ss e said described length = λ i. given (record { segments = e i .segments; chunks = e i .chunks; described = length i; closed = said i .known })
 
 -- rows that fit fill a table
 pub segments-filled : (ss : List Segment) {a a′ : List ℕ} → Put a 0 (segmentRows ss) a′ → segmentRowLength * length ss ≤ length a → a′ ≡ filled (segmentRows ss) a
@@ -97,8 +99,8 @@ module _ {f : List ℕ} {j : Judged} (a : Accepted f j) {t₀ t u₀ u : List �
       let full = put-fills (segmentRows (a .ss)) (kept (a .ss) (read-given f a) .0) (omega (arith, segment-rows-long (a .ss), accepted-few)) in
       ap (take (segmentRowLength * j .gathered .segments)) full ∙ take-at (segmentRows (a .ss)) _ (segmentRowLength * j .gathered .segments) (omega (arith, segment-rows-long (a .ss)))
 
-  pub accepted-kept : chunkLimit ≤ length u₀ → Kept t (j .gathered .segments) u (a .ss)
-  accepted-kept space =
+  pub accepted-kept : {n l : List ℕ} → SourcedIn f (reading sourceLimit f) n l → chunkLimit ≤ length u₀ → Kept t (j .gathered .segments) n u (a .ss)
+  accepted-kept sourced space =
       let (rows, numbers) = kept (a .ss) (read-given f a) in
       kept-put (a .ss) (all-small sourceLimit f (a .h) (a .head) (a .all)) (segments-limited sourceLimit f (a .h) (a .all)) (chunks-few sourceLimit f (a .h) (a .all))
-      (gathered-segments (a .ss) (a .gathered)) room space rows numbers
+      (gathered-segments (a .ss) (a .gathered)) room space rows (sourced (a .ss) (read-given f a) (a .h) (a .head) .sources) numbers

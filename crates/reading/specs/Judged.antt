@@ -15,8 +15,8 @@ use Rattle.partial.specs.Reading.{segments}
 use Rattle.partial.specs.Segments.{Segment}
 use Rattle.partial.specs.Tables.{segmentRows}
 use Rattle.filling.specs.Rows.{Put}
-use Rattle.ends.specs.Sizes.{sizesOf}
-use Rattle.ends.specs.Table.{sizesIn}
+use Rattle.sources.specs.Held.{Sourced}
+use Rattle.ends.specs.Table.{Holds}
 use Rattle.heading.specs.Facts.{Facts, factsOf, factsBy}
 use Rattle.gathering.specs.Numbers.{numbersOf}
 use Rattle.gathering.specs.Gathered.{gatheredOf}
@@ -88,6 +88,10 @@ WhereRead read P = (ss : List Segment) → read ≡ given ss → P ss
 abbrev pub KeptIn : Answer (List Segment) → List ℕ → List ℕ → List ℕ → List ℕ → Type 0
 KeptIn read t₀ t u₀ u = WhereRead read (λ ss. Put t₀ 0 (segmentRows ss) t × Put u₀ 0 (numbersOf ss) u)
 
--- what their ends say was put into a third
+-- what their ends say of each source was put into a third
 abbrev pub SizedIn : Answer (List Segment) → List ℕ → Type 0
-SizedIn read z = WhereRead read (λ ss. sizesIn z 0 ≡ sizesOf ss)
+SizedIn read z = WhereRead read (Holds z)
+
+-- and their sources and where the lists of these stand into two more
+abbrev pub SourcedIn : List ℕ → Answer (List Segment) → List ℕ → List ℕ → Type 0
+SourcedIn f read n l = WhereRead read (λ ss. (h : Heading) → heading f ≡ given h → Sourced f h n l ss)

@@ -8,17 +8,17 @@ use lib.Dec.{leb}
 use lib.ListN.{length}
 use Rattle.boxes.specs.Answer.{Answer, given, _>>=_, hold}
 use Rattle.partial.specs.Heading.{Heading}
-use Rattle.partial.specs.Index.{Indexed, isKnown, levelLimit, hasIndex}
+use Rattle.partial.specs.Index.{SourceBox, boxesAlone, isKnown, levelLimit, hasIndex}
 use Rattle.partial.specs.Segments.{Segment}
 use Rattle.partial.specs.Sequences.{someOf, allOf}
 
--- how many boxes an index has: the stages of `indexed`, of an index that is read for any end of the source
-unfoldable pub staged : Bool → Answer (List Indexed) → Answer ℕ
+-- how many boxes an index has: the stages of `indexed`, of an index that is read for any ends of the sources
+unfoldable pub staged : Bool → Answer (List SourceBox) → Answer ℕ
 staged both index = do
   boxes ← index
-  _ ← hold 37 (allOf (λ i. leb (i .level) levelLimit) boxes)
+  _ ← hold 37 (allOf (λ i. leb (i .level) levelLimit) (boxesAlone boxes))
   _ ← hold 38 (not both)
-  _ ← hold 39 (allOf (λ i. isKnown (i .end)) boxes)
+  _ ← hold 39 (allOf (λ i. isKnown (i .end)) (boxesAlone boxes))
   given (length boxes)
 
 -- whether `pfil` and whether some segment has an index

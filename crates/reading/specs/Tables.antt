@@ -15,7 +15,7 @@ pub record Filled (read : Answer (List Segment)) (segments segments′ chunks ch
   pub segmentTable : segments′ ≡ after segmentRows read segments
   pub chunkTable : chunks′ ≡ after chunkRows read chunks
 
--- the answer and both tables, by what the file and both tables decide
-pub record Reads (f segments segments′ chunks chunks′ : List ℕ) (r : Read) : Type 0 where
-  pub answer : readAnswer r ≡ (tabled sourceLimit f segments chunks >>= λ ss. given (summary ss))
+-- the answer, of a source, and both tables, by what the file and both tables decide
+pub record Reads (f : List ℕ) (source : ℕ) (segments segments′ chunks chunks′ : List ℕ) (r : Read) : Type 0 where
+  pub answer : readAnswer r ≡ (tabled sourceLimit f segments chunks >>= λ ss. given (summary source ss))
   pub tables : Filled (tabled sourceLimit f segments chunks) segments segments′ chunks chunks′

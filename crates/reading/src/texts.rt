@@ -4,6 +4,8 @@ use crate::judging::judge;
 use crate::parts::Located;
 use crate::parts::part_of;
 use ends::table::ALL_SIZES;
+use sources::lists::ALL_LISTS;
+use sources::numbers::ALL_SOURCES;
 ghost use denote.Ref.{ptr};
 ghost use mathlib.Core.Path.{_≡_};
 ghost use Rattle.partial.specs.Heading.{url, mime};
@@ -23,7 +25,9 @@ pub fn text_at(file: &[u8], which: Text) -> Located
     ensures { λ r. ⌜ locatedAnswer r ≡ textLocated which (now (file .entry)) ⌝ }
 {
     let mut sizes = [0; ALL_SIZES];
-    match judge(file, &mut sizes) {
+    let mut sources = [0; ALL_SOURCES];
+    let mut lists = [0; ALL_LISTS];
+    match judge(file, &mut sizes, &mut sources, &mut lists) {
         Judgement::Refused(n) => Located::Refused(n),
         Judgement::Given(judged) => {
             let head = judged.head;

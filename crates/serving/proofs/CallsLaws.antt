@@ -1,20 +1,21 @@
 -- Laws of serving and asking: what reading tells them, and what the run of a position answers.
-use Prim.Native.Nat.{ℕ, zero, suc, _+_, _-_, _^_, _<_, _≤_, min}
+use Prim.Native.Nat.{ℕ, _+_, _-_, _^_, _<_, _≤_, min}
 use mathlib.Core.Bool.{true, false}
 use mathlib.Core.List.{List}
 use mathlib.Core.Logic.{inl, inr}
 use mathlib.Core.Path.{_≡_, refl, sym, ap, _∙_}
 use native.Mathlib.Omega.{arith}
-use borrow.Author.Tests.{lt-ltb, le-ltb}
-use lib.ListN.{length, getD, take, drop, length-take, length-drop}
+use borrow.Author.Tests.{lt-ltb}
+use lib.ListN.{length, take, drop, length-take, length-drop}
 use Rattle.boxes.specs.Answer.{Answer, refused, given, _>>=_}
 use Rattle.boxes.proofs.AnswerLaws.{given-same, both-given}
 use Rattle.partial.specs.Answers.{readAnswer}
 use Rattle.partial.specs.Limits.{sourceLimit}
-use Rattle.partial.specs.Meaning.{supplier, supplied, describedLength, chunkFor, placeOfByte, servedRun, onward, reply, servedFor, missingFor, notBelow}
+use Rattle.partial.specs.Meaning.{supplied, describedLength, chunkFor, placeOfByte, servedRun, onward, reply, servedFor, missingFor, notBelow}
 use Rattle.partial.specs.Memory.{after}
-use Rattle.partial.specs.Segments.{Chunk, noChunk, Segment, chunksOf}
-use Rattle.partial.specs.Tables.{tabled, chunkRows, summary, Summary, servedPart, asked, nowhere}
+use Rattle.partial.specs.Segments.{Chunk, Segment, chunksOf}
+use Rattle.partial.specs.Sources.{ofSource}
+use Rattle.partial.specs.Tables.{tabled, chunkRows, summary, Summary, partOf, servedPart, asked, nowhere}
 use Rattle.partial.specs.Heading.{bytesIn}
 use Rattle.partial.specs.declared.answers.Read.{Read}
 use Rattle.partial.specs.declared.answers.Read.the-variants as Read
@@ -23,41 +24,36 @@ use Rattle.partial.proofs.Meaning.RunLaws.{missing-run}
 use Rattle.partial.proofs.Meaning.SequenceLaws.{which}
 use Rattle.partial.proofs.Meaning.ServingLaws.{beyond}
 use Rattle.partial.proofs.Reading.PartLaws.{headed-read, tabled-read}
-use Rattle.partial.proofs.Reading.OneSourceLaws.{read-mapped}
+use Rattle.partial.proofs.Reading.ReadingLaws.{mapped-of}
 use Rattle.reading.specs.Parts.{handed}
 use Rattle.reading.specs.Tables.{Reads}
 use Rattle.reading.proofs.JudgedLaws.{first-refused}
 use Rattle.reading.proofs.PartLaws.{handed-whole}
-use Rattle.supplying.specs.Rows.{chunkIn, chunksFrom, chunksIn}
-use Rattle.supplying.specs.Runs.{sameRun, runIn}
+use Rattle.segment.specs.Chunk.{chunkOf}
+use Rattle.sources.specs.Held.{SourcesHeld}
+use Rattle.supplying.specs.Rows.{chunksIn}
+use Rattle.supplying.specs.Runs.{isSupplied, suppliedBy, sameRun, RunIn}
 use Rattle.supplying.specs.declared.runs.Run.{Run}
 use Rattle.supplying.proofs.RowsLaws.{filled-chunks}
 
--- the chunk of a row is one of the table's
-row-of : (table : List ℕ) (count n k : ℕ) → k < count → getD (chunksFrom table count n) k noChunk ≡ chunkIn table (n + k)
-unfolding chunksFrom
-row-of table zero n k there = absurd (omega arith)
-row-of table (suc count) n zero there = ap (chunkIn table) (omega arith)
-row-of table (suc count) n (suc k) there =
-    let on : suc n + k ≡ n + suc k = omega arith in
-    row-of table count (suc n) k (omega arith) ∙ ap (chunkIn table) on
-
--- what reading tells of a file that it read into the tables: its segments, and that so many rows hold their chunks
-pub record Told (f a b b′ : List ℕ) (count described : ℕ) : Type 0 where
+-- what reading tells of a source of a file that it read into the tables: the file's segments, and that so many rows
+-- hold the chunks of the source
+pub record Told (f : List ℕ) (source : ℕ) (a b sources b′ : List ℕ) (count described : ℕ) : Type 0 where
   pub ss : List Segment
   pub read : tabled sourceLimit f a b ≡ given ss
-  pub many : count ≡ length (chunksOf ss)
-  pub rows : chunksIn b′ count ≡ chunksOf ss
-  pub long : described ≡ describedLength ss
+  pub rows : chunksIn sources source b′ count ≡ chunksOf (ofSource source ss)
+  pub long : described ≡ describedLength (ofSource source ss)
 
-module _ {f a a′ b b′ : List ℕ} {r : Read} (t : Reads f a a′ b b′ r) where
+module _ {f : List ℕ} {source : ℕ} {a a′ b b′ : List ℕ} {r : Read} (t : Reads f source a a′ b b′ r) where
   pub told-refused : {n : ℕ} → r ≡ Read.Refused n → tabled sourceLimit f a b ≡ refused n
   unfolding readAnswer
-  told-refused e = first-refused (tabled sourceLimit f a b) summary (sym (t .answer) ∙ ap readAnswer e)
+  told-refused e = first-refused (tabled sourceLimit f a b) (summary source) (sym (t .answer) ∙ ap readAnswer e)
 
-  pub told-given : {segments count : ℕ} {described : Position} {closed : _} → r ≡ Read.Tables segments count described closed → Told f a b b′ count (described .0)
+  pub told-given : {sources : List ℕ} → ((ss : List Segment) → tabled sourceLimit f a b ≡ given ss → SourcesHeld sources ss)
+      → {segments count : ℕ} {described : Position} {closed : _} → r ≡ Read.Tables segments count described closed
+      → Told f source a b sources b′ count (described .0)
   unfolding readAnswer summary after
-  told-given e =
+  told-given {sources} held e =
       let (ss, read, same) = both-given (tabled sourceLimit f a b) _ (sym (t .answer) ∙ ap readAnswer e) in
       let says = given-same same in
       let many = sym (ap (λ (s : Summary). s .chunks) says) in
@@ -65,100 +61,96 @@ module _ {f a a′ b b′ : List ℕ} {r : Read} (t : Reads f a a′ b b′ r) w
       record {
         ss = ss;
         read = read;
-        many = many;
-        rows = (λ i. chunksIn (table i) (many i)) ∙ filled-chunks ss b;
+        rows = (λ i. chunksIn sources source (table i) (many i)) ∙ filled-chunks sources source ss b (held ss read);
         long = sym (ap (λ (s : Summary). s .described) says);
       }
 
 -- a part that is served lies in the file
-module _ (f a b : List ℕ) where
-  served-fits : {ss : List Segment} → tabled sourceLimit f a b ≡ given ss → (p : ℕ) → supplied ss p ≡ true → placeOfByte ss p + servedRun ss p ≤ length f
-  unfolding servedPart bytesIn
+module _ (f : List ℕ) (source : ℕ) (a b : List ℕ) where
+  served-fits : {ss : List Segment} → tabled sourceLimit f a b ≡ given ss → (p : ℕ) → supplied (ofSource source ss) p ≡ true
+      → placeOfByte (ofSource source ss) p + servedRun (ofSource source ss) p ≤ length f
+  unfolding partOf bytesIn
   served-fits {ss} known p there =
       let read = tabled-read sourceLimit f a b known in
       let (h, head) = headed-read sourceLimit f read in
-      let s = read-mapped sourceLimit f head read .serving p (rw there tt) in
-      let long : length (take (servedRun ss p) (drop (placeOfByte ss p) f)) ≡ servedRun ss p = rw (servedPart, there) at (s .long) in
+      let s = mapped-of sourceLimit f head read source .serving p (rw there tt) in
+      let mine = ofSource source ss in
+      let long : length (take (servedRun mine p) (drop (placeOfByte mine p) f)) ≡ servedRun mine p = rw (partOf, there) at (s .long) in
       omega (arith, s .notEmpty, simp (length-take, length-drop) at long)
 
   -- so it is handed back whole, and an empty one where none is
-  pub served-handed : (p : ℕ) → handed f (tabled sourceLimit f a b >>= λ ss. given (servedPart (given ss) p)) ≡ servedPart (tabled sourceLimit f a b) p
-  unfolding handed servedPart nowhere
+  pub served-handed : (p : ℕ) → handed f (tabled sourceLimit f a b >>= λ ss. given (servedPart (given ss) source p)) ≡ servedPart (tabled sourceLimit f a b) source p
+  unfolding handed servedPart partOf nowhere
   served-handed p = go (tabled sourceLimit f a b) refl
     where
-      go : (x : Answer (List Segment)) → tabled sourceLimit f a b ≡ x → handed f (x >>= λ ss. given (servedPart (given ss) p)) ≡ servedPart x p
+      go : (x : Answer (List Segment)) → tabled sourceLimit f a b ≡ x → handed f (x >>= λ ss. given (servedPart (given ss) source p)) ≡ servedPart x source p
       go (refused n) e = refl
       go (given ss) e =
-          handed-whole f (servedPart (given ss) p)
-          (elim (which (supplied ss p)) [
-            | inl there ↦ rw (servedPart, there) (served-fits e p there)
-            | inr lacks ↦ rw (servedPart, lacks) (omega arith)
+          handed-whole f (partOf (ofSource source ss) p)
+          (elim (which (supplied (ofSource source ss) p)) [
+            | inl there ↦ rw (partOf, there) (served-fits e p there)
+            | inr lacks ↦ rw (partOf, lacks) (omega arith)
           ])
 
--- the run of a position in the rows is that of the file
-module _ {f a b b′ : List ℕ} {count described : ℕ} (t : Told f a b b′ count described) (p : ℕ) {r : Run} (e : r ≡ runIn (chunksIn b′ count) p described) where
-  of-file : r ≡ runIn (chunksOf (t .ss)) p (describedLength (t .ss))
-  of-file = e ∙ (λ i. runIn (t .rows i) p (t .long i))
+-- the run of a position in the rows is that of the source
+module _ {f : List ℕ} {source : ℕ} {a b sources b′ : List ℕ} {count described : ℕ} (t : Told f source a b sources b′ count described) (p : ℕ) {r : Run}
+    (e : RunIn (chunksIn sources source b′ count) p described r) where
+  abbrev mine : List Segment
+  mine = ofSource source (t .ss)
 
-  run-number : r .supplier ≡ supplier (chunksOf (t .ss)) p
-  unfolding runIn
-  run-number = ap (λ (x : Run). x .supplier) of-file
+  run-length : r .length ≡ servedRun mine p
+  unfolding sameRun servedRun onward
+  run-length = e .long ∙ (λ i. sameRun (t .rows i) p (t .long i))
 
-  run-length : r .length ≡ servedRun (t .ss) p
-  unfolding runIn sameRun servedRun onward
-  run-length = ap (λ (x : Run). x .length) of-file
-
-  is-supplied : r .supplier < count → supplied (t .ss) p ≡ true
+  is-supplied : r .supplied ≡ supplied mine p
   unfolding supplied
-  is-supplied there = lt-ltb (supplier (chunksOf (t .ss)) p) (length (chunksOf (t .ss))) (omega (arith, run-number, t .many))
+  is-supplied = e .supplied ∙ ap (λ (cs : List Chunk). isSupplied cs p) (t .rows)
 
-  not-supplied : count ≤ r .supplier → supplied (t .ss) p ≡ false
-  unfolding supplied
-  not-supplied none = le-ltb (supplier (chunksOf (t .ss)) p) (length (chunksOf (t .ss))) (omega (arith, run-number, t .many))
+  run-chunk : chunkOf (r .chunk) ≡ chunkFor mine p
+  run-chunk = e .chunk ∙ ap (λ (cs : List Chunk). suppliedBy cs p) (t .rows)
 
   -- what asking answers
-  asked-by : {x : _} → reply (t .ss) p ≡ x → asked (tabled sourceLimit f a b) p ≡ given x
+  asked-by : {x : _} → reply mine p ≡ x → asked (tabled sourceLimit f a b) source p ≡ given x
   unfolding asked
   asked-by same = rw (t .read, same)
 
-  pub asked-served : p < described → r .supplier < count → given (servedFor (r .length)) ≡ asked (tabled sourceLimit f a b) p
+  pub asked-served : p < described → r .supplied ≡ true → given (servedFor (r .length)) ≡ asked (tabled sourceLimit f a b) source p
   unfolding reply
   asked-served below there =
-      sym (asked-by (rw (reply, lt-ltb p (describedLength (t .ss)) (omega (arith, t .long)), is-supplied there, run-length)))
+      let here = sym is-supplied ∙ there in
+      sym (asked-by (rw (reply, lt-ltb p (describedLength mine) (omega (arith, t .long)), here, run-length)))
 
-  pub asked-missing : p < described → count ≤ r .supplier → given (missingFor (r .length)) ≡ asked (tabled sourceLimit f a b) p
+  pub asked-missing : p < described → r .supplied ≡ false → given (missingFor (r .length)) ≡ asked (tabled sourceLimit f a b) source p
   unfolding reply
   asked-missing below none =
-      let lacks = not-supplied none in
-      sym (asked-by (rw (reply, lt-ltb p (describedLength (t .ss)) (omega (arith, t .long)), lacks, missing-run (t .ss) p lacks, run-length)))
+      let lacks = sym is-supplied ∙ none in
+      sym (asked-by (rw (reply, lt-ltb p (describedLength mine) (omega (arith, t .long)), lacks, missing-run mine p lacks, run-length)))
 
-  pub part-none : count ≤ r .supplier → (tabled sourceLimit f a b >>= λ ss. given (servedPart (given ss) p)) ≡ given nowhere
-  unfolding servedPart
-  part-none none = rw (t .read, servedPart, not-supplied none)
+  pub part-none : r .supplied ≡ false → (tabled sourceLimit f a b >>= λ ss. given (servedPart (given ss) source p)) ≡ given nowhere
+  unfolding servedPart partOf
+  part-none none =
+      let lacks = sym is-supplied ∙ none in
+      rw (t .read, partOf, lacks)
 
   -- a part that is served
-  module _ (there : r .supplier < count) {c : Chunk} (row : c ≡ chunkIn b′ (r .supplier)) where
-    part-chunk : c ≡ chunkFor (t .ss) p
-    part-chunk =
-        let here : 0 + r .supplier ≡ r .supplier = omega arith in
-        row ∙ sym (row-of b′ count 0 (r .supplier) there ∙ ap (chunkIn b′) here) ∙ (λ i. getD (t .rows i) (run-number i) noChunk)
+  pub part-there : r .supplied ≡ true → length f < 2 ^ 64 → {place : ℕ} → place ≡ min (chunkOf (r .chunk) .place + (p - chunkOf (r .chunk) .start)) (2 ^ 64 - 1)
+      → (tabled sourceLimit f a b >>= λ ss. given (servedPart (given ss) source p)) ≡ given (record { place = place; size = r .length })
+  unfolding servedPart partOf placeOfByte
+  part-there there short {place} at =
+      let has = sym is-supplied ∙ there in
+      let here : placeOfByte mine p ≡ chunkOf (r .chunk) .place + (p - chunkOf (r .chunk) .start) = λ i. sym run-chunk i .place + (p - sym run-chunk i .start) in
+      let same : placeOfByte mine p ≡ place = omega (arith, served-fits f source a b (t .read) p has) in
+      rw (t .read, partOf, has) (λ i. given (record { place = same i; size = sym run-length i }))
 
-    pub part-there : length f < 2 ^ 64 → {place : ℕ} → place ≡ min (c .place + (p - c .start)) (2 ^ 64 - 1)
-        → (tabled sourceLimit f a b >>= λ ss. given (servedPart (given ss) p)) ≡ given (record { place = place; size = r .length })
-    unfolding servedPart placeOfByte
-    part-there short {place} at =
-        let here : placeOfByte (t .ss) p ≡ c .place + (p - c .start) = λ i. sym part-chunk i .place + (p - sym part-chunk i .start) in
-        let same : placeOfByte (t .ss) p ≡ place = omega (arith, served-fits f a b (t .read) p (is-supplied there)) in
-        rw (t .read, servedPart, is-supplied there) (λ i. given (record { place = same i; size = sym run-length i }))
-
-pub asked-beyond : {f a b b′ : List ℕ} {count described : ℕ} (t : Told f a b b′ count described) (p : ℕ) → described ≤ p → given notBelow ≡ asked (tabled sourceLimit f a b) p
+pub asked-beyond : {f : List ℕ} {source : ℕ} {a b sources b′ : List ℕ} {count described : ℕ} (t : Told f source a b sources b′ count described) (p : ℕ) → described ≤ p
+    → given notBelow ≡ asked (tabled sourceLimit f a b) source p
 unfolding asked
-asked-beyond t p past = sym (rw (t .read, beyond (t .ss) p (omega (arith, t .long))))
+asked-beyond {source = source} t p past = sym (rw (t .read, beyond (ofSource source (t .ss)) p (omega (arith, t .long))))
 
-pub asked-refused : (f a b : List ℕ) (p : ℕ) {n : ℕ} → tabled sourceLimit f a b ≡ refused n → refused n ≡ asked (tabled sourceLimit f a b) p
-unfolding asked
-asked-refused f a b p e = rw e
+module _ (f : List ℕ) (source : ℕ) (a b : List ℕ) (p : ℕ) {n : ℕ} (e : tabled sourceLimit f a b ≡ refused n) where
+  pub asked-refused : refused n ≡ asked (tabled sourceLimit f a b) source p
+  unfolding asked
+  asked-refused = rw e
 
-pub part-refused : (f a b : List ℕ) (p : ℕ) {n : ℕ} → tabled sourceLimit f a b ≡ refused n
-    → refused n ≡ (tabled sourceLimit f a b >>= λ ss. given (servedPart (given ss) p))
-part-refused f a b p e = rw e
+  pub part-refused : refused n ≡ (tabled sourceLimit f a b >>= λ ss. given (servedPart (given ss) source p))
+  part-refused = rw e

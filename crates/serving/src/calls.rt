@@ -1,12 +1,13 @@
-// Serving and asking of a position, each reading the file into the two lent tables first.
+// Serving and asking of a position of a source, each reading the file into the two lent tables first.
+use ends::table::ONE_SOURCE;
 use numerals::place::Place;
 use partial::answers::Asked;
 use partial::answers::Read;
 use partial::position::Position;
 use reading::parts::Located;
 use reading::parts::part_of;
-use reading::tables::read;
-use supplying::rows::chunk_at;
+use reading::tables::read_source;
+use sources::numbers::ALL_SOURCES;
 use supplying::runs::run_at;
 use surls::part::Part;
 ghost use denote.Ref.{ptr};
@@ -18,12 +19,19 @@ const NOWHERE: Part = Part {
     size: 0,
 };
 
-// Where the part of the file lies that serves a position and those after it, as long as the same chunk supplies them;
-// an empty part where none does.
-pub fn part_at(file: &[u8], segments: &mut [u64], chunks: &mut [u64], p: Position) -> Located
-    ensures { λ r. ⌜ Locates (now (file .entry)) (now (segments .entry)) (now (segments .exit)) (now (chunks .entry)) (now (chunks .exit)) (p .0) r ⌝ }
+// Where the part of the file lies that serves a position of a source and those after it, as long as the same chunk
+// supplies them; an empty part where none does.
+fn source_part_at(
+    file: &[u8],
+    source: u64,
+    segments: &mut [u64],
+    chunks: &mut [u64],
+    p: Position,
+) -> Located
+    ensures { λ r. ⌜ Locates (now (file .entry)) source (now (segments .entry)) (now (segments .exit)) (now (chunks .entry)) (now (chunks .exit)) (p .0) r ⌝ }
 {
-    match read(file, segments, chunks) {
+    let mut sources = [0; ALL_SOURCES];
+    match read_source(file, source, segments, chunks, &mut sources) {
         Read::Refused(n) => Located::Refused(n),
         Read::Tables {
             segments: _,
@@ -31,11 +39,11 @@ pub fn part_at(file: &[u8], segments: &mut [u64], chunks: &mut [u64], p: Positio
             described,
             closed: _,
         } => {
-            let run = run_at(chunks, count, p, described);
-            if count <= run.supplier {
+            let run = run_at(&sources, chunks, count, source, p, described);
+            if !run.supplied {
                 return Located::At(NOWHERE);
             }
-            let c = chunk_at(chunks, run.supplier);
+            let c = run.chunk;
             Located::At(Part {
                 place: c.place_of(p),
                 size: run.length,
@@ -44,18 +52,33 @@ pub fn part_at(file: &[u8], segments: &mut [u64], chunks: &mut [u64], p: Positio
     }
 }
 
+// The same of the one source that a file has.
+pub fn part_at(file: &[u8], segments: &mut [u64], chunks: &mut [u64], p: Position) -> Located
+    ensures { λ r. ⌜ Locates (now (file .entry)) 0 (now (segments .entry)) (now (segments .exit)) (now (chunks .entry)) (now (chunks .exit)) (p .0) r ⌝ }
+{
+    source_part_at(file, ONE_SOURCE, segments, chunks, p)
+}
+
 // The part of the file that serves a position and those after it; empty where none does, or after a refusal.
 pub fn serve<'a>(file: &'a [u8], segments: &mut [u64], chunks: &mut [u64], p: Position) -> &'a [u8]
-    ensures { λ r. ⌜ Serves (now (file .entry)) (ptr (file .entry)) (now (segments .entry)) (now (segments .exit)) (now (chunks .entry)) (now (chunks .exit)) (p .0) (ptr r) (now r) ⌝ }
+    ensures { λ r. ⌜ Serves (now (file .entry)) (ptr (file .entry)) 0 (now (segments .entry)) (now (segments .exit)) (now (chunks .entry)) (now (chunks .exit)) (p .0) (ptr r) (now r) ⌝ }
 {
     part_of(file, part_at(file, segments, chunks, p))
 }
 
-// Whether a position is served or missing, with how many in a row from there on, or not below the described length.
-pub fn ask(file: &[u8], segments: &mut [u64], chunks: &mut [u64], p: Position) -> Asked
-    ensures { λ r. ⌜ Asks (now (file .entry)) (now (segments .entry)) (now (segments .exit)) (now (chunks .entry)) (now (chunks .exit)) (p .0) r ⌝ }
+// Whether a position of a source is served or missing, with how many in a row from there on, or not below the described
+// length.
+fn ask_source(
+    file: &[u8],
+    source: u64,
+    segments: &mut [u64],
+    chunks: &mut [u64],
+    p: Position,
+) -> Asked
+    ensures { λ r. ⌜ Asks (now (file .entry)) source (now (segments .entry)) (now (segments .exit)) (now (chunks .entry)) (now (chunks .exit)) (p .0) r ⌝ }
 {
-    match read(file, segments, chunks) {
+    let mut sources = [0; ALL_SOURCES];
+    match read_source(file, source, segments, chunks, &mut sources) {
         Read::Refused(n) => Asked::Refused(n),
         Read::Tables {
             segments: _,
@@ -66,12 +89,19 @@ pub fn ask(file: &[u8], segments: &mut [u64], chunks: &mut [u64], p: Position) -
             if described.0 <= p.0 {
                 return Asked::NotBelow;
             }
-            let run = run_at(chunks, count, p, described);
-            if run.supplier < count {
+            let run = run_at(&sources, chunks, count, source, p, described);
+            if run.supplied {
                 Asked::Served(run.length)
             } else {
                 Asked::Missing(run.length)
             }
         }
     }
+}
+
+// The same of the one source that a file has.
+pub fn ask(file: &[u8], segments: &mut [u64], chunks: &mut [u64], p: Position) -> Asked
+    ensures { λ r. ⌜ Asks (now (file .entry)) 0 (now (segments .entry)) (now (segments .exit)) (now (chunks .entry)) (now (chunks .exit)) (p .0) r ⌝ }
+{
+    ask_source(file, ONE_SOURCE, segments, chunks, p)
 }

@@ -6,14 +6,16 @@ use mathlib.Core.Logic.{_⊎_, inl, inr}
 use mathlib.Core.Path.{_≡_, refl, sym, ap, subst, _∙_}
 use native.Mathlib.Decide.{decLe}
 use native.Mathlib.Omega.{arith}
-use borrow.Author.Tests.{eq-eqb, eqb-true}
+use borrow.Author.Tests.{eq-eqb, ne-eqb, eqb-true}
 use lib.Dec.{eqb}
-use lib.ListN.{length, take, drop, take-append-drop}
+use lib.ListN.{length, getD, take, drop, take-append-drop, length-append}
 use Rattle.partial.specs.Meaning.{coversAs}
 use Rattle.partial.specs.Segments.{Chunk, Segment, good, damaged, chunksOf}
 use Rattle.partial.specs.Sequences.{someOf}
+use Rattle.partial.specs.Sources.{ofSource}
 use Rattle.partial.proofs.Meaning.RunLaws.{covers-true, does-cover}
 use Rattle.partial.proofs.Meaning.SequenceLaws.{which, some-append}
+use Rattle.partial.proofs.Meaning.SourceLaws.{of-append}
 use Rattle.partial.proofs.Meaning.SupplyLaws.{chunks-append}
 use Rattle.gathering.specs.Kept.{ChunksKept}
 use Rattle.gathering.proofs.KeptLaws.{nextChunk, next-taken, NextSegment}
@@ -90,6 +92,25 @@ many-apart (c ∷ cs) = go (which (eqb (c .state) good)) (which (eqb (c .state) 
     go (inl a) (inr b) few = rw (a, b) (omega arith)
     go (inr a) (inl b) few = rw (a, b) (omega arith)
     go (inr a) (inr b) few = rw (a, b) (omega arith)
+
+-- the segments of a source are no more than all, and so are their chunks
+pub of-few : (source : ℕ) (ss : List Segment) → length (ofSource source ss) ≤ length ss
+unfolding ofSource
+of-few source [] = omega arith
+of-few source (s ∷ ss) =
+    elim (which (eqb (s .source) source)) [
+      | inl e ↦ rw (ofSource, e) (omega (arith, of-few source ss))
+      | inr e ↦ rw (ofSource, e) (omega (arith, of-few source ss))
+    ]
+
+pub source-few : (source : ℕ) (ss : List Segment) → length (chunksOf (ofSource source ss)) ≤ length (chunksOf ss)
+unfolding chunksOf ofSource
+source-few source [] = omega arith
+source-few source (s ∷ ss) =
+    elim (which (eqb (s .source) source)) [
+      | inl e ↦ rw (ofSource, e) (simp length-append (omega (arith, source-few source ss)))
+      | inr e ↦ rw (ofSource, e) (simp length-append (omega (arith, source-few source ss)))
+    ]
 
 -- ---- a chunk more
 
@@ -276,18 +297,37 @@ spans-next state end done cs numbers at i start some kept {t} room s taken =
     spans-same more (spans-more state end s c fits taken)
 
 -- one segment more
-pub spans-segment : (state end : ℕ) (ss : List Segment) (k : ℕ) {rows numbers : List ℕ} {at : ℕ} → k < length ss → (next : NextSegment rows numbers ss k at) → {t : List ℕ} {n : ℕ}
-    → 2 * manyOf state (chunksOf ss) ≤ length t
-    → SpansOf state (chunksOf (take k ss)) end t n
-    → {t′ : List ℕ} {n′ : ℕ}
-    → (2 * manyOf state (chunksOf (take k ss) ++ next .s .chunks) ≤ length t → SpansOf state (chunksOf (take k ss)) end t n → SpansOf state (chunksOf (take k ss) ++ next .s .chunks) end t′ n′)
-    → SpansOf state (chunksOf (take (k + 1) ss)) end t′ n′
-unfolding chunksOf
-spans-segment state end ss k some next {t} room s more =
-    let all : chunksOf (take (k + 1) ss) ≡ chunksOf (take k ss) ++ next .s .chunks =
-    ap chunksOf (next .taken) ∙ chunks-append (take k ss) (next .s ∷ []) ∙ ap (λ (cs : List Chunk). chunksOf (take k ss) ++ cs) (append-nil (next .s .chunks)) in
-    let parts : chunksOf ss ≡ chunksOf (take (k + 1) ss) ++ chunksOf (drop (k + 1) ss) =
-    sym (ap chunksOf (take-append-drop (k + 1) ss)) ∙ chunks-append (take (k + 1) ss) (drop (k + 1) ss) in
-    let fits : 2 * manyOf state (chunksOf (take k ss) ++ next .s .chunks) ≤ length t =
-    omega (arith, room, ap (manyOf state) all, ap (manyOf state) parts, many-both state (chunksOf (take (k + 1) ss)) (chunksOf (drop (k + 1) ss))) in
-    spans-same (sym all) (more fits s)
+module _ (state end source : ℕ) (ss : List Segment) (k : ℕ) {rows sources numbers : List ℕ} {at : ℕ} (next : NextSegment rows sources numbers ss k at) where
+  -- the chunks of the source among the segments so far, and with this one
+  abbrev so-far : List Chunk
+  so-far = chunksOf (ofSource source (take k ss))
+
+  with-next : ofSource source (take (k + 1) ss) ≡ ofSource source (take k ss) ++ ofSource source (next .s ∷ [])
+  with-next = ap (ofSource source) (next .taken) ∙ of-append source (take k ss) (next .s ∷ [])
+
+  -- of the source
+  pub spans-segment : getD sources k 0 ≡ source → {t : List ℕ} {n : ℕ} → 2 * manyOf state (chunksOf (ofSource source ss)) ≤ length t → SpansOf state so-far end t n
+      → {t′ : List ℕ} {n′ : ℕ}
+      → (2 * manyOf state (so-far ++ next .s .chunks) ≤ length t → SpansOf state so-far end t n → SpansOf state (so-far ++ next .s .chunks) end t′ n′)
+      → SpansOf state (chunksOf (ofSource source (take (k + 1) ss))) end t′ n′
+  unfolding chunksOf ofSource
+  spans-segment is {t} room s more =
+      let this : ofSource source (next .s ∷ []) ≡ next .s ∷ [] = rw (ofSource, eq-eqb (next .s .source) source (sym (next .source) ∙ is)) in
+      let all : chunksOf (ofSource source (take (k + 1) ss)) ≡ so-far ++ next .s .chunks =
+      ap chunksOf (with-next ∙ ap (λ (x : List Segment). ofSource source (take k ss) ++ x) this) ∙ chunks-append (ofSource source (take k ss)) (next .s ∷ [])
+      ∙ ap (λ (cs : List Chunk). so-far ++ cs) (append-nil (next .s .chunks)) in
+      let later = ofSource source (drop (k + 1) ss) in
+      let parts : chunksOf (ofSource source ss) ≡ chunksOf (ofSource source (take (k + 1) ss)) ++ chunksOf later =
+      ap chunksOf (sym (ap (ofSource source) (take-append-drop (k + 1) ss)) ∙ of-append source (take (k + 1) ss) (drop (k + 1) ss))
+      ∙ chunks-append (ofSource source (take (k + 1) ss)) later in
+      let fits : 2 * manyOf state (so-far ++ next .s .chunks) ≤ length t =
+      omega (arith, room, ap (manyOf state) all, ap (manyOf state) parts, many-both state (chunksOf (ofSource source (take (k + 1) ss))) (chunksOf later)) in
+      spans-same (sym all) (more fits s)
+
+  -- of another
+  pub spans-other : (getD sources k 0 ≡ source → ⊥) → {t : List ℕ} {n : ℕ} → SpansOf state so-far end t n → SpansOf state (chunksOf (ofSource source (take (k + 1) ss))) end t n
+  unfolding ofSource
+  spans-other other s =
+      let this : ofSource source (next .s ∷ []) ≡ [] = rw (ofSource, ne-eqb (next .s .source) source (λ is. other (next .source ∙ is))) in
+      let all = with-next ∙ ap (λ (x : List Segment). ofSource source (take k ss) ++ x) this ∙ append-nil (ofSource source (take k ss)) in
+      spans-same (ap chunksOf (sym all)) s

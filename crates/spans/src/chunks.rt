@@ -1,4 +1,4 @@
-// The spans of the chunks of one state of a file, made of what is kept of it.
+// The spans of the chunks of one state of a source, made of what is kept of a file.
 use crate::put::join_span;
 use gathering::numbers::chunk_by;
 use numerals::order::smaller;
@@ -10,11 +10,13 @@ use partial::rows::ALL_NUMBERS;
 use partial::rows::ALL_SEGMENT_ROWS;
 use partial::rows::SEGMENT_ROW;
 use segment::chunk::Chunk;
+use sources::numbers::ALL_SOURCES;
 ghost use Prim.Native.Nat.{_+_, _*_, _≤_};
 ghost use mathlib.Core.List.{List};
 ghost use lib.ListN.{length};
 ghost use Rattle.partial.specs.Limits.{chunkLimit};
 ghost use Rattle.partial.specs.Segments.{Segment, chunksOf};
+ghost use Rattle.partial.specs.Sources.{ofSource};
 ghost use Rattle.segment.specs.Chunk.{chunkOf};
 ghost use Rattle.gathering.specs.Kept.{Kept};
 ghost use Rattle.spans.specs.Chunks.{manyOf, SpanEnd, Taken, SpansOf, Extends};
@@ -82,10 +84,13 @@ fn take_segment(
     n
 }
 
-// Puts the spans of what the chunks of a state cover below an end into a table, and answers how many they are, by what
-// is kept of so many segments; of all of them where the table has room for a span of each.
+// Puts the spans of what the chunks of a state of a source cover below an end into a table, and answers how many they
+// are, by what is kept of so many segments, whatever their sources; of all of them where the table has room for a span
+// of each.
 pub fn spans_of(
     state: u64,
+    source: u64,
+    sources: &[u64; ALL_SOURCES],
     segments: &[u64; ALL_SEGMENT_ROWS],
     many: u64,
     numbers: &[u64; ALL_NUMBERS],
@@ -93,9 +98,9 @@ pub fn spans_of(
     table: &mut [u64],
 ) -> usize
     ensures { λ r. ⌜ Spans (now (table .exit)) r (end .0)
-        × ((ss : List Segment) → Kept (now (segments .entry)) many (now (numbers .entry)) ss
-        → 2 * manyOf state (chunksOf ss) ≤ length (now (table .entry))
-        → SpansOf state (chunksOf ss) (end .0) (now (table .exit)) r) ⌝ }
+        × ((ss : List Segment) → Kept (now (segments .entry)) many (now (sources .entry)) (now (numbers .entry)) ss
+        → 2 * manyOf state (chunksOf (ofSource source ss)) ≤ length (now (table .entry))
+        → SpansOf state (chunksOf (ofSource source ss)) (end .0) (now (table .exit)) r) ⌝ }
 {
     if SEGMENT_LIMIT < many {
         return 0;
@@ -110,7 +115,9 @@ pub fn spans_of(
         if CHUNK_LIMIT - at < count {
             return n;
         }
-        n = take_segment(numbers, at, count, Position(first), state, end, table, n);
+        if sources[k as usize] == source {
+            n = take_segment(numbers, at, count, Position(first), state, end, table, n);
+        }
         at += count;
         k += 1;
     }

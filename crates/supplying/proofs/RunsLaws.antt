@@ -1,22 +1,26 @@
 -- Laws of the run of a position: what one chunk decides of it, and how long it is.
 use Prim.Native.Nat.{ℕ, suc, _+_, _-_, _≤_, _<_, min}
-use mathlib.Core.Bool.{true, false, and-false}
+use mathlib.Core.Bool.{Bool, true, false, and-false}
 use mathlib.Core.List.{List, [], _∷_}
 use mathlib.Core.Logic.{inl, inr}
-use mathlib.Core.Path.{_≡_, sym, ap, _∙_}
+use mathlib.Core.Path.{_≡_, refl, sym, ap, subst, _∙_}
 use native.Mathlib.Decide.{decLe}
 use native.Mathlib.Omega.{arith}
 use borrow.Author.Tests.{eq-eqb, ne-eqb, le-leb, lt-leb, lt-ltb, le-ltb}
 use lib.Dec.{ltb, eqb}
+use lib.ListN.{length, getD}
 use Rattle.partial.specs.Meaning.{covers, supplies, supplier}
-use Rattle.partial.specs.Segments.{Chunk, good}
+use Rattle.partial.specs.Segments.{Chunk, noChunk, good}
 use Rattle.partial.specs.Sequences.{within, stretch}
 use Rattle.partial.proofs.Meaning.SequenceLaws.{which}
 use Rattle.partial.proofs.Meaning.StretchLaws.{first-one, stretch-first}
 use Rattle.partial.proofs.Meaning.RunLaws.{comes, supplies-true, runEnd, run}
 use Rattle.partial.proofs.Meaning.SupplyLaws.{supplier-here, supplier-on}
-use Rattle.supplying.specs.Rows.{chunkIn, chunksFrom, chunksIn}
-use Rattle.supplying.specs.Runs.{sameRun, runIn, clip}
+use Rattle.segment.specs.Chunk.{chunkOf}
+use Rattle.supplying.specs.Rows.{chunkIn, rowOf, chunksFrom, chunksIn}
+use Rattle.supplying.specs.Runs.{isSupplied, suppliedBy, sameRun, RunIn, clip}
+use Rattle.supplying.specs.declared.runs.Run.{Run}
+use Rattle.supplying.proofs.RowsLaws.{rows-next}
 
 module _ (c : Chunk) (p : ℕ) where
   pub supplies-other : (c .state ≡ good → ⊥) → false ≡ supplies p c
@@ -96,61 +100,107 @@ run-long cs p end =
           })
     ]
 
--- ---- a pass over the rows of a table
+-- ---- the supplier of a position, by the first chunk
 
--- the chunks before a row do not supply the position; those from there on decide
-pub record Midway (table : List ℕ) (count p end k stop : ℕ) : Type 0 where
-  pub number : supplier (chunksIn table count) p ≡ k + supplier (chunksFrom table (count - k) k) p
-  pub ends : runEnd (chunksIn table count) p end ≡ runEnd (chunksFrom table (count - k) k) p stop
+module _ (c : Chunk) (cs : List Chunk) (p : ℕ) where
+  supplied-here : supplies p c ≡ true → isSupplied (c ∷ cs) p ≡ true
+  supplied-here e = rw (supplier-here c cs p e) (lt-ltb 0 (length (c ∷ cs)) (omega arith))
 
-module _ (table : List ℕ) (count p end : ℕ) where
-  pub midway-none : Midway table count p end 0 end
-  midway-none =
-      let all : count ≡ count - 0 = omega arith in
+  supplied-on : supplies p c ≡ false → isSupplied (c ∷ cs) p ≡ isSupplied cs p
+  supplied-on e =
+      rw (supplier-on c cs p e)
+      (elim (decLe (length cs) (supplier cs p)) [
+        | yes none ↦ le-ltb (suc (supplier cs p)) (length (c ∷ cs)) (omega arith) ∙ sym (le-ltb (supplier cs p) (length cs) none)
+        | no some ↦ lt-ltb (suc (supplier cs p)) (length (c ∷ cs)) (omega arith) ∙ sym (lt-ltb (supplier cs p) (length cs) (omega arith))
+      ])
+
+  by-here : supplies p c ≡ true → suppliedBy (c ∷ cs) p ≡ c
+  by-here e = ap (λ (k : ℕ). getD (c ∷ cs) k noChunk) (supplier-here c cs p e)
+
+  by-on : supplies p c ≡ false → suppliedBy (c ∷ cs) p ≡ suppliedBy cs p
+  by-on e = ap (λ (k : ℕ). getD (c ∷ cs) k noChunk) (supplier-on c cs p e)
+
+-- ---- a pass over chunks
+
+-- those that were passed do not supply the position; the others decide
+pub record Midway (all others : List Chunk) (p end stop : ℕ) : Type 0 where
+  pub supplied : isSupplied all p ≡ isSupplied others p
+  pub by : suppliedBy all p ≡ suppliedBy others p
+  pub ends : runEnd all p end ≡ runEnd others p stop
+
+-- the same others
+midway-same : {all others next : List Chunk} {p end stop : ℕ} → others ≡ next → Midway all others p end stop → Midway all next p end stop
+midway-same {all} {p = p} {end = end} {stop = stop} e m = subst (λ (cs : List Chunk). Midway all cs p end stop) e m
+
+module _ (all : List Chunk) (p end : ℕ) where
+  midway-all : Midway all all p end end
+  midway-all = record { supplied = refl; by = refl; ends = refl }
+
+  module _ {c : Chunk} {others : List Chunk} {stop : ℕ} (m : Midway all (c ∷ others) p end stop) where
+    midway-on : supplies p c ≡ false → Midway all others p end (clip p stop c)
+    midway-on lacks =
+        record {
+          supplied = m .supplied ∙ supplied-on c others p lacks;
+          by = m .by ∙ by-on c others p lacks;
+          ends = m .ends ∙ run-on c p stop others lacks;
+        }
+
+    run-found : supplies p c ≡ true → {r : Run} → r .supplied ≡ true → chunkOf (r .chunk) ≡ c → r .length ≡ min (stop - p) (c .size - (p - c .start)) → RunIn all p end r
+    run-found here is by long =
+        let (_, from, to) = supplies-true c p here in
+        let stops = m .ends ∙ run-here c p others stop here in
+        record {
+          supplied = is ∙ sym (m .supplied ∙ supplied-here c others p here);
+          chunk = by ∙ sym (m .by ∙ by-here c others p here);
+          long = long ∙ sym (run-long all p end ∙ omega (arith, stops));
+        }
+
+  run-none : {stop : ℕ} → Midway all [] p end stop → {r : Run} → r .supplied ≡ false → chunkOf (r .chunk) ≡ noChunk → r .length ≡ stop - p → RunIn all p end r
+  unfolding runEnd supplier
+  run-none m is none long =
       record {
-        number = ap (λ (m : ℕ). supplier (chunksFrom table m 0) p) all ∙ omega arith;
-        ends = ap (λ (m : ℕ). runEnd (chunksFrom table m 0) p end) all;
+        supplied = is ∙ sym (m .supplied);
+        chunk = none ∙ sym (m .by);
+        long = long ∙ sym (run-long all p end ∙ ap (λ (n : ℕ). n - p) (m .ends));
       }
 
-  -- by the supplier and the end of its run
-  run-by : {k l : ℕ} → supplier (chunksIn table count) p ≡ k → runEnd (chunksIn table count) p end - p ≡ l
-      → record { supplier = k; length = l } ≡ runIn (chunksIn table count) p end
-  unfolding runIn
-  run-by number long =
-      let alike = sym (run-long (chunksIn table count) p end ∙ long) in
-      λ i. record { supplier = sym number i; length = alike i }
+-- ---- a pass over the rows of a table
 
-  module _ {k stop : ℕ} (m : Midway table count p end k stop) where
-    module _ (short : k < count) {c : Chunk} (row : c ≡ chunkIn table k) where
-      left : chunksFrom table (count - k) k ≡ c ∷ chunksFrom table (count - (k + 1)) (k + 1)
-      unfolding chunksFrom
-      left =
+module _ (sources : List ℕ) (source : ℕ) (table : List ℕ) (count p end : ℕ) where
+  -- the chunks of the source from a row on
+  abbrev left : ℕ → List Chunk
+  left k = chunksFrom sources source table (count - k) k
+
+  abbrev pub PassedTo : ℕ → ℕ → Type 0
+  PassedTo k stop = Midway (chunksIn sources source table count) (left k) p end stop
+
+  pub passed-none : PassedTo 0 end
+  passed-none = midway-same (ap (λ (m : ℕ). chunksFrom sources source table m 0) {x = count} {y = count - 0} (omega arith)) (midway-all _ p end)
+
+  module _ {k stop : ℕ} (m : PassedTo k stop) where
+    module _ (short : k < count) where
+      next-row : (is : Bool) → rowOf sources source table k ≡ is → left k ≡ elim is [ true ↦ chunkIn table k ∷ left (k + 1) | false ↦ left (k + 1) ]
+      next-row is e =
           let one : count - k ≡ suc (count - (k + 1)) = omega arith in
           let next : suc k ≡ k + 1 = omega arith in
-          ap (λ (m : ℕ). chunksFrom table m k) one ∙ (λ i. sym row i ∷ chunksFrom table (count - (k + 1)) (next i))
+          ap (λ (m : ℕ). chunksFrom sources source table m k) one ∙ rows-next sources source is table (count - (k + 1)) k e
+          ∙ ap (λ (n : ℕ). elim is [ true ↦ chunkIn table k ∷ chunksFrom sources source table (count - (k + 1)) n | false ↦ chunksFrom sources source table (count - (k + 1)) n ]) next
 
-      pub midway-more : supplies p c ≡ false → Midway table count p end (k + 1) (clip p stop c)
-      midway-more lacks =
-          let rest = chunksFrom table (count - (k + 1)) (k + 1) in
-          let on = ap (λ (cs : List Chunk). supplier cs p) left ∙ supplier-on c rest p lacks in
-          record {
-            number = m .number ∙ omega (arith, on);
-            ends = m .ends ∙ ap (λ (cs : List Chunk). runEnd cs p stop) left ∙ run-on c p stop rest lacks;
-          }
+      -- a row of another source
+      pub passed-other : rowOf sources source table k ≡ false → PassedTo (k + 1) stop
+      passed-other other = midway-same (next-row false other) m
 
-      pub midway-here : supplies p c ≡ true → {l : ℕ} → l ≡ min (stop - p) (c .size - (p - c .start))
-          → record { supplier = k; length = l } ≡ runIn (chunksIn table count) p end
-      midway-here here {l} long =
-          let rest = chunksFrom table (count - (k + 1)) (k + 1) in
-          let (_, from, to) = supplies-true c p here in
-          let on = ap (λ (cs : List Chunk). supplier cs p) left ∙ supplier-here c rest p here in
-          let stops = m .ends ∙ ap (λ (cs : List Chunk). runEnd cs p stop) left ∙ run-here c p rest stop here in
-          run-by (m .number ∙ omega (arith, on)) (omega (arith, stops))
+      module _ {c : Chunk} (row : c ≡ chunkIn table k) (this : rowOf sources source table k ≡ true) where
+        ahead : left k ≡ c ∷ left (k + 1)
+        ahead = next-row true this ∙ ap (λ (x : Chunk). x ∷ left (k + 1)) (sym row)
 
-    pub midway-end : count ≤ k → k ≤ count → {l : ℕ} → l ≡ stop - p → record { supplier = k; length = l } ≡ runIn (chunksIn table count) p end
-    unfolding chunksFrom supplier runEnd
-    midway-end most least {l} long =
-        let none : count - k ≡ 0 = omega arith in
-        let on : supplier (chunksFrom table (count - k) k) p ≡ 0 = ap (λ (m : ℕ). supplier (chunksFrom table m k) p) none in
-        let stops : runEnd (chunksIn table count) p end ≡ stop = m .ends ∙ ap (λ (m : ℕ). runEnd (chunksFrom table m k) p stop) none in
-        run-by (m .number ∙ omega (arith, on)) (omega (arith, stops))
+        pub passed-more : supplies p c ≡ false → PassedTo (k + 1) (clip p stop c)
+        passed-more lacks = midway-on _ p end (midway-same ahead m) lacks
+
+        pub passed-here : supplies p c ≡ true → {r : Run} → r .supplied ≡ true → chunkOf (r .chunk) ≡ c → r .length ≡ min (stop - p) (c .size - (p - c .start))
+            → RunIn (chunksIn sources source table count) p end r
+        passed-here here = run-found _ p end (midway-same ahead m) here
+
+    pub passed-all : count ≤ k → {r : Run} → r .supplied ≡ false → chunkOf (r .chunk) ≡ noChunk → r .length ≡ stop - p → RunIn (chunksIn sources source table count) p end r
+    unfolding chunksFrom
+    passed-all most = run-none _ p end (midway-same (ap (λ (m : ℕ). chunksFrom sources source table m k) {x = count - k} {y = 0} (omega arith)) m)

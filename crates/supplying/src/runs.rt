@@ -1,21 +1,24 @@
-// Runs: which chunk supplies a position, and how many positions from there on have the same supplier, in one pass over
-// the rows.
+// Runs: which chunk of a source supplies a position, and how many positions from there on have the same supplier, in
+// one pass over the rows.
+use crate::rows::NO_CHUNK;
 use crate::rows::chunk_at;
+use crate::rows::row_of;
 use fields::state::GOOD;
 use numerals::order::between;
 use numerals::order::smaller;
 use partial::position::Position;
 use segment::chunk::Chunk;
+use sources::numbers::ALL_SOURCES;
 ghost use mathlib.Core.Path.{_≡_};
 ghost use Rattle.partial.specs.Meaning.{supplies};
 ghost use Rattle.segment.specs.Chunk.{chunkOf};
 ghost use Rattle.supplying.specs.Rows.{chunksIn};
-ghost use Rattle.supplying.specs.Runs.{runIn, clip};
+ghost use Rattle.supplying.specs.Runs.{RunIn, clip};
 
-// The number of the chunk that supplies a position, or of all chunks where none does, and how many positions from there
-// on are alike.
+// Whether a chunk supplies a position, which one, and how many positions from there on are alike.
 pub struct Run {
-    pub supplier: u64,
+    pub supplied: bool,
+    pub chunk: Chunk,
     pub length: u64,
 }
 
@@ -51,26 +54,37 @@ fn clip(c: Chunk, p: Position, end: u64) -> u64
     smaller(end, start.0)
 }
 
-// The run of a position, below an end, in a table of so many rows.
-pub fn run_at(table: &[u64], count: u64, p: Position, end: Position) -> Run
-    ensures { λ r. ⌜ r ≡ runIn (chunksIn (now (table .entry)) count) (p .0) (end .0) ⌝ }
+// The run of a position of a source, below an end, in a table of so many rows, by the sources of the segments.
+pub fn run_at(
+    sources: &[u64; ALL_SOURCES],
+    table: &[u64],
+    count: u64,
+    source: u64,
+    p: Position,
+    end: Position,
+) -> Run
+    ensures { λ r. ⌜ RunIn (chunksIn (now (sources .entry)) source (now (table .entry)) count) (p .0) (end .0) r ⌝ }
 {
     let mut stop = end.0;
     let mut k = 0;
     while k < count {
-        let c = chunk_at(table, k);
-        if supplies(c, p) {
-            let left = c.size - (p.0 - c.start.0);
-            return Run {
-                supplier: k,
-                length: smaller(between(p.0, stop), left),
-            };
+        if row_of(sources, source, table, k) {
+            let c = chunk_at(table, k);
+            if supplies(c, p) {
+                let left = c.size - (p.0 - c.start.0);
+                return Run {
+                    supplied: true,
+                    chunk: c,
+                    length: smaller(between(p.0, stop), left),
+                };
+            }
+            stop = clip(c, p, stop);
         }
-        stop = clip(c, p, stop);
         k += 1;
     }
     Run {
-        supplier: k,
+        supplied: false,
+        chunk: NO_CHUNK,
         length: between(p.0, stop),
     }
 }

@@ -22,8 +22,9 @@ use Rattle.vrazhupa.specs.Says.{Says, headingNumbers, summaryNumbers, to
 pub record SaysHeaded (f before after : List ℕ) (r : ℕ) : Type 0 where
   pub said : Says headingNumbers (told f (heading f)) before after r
 
-pub record SaysRead (f segments segments′ chunks chunks′ told told′ : List ℕ) (r : ℕ) : Type 0 where
-  pub said : Says summaryNumbers (tabled sourceLimit f segments chunks >>= λ ss. given (summary ss)) told told′ r
+-- reading, serving, asking and listing, of a source
+pub record SaysRead (f : List ℕ) (source : ℕ) (segments segments′ chunks chunks′ told told′ : List ℕ) (r : ℕ) : Type 0 where
+  pub said : Says summaryNumbers (tabled sourceLimit f segments chunks >>= λ ss. given (summary source ss)) told told′ r
   pub tables : Filled (tabled sourceLimit f segments chunks) segments segments′ chunks chunks′
 
 -- one of the two texts
@@ -31,19 +32,19 @@ pub record SaysText (which : List ℕ → Box → Part) (f told told′ : List �
   pub said : Says (λ ss. partNumbers (textOf which sourceLimit f)) (reading sourceLimit f) told told′ r
 
 -- the part that serves a position: its place in the file, and its length
-pub record SaysServed (f segments segments′ chunks chunks′ : List ℕ) (p : ℕ) (told told′ : List ℕ) (r : ℕ) : Type 0 where
-  pub said : Says (λ ss. partNumbers (servedPart (given ss) p)) (tabled sourceLimit f segments chunks) told told′ r
+pub record SaysServed (f : List ℕ) (source : ℕ) (segments segments′ chunks chunks′ : List ℕ) (p : ℕ) (told told′ : List ℕ) (r : ℕ) : Type 0 where
+  pub said : Says (λ ss. partNumbers (servedPart (given ss) source p)) (tabled sourceLimit f segments chunks) told told′ r
   pub tables : Filled (tabled sourceLimit f segments chunks) segments segments′ chunks chunks′
 
-pub record SaysAsked (f segments segments′ chunks chunks′ : List ℕ) (p : ℕ) (told told′ : List ℕ) (r : ℕ) : Type 0 where
-  pub said : Says replyNumbers (asked (tabled sourceLimit f segments chunks) p) told told′ r
+pub record SaysAsked (f : List ℕ) (source : ℕ) (segments segments′ chunks chunks′ : List ℕ) (p : ℕ) (told told′ : List ℕ) (r : ℕ) : Type 0 where
+  pub said : Says replyNumbers (asked (tabled sourceLimit f segments chunks) source p) told told′ r
   pub tables : Filled (tabled sourceLimit f segments chunks) segments segments′ chunks chunks′
 
-pub record SaysListed (f segments segments′ chunks chunks′ had had′ missing missing′ told told′ : List ℕ) (r : ℕ) : Type 0 where
-  pub said : Says totalsNumbers (listed sourceLimit f segments chunks had missing >>= λ ss. given (totals ss)) told told′ r
-  pub tables : Filled (listed sourceLimit f segments chunks had missing) segments segments′ chunks chunks′
-  pub hadTable : had′ ≡ after hadRows (listed sourceLimit f segments chunks had missing) had
-  pub missingTable : missing′ ≡ after missingRows (listed sourceLimit f segments chunks had missing) missing
+pub record SaysListed (f : List ℕ) (source : ℕ) (segments segments′ chunks chunks′ had had′ missing missing′ told told′ : List ℕ) (r : ℕ) : Type 0 where
+  pub said : Says totalsNumbers (listed sourceLimit f source segments chunks had missing >>= λ ss. given (totals source ss)) told told′ r
+  pub tables : Filled (listed sourceLimit f source segments chunks had missing) segments segments′ chunks chunks′
+  pub hadTable : had′ ≡ after (hadRows source) (listed sourceLimit f source segments chunks had missing) had
+  pub missingTable : missing′ ≡ after (missingRows source) (listed sourceLimit f source segments chunks had missing) missing
 
 -- how many rows the index has, and the rows in the table
 pub record SaysIndexed (f table table′ told told′ : List ℕ) (r : ℕ) : Type 0 where

@@ -41,7 +41,7 @@ pub extern "C" fn vrazhupa_read(
     chunks: &mut [u64],
     told: &mut [u64; 4],
 ) -> u64
-    ensures { λ r. ⌜ SaysRead (now (file .entry)) (now (segments .entry)) (now (segments .exit)) (now (chunks .entry)) (now (chunks .exit)) (now (told .entry)) (now (told .exit)) r ⌝ }
+    ensures { λ r. ⌜ SaysRead (now (file .entry)) 0 (now (segments .entry)) (now (segments .exit)) (now (chunks .entry)) (now (chunks .exit)) (now (told .entry)) (now (told .exit)) r ⌝ }
 {
     say_read(read(file, segments, chunks), told)
 }
@@ -72,7 +72,7 @@ pub extern "C" fn vrazhupa_serve(
     p: u64,
     told: &mut [u64; 2],
 ) -> u64
-    ensures { λ r. ⌜ SaysServed (now (file .entry)) (now (segments .entry)) (now (segments .exit)) (now (chunks .entry)) (now (chunks .exit)) p (now (told .entry)) (now (told .exit)) r ⌝ }
+    ensures { λ r. ⌜ SaysServed (now (file .entry)) 0 (now (segments .entry)) (now (segments .exit)) (now (chunks .entry)) (now (chunks .exit)) p (now (told .entry)) (now (told .exit)) r ⌝ }
 {
     say_part(part_at(file, segments, chunks, Position(p)), told)
 }
@@ -86,7 +86,7 @@ pub extern "C" fn vrazhupa_ask(
     p: u64,
     told: &mut [u64; 2],
 ) -> u64
-    ensures { λ r. ⌜ SaysAsked (now (file .entry)) (now (segments .entry)) (now (segments .exit)) (now (chunks .entry)) (now (chunks .exit)) p (now (told .entry)) (now (told .exit)) r ⌝ }
+    ensures { λ r. ⌜ SaysAsked (now (file .entry)) 0 (now (segments .entry)) (now (segments .exit)) (now (chunks .entry)) (now (chunks .exit)) p (now (told .entry)) (now (told .exit)) r ⌝ }
 {
     say_asked(ask(file, segments, chunks, Position(p)), told)
 }
@@ -101,7 +101,7 @@ pub extern "C" fn vrazhupa_list(
     missing: &mut [u64],
     told: &mut [u64; 4],
 ) -> u64
-    ensures { λ r. ⌜ SaysListed (now (file .entry)) (now (segments .entry)) (now (segments .exit))
+    ensures { λ r. ⌜ SaysListed (now (file .entry)) 0 (now (segments .entry)) (now (segments .exit))
         (now (chunks .entry)) (now (chunks .exit)) (now (had .entry)) (now (had .exit)) (now (missing .entry))
         (now (missing .exit)) (now (told .entry)) (now (told .exit)) r ⌝ }
 {

@@ -6,6 +6,7 @@ use partial::position::Position;
 use writing::append::append;
 use writing::begin::begin;
 ghost use mathlib.Core.Path.{_≡_};
+ghost use mathlib.Core.List.{[]};
 ghost use Rattle.additions.specs.Addition.{asks, writable};
 ghost use Rattle.additions.specs.Begin.{brandFor};
 ghost use Rattle.vrazhupa.specs.Calls.{SaysBegun, SaysAppended};
@@ -45,7 +46,7 @@ pub extern "C" fn vrazhupa_append(
     told: &mut [u64; 1],
 ) -> u64
     ensures { λ r. ⌜ SaysAppended (now (buffer .entry)) (now (buffer .exit)) length
-        (asks (writable (record { 0 = offset }) repair last) outside (now (list .entry)) (now (bytes .entry)))
+        (asks (writable (record { 0 = offset }) repair last) outside (now (list .entry)) (now (bytes .entry)) [] [])
         (now (told .entry)) (now (told .exit)) r ⌝ }
 {
     let header = SegmentHeader::writable(Position(offset), repair, last);

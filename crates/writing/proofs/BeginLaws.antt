@@ -1,10 +1,11 @@
--- Laws of beginning a file: what each test decides, and what the call leaves.
-use Prim.Native.Nat.{ℕ, _≤_, _<_}
+-- Laws of beginning a file: the boxes that it begins with, what each test decides, and what the call leaves.
+use Prim.Native.Nat.{ℕ, _+_, _≤_, _<_}
 use mathlib.Core.Bool.{true, false, and-false}
-use mathlib.Core.List.{List}
-use mathlib.Core.Path.{_≡_}
+use mathlib.Core.List.{List, _++_}
+use mathlib.Core.Path.{_≡_, refl, ap, _∙_}
+use native.Mathlib.Omega.{arith}
 use borrow.Author.Tests.{le-leb, lt-leb}
-use lib.ListN.{length}
+use lib.ListN.{length, length-append}
 use Rattle.boxes.specs.Answer.{refused, given}
 use Rattle.partial.specs.Answers.{writtenAnswer}
 use Rattle.additions.specs.Begin.{beginning, isText, begun}
@@ -12,7 +13,18 @@ use Rattle.partial.specs.Limits.{fileLimit}
 use Rattle.partial.specs.Memory.{after, filled}
 use Rattle.partial.specs.declared.answers.Written.the-variants as Written
 use Rattle.partial.specs.declared.brand.Brand.{Brand}
+use Rattle.puts.specs.Boxes.{ftypBox, pfilBox}
+use Rattle.puts.proofs.BoxLaws.{ftyp-long, pfil-long}
 use Rattle.writing.specs.Begin.{Begins}
+
+module _ (url mime : List ℕ) (brand : Brand) where
+  pub beginning-boxes : beginning brand url mime ≡ ftypBox brand ++ pfilBox url mime
+  unfolding beginning
+  beginning-boxes = refl
+
+  -- as long with any brand
+  pub beginning-long : length (beginning brand url mime) ≡ 54 + length url + length mime
+  beginning-long = ap length beginning-boxes ∙ length-append (ftypBox brand) (pfilBox url mime) ∙ omega (arith, ftyp-long brand, pfil-long url mime)
 
 module _ (brand : Brand) (url mime buffer : List ℕ) where
   pub url-zero : isText url ≡ false → begun buffer brand url mime ≡ refused 34

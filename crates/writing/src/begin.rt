@@ -1,9 +1,5 @@
 // Beginning a file in a lent buffer.
-use crate::ftyp::FTYP_SIZE;
-use crate::ftyp::put_ftyp;
-use crate::pfil::PFIL_SIZE;
-use crate::pfil::put_pfil;
-use crate::texts::is_text;
+use adding::texts::is_text;
 use numerals::place::Place;
 use partial::answers::Written;
 use partial::brand::Brand;
@@ -11,6 +7,10 @@ use partial::limits::FILE_LIMIT;
 use partial::refusals::BUFFER_TOO_SHORT;
 use partial::refusals::FILE_TOO_LONG;
 use partial::refusals::ZERO_IN_TEXT;
+use puts::ftyp::FTYP_SIZE;
+use puts::ftyp::put_ftyp;
+use puts::pfil::PFIL_SIZE;
+use puts::pfil::put_pfil;
 ghost use Prim.Native.Nat.{_+_, min};
 ghost use mathlib.Core.List.{[]};
 ghost use mathlib.Core.Path.{_≡_};

@@ -1,11 +1,3 @@
 // Writing: a file is begun in a lent buffer, and segments are appended to it.
 pub mod append;
 pub mod begin;
-mod ftyp;
-mod pdat;
-mod pfil;
-mod ploc;
-mod pseg;
-mod pshd;
-mod puts;
-mod texts;

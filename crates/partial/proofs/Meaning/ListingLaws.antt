@@ -10,7 +10,6 @@ use lib.Dec.{eqb}
 use Rattle.partial.specs.Segments.{Segment}
 use Rattle.partial.specs.Meaning.{agree, describedLength, supplied}
 use Rattle.partial.specs.Ranges.{classOf, missing, had, rangesOf, ofClass, hadList, missingList, among}
-use Rattle.partial.specs.Tables.{totals}
 use Rattle.partial.specs.ReadingDemands.{Listing}
 use Rattle.partial.proofs.Meaning.SequenceLaws.{which, inside, past}
 use Rattle.partial.proofs.Meaning.RangeLaws.{among-ranges, among-all, ranges-apart, ranges-in-row, ranges-totals}
@@ -35,7 +34,7 @@ module _ (ss : List Segment) where
   among-class c p h = among-ranges (classOf ss) c (describedLength ss) 0 p ∙ rw (inside 0 (describedLength ss) p (omega arith) (omega arith))
 
   pub listing : agree ss ≡ true → InOrder ss → Listing ss
-  unfolding hadList missingList rangesOf totals
+  unfolding hadList missingList rangesOf
   listing h o =
       record {
         inHad = λ p l. among-class had p l ∙ had-class p;
@@ -45,7 +44,5 @@ module _ (ss : List Segment) where
         hadApart = ranges-apart (classOf ss) had (describedLength ss) 0;
         missingApart = ranges-apart (classOf ss) missing (describedLength ss) 0;
         merged = rw zero-add at (ranges-in-row (classOf ss) (describedLength ss) 0);
-        receivedTotal = refl;
-        missingTotal = refl;
         together = ranges-totals (classOf ss) had missing (λ e. omega arith) one-class (describedLength ss) 0;
       }

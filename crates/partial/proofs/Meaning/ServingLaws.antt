@@ -13,11 +13,10 @@ use borrow.Author.Tests.{lt-ltb, le-ltb, eq-eqb, eqb-true, eqb-false, not-true, 
 use lib.Dec.{eqb}
 use lib.ListN.{length, getD, length-take, length-drop}
 use lib.Seq.{getD-take, getD-drop}
-use Rattle.boxes.specs.Answer.{given}
 use Rattle.partial.specs.Segments.{Segment, chunksOf}
 use Rattle.partial.specs.Meaning.{agree, describedLength, covers, supplier, supplied, onward, servedRun, missingRun, reply}
 use Rattle.partial.specs.Meaning.{servedFor, notBelow, placeOfByte, served, chunkFor}
-use Rattle.partial.specs.Tables.{nowhere, servedPart}
+use Rattle.partial.specs.Tables.{nowhere, partOf}
 use Rattle.partial.specs.Heading.{bytesIn}
 use Rattle.partial.specs.ReadingDemands.{Missing}
 use Rattle.partial.proofs.Meaning.SequenceLaws.{within-true}
@@ -44,12 +43,12 @@ module _ (ss : List Segment) (test : ℕ → Bool) (p : ℕ) where
 -- of a position below the described length that is not supplied
 module _ (f : List ℕ) (ss : List Segment) (p : ℕ) (below : p < describedLength ss) (lacks : supplied ss p ≡ false) where
   pub missing : Missing f ss p
-  unfolding bytesIn servedPart nowhere reply missingRun
+  unfolding bytesIn partOf nowhere reply missingRun
   missing =
       let r = onward-first ss (λ q. not (supplied ss q)) p in
       record {
         uncovered = uncovered ss p lacks;
-        part = rw (servedPart, lacks);
+        part = rw (partOf, lacks);
         told = rw (reply, lt-ltb p (describedLength ss) below, lacks);
         notSupplied = λ i h. not-true _ (r .before i h);
         upTo = ⊎-elim (λ e. inl (omega arith)) (λ h. inr (rw (not-false (supplied ss (p + missingRun ss p)) (r .there h)) tt)) (eq-or-lt-of-le (r .most));
@@ -85,10 +84,10 @@ module _ (ss : List Segment) (p : ℕ) (supply : supplied ss p ≡ true) where
       let first = in-chunk 0 (omega arith) in
       rw (placeOfByte, same-chunk i h) (omega arith)
 
-  pub served-part : (f : List ℕ) (i : ℕ) → i < servedRun ss p → served f ss (p + i) ≡ some (getD (bytesIn f (servedPart (given ss) p)) i 0)
-  unfolding served servedPart bytesIn
+  pub served-part : (f : List ℕ) (i : ℕ) → i < servedRun ss p → served f ss (p + i) ≡ some (getD (bytesIn f (partOf ss p)) i 0)
+  unfolding served partOf bytesIn
   served-part f i h =
-      rw (served, same-supplied (p + i) (same-chunk i h), servedPart, supply) (rw (place-on i h, getD-take, getD-drop))
+      rw (served, same-supplied (p + i) (same-chunk i h), partOf, supply) (rw (place-on i h, getD-take, getD-drop))
 
   module _ (agreed : agree ss ≡ true) (order : InOrder ss) where
     pub below : p < describedLength ss
@@ -109,13 +108,13 @@ module _ (ss : List Segment) (p : ℕ) (supply : supplied ss p ≡ true) where
         ]
 
     -- the part is as long as the run, where the chunk lies in the file
-    pub served-long : (f : List ℕ) → chunkFor ss p .place + chunkFor ss p .size ≤ length f → length (bytesIn f (servedPart (given ss) p)) ≡ servedRun ss p
-    unfolding servedPart bytesIn placeOfByte
+    pub served-long : (f : List ℕ) → chunkFor ss p .place + chunkFor ss p .size ≤ length f → length (bytesIn f (partOf ss p)) ≡ servedRun ss p
+    unfolding partOf bytesIn placeOfByte
     served-long f h =
         let some = some-served in
         let first = in-chunk 0 some in
         let last = in-chunk (servedRun ss p - 1) (omega arith) in
-        rw (servedPart, supply) (simp (length-take, length-drop) (omega arith))
+        rw (partOf, supply) (simp (length-take, length-drop) (omega arith))
 
     pub served-told : reply ss p ≡ servedFor (servedRun ss p)
     unfolding reply

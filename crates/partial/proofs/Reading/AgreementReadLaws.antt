@@ -19,7 +19,7 @@ use Rattle.partial.specs.Sequences.{within}
 use Rattle.partial.specs.Segments.{Segment}
 use Rattle.partial.specs.Heading.{Heading, heading}
 use Rattle.partial.specs.Sources.{agreed}
-use Rattle.partial.specs.Index.{Indexed, indexed}
+use Rattle.partial.specs.Index.{SourceBox, indexed}
 use Rattle.partial.specs.Reading.{segmentsFrom, segments, reading}
 use Rattle.partial.specs.ReadingDemands.{beforeAgreement, ofIndex, InAgreement, Reaches25}
 use Rattle.partial.proofs.Meaning.SequenceLaws.{which, passes, past, within-true}
@@ -91,10 +91,10 @@ module _ (limit : ℕ) (f : List ℕ) where
 
   pub agrees : (ss : List Segment)
       → (reading limit f ≡ given ss)
-      ↔ ((reached : Reaches25 limit f ss) × InAgreement ss × ((is : List Indexed) × (indexed limit f (reached .h) ss ≡ given is)))
+      ↔ ((reached : Reaches25 limit f ss) × InAgreement ss × ((is : List SourceBox) × (indexed limit f (reached .h) ss ≡ given is)))
   agrees ss = (forth, λ r. reached (r .0) ∙ rw (in-agreement ss (r .1), r .2 .1))
     where
-      forth : reading limit f ≡ given ss → (reached : Reaches25 limit f ss) × InAgreement ss × ((is : List Indexed) × (indexed limit f (reached .h) ss ≡ given is))
+      forth : reading limit f ≡ given ss → (reached : Reaches25 limit f ss) × InAgreement ss × ((is : List SourceBox) × (indexed limit f (reached .h) ss ≡ given is))
       forth e =
           let (h, is, r) = reading-read limit f e in
           let ((reach, same), agree) = segmented (r .headed) (r .there) (r .segmented) in

@@ -18,9 +18,9 @@ use Rattle.boxes.proofs.AnswerLaws.{both-given, held, given-same, Only, only-th
 use Rattle.partial.specs.Sequences.{someOf, allOf}
 use Rattle.partial.specs.Segments.{Segment}
 use Rattle.partial.specs.Heading.{Heading}
-use Rattle.partial.specs.Meaning.{knownSize}
 use Rattle.partial.specs.Index.{IndexFields, frontBy, indexFields, isKnown, endFrom, wherever, endRight, frontPart, listFramed, Indexed, Told, lastOrSized}
-use Rattle.partial.specs.Index.{noneFollows, withRest, inARow, indexList, indexedBox, levelLimit, callLimit, indexIn, indexOfSegments, indexOf, hasIndex, indexed}
+use Rattle.partial.specs.Index.{noneFollows, withRest, inARow, indexList, indexedBox, levelLimit, callLimit, indexIn, hasIndex}
+use Rattle.partial.specs.Index.{SourceBox, boxesAlone, belonging, sizeFor, indexFor, indexOfSegments, indexOf, indexed}
 use Rattle.partial.proofs.Meaning.SequenceLaws.{both, all-append}
 
 -- ---- every refusal is 36
@@ -77,18 +77,24 @@ module _ (P : ℕ → Type 0) (p : P 36) where
             only-then P (listFramed (boxesIn Fidx f (b .body) (b .end))) _ (framed-only (boxesIn Fidx f (b .body) (b .end)))
             (λ inner. only-then P (indexList limit f callLimit 1 size start (those bidx inner)) _ (list-only callLimit 1 size start (those bidx inner)) (λ told. only-given P _))
 
-    segments-only : (size : Option ℕ) (ss : List Segment) → Only P (indexOfSegments limit f size ss)
-    unfolding indexOfSegments
-    segments-only size [] = only-given P []
-    segments-only size (s ∷ ss) =
-        only-then P (indexIn limit f Pseg (s .inner) size (s .sourceOffset)) _ (in-only Pseg (s .inner) size (s .sourceOffset))
-        (λ first. only-then P (indexOfSegments limit f size ss) _ (segments-only size ss) (λ later. only-given P _))
+    -- by where each source ends
+    module _ (size : List (List ℕ) → Option ℕ) where
+      for-only : (us : List (List ℕ)) (c : Container) (bs : List Box) (start : ℕ) → Only P (indexFor limit f size us c bs start)
+      unfolding indexFor
+      for-only us c bs start = only-then P (indexIn limit f c bs (size us) start) _ (in-only c bs (size us) start) (λ boxes. only-given P _)
+
+      segments-only : (ss : List Segment) → Only P (indexOfSegments limit f size ss)
+      unfolding indexOfSegments
+      segments-only [] = only-given P []
+      segments-only (s ∷ ss) =
+          only-then P (indexFor limit f size (s .urls) Pseg (s .inner) (s .sourceOffset)) _ (for-only (s .urls) Pseg (s .inner) (s .sourceOffset))
+          (λ first. only-then P (indexOfSegments limit f size ss) _ (segments-only ss) (λ later. only-given P _))
 
     pub index-only : (h : Heading) (ss : List Segment) → Only P (indexOf limit f h ss)
     unfolding indexOf
     index-only h ss =
-        only-then P (indexIn limit f Pfil (h .inner) (knownSize ss) 0) _ (in-only Pfil (h .inner) (knownSize ss) 0)
-        (λ first. only-then P (indexOfSegments limit f (knownSize ss) ss) _ (segments-only (knownSize ss) ss) (λ later. only-given P _))
+        only-then P (indexFor limit f (sizeFor ss) (h .urls) Pfil (h .inner) 0) _ (for-only (sizeFor ss) (h .urls) Pfil (h .inner) 0)
+        (λ first. only-then P (indexOfSegments limit f (sizeFor ss) ss) _ (segments-only (sizeFor ss) ss) (λ later. only-given P _))
 
     -- and those of the tests over what is told are 37, 38 and 39
     pub indexed-only : P 37 → P 38 → P 39 → (h : Heading) (ss : List Segment) → Only P (indexed limit f h ss)
@@ -96,9 +102,9 @@ module _ (P : ℕ → Type 0) (p : P 36) where
     indexed-only p7 p8 p9 h ss =
         only-then P (indexOf limit f h ss) _ (index-only h ss)
         (λ boxes.
-        only-held P 37 (allOf (λ i. leb (i .level) levelLimit) boxes) _ p7
+        only-held P 37 (allOf (λ i. leb (i .level) levelLimit) (boxesAlone boxes)) _ p7
         (only-held P 38 (not (hasIndex (h .inner) && someOf (λ s. hasIndex (s .inner)) ss)) _ p8
-        (only-held P 39 (allOf (λ i. isKnown (i .end)) boxes) _ p9 (only-given P boxes))))
+        (only-held P 39 (allOf (λ i. isKnown (i .end)) (boxesAlone boxes)) _ p9 (only-given P boxes))))
 
 -- ---- what is told of boxes in a row, where it is told of each
 
@@ -263,17 +269,25 @@ module _ (low high : ℕ) (raised : low ≤ high) (f : List ℕ) where
           let (told, list, e2) = both-given (indexList low f callLimit 1 size start (those bidx inner)) _ e1 in
           rw (framed, list-raised callLimit 1 size start (those bidx inner) told list) e2
 
-  segments-raised : (size : Option ℕ) (ss : List Segment) (boxes : List Indexed) → indexOfSegments low f size ss ≡ given boxes → indexOfSegments high f size ss ≡ given boxes
-  unfolding indexOfSegments
-  segments-raised size [] boxes e = e
-  segments-raised size (s ∷ ss) boxes e =
-      let (first, here, e1) = both-given (indexIn low f Pseg (s .inner) size (s .sourceOffset)) _ e in
-      let (later, there, e2) = both-given (indexOfSegments low f size ss) _ e1 in
-      rw (in-raised Pseg (s .inner) size (s .sourceOffset) first here, segments-raised size ss later there) e2
+  module _ (size : List (List ℕ) → Option ℕ) where
+    for-raised : (us : List (List ℕ)) (c : Container) (bs : List Box) (start : ℕ) (boxes : List SourceBox) → indexFor low f size us c bs start ≡ given boxes
+        → indexFor high f size us c bs start ≡ given boxes
+    unfolding indexFor
+    for-raised us c bs start boxes e =
+        let (is, told, e1) = both-given (indexIn low f c bs (size us) start) _ e in
+        rw (in-raised c bs (size us) start is told) e1
 
-  pub index-raised : (h : Heading) (ss : List Segment) (boxes : List Indexed) → indexOf low f h ss ≡ given boxes → indexOf high f h ss ≡ given boxes
+    segments-raised : (ss : List Segment) (boxes : List SourceBox) → indexOfSegments low f size ss ≡ given boxes → indexOfSegments high f size ss ≡ given boxes
+    unfolding indexOfSegments
+    segments-raised [] boxes e = e
+    segments-raised (s ∷ ss) boxes e =
+        let (first, here, e1) = both-given (indexFor low f size (s .urls) Pseg (s .inner) (s .sourceOffset)) _ e in
+        let (later, there, e2) = both-given (indexOfSegments low f size ss) _ e1 in
+        rw (for-raised (s .urls) Pseg (s .inner) (s .sourceOffset) first here, segments-raised ss later there) e2
+
+  pub index-raised : (h : Heading) (ss : List Segment) (boxes : List SourceBox) → indexOf low f h ss ≡ given boxes → indexOf high f h ss ≡ given boxes
   unfolding indexOf
   index-raised h ss boxes e =
-      let (first, here, e1) = both-given (indexIn low f Pfil (h .inner) (knownSize ss) 0) _ e in
-      let (later, there, e2) = both-given (indexOfSegments low f (knownSize ss) ss) _ e1 in
-      rw (in-raised Pfil (h .inner) (knownSize ss) 0 first here, segments-raised (knownSize ss) ss later there) e2
+      let (first, here, e1) = both-given (indexFor low f (sizeFor ss) (h .urls) Pfil (h .inner) 0) _ e in
+      let (later, there, e2) = both-given (indexOfSegments low f (sizeFor ss) ss) _ e1 in
+      rw (for-raised (sizeFor ss) (h .urls) Pfil (h .inner) 0 first here, segments-raised (sizeFor ss) ss later there) e2

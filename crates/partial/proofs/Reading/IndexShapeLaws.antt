@@ -16,14 +16,13 @@ use Rattle.boxes.specs.declared.kinds.Container.the-variants.{Pfil, Pseg, Fidx}
 use Rattle.boxes.proofs.AnswerLaws.{both-given, held, given-same}
 use Rattle.partial.specs.Sequences.{allOf}
 use Rattle.partial.specs.Index.{IndexFields, isKnown, wherever, endRight, frontPart, Indexed, Told, noneFollows, withRest, inARow, untold, indexList, indexedBox, listFramed, callLimit}
-use Rattle.partial.specs.Index.{indexFields, frontBy, indexedSize, indexIn, indexOfSegments, indexed}
+use Rattle.partial.specs.Index.{indexFields, frontBy, indexedSize, indexIn, SourceBox, boxesAlone, sizeFor, indexFor, indexOfSegments, indexed}
 use Rattle.partial.specs.Segments.{Segment}
 use Rattle.partial.specs.Heading.{Heading}
-use Rattle.partial.specs.Meaning.{knownSize}
 use Rattle.partial.specs.IndexShape.{Inside, Under, Nested, Stepwise, InOrder}
 use Rattle.partial.proofs.Meaning.SequenceLaws.{both, all-append, Each, each-append}
 use Rattle.partial.proofs.Reading.IndexGivenLaws.{known, boxTold, told-boxed}
-use Rattle.partial.proofs.Reading.IndexedLaws.{indexed-whole}
+use Rattle.partial.proofs.Reading.IndexedLaws.{belonging-alone, alone-append, all-alone, indexed-whole}
 
 -- ---- boxes behind others
 
@@ -307,21 +306,39 @@ module _ (limit : ℕ) (f : List ℕ) where
           let shape = list-shaped limit f callLimit tt 1 (omega arith) size start (those bidx inner) told list (rw same all) in
           subst Listed same (record { nested = shape .nested; stepwise = λ before. shape .stepwise before (omega arith); starts = shape .starts; low = shape .low; sized = shape .sized })
 
-  segments-listed : (size : Option ℕ) (ss : List Segment) (boxes : List Indexed) → indexOfSegments limit f size ss ≡ given boxes → allOf known boxes ≡ true → Listed boxes
-  unfolding indexOfSegments
-  segments-listed size [] boxes e all = subst Listed (given-same e) none-listed
-  segments-listed size (s ∷ ss) boxes e all =
-      let (first, here, e1) = both-given (indexIn limit f Pseg (s .inner) size (s .sourceOffset)) _ e in
-      let (later, there, e2) = both-given (indexOfSegments limit f size ss) _ e1 in
-      let same : first ++ later ≡ boxes = given-same e2 in
-      let (one, others) = both (allOf known first) (allOf known later) (rw all-append at (subst (λ (is : List Indexed). allOf known is ≡ true) (sym same) all)) in
-      subst Listed same (listed-append first later (in-listed Pseg (s .inner) size (s .sourceOffset) first here one) (segments-listed size ss later there others))
+  -- of sources, by where each ends
+  abbrev ListedAlone : List SourceBox → Type 0
+  ListedAlone is = Listed (boxesAlone is)
+
+  alone-listed : (xs ys : List SourceBox) → ListedAlone xs → ListedAlone ys → ListedAlone (xs ++ ys)
+  alone-listed xs ys one two = rw (alone-append xs ys) (listed-append (boxesAlone xs) (boxesAlone ys) one two)
+
+  module _ (size : List (List ℕ) → Option ℕ) where
+    for-listed : (us : List (List ℕ)) (c : Container) (bs : List Box) (start : ℕ) (boxes : List SourceBox) → indexFor limit f size us c bs start ≡ given boxes
+        → allOf known (boxesAlone boxes) ≡ true
+        → ListedAlone boxes
+    unfolding indexFor
+    for-listed us c bs start boxes e all =
+        let (is, told, e1) = both-given (indexIn limit f c bs (size us) start) _ e in
+        let ended : allOf known is ≡ true = rw (belonging-alone us is) at (subst (λ (xs : List SourceBox). allOf known (boxesAlone xs) ≡ true) (sym (given-same e1)) all) in
+        subst ListedAlone (given-same e1) (rw (belonging-alone us is) (in-listed c bs (size us) start is told ended))
+
+    segments-listed : (ss : List Segment) (boxes : List SourceBox) → indexOfSegments limit f size ss ≡ given boxes → allOf known (boxesAlone boxes) ≡ true → ListedAlone boxes
+    unfolding indexOfSegments boxesAlone
+    segments-listed [] boxes e all = subst ListedAlone (given-same e) none-listed
+    segments-listed (s ∷ ss) boxes e all =
+        let (first, here, e1) = both-given (indexFor limit f size (s .urls) Pseg (s .inner) (s .sourceOffset)) _ e in
+        let (later, there, e2) = both-given (indexOfSegments limit f size ss) _ e1 in
+        let same : first ++ later ≡ boxes = given-same e2 in
+        let (one, others) = all-alone known first later (subst (λ (is : List SourceBox). allOf known (boxesAlone is) ≡ true) (sym same) all) in
+        subst ListedAlone same (alone-listed first later (for-listed (s .urls) Pseg (s .inner) (s .sourceOffset) first here one) (segments-listed ss later there others))
 
   -- what is told of the index of an accepted file is in order, and no box of it is empty
-  pub indexed-order : (h : Heading) (ss : List Segment) (boxes : List Indexed) → indexed limit f h ss ≡ given boxes → InOrder boxes × Each Filled boxes
+  pub indexed-order : (h : Heading) (ss : List Segment) (boxes : List SourceBox) → indexed limit f h ss ≡ given boxes → InOrder (boxesAlone boxes) × Each Filled (boxesAlone boxes)
   indexed-order h ss boxes e =
       let (first, later, t, same) = indexed-whole limit f h ss e in
-      let (one, others) = both (allOf known first) (allOf known later) (rw all-append at (t .ended)) in
-      let all = listed-append first later (in-listed Pfil (h .inner) (knownSize ss) 0 first (t .inPfil) one) (segments-listed (knownSize ss) ss later (t .inSegments) others) in
-      subst (λ (is : List Indexed). InOrder is × Each Filled is) same
+      let (one, others) = all-alone known first later (t .ended) in
+      let size = sizeFor ss in
+      let all = alone-listed first later (for-listed size (h .urls) Pfil (h .inner) 0 first (t .inPfil) one) (segments-listed size ss later (t .inSegments) others) in
+      subst (λ (is : List SourceBox). InOrder (boxesAlone is) × Each Filled (boxesAlone is)) same
       (record { nested = all .nested; stepwise = all .stepwise 0; deepest = rw (t .shallow) tt; ended = rw (t .ended) tt }, all .sized)

@@ -1,9 +1,9 @@
--- Laws of the limits: an accepted file has no more segments and chunks than are taken, and its described length is no
--- higher than the source may be.
+-- Laws of the limits: an accepted file has no more segments and chunks than are taken, and the described length of each
+-- source is no higher than a source may be.
 use Prim.Native.Nat.{ℕ, zero, suc, _+_, _≤_}
 use mathlib.Core.Bool.{Bool, true, false}
 use mathlib.Core.List.{List, [], _∷_, _++_, map}
-use mathlib.Core.Logic.{⊎-elim}
+use mathlib.Core.Logic.{inl, inr, ⊎-elim}
 use mathlib.Core.Option.{some, Option·getD}
 use mathlib.Core.Path.{_≡_, sym, ap, _∙_}
 use native.Mathlib.Nat.{add-zero}
@@ -19,7 +19,7 @@ use Rattle.partial.specs.Entries.{Ploc, Cursor, entry, placeOf, chunkSte
 use Rattle.partial.specs.Heading.{Heading}
 use Rattle.partial.specs.Limits.{segmentLimit, chunkLimit}
 use Rattle.partial.specs.Meaning.{givesSize, knownSize, describedLength, isClosed}
-use Rattle.partial.specs.Sources.{agreed}
+use Rattle.partial.specs.Sources.{ofSource, agreed}
 use Rattle.partial.specs.Reading.{segment, segmentsFrom, segments}
 use Rattle.partial.specs.Segments.{Chunk, Segment, chunksOf, endOf}
 use Rattle.partial.specs.Sequences.{largest, sum}
@@ -144,11 +144,21 @@ described-most : (ss : List Segment) → describedLength ss ≤ largest (map end
 described-most ss =
     ⊎-elim (λ closed. omega (arith, described-closed ss closed, known-most ss)) (λ not-known. omega (arith, described-open ss not-known)) (which (isClosed ss))
 
-pub described-low : (limit : ℕ) (f : List ℕ) (h : Heading) {ss : List Segment} → segments limit f h ≡ given ss → describedLength ss ≤ limit
+-- the segments of a source are some of all
+ends-of : (n : ℕ) (ss : List Segment) → largest (map endOf (ofSource n ss)) ≤ largest (map endOf ss)
+unfolding ofSource largest
+ends-of n [] = omega arith
+ends-of n (s ∷ ss) =
+    elim (which (eqb (s .source) n)) [
+      | inl e ↦ rw (ofSource, e) (omega (arith, ends-of n ss))
+      | inr e ↦ rw (ofSource, e) (omega (arith, ends-of n ss))
+    ]
+
+pub described-low : (limit : ℕ) (f : List ℕ) (h : Heading) {ss : List Segment} → segments limit f h ≡ given ss → (n : ℕ) → describedLength (ofSource n ss) ≤ limit
 unfolding segments largest
-described-low limit f h {ss = all} e =
+described-low limit f h {ss = all} e n =
     let (_, e) = held 13 (leb (length (those pseg (h .boxes))) segmentLimit) _ e in
     let (ss, read, e) = both-given (segmentsFrom limit f h [] (those pseg (h .boxes))) _ e in
     let (_, same) = held 25 (agreed ss) _ e in
     let low = segments-low limit f h [] (those pseg (h .boxes)) (omega arith) read in
-    omega (arith, low, described-most all, ap (λ (ss : List Segment). largest (map endOf ss)) (given-same same))
+    omega (arith, low, described-most (ofSource n all), ends-of n all, ap (λ (ss : List Segment). largest (map endOf ss)) (given-same same))

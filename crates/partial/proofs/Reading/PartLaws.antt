@@ -12,12 +12,12 @@ use Rattle.boxes.proofs.AnswerLaws.{both-given, held}
 use Rattle.partial.specs.Segments.{Segment}
 use Rattle.partial.specs.Heading.{Heading, heading, bytesIn}
 use Rattle.partial.specs.Meaning.{supplied}
+use Rattle.partial.specs.Sources.{ofSource}
 use Rattle.partial.specs.Reading.{reading}
 use Rattle.partial.specs.Memory.{fits}
-use Rattle.partial.specs.Tables.{segmentRows, chunkRows, tabled, nowhere, servedPart}
+use Rattle.partial.specs.Tables.{segmentRows, chunkRows, tabled, nowhere, partOf, servedPart}
 use Rattle.partial.proofs.Meaning.SequenceLaws.{which}
-use Rattle.partial.proofs.Reading.OneSourceLaws.{read-mapped}
-use Rattle.partial.proofs.Reading.ReadingLaws.{reading-read}
+use Rattle.partial.proofs.Reading.ReadingLaws.{reading-read, mapped-of}
 
 -- an accepted file's heading
 pub headed-read : (limit : ℕ) (f : List ℕ) {ss : List Segment} → reading limit f ≡ given ss → (h : Heading) × (heading f ≡ given h)
@@ -33,25 +33,25 @@ tabled-read limit f a b e =
     let (_, e2) = held 26 (fits (segmentRows ss) a && fits (chunkRows ss) b) _ e1 in
     read ∙ e2
 
-module _ (limit : ℕ) (f a b : List ℕ) (p : ℕ) where
+module _ (limit : ℕ) (f a b : List ℕ) (source p : ℕ) where
   -- of a supplied position it is not
-  some-part : (ss : List Segment) → tabled limit f a b ≡ given ss → supplied ss p ≡ true → bytesIn f (servedPart (given ss) p) ≡ [] → ⊥
+  some-part : (ss : List Segment) → tabled limit f a b ≡ given ss → supplied (ofSource source ss) p ≡ true → bytesIn f (partOf (ofSource source ss) p) ≡ [] → ⊥
   some-part ss e there none =
       let read = tabled-read limit f a b e in
       let (h, head) = headed-read limit f read in
-      let s = read-mapped limit f head read .serving p (rw there tt) in
+      let s = mapped-of limit f head read source .serving p (rw there tt) in
       omega (arith, ap length none, s .long, s .notEmpty)
 
-  pub part-empty : (bytesIn f (servedPart (tabled limit f a b) p) ≡ [])
-      ↔ (((n : ℕ) × (tabled limit f a b ≡ refused n)) ⊎ ((ss : List Segment) × (tabled limit f a b ≡ given ss) × (supplied ss p ≡ false)))
-  unfolding servedPart bytesIn nowhere
-  part-empty = (λ empty. why (tabled limit f a b) refl empty, ⊎-elim (λ r. rw (r .1)) (λ r. rw (r .1, servedPart, r .2)))
+  pub part-empty : (bytesIn f (servedPart (tabled limit f a b) source p) ≡ [])
+      ↔ (((n : ℕ) × (tabled limit f a b ≡ refused n)) ⊎ ((ss : List Segment) × (tabled limit f a b ≡ given ss) × (supplied (ofSource source ss) p ≡ false)))
+  unfolding servedPart partOf bytesIn nowhere
+  part-empty = (λ empty. why (tabled limit f a b) refl empty, ⊎-elim (λ r. rw (r .1)) (λ r. rw (r .1, partOf, r .2)))
     where
-      why : (x : Answer (List Segment)) → tabled limit f a b ≡ x → bytesIn f (servedPart (tabled limit f a b) p) ≡ []
-          → ((n : ℕ) × (tabled limit f a b ≡ refused n)) ⊎ ((ss : List Segment) × (tabled limit f a b ≡ given ss) × (supplied ss p ≡ false))
+      why : (x : Answer (List Segment)) → tabled limit f a b ≡ x → bytesIn f (servedPart (tabled limit f a b) source p) ≡ []
+          → ((n : ℕ) × (tabled limit f a b ≡ refused n)) ⊎ ((ss : List Segment) × (tabled limit f a b ≡ given ss) × (supplied (ofSource source ss) p ≡ false))
       why (refused n) e empty = inl (n, e)
       why (given ss) e empty =
-          elim (which (supplied ss p)) [
+          elim (which (supplied (ofSource source ss) p)) [
             | inl there ↦ absurd (some-part ss e there (rw e at empty))
             | inr lacks ↦ inr (ss, e, lacks)
           ]

@@ -18,7 +18,7 @@ use Rattle.partial.specs.Segments.{Segment, chunksOf}
 use Rattle.partial.specs.Heading.{Heading, heading, Part}
 use Rattle.partial.specs.Entries.{Ploc, Cursor, plocHead, entry, chunkStep, chunksFrom}
 use Rattle.partial.specs.Reading.{pshdFields, pshdRight, segment, segmentsFrom, segments, reading, earlierSegments}
-use Rattle.partial.specs.Index.{Indexed, indexOf, indexed}
+use Rattle.partial.specs.Index.{SourceBox, indexOf, indexed}
 use Rattle.partial.specs.Tables.{tabled, listed, indexTabled, servedPart, asked, textOf}
 use Rattle.partial.specs.Map.{refusedLine, textFor}
 use Rattle.partial.specs.ReadingRaised.{Kept, judgesLimit, RaisedReading}
@@ -109,7 +109,7 @@ module _ (low high : ℕ) (raised : low ≤ high) where
     index-same : (ss : List Segment) → Same (indexOf low f h ss) (indexOf high f h ss)
     index-same ss = go (indexOf low f h ss) refl
       where
-        go : (x : Answer (List Indexed)) → indexOf low f h ss ≡ x → Same (indexOf low f h ss) (indexOf high f h ss)
+        go : (x : Answer (List SourceBox)) → indexOf low f h ss ≡ x → Same (indexOf low f h ss) (indexOf high f h ss)
         go (given is) e = inl (index-raised low high raised f h ss is e ∙ sym e)
         go (refused n) e = inr (n, index-only (λ n. T (judgesLimit n)) tt low f h ss n e, e)
 
@@ -134,9 +134,9 @@ module _ (low high : ℕ) (raised : low ≤ high) where
   unfolding tabled
   tabled-same f a b = same-then (reading low f) (reading high f) _ _ (reading-same f) (λ ss. inl refl)
 
-  listed-same : (f a b h m : List ℕ) → Same (listed low f a b h m) (listed high f a b h m)
+  listed-same : (f a b h m : List ℕ) (source : ℕ) → Same (listed low f source a b h m) (listed high f source a b h m)
   unfolding listed
-  listed-same f a b h m = same-then (tabled low f a b) (tabled high f a b) _ _ (tabled-same f a b) (λ ss. inl refl)
+  listed-same f a b h m source = same-then (tabled low f a b) (tabled high f a b) _ _ (tabled-same f a b) (λ ss. inl refl)
 
   index-tabled-same : (f table : List ℕ) → Same (indexTabled low f table) (indexTabled high f table)
   unfolding indexTabled
@@ -146,9 +146,9 @@ module _ (low high : ℕ) (raised : low ≤ high) where
       same-after (heading f) _ _
       (λ h. same-then (indexed low f h ss) (indexed high f h ss) _ _ (indexed-same f h ss) (λ is. inl refl)))
 
-  asked-same : (f a b : List ℕ) (p : ℕ) → Same (asked (tabled low f a b) p) (asked (tabled high f a b) p)
+  asked-same : (f a b : List ℕ) (source p : ℕ) → Same (asked (tabled low f a b) source p) (asked (tabled high f a b) source p)
   unfolding asked
-  asked-same f a b p = same-then (tabled low f a b) (tabled high f a b) _ _ (tabled-same f a b) (λ ss. inl refl)
+  asked-same f a b source p = same-then (tabled low f a b) (tabled high f a b) _ _ (tabled-same f a b) (λ ss. inl refl)
 
   -- of a file that was accepted
   texts-same : (text : List ℕ → Box → Part) (f : List ℕ) (ss : List Segment) → reading low f ≡ given ss → textOf text high f ≡ textOf text low f
@@ -186,10 +186,10 @@ module _ (low high : ℕ) (raised : low ≤ high) where
       record {
         reads = λ f. kept _ _ (reading-same f);
         tables = λ f a b. kept _ _ (tabled-same f a b);
-        lists = λ f a b h m. kept _ _ (listed-same f a b h m);
+        lists = λ f a b h m source. kept _ _ (listed-same f a b h m source);
         indexes = λ f table. kept _ _ (index-tabled-same f table);
-        asks = λ f a b p. kept _ _ (asked-same f a b p);
-        serves = λ f a b p ss e. ap (λ r. servedPart r p) (kept _ _ (tabled-same f a b) .accepted ss e ∙ sym e);
+        asks = λ f a b source p. kept _ _ (asked-same f a b source p);
+        serves = λ f a b source p ss e. ap (λ r. servedPart r source p) (kept _ _ (tabled-same f a b) .accepted ss e ∙ sym e);
         texts = texts-same;
         maps = maps-accepted;
         mapElseOver = maps-same;

@@ -20,7 +20,7 @@ use Rattle.partial.specs.Segments.{Chunk, Segment, chunksOf, hasPlace}
 use Rattle.partial.specs.Heading.{Heading, heading}
 use Rattle.partial.specs.Entries.{Ploc, Entry, entry, mayLie, offsetPlace, placeOf, chunksFrom, chunkStep, Cursor}
 use Rattle.partial.specs.Sources.{ofSource, agreed}
-use Rattle.partial.specs.Index.{Indexed, indexed}
+use Rattle.partial.specs.Index.{SourceBox, indexed}
 use Rattle.partial.specs.Reading.{segment, segmentsFrom, segments, reading}
 use Rattle.partial.specs.ReadingDemands.{Mapped}
 use Rattle.partial.proofs.Reading.HeadingAppendLaws.{headed}
@@ -123,7 +123,7 @@ module _ (limit : ℕ) (f : List ℕ) (h : Heading) where
       })
 
 -- what reading tests of an accepted file
-pub record Read (limit : ℕ) (f : List ℕ) (h : Heading) (ss : List Segment) (is : List Indexed) : Type 0 where
+pub record Read (limit : ℕ) (f : List ℕ) (h : Heading) (ss : List Segment) (is : List SourceBox) : Type 0 where
   pub headed : heading f ≡ given h
   pub there : right File pseg (h .boxes) ≡ true
   pub segmented : segments limit f h ≡ given ss
@@ -146,10 +146,10 @@ module _ (limit : ℕ) (f : List ℕ) where
   unfolding reading
   reading-some head there = rw (reading, head, there)
 
-  pub read-reading : {h : Heading} {ss : List Segment} {is : List Indexed} → Read limit f h ss is → reading limit f ≡ given ss
+  pub read-reading : {h : Heading} {ss : List Segment} {is : List SourceBox} → Read limit f h ss is → reading limit f ≡ given ss
   read-reading r = reading-some (r .headed) (r .there) ∙ rw (r .segmented, r .told)
 
-  pub reading-read : {ss : List Segment} → reading limit f ≡ given ss → (h : Heading) × (is : List Indexed) × Read limit f h ss is
+  pub reading-read : {ss : List Segment} → reading limit f ≡ given ss → (h : Heading) × (is : List SourceBox) × Read limit f h ss is
   unfolding reading
   reading-read e =
       let (h, head, e1) = both-given (heading f) _ e in
@@ -161,7 +161,7 @@ module _ (limit : ℕ) (f : List ℕ) where
 -- an accepted file's segments are those of its heading
 module _ (limit : ℕ) (f : List ℕ) {h : Heading} {ss : List Segment} (head : heading f ≡ given h) where
   -- and so is what is told of its index
-  pub reading-known : reading limit f ≡ given ss → (is : List Indexed) × Read limit f h ss is
+  pub reading-known : reading limit f ≡ given ss → (is : List SourceBox) × Read limit f h ss is
   reading-known g =
       let (k, is, r) = reading-read limit f g in
       (is, subst (λ (x : Heading). Read limit f x ss is) (given-same (sym (r .headed) ∙ head)) r)

@@ -257,11 +257,11 @@ module _ (limit : ℕ) where
       only-then OfReading (reading limit f) _ (reading-only f)
       (λ ss. only-held OfReading 26 (fits (segmentRows ss) a && fits (chunkRows ss) b) _ tt (only-given OfReading ss))
 
-  listed-only : (f a b h m : List ℕ) → Only OfReading (listed limit f a b h m)
+  listed-only : (f a b h m : List ℕ) (source : ℕ) → Only OfReading (listed limit f source a b h m)
   unfolding listed within someOf
-  listed-only f a b h m =
+  listed-only f a b h m source =
       only-then OfReading (tabled limit f a b) _ (tabled-only f a b)
-      (λ ss. only-held OfReading 26 (fits (hadRows ss) h && fits (missingRows ss) m) _ tt (only-given OfReading ss))
+      (λ ss. only-held OfReading 26 (fits (hadRows source ss) h && fits (missingRows source ss) m) _ tt (only-given OfReading ss))
 
   index-tabled-only : (f t : List ℕ) → Only OfReading (indexTabled limit f t)
   unfolding indexTabled within someOf
@@ -277,9 +277,9 @@ text-only : (text buffer : List ℕ) → Only (λ n. n ≡ 33) (textWritten text
 unfolding textWritten
 text-only text buffer = only-held (λ n. n ≡ 33) 33 (fits text buffer) _ refl (only-given (λ n. n ≡ 33) (length text))
 
-ask-refused : (r : Answer (List Segment)) (p n : ℕ) → r ≡ refused n → asked r p ≡ refused n
+ask-refused : (r : Answer (List Segment)) (source p n : ℕ) → r ≡ refused n → asked r source p ≡ refused n
 unfolding asked
-ask-refused r p n e = rw e
+ask-refused r source p n e = rw e
 
 text-empty : (limit : ℕ) (which : List ℕ → Box → Part) (f : List ℕ) (n : ℕ) → reading limit f ≡ refused n → bytesIn f (textOf which limit f) ≡ []
 unfolding textOf bytesIn nowhere
@@ -293,18 +293,18 @@ memory-kept rows (given a) table n e = absurd (not-both (sym e))
 
 -- no call of reading answers 21
 module _ (limit : ℕ) where
-  ask-told : (r : Answer (List Segment)) (p n : ℕ) → asked r p ≡ refused n → r ≡ refused n
+  ask-told : (r : Answer (List Segment)) (source p n : ℕ) → asked r source p ≡ refused n → r ≡ refused n
   unfolding asked
-  ask-told (refused m) p n e = ap (λ k. refused k) (refused-same e)
-  ask-told (given ss) p n e = absurd (not-both (sym e))
+  ask-told (refused m) source p n e = ap (λ k. refused k) (refused-same e)
+  ask-told (given ss) source p n e = absurd (not-both (sym e))
 
   never-21 : NeverRead limit 21
   unfolding within someOf
   never-21 =
       record {
         read = λ f a b e. tabled-only limit f a b 21 e;
-        ask = λ f a b p e. tabled-only limit f a b 21 (ask-told (tabled limit f a b) p 21 e);
-        list = λ f a b h m e. listed-only limit f a b h m 21 e;
+        ask = λ f a b source p e. tabled-only limit f a b 21 (ask-told (tabled limit f a b) source p 21 e);
+        list = λ f a b h m source e. listed-only limit f a b h m source 21 e;
         index = λ f t e. index-tabled-only limit f t 21 e;
         text = λ text buffer e. omega (arith, text-only text buffer 21 e);
         mapped = λ input e. reading-only limit input 21 e;
@@ -322,7 +322,7 @@ demand1 limit =
       askNumbers = λ f a b. ask-refused (tabled limit f a b);
       textsEmpty = text-empty limit;
       tablesKept = λ rows f a b. memory-kept rows (tabled limit f a b);
-      listsKept = λ rows f a b h m. memory-kept rows (listed limit f a b h m);
+      listsKept = λ rows f a b h m table source. memory-kept rows (listed limit f source a b h m) table;
       indexKept = λ f table. memory-kept indexTable (indexTabled limit f table) table;
       textKept = λ text buffer. memory-kept (λ _. text) (textWritten text buffer) buffer;
     }

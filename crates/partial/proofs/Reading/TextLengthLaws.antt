@@ -1,13 +1,13 @@
 -- How long a map can be: no program that prints one answers 33, whatever it is given.
 use Prim.Native.Nat.{ℕ, zero, suc, _+_, _*_, _/_, _^_, _≤_, _<_}
 use mathlib.Core.Bool.{Bool, true, false, _&&_, _||_}
-use mathlib.Core.List.{List, [], _∷_, _++_, map}
+use mathlib.Core.List.{List, [], _∷_, _++_, append-nil, map}
 use mathlib.Core.Logic.{inl, inr}
 use mathlib.Core.Path.{_≡_, refl}
 use native.Mathlib.Decide.{decLe}
 use native.Mathlib.Nat.{le-refl}
 use native.Mathlib.Omega.{arith}
-use borrow.Author.Tests.{lt-ltb, eqb-true, ne-eqb}
+use borrow.Author.Tests.{lt-ltb, eq-eqb, eqb-true, eqb-false, ne-eqb}
 use lib.Dec.{T, leb, ltb, eqb, lit<}
 use lib.ListN.{length, length-append, length-map}
 use Rattle.io.specs.Digits.{digits}
@@ -16,10 +16,11 @@ use Rattle.numerals.specs.Numbers.{least}
 use Rattle.partial.specs.Limits.{segmentLimit, chunkLimit, sourceLimit, programBuffer}
 use Rattle.partial.specs.Segments.{Segment, chunksOf}
 use Rattle.partial.specs.Meaning.{describedLength, isClosed, agree}
+use Rattle.partial.specs.Sources.{sourceCount, ofSource}
 use Rattle.partial.specs.Ranges.{Range, had, inRow, total, rangesOf, hadList, missingList}
 use Rattle.partial.specs.Naming.{held, namedRanges, heldList, lostList}
 use Rattle.partial.specs.Map.{ascii, decimal, line, rangeLine, rangeLines, totalLine, sourceLine, refusedLine, mapWord, missWord}
-use Rattle.partial.specs.Map.{mapOf, missmapOf, textFor}
+use Rattle.partial.specs.Map.{sourceMap, sourceMissmap, eachSource, perSource, mapOf, missmapOf, textFor}
 use Rattle.partial.specs.Reading.{reading}
 use Rattle.partial.specs.Sequences.{someOf}
 use Rattle.partial.specs.ReadingDemands.{ofStages, NeverShort}
@@ -27,12 +28,13 @@ use Rattle.partial.proofs.Meaning.SequenceLaws.{which, both, passes, pa
 use Rattle.partial.proofs.Meaning.DescribedLaws.{InOrder}
 use Rattle.partial.proofs.Meaning.ListingLaws.{listing}
 use Rattle.partial.proofs.Meaning.NamingLaws.{naming}
+use Rattle.partial.proofs.Meaning.SourceLaws.{count-most}
 use Rattle.partial.proofs.Meaning.EdgeLaws.{listed-few, named-few}
 use Rattle.partial.proofs.Reading.LimitLaws.{segments-limited, chunks-few, described-low}
 use Rattle.partial.proofs.Reading.PartLaws.{headed-read}
 use Rattle.partial.proofs.Reading.PrintedLaws.{printed}
-use Rattle.partial.proofs.Reading.OneSourceLaws.{accepted}
-use Rattle.partial.proofs.Reading.ReadingLaws.{reading-segments}
+use Rattle.partial.proofs.Reading.NumberedLaws.{reading-numbered}
+use Rattle.partial.proofs.Reading.ReadingLaws.{accepted-of, reading-segments}
 use Rattle.partial.proofs.Reading.RefusalLaws.{reading-only}
 
 -- the least number that passes a test is no more than any that passes
@@ -152,24 +154,70 @@ module _ (of : List Segment → List ℕ) (each : (f : List ℕ) (ss : List Segm
   pub never-short : NeverShort of sourceLimit programBuffer
   never-short most input buffer long = printed of sourceLimit most input .room buffer (omega (arith, text-most most input))
 
--- both maps of an accepted file: a line for each range, the first and the last
-module _ (f : List ℕ) (ss : List Segment) (read : reading sourceLimit f ≡ given ss) where
-  within-limits : InOrder ss × (agree ss ≡ true) × (length ss + length (chunksOf ss) ≤ segmentLimit + chunkLimit) × (describedLength ss ≤ sourceLimit)
-  within-limits =
-      let (h, head) = headed-read sourceLimit f read in
-      let parts = reading-segments sourceLimit f head read in
-      let ok = accepted sourceLimit f h head parts in
-      let few = segments-limited sourceLimit f h parts in
-      (ok .order, ok .agreed, omega (arith, few, chunks-few sourceLimit f h parts), described-low sourceLimit f h parts)
+-- the segments and chunks of a list, and those of so many sources from a number on
+weight : List Segment → ℕ
+weight ss = length ss + length (chunksOf ss)
 
-  map-most : (word : ℕ → List ℕ) (rs : List Range) (lists : List (List Range)) → ((class : ℕ) → length (word class) ≡ 4)
+weights : List Segment → ℕ → ℕ → ℕ
+weights ss zero n = 0
+weights ss (suc more) n = weight (ofSource n ss) + weights ss more (suc n)
+
+module _ (s : Segment) (ss : List Segment) where
+  -- a segment counts in its own source alone
+  weight-own : (n : ℕ) → s .source ≡ n → weight (ofSource n (s ∷ ss)) ≡ weight (s ∷ []) + weight (ofSource n ss)
+  unfolding weight ofSource chunksOf
+  weight-own n same = rw (ofSource, eq-eqb (s .source) n same) (simp (length-append, append-nil) (omega arith))
+
+  weight-other : (n : ℕ) → (s .source ≡ n → ⊥) → weight (ofSource n (s ∷ ss)) ≡ weight (ofSource n ss)
+  unfolding weight ofSource
+  weight-other n other = rw (ofSource, ne-eqb (s .source) n other)
+
+  weights-past : (more n : ℕ) → s .source < n → weights (s ∷ ss) more n ≡ weights ss more n
+  unfolding weights
+  weights-past zero n low = refl
+  weights-past (suc more) n low = omega (arith, weight-other n (λ same. omega arith), weights-past more (suc n) (omega arith))
+
+  weights-one : (more n : ℕ) → weights (s ∷ ss) more n ≤ weight (s ∷ []) + weights ss more n
+  unfolding weights
+  weights-one zero n = omega arith
+  weights-one (suc more) n =
+      elim (which (eqb (s .source) n)) [
+        | inl e ↦ let same = eqb-true (s .source) n e in omega (arith, weight-own n same, weights-past more (suc n) (omega arith))
+        | inr e ↦ omega (arith, weight-other n (eqb-false (s .source) n e), weights-one more (suc n))
+      ]
+
+weights-none : (more n : ℕ) → weights [] more n ≡ 0
+unfolding weights weight ofSource chunksOf
+weights-none zero n = refl
+weights-none (suc more) n = omega (arith, weights-none more (suc n))
+
+-- so all sources together have no more than there are
+weights-most : (ss : List Segment) (more n : ℕ) → weights ss more n ≤ weight ss
+unfolding weight chunksOf
+weights-most [] more n = omega (arith, weights-none more n)
+weights-most (s ∷ ss) more n =
+    omega (arith, weights-one s ss more n, weights-most ss more n, length-append (s .chunks) (chunksOf ss), length-append (s .chunks) [])
+
+-- 33 bytes for each segment and chunk, and 116 for each source: its first and last line, and a range more
+abbrev Short : (List Segment → List ℕ) → List Segment → Type 0
+Short of ss = length (of ss) ≤ 33 * weight ss + 116
+
+each-most : (of : List Segment → List ℕ) (ss : List Segment) → ((n : ℕ) → Short of (ofSource n ss)) → (more n : ℕ)
+    → length (eachSource of ss more n) ≤ 33 * weights ss more n + 116 * more
+unfolding eachSource weights
+each-most of ss short zero n = omega arith
+each-most of ss short (suc more) n = rw length-append (omega (arith, short n, each-most of ss short more (suc n)))
+
+-- the lines of a source: one for each range, the first and the last
+module _ (ss : List Segment) (low : describedLength ss ≤ sourceLimit) (agreed : agree ss ≡ true) (order : InOrder ss) where
+  source-short : (word : ℕ → List ℕ) (rs : List Range) (lists : List (List Range)) → ((class : ℕ) → length (word class) ≡ 4)
       → T (inRow 0 (describedLength ss) rs)
       → length rs ≤ suc (length ss + length (chunksOf ss))
       → Each (λ rs. total rs ≤ describedLength ss) lists
       → length lists ≤ 3
-      → length (sourceLine ss ++ (rangeLines word rs ++ totalLine lists)) ≤ programBuffer
-  map-most word rs lists four row many each three =
-      let (order, agreed, few, low) = within-limits in
+      → length (sourceLine ss ++ (rangeLines word rs ++ totalLine lists)) ≤ 33 * weight ss + 116
+  unfolding weight
+  source-short word rs lists four row many each three =
       let end : sourceLimit < 10 ^ 13 = lit< tt in
       let digits : describedLength ss < 10 ^ 13 = omega arith in
       let first = source-most (describedLength ss) digits ss (le-refl (describedLength ss)) in
@@ -177,20 +225,46 @@ module _ (f : List ℕ) (ss : List Segment) (read : reading sourceLimit f ≡ gi
       let last = total-most (describedLength ss) digits lists each in
       simp length-append (omega arith)
 
-  pub map-fits : length (mapOf ss) ≤ programBuffer
-  unfolding mapOf
-  map-fits =
-      let (order, agreed, few, low) = within-limits in
+  map-short : Short sourceMap ss
+  unfolding sourceMap
+  map-short =
       let names = naming ss (listing ss agreed order) in
       let all = names .together in
-      map-most mapWord (namedRanges ss) (hadList ss ∷ heldList ss ∷ lostList ss ∷ []) map-word (names .merged) (named-few ss order)
+      source-short mapWord (namedRanges ss) (hadList ss ∷ heldList ss ∷ lostList ss ∷ []) map-word (names .merged) (named-few ss order)
       (omega arith, (omega arith, (omega arith, tt))) (omega arith)
+
+  missmap-short : Short sourceMissmap ss
+  unfolding sourceMissmap
+  missmap-short =
+      let lists = listing ss agreed order in
+      let all = lists .together in
+      source-short missWord (rangesOf ss) (hadList ss ∷ missingList ss ∷ []) miss-word (lists .merged) (listed-few ss order)
+      (omega arith, (omega arith, tt)) (omega arith)
+
+-- both maps of an accepted file
+module _ (f : List ℕ) (ss : List Segment) (read : reading sourceLimit f ≡ given ss) where
+  source-fits : (of : List Segment → List ℕ)
+      → ((ts : List Segment) → describedLength ts ≤ sourceLimit → agree ts ≡ true → InOrder ts → Short of ts)
+      → length (perSource of ss) ≤ programBuffer
+  unfolding perSource weight
+  source-fits of short =
+      let (h, head) = headed-read sourceLimit f read in
+      let parts = reading-segments sourceLimit f head read in
+      let each : (n : ℕ) → Short of (ofSource n ss) =
+      λ n. let ok = accepted-of sourceLimit f h head parts n in short (ofSource n ss) (described-low sourceLimit f h parts n) (ok .agreed) (ok .order) in
+      let sources = count-most ss (reading-numbered sourceLimit f read) in
+      omega (
+        arith,
+        each-most of ss each (sourceCount ss) 0,
+        weights-most ss (sourceCount ss) 0,
+        segments-limited sourceLimit f h parts,
+        chunks-few sourceLimit f h parts,
+      )
+
+  pub map-fits : length (mapOf ss) ≤ programBuffer
+  unfolding mapOf
+  map-fits = source-fits sourceMap map-short
 
   pub missmap-fits : length (missmapOf ss) ≤ programBuffer
   unfolding missmapOf
-  missmap-fits =
-      let (order, agreed, few, low) = within-limits in
-      let lists = listing ss agreed order in
-      let all = lists .together in
-      map-most missWord (rangesOf ss) (hadList ss ∷ missingList ss ∷ []) miss-word (lists .merged) (listed-few ss order)
-      (omega arith, (omega arith, tt)) (omega arith)
+  missmap-fits = source-fits sourceMissmap missmap-short

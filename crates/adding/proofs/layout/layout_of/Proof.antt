@@ -38,33 +38,40 @@ add-within-2 c = record { fits = omega (arith, offset-short _ _ (c .before .offs
 add-within-3 : tie.Need-add-within-3
 add-within-3 c = record { fits = omega (arith, offset-short _ _ (c .before .offset-width .ensures)) }
 
+surls-size-requires : tie.Need-surls-size-requires
+surls-size-requires c κs = search needs
+
+add-within-4 : tie.Need-add-within-4
+add-within-4 c = record { fits = omega (arith, offset-short _ _ (c .before .before .offset-width .ensures)) }
+
 within-requires : tie.Need-within-requires
 within-requires c κs = search needs
 
 data-size-requires : tie.Need-data-size-requires
 data-size-requires c κs = search needs
 
-add-within-4 : tie.Need-add-within-4
-add-within-4 c = search needs
-
 add-within-5 : tie.Need-add-within-5
 add-within-5 c = search needs
+
+add-within-6 : tie.Need-add-within-6
+add-within-6 c = search needs
 
 within-requires-2 : tie.Need-within-requires-2
 within-requires-2 c κs = search needs
 
 returns : tie.Need-returns
-returns c = λ a sorted at.
+returns c = λ a sorted texted at.
     let counted = sorted .counted in
     let pdat = c .before in
     let pseg = pdat .before in
-    let ploc = pseg .before in
+    let surls = pseg .before in
+    let ploc = surls .before in
     let width = ploc .before in
     let offsets = width .before .offset-size .ensures .1 (a .outside) _ (counted .items) in
     let sizes = width .before .before .length-size .ensures .1 (a .outside) _ (counted .items) in
     let at-width = ap (λ n. offsetWidth (versionFor n)) at in
     let located = ploc .ploc-size .ensures .1 (a .outside) _ (counted .items) sizes offsets in
-    let held : pseg .within .result ≡ min (length (psegBody a)) (fileLimit + 1) = omega (arith, located, width .offset-width .ensures, at-width, pseg-long a) in
+    let held : pseg .within .result ≡ min (length (psegBody a)) (fileLimit + 1) = omega (arith, located, surls .surls-size .ensures .1 a texted, width .offset-width .ensures, at-width, pseg-long a) in
     record {
       pseg = record {
         pshd = record { width = width .offset-width .ensures ∙ at-width; body = omega (arith, width .offset-width .ensures, at-width) };
@@ -86,9 +93,11 @@ layout-of-spec =
     add-within
     add-within-2
     add-within-3
+    surls-size-requires
+    add-within-4
     within-requires
     data-size-requires
-    add-within-4
     add-within-5
+    add-within-6
     within-requires-2
     returns)

@@ -19,10 +19,10 @@ same-length : tie.Need-same-length
 same-length c = search needs
 
 returns : tie.Need-returns
-returns c = λ ps holds inside.
-    let (inner, known, same) = holds-file holds (is-kind pfil _ (c .before .before .before .before .if1 .taken)) in
+returns c = λ x k ends ps holds inside by.
+    let (inner, us, known, same) = holds-file holds (is-kind pfil _ (c .before .before .before .before .if1 .taken)) in
     let (told, counted) = c .before .before .index-in .ensures inner (in-contained _ inside known (omega arith)) in
-    (adds-one _ _ Pfil inner 0 _ _ _ _ same told, counted)
+    (adds-one _ _ Pfil inner us 0 _ _ _ _ same _ by told, counted)
 
 offset-of-requires : tie.Need-offset-of-requires
 offset-of-requires c κs = search needs
@@ -34,17 +34,17 @@ same-length-2 : tie.Need-same-length-2
 same-length-2 c = search needs
 
 returns-2 : tie.Need-returns-2
-returns-2 c = λ ps holds inside.
+returns-2 c = λ x k ends ps holds inside by.
     let asked = c .before .before .before .before in
     let tested = asked .before in
     let other = is-other pfil _ (tested .before .before .before .if1 .left) in
     let (s, known, same) = holds-segment holds other (is-kind pseg _ (tested .if2 .taken)) in
     let from = asked .offset-of .ensures s known in
     let (told, counted) = c .before .before .index-in2 .ensures (s .inner) (in-contained _ inside (known .boxes) (omega (arith, from, known .placed))) in
-    (adds-one _ _ Pseg (s .inner) _ _ _ _ _ (ap (λ (place : ℕ). partIn Pseg (s .inner) place ∷ []) from ∙ same) told, counted)
+    (adds-one _ _ Pseg (s .inner) (s .urls) _ _ _ _ _ (ap (λ (place : ℕ). partIn Pseg (s .inner) (s .urls) place ∷ []) from ∙ same) _ by told, counted)
 
 returns-3 : tie.Need-returns-3
-returns-3 c = λ ps holds inside.
+returns-3 c = λ x k ends ps holds inside by.
     let other = is-other pfil _ (c .before .before .before .if1 .left) in
     adds-none _ _ _ (holds-none holds other (is-other pseg _ (c .if2 .left))) _ _ inside
 

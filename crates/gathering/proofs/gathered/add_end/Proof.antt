@@ -1,6 +1,8 @@
 -- `gathering::gathered::add_end` meets its contract.
-use mathlib.Core.Path.{_∙_}
+use mathlib.Core.Path.{ap, _∙_}
 use borrow.Author.Needs.{needs}
+use Rattle.partial.specs.Sources.{ofSource}
+use Rattle.ends.specs.Table.{sizesIn}
 use Rattle.ends.proofs.TableLaws.{holds-more}
 use Rattle.gathering.proofs.gathered.add_end.Statement.{statement}
 use Rattle.gathering.proofs.gathered.add_end.Tie as tie
@@ -18,9 +20,9 @@ put-sizes-requires : tie.Need-put-sizes-requires
 put-sizes-requires c κs = search needs
 
 returns : tie.Need-returns
-returns c = λ ss s there holds flags count ends.
-    let with = c .before .with .ensures ss s (c .before .before .before .before .sizes-at .ensures ∙ holds .said) ends (c .before .before .gives-size .ensures s flags count) in
-    holds-more s there holds with (c .put-sizes .ensures)
+returns c = λ ss s source there holds flags count ends.
+    let with = c .before .with .ensures (ofSource (s .source) ss) s (c .before .before .before .before .sizes-at .ensures ∙ ap (sizesIn _) source ∙ holds .said (s .source)) ends (c .before .before .gives-size .ensures s flags count) in
+    holds-more s source there holds with (c .put-sizes .ensures)
 
 pub add-end-spec : {M : Type 1} → statement M
 add-end-spec =

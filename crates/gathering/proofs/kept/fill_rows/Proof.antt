@@ -1,6 +1,6 @@
 -- `gathering::kept::fill_rows` meets its contract. The loop's invariant: the segments so far have the rows of their
 -- chunks, and the others are kept ahead.
-use Prim.Native.Nat.{_+_, _-_, _<_, _≤_}
+use Prim.Native.Nat.{ℕ, _+_, _-_, _<_, _≤_}
 use mathlib.Core.List.{List}
 use mathlib.Core.Path.{_≡_, refl, ap}
 use native.Mathlib.Omega.{arith}
@@ -22,18 +22,18 @@ Inv-loop segments many numbers table₀ at₀ k₀ table at k =
     (k ≤ many)
     × (at ≤ chunkLimit)
     × (length table ≡ length table₀)
-    × ((ss : List Segment) → Kept segments many numbers ss
-    → (at ≡ length (chunksOf (take k ss))) × SegmentsKept segments numbers k at (drop k ss) × Put table₀ 0 (chunkRows (take k ss)) table)
+    × ((sources : List ℕ) (ss : List Segment) → Kept segments many sources numbers ss
+    → (at ≡ length (chunksOf (take k ss))) × SegmentsKept segments sources numbers k at (drop k ss) × Put table₀ 0 (chunkRows (take k ss)) table)
 
 abbrev μ-loop : tie.MeasureT-loop
 μ-loop segments many numbers table₀ at₀ k₀ table at k = many - k
 
 returns : tie.Need-returns Inv-loop μ-loop
-returns c = λ ss kept. absurd (omega (arith, kept .count, kept .few))
+returns c = λ sources ss kept. absurd (omega (arith, kept .count, kept .few))
 
 loop-holds : tie.Need-loop-holds Inv-loop μ-loop
 unfolding chunksOf chunkRows chunkRowsFrom
-loop-holds c = (omega arith, omega arith, refl, λ ss kept. (refl, kept .segments, put-none _ _))
+loop-holds c = (omega arith, omega arith, refl, λ sources ss kept. (refl, kept .segments, put-none _ _))
 
 mul-row : tie.Need-mul-row Inv-loop μ-loop
 mul-row c = search needs
@@ -63,10 +63,10 @@ same-length : tie.Need-same-length Inv-loop μ-loop
 same-length c = search needs
 
 returns-2 : tie.Need-returns-2 Inv-loop μ-loop
-returns-2 c = λ ss kept.
-    let (here, ahead, _) = c .before .before .before .before .loop .inv .3 ss kept in
+returns-2 c = λ sources ss kept.
+    let (here, ahead, _) = c .before .before .before .before .loop .inv .3 sources ss kept in
     let some : c .before .before .before .before .loop .k < length ss = omega (arith, kept .count) in
-    absurd (omega (arith, next-segment _ _ ss _ _ some (kept .chunks) here ahead .fits))
+    absurd (omega (arith, next-segment _ _ _ ss _ _ some (kept .chunks) here ahead .fits))
 
 put-rows-requires : tie.Need-put-rows-requires Inv-loop μ-loop
 put-rows-requires c κs = search needs
@@ -86,10 +86,10 @@ loop-again c =
       omega arith,
       omega arith,
       search needs,
-      λ ss kept.
-          let (here, ahead, put) = inv .3 ss kept in
+      λ sources ss kept.
+          let (here, ahead, put) = inv .3 sources ss kept in
           let some : c .before .before .before .before .before .before .before .before .loop .k < length ss = omega (arith, kept .count) in
-          let n = next-segment _ _ ss _ _ some (kept .chunks) here ahead in
+          let n = next-segment _ _ _ ss _ _ some (kept .chunks) here ahead in
           (n .behind, n .ahead, rows-more ss some here n put (c .before .before .put-rows .ensures (n .s .chunks) (n .count) (n .kept))),
     )
 
@@ -97,8 +97,8 @@ same-length-2 : tie.Need-same-length-2 Inv-loop μ-loop
 same-length-2 c = search needs
 
 returns-3 : tie.Need-returns-3 Inv-loop μ-loop
-returns-3 c = λ ss kept.
-    put-same refl (ap chunkRows (take-all (c .before .loop .k) ss (omega (arith, kept .count)))) (c .before .loop .inv .3 ss kept .2)
+returns-3 c = λ sources ss kept.
+    put-same refl (ap chunkRows (take-all (c .before .loop .k) ss (omega (arith, kept .count)))) (c .before .loop .inv .3 sources ss kept .2)
 
 pub fill-rows-spec : {M : Type 1} → statement M
 fill-rows-spec =

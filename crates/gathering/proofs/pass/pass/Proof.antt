@@ -5,39 +5,37 @@ use mathlib.Core.Path.{_≡_, refl, sym, subst, _∙_}
 use native.Mathlib.Omega.{arith}
 use borrow.Author.Needs.{needs}
 use lib.ListN.{length}
-use Rattle.boxes.specs.Answer.{given}
-use Rattle.boxes.specs.Framing.{boxesIn, boxLimit}
+use Rattle.boxes.specs.Framing.{boxLimit}
 use Rattle.boxes.specs.Kinds.{pseg}
-use Rattle.boxes.specs.declared.kinds.Container.the-variants.{File}
 use Rattle.boxes.proofs.WalkLaws.{fewer, next-box, no-more, a-fault, walk-boxes, over-left}
 use Rattle.tallying.proofs.FoundLaws.{is-kind, is-other}
 use Rattle.partial.specs.Heading.{Heading}
 use Rattle.partial.specs.Limits.{chunkLimit}
 use Rattle.partial.specs.Segments.{chunksOf}
 use Rattle.segment.proofs.TopsLaws.{tops-none}
-use Rattle.gathering.specs.Pass.{Gathers}
+use Rattle.gathering.specs.Pass.{Opened, Gathers}
 use Rattle.gathering.specs.Step.{Counted, Segmented}
 use Rattle.gathering.proofs.GatheredLaws.{gathered-segments, gathered-chunks}
-use Rattle.gathering.proofs.PassLaws.{Midway, searched-none, midway-none, midway-other, midway-refused, midway-more, midway-end, midway-sound}
+use Rattle.gathering.proofs.PassLaws.{Midway, searched-none, midway-none, midway-other, midway-beside, midway-refused, midway-more, midway-end, midway-sound}
 use Rattle.gathering.proofs.pass.pass.Statement.{statement}
 use Rattle.gathering.proofs.pass.pass.Tie as tie
 
 abbrev Inv-loop : tie.InvT-loop
-Inv-loop file mixed numbered segments₀ chunks₀ sizes₀ tops walk₀ gathered₀ last₀ segments chunks sizes walk gathered last =
+Inv-loop file mixed list numbered segments₀ chunks₀ sizes₀ sources₀ lists₀ tops walk₀ gathered₀ last₀ segments chunks sizes sources lists walk gathered last =
     (gathered .segments + walk .left ≤ 512)
     × (gathered .chunks ≤ chunkLimit)
     × (length segments ≡ length segments₀)
     × (length chunks ≡ length chunks₀)
-    × ((h : Heading) → boxesIn File file 0 (length file) ≡ given (h .boxes) → mixed ≡ h .mixed → Midway file h numbered segments₀ chunks₀ segments chunks sizes walk gathered last)
+    × ((h : Heading) → Opened file mixed list h → Midway file h numbered segments₀ chunks₀ segments chunks sizes sources lists walk gathered last)
 
 abbrev μ-loop : tie.MeasureT-loop
-μ-loop file mixed numbered segments₀ chunks₀ sizes₀ tops walk₀ gathered₀ last₀ segments chunks sizes walk gathered last = walk .left
+μ-loop file mixed list numbered segments₀ chunks₀ sizes₀ sources₀ lists₀ tops walk₀ gathered₀ last₀ segments chunks sizes sources lists walk gathered last = walk .left
 
 tops-of-requires : tie.Need-tops-of-requires Inv-loop μ-loop
 tops-of-requires c κs = tt
 
-clear-sizes-requires : tie.Need-clear-sizes-requires Inv-loop μ-loop
-clear-sizes-requires c κs = tt
+clear-tables-requires : tie.Need-clear-tables-requires Inv-loop μ-loop
+clear-tables-requires c κs = tt
 
 new-requires : tie.Need-new-requires Inv-loop μ-loop
 new-requires c κs = tt
@@ -54,7 +52,8 @@ loop-holds c =
       omega (arith, gathered-chunks _ none),
       refl,
       refl,
-      λ h known mix. midway-none _ h _ _ _ (sym (walk-boxes _ new) ∙ known) none (searched-none _ refl known) (c .before .before .clear-sizes .ensures),
+      λ h opened.
+          midway-none _ h _ _ _ (sym (walk-boxes _ new) ∙ opened .boxes) (opened .few) none (searched-none _ refl (opened .boxes)) (c .before .before .clear-tables .ensures _ h),
     )
 
 step-requires : tie.Need-step-requires Inv-loop μ-loop
@@ -66,7 +65,7 @@ enum-known-b c = search needs
 segment-of-requires : tie.Need-segment-of-requires Inv-loop μ-loop
 unfolding boxLimit
 segment-of-requires c κs =
-    let inv = c .before .before .before .before .before .before .before .before .before .before .before .loop .inv in
+    let inv = c .before .before .before .before .before .before .before .before .before .before .before .before .before .loop .inv in
     (omega (arith, inv .0), inv .1)
 
 enum-known-n : tie.Need-enum-known-n Inv-loop μ-loop
@@ -80,27 +79,28 @@ same-length-2 c = search needs
 
 returns : tie.Need-returns Inv-loop μ-loop
 unfolding Gathers Segmented
-returns c = λ h known mix.
-    let met = c .before .before .before .before .before .before .before .before .before .before .before .before .before .before .before .before in
+returns c = λ h opened.
+    let met = c .before .before .before .before .before .before .before .before .before .before .before .before .before .before .before .before .before .before in
     let at-loop = met .before .before .before in
-    let so-far = at-loop .loop .inv .4 h known mix in
-    let listed = at-loop .before .before .before .before .before .tops-of .ensures (h .boxes) tops-none known in
+    let so-far = at-loop .loop .inv .4 h opened in
+    let listed = at-loop .before .before .before .before .before .before .before .tops-of .ensures (h .boxes) tops-none (opened .boxes) in
     let step = next-box (met .before .before .step .ensures) (met .b .given .1) in
-    let told = c .before .before .before .before .before .before .before .segment-of .ensures .1 h (so-far .before) mix (so-far .known) listed (so-far .gathered) (so-far .sizes) in
-    midway-refused _ h _ _ _ so-far step (is-kind pseg _ (c .before .before .before .before .before .before .before .before .before .before .before .before .if1 .taken)) (subst (Segmented _ h _ _ _ _ _ _ _ _) (c .before .n .given .1) told)
+    let kind = is-kind pseg _ (c .before .before .before .before .before .before .before .before .before .before .before .before .before .before .if1 .taken) in
+    let told = c .before .before .before .before .before .before .before .segment-of .ensures .1 h (so-far .before) (opened .mix) (so-far .known) listed (midway-beside _ h _ _ _ so-far step kind (opened .inPfil)) in
+    midway-refused _ h _ _ _ so-far step kind (subst (Segmented _ h _ _ _ _ _ _ _ _ _ _) (c .before .n .given .1) told)
 
 enum-known-more : tie.Need-enum-known-more Inv-loop μ-loop
 enum-known-more c = search needs
 
 loop-less : tie.Need-loop-less Inv-loop μ-loop
 loop-less c =
-    let met = c .before .before .before .before .before .before .before .before .before .before .before .before .before .before .before .before in
+    let met = c .before .before .before .before .before .before .before .before .before .before .before .before .before .before .before .before .before .before in
     fewer _ _ (next-box (met .before .before .step .ensures) (met .b .given .1))
 
 loop-again : tie.Need-loop-again Inv-loop μ-loop
 unfolding Counted
 loop-again c =
-    let met = c .before .before .before .before .before .before .before .before .before .before .before .before .before .before .before .before in
+    let met = c .before .before .before .before .before .before .before .before .before .before .before .before .before .before .before .before .before .before in
     let at-loop = met .before .before .before in
     let inv = at-loop .loop .inv in
     let step = next-box (met .before .before .step .ensures) (met .b .given .1) in
@@ -109,13 +109,14 @@ loop-again c =
     let counted = subst (Counted _) (c .before .more .given .1) (read .0) in (
       omega (arith, inv .0, counted .0, fewer _ _ step),
       counted .1,
-      kept .1 .1 .1 .1 .1 .1 .1 .0 ∙ inv .2,
-      kept .1 .1 .1 .1 .1 .1 .1 .1 .0 ∙ inv .3,
-      λ h known mix.
-          let so-far = inv .4 h known mix in
-          let listed = at-loop .before .before .before .before .before .tops-of .ensures (h .boxes) tops-none known in
-          let told = read .1 h (so-far .before) mix (so-far .known) listed (so-far .gathered) (so-far .sizes) in
-          midway-more _ h _ _ _ so-far step (is-kind pseg _ (c .before .before .before .before .before .before .before .before .before .before .before .before .if1 .taken)) (subst (Segmented _ h _ _ _ _ _ _ _ _) (c .before .more .given .1) told),
+      kept .1 .1 .1 .1 .1 .1 .1 .1 .0 ∙ inv .2,
+      kept .1 .1 .1 .1 .1 .1 .1 .1 .1 .0 ∙ inv .3,
+      λ h opened.
+          let so-far = inv .4 h opened in
+          let kind = is-kind pseg _ (c .before .before .before .before .before .before .before .before .before .before .before .before .before .before .if1 .taken) in
+          let listed = at-loop .before .before .before .before .before .before .before .tops-of .ensures (h .boxes) tops-none (opened .boxes) in
+          let told = read .1 h (so-far .before) (opened .mix) (so-far .known) listed (midway-beside _ h _ _ _ so-far step kind (opened .inPfil)) in
+          midway-more _ h _ _ _ so-far step kind (subst (Segmented _ h _ _ _ _ _ _ _ _ _ _) (c .before .more .given .1) told),
     )
 
 loop-less-2 : tie.Need-loop-less-2 Inv-loop μ-loop
@@ -132,7 +133,7 @@ loop-again-2 c =
       inv .1,
       inv .2,
       inv .3,
-      λ h known mix. midway-other _ h _ _ _ (inv .4 h known mix) step (is-other pseg _ (c .if1 .left)),
+      λ h opened. midway-other _ h _ _ _ (inv .4 h opened) step (is-other pseg _ (c .if1 .left)),
     )
 
 enum-told : tie.Need-enum-told Inv-loop μ-loop
@@ -145,8 +146,8 @@ same-length-4 : tie.Need-same-length-4 Inv-loop μ-loop
 same-length-4 c = search needs
 
 returns-2 : tie.Need-returns-2 Inv-loop μ-loop
-returns-2 c = λ h known mix.
-    midway-end _ h _ _ _ (c .before .before .before .loop .inv .4 h known mix) (no-more (c .before .before .step .ensures) (c .enum-told .given .1))
+returns-2 c = λ h opened.
+    midway-end _ h _ _ _ (c .before .before .before .loop .inv .4 h opened) (no-more (c .before .before .step .ensures) (c .enum-told .given .1))
 
 enum-known-n-2 : tie.Need-enum-known-n-2 Inv-loop μ-loop
 enum-known-n-2 c = search needs
@@ -158,8 +159,8 @@ same-length-6 : tie.Need-same-length-6 Inv-loop μ-loop
 same-length-6 c = search needs
 
 returns-3 : tie.Need-returns-3 Inv-loop μ-loop
-returns-3 c = λ h known mix.
-    absurd (midway-sound _ h _ _ _ (c .before .before .before .before .loop .inv .4 h known mix) (a-fault (c .before .before .before .step .ensures) (c .before .n2 .given .1)))
+returns-3 c = λ h opened.
+    absurd (midway-sound _ h _ _ _ (c .before .before .before .before .loop .inv .4 h opened) (a-fault (c .before .before .before .step .ensures) (c .before .n2 .given .1)))
 
 pub pass-spec : {M : Type 1} → statement M
 pass-spec =
@@ -168,7 +169,7 @@ pass-spec =
     Inv-loop
     μ-loop
     tops-of-requires
-    clear-sizes-requires
+    clear-tables-requires
     new-requires
     none-requires
     loop-holds

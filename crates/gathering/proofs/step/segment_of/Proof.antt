@@ -3,8 +3,6 @@ use Prim.Native.Nat.{ℕ, _+_, _≤_}
 use mathlib.Core.Path.{sym, ap, subst, _∙_}
 use native.Mathlib.Omega.{arith}
 use borrow.Author.Needs.{needs}
-use Rattle.boxes.specs.Answer.{given}
-use Rattle.boxes.specs.Framing.{boxLimit}
 use Rattle.boxes.proofs.ToldLaws.{box-fields}
 use Rattle.partial.specs.Limits.{chunkLimit}
 use Rattle.gathering.specs.Chunks.{Chunked}
@@ -15,11 +13,11 @@ use Rattle.gathering.proofs.StepLaws.{header-whole, segment-fault, segm
 use Rattle.gathering.proofs.step.segment_of.Statement.{statement}
 use Rattle.gathering.proofs.step.segment_of.Tie as tie
 
--- the numbers are within their limits, and stay so
-within : (c : tie.Else2) → c .before .before .before .before .before .before .before .before .before .before .before .before .before .before .before .before .before .args .before .segments ≤ boxLimit
-within c = search needs
+-- what was before the segment, and what its parts are
+abbrev at-parts : tie.Else2 → tie.After-p
+at-parts c = c .before .before .before .before .before .before .before .before .before
 
-few : (c : tie.Else2) → c .before .before .before .before .before .before .before .before .before .before .before .before .before .before .before .before .before .args .before .chunks + c .before .before .before .before .before .before .before .before .before .before .p .given .0 .0 .location .count ≤ chunkLimit
+few : (c : tie.Else2) → at-parts c .before .before .before .before .before .before .before .args .before .chunks + at-parts c .p .given .0 .0 .location .count ≤ chunkLimit
 few c = omega arith
 
 parts-of-requires : tie.Need-parts-of-requires
@@ -37,16 +35,16 @@ sub-if1 c = search needs
 returns : tie.Need-returns
 unfolding Counted Segmented partsAnswer
 returns c =
-    let met = c .before .before .before .before .before .before .before .before in
+    let met = c .before .before .before .before .before .before .before in
     let parts = sym (met .before .before .parts-of .ensures) ∙ ap partsAnswer (met .p .given .1) in
-    (tt, λ h ss mix known listed so-far held. segment-crowded _ h ss _ _ parts (omega (arith, gathered-chunks ss so-far)))
+    (tt, λ h ss mix known listed beside. segment-crowded _ h ss _ _ parts (omega (arith, gathered-chunks ss (beside .gathered))))
 
 returns-2 : tie.Need-returns-2
 unfolding Counted Segmented partsAnswer
 returns-2 c =
-    let met = c .before .before .before .before .before .before .before .before .before .before in
+    let met = c .before .before .before .before .before .before .before .before .before in
     let parts = sym (met .before .before .parts-of .ensures) ∙ ap partsAnswer (met .p .given .1) in
-    (tt, λ h ss mix known listed so-far held. segment-far _ h ss _ _ parts (omega (arith, gathered-chunks ss so-far)) (omega arith))
+    (tt, λ h ss mix known listed beside. segment-far _ h ss _ _ parts (omega (arith, gathered-chunks ss (beside .gathered))) (omega arith))
 
 chunks-of-requires : tie.Need-chunks-of-requires
 chunks-of-requires c κs = search needs
@@ -57,23 +55,18 @@ enum-known-n-2 c = search needs
 enum-known-cursor : tie.Need-enum-known-cursor
 enum-known-cursor c = search needs
 
-put-segment-requires : tie.Need-put-segment-requires
+put-read-requires : tie.Need-put-read-requires
 unfolding partsAnswer
-put-segment-requires c κs =
-    let met = c .before .before .before .before .before .before .before .before .before .before .before .before .before .before .before .before .before .before in
+put-read-requires c κs =
+    let near = c .before .before .before .before .before .before .before .before .before .before .before .before .before in
+    let met = at-parts near in
     let parts = sym (met .before .before .parts-of .ensures) ∙ ap partsAnswer (met .p .given .1) in
-    (search needs, rw (box-fields _) at (header-whole _ _ parts))
-
-add-end-requires : tie.Need-add-end-requires
-add-end-requires c κs = search needs
-
-with-requires : tie.Need-with-requires
-with-requires c κs = (within (c .before .before .before .before .before .before .before .before .before .before .before .before .before .before), few (c .before .before .before .before .before .before .before .before .before .before .before .before .before .before))
+    (search needs, few near, rw (box-fields _) at (header-whole _ _ parts))
 
 returns-3 : tie.Need-returns-3
 unfolding Counted Segmented partsAnswer
 returns-3 c =
-    (tt, λ h ss mix known listed so-far held. segment-fault _ h ss _ (sym (c .before .before .before .parts-of .ensures) ∙ ap partsAnswer (c .before .n .given .1)))
+    (tt, λ h ss mix known listed beside. segment-fault _ h ss _ (sym (c .before .before .before .parts-of .ensures) ∙ ap partsAnswer (c .before .n .given .1)))
 
 same-length : tie.Need-same-length
 same-length c = search needs
@@ -82,10 +75,14 @@ returns-4 : tie.Need-returns-4
 unfolding Counted Segmented Chunked partsAnswer
 returns-4 c =
     let near = c .before .before .before .before .before .before .before in
-    let met = near .before .before .before .before .before .before .before .before .before .before in
+    let met = at-parts near in
     let parts = sym (met .before .before .parts-of .ensures) ∙ ap partsAnswer (met .p .given .1) in
-    let ran = c .before .before .before .before .before .chunks-of .ensures in
-    (tt, λ h ss mix known listed so-far held. segment-cut _ h ss _ _ parts (omega (arith, few near, gathered-chunks ss so-far)) (omega arith) (near .before .before .before .before .before .before .before .before .before .before .before .before .before .before .before .before .before .args .last) (subst (Chunked _ h _ _ _ _ _ _ _) (c .before .n2 .given .1) (ran h mix known listed)))
+    let ran = c .before .before .before .before .before .chunks-of .ensures in (
+      tt,
+      λ h ss mix known listed beside.
+          segment-cut _ h ss _ _ parts (omega (arith, few near, gathered-chunks ss (beside .gathered))) (omega arith) (met .before .before .before .before .before .before .before .args .last)
+          (subst (Chunked _ h _ _ _ _ _ _ _) (c .before .n2 .given .1) (ran h mix known listed)),
+    )
 
 same-length-2 : tie.Need-same-length-2
 same-length-2 c = search needs
@@ -96,18 +93,16 @@ same-length-3 c = search needs
 returns-5 : tie.Need-returns-5
 unfolding Counted Segmented Chunked partsAnswer
 returns-5 c =
-    let read = c .before .before .before .before .before .before .before .before .before in
+    let read = c .before .before .before .before .before .before .before .before .before .before in
     let near = read .before .before .before .before .before .before in
-    let met = near .before .before .before .before .before .before .before .before .before .before in
+    let met = at-parts near in
     let parts = sym (met .before .before .parts-of .ensures) ∙ ap partsAnswer (met .p .given .1) in
     let ran = read .before .before .before .before .chunks-of .ensures in
-    let put = c .before .before .before .before .before .before .put-segment .ensures in
-    let end = c .before .before .add-end .ensures in
-    let more = c .with .ensures in (
-      (more .0, subst (λ (n : ℕ). n ≤ chunkLimit) (sym (more .1)) (few near)),
-      λ h ss mix known listed so-far held.
+    let entered = c .before .before .put-read .ensures in (
+      (entered .segments, subst (λ (n : ℕ). n ≤ chunkLimit) (sym (entered .chunks)) (few near)),
+      λ h ss mix known listed beside.
           let (cs, e, many, here) = subst (Chunked _ h _ _ _ _ _ _ _) (read .cursor .given .1) (ran h mix known listed) in
-          segment-told _ h ss _ _ parts (omega (arith, few near, gathered-chunks ss so-far)) (omega arith) (near .before .before .before .before .before .before .before .before .before .before .before .before .before .before .before .before .before .args .last) so-far e many here put (λ s. more .2 ss s so-far) (λ s. end ss s (omega arith) held),
+          segment-told _ h ss _ _ parts (omega (arith, few near, gathered-chunks ss (beside .gathered))) (omega arith) (met .before .before .before .before .before .before .before .args .last) beside e many here entered,
     )
 
 pub segment-of-spec : {M : Type 1} → statement M
@@ -123,9 +118,7 @@ segment-of-spec =
     chunks-of-requires
     enum-known-n-2
     enum-known-cursor
-    put-segment-requires
-    add-end-requires
-    with-requires
+    put-read-requires
     returns-3
     same-length
     returns-4

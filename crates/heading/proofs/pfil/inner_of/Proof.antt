@@ -17,7 +17,7 @@ use Rattle.surls.proofs.FormLaws.{refuted, upheld}
 use Rattle.surls.proofs.WithinLaws.{further-within}
 use Rattle.heading.specs.Facts.{headedAnswer}
 use Rattle.heading.proofs.FoundLaws.{first-within}
-use Rattle.heading.proofs.StageLaws.{inner-refused, pfhd-refused, surl-refused, all-right, found-told}
+use Rattle.heading.proofs.StageLaws.{inner-refused, pfhd-refused, surl-refused, all-right, body-told, found-told}
 use Rattle.heading.proofs.pfil.inner_of.Statement.{statement}
 use Rattle.heading.proofs.pfil.inner_of.Tie as tie
 
@@ -127,6 +127,7 @@ returns-4 c bs tallied same front =
     rw (all-right (start .args .file .now) bs front (start .args .b) same known right formed)
     (found-told (start .args .file .now) bs is _ (all .number) (after-of .of .ensures ∙ all .of pseg refl)
     (has-counted is (after-index .of2 .ensures ∙ tally-given counted refl .of fidx refl))
+    (body-told (start .args .file .now) bs (start .args .b) same)
     (c .before .url-of .ensures (first-surl after-first) ∙ ap (url _) first)
     (c .mime-of .ensures (first-surl after-first) ∙ ap (mime _) first))
 

@@ -1,15 +1,13 @@
 -- `indexrows::calls::index` meets its contract: the judgement, then 26 of the table, then the rows are put and marked.
-use Prim.Native.Nat.{_*_, _≤_}
-use mathlib.Core.Path.{_∙_}
 use native.Mathlib.Omega.{arith}
-use lib.ListN.{length}
-use Rattle.partial.specs.Index.{indexRowLength}
+use borrow.Author.Needs.{needs}
+use Rattle.gathering.proofs.GatheredLaws.{gathered-sources}
+use Rattle.fileindex.proofs.FileLaws.{told-read}
 use Rattle.reading.proofs.JudgedLaws.{accepted, read-refused, read-given, judgement-refused, judgement-given}
-use Rattle.reading.proofs.StagedLaws.{known-end}
 use Rattle.reading.proofs.TableLaws.{accepted-kept}
 use Rattle.indexrows.proofs.HadLaws.{starts-filled, accepted-in}
-use Rattle.indexrows.proofs.CallsLaws.{index-refused, index-short, index-given, indexes-refused, indexes-given, none-filled, index-told, told-filled, filled-over}
-use borrow.Author.Needs.{needs}
+use Rattle.indexrows.proofs.CallsLaws.{index-refused, index-short, index-given, indexes-refused, indexes-given, none-filled, told-filled, filled-room, below-all, pfil-number, pfil-low, few-sources}
+use Rattle.indexrows.proofs.MarkingLaws.{filled-all}
 use Rattle.indexrows.proofs.calls.index.Statement.{statement}
 use Rattle.indexrows.proofs.calls.index.Tie as tie
 
@@ -43,23 +41,40 @@ returns-2 c =
     indexes-given _ _ (a .ss) (a .boxes) (index-given _ _ (read-given _ a) (a .head) (a .index) (omega (arith, a .counted))) (omega (arith, a .counted))
     (none-filled (a .ss) (a .boxes) _ (omega (arith, a .counted)))
 
-sizes-at-requires : tie.Need-sizes-at-requires
-sizes-at-requires c κs = search needs
+source-of-requires : tie.Need-source-of-requires
+source-of-requires c κs = search needs
 
 index-of-requires : tie.Need-index-of-requires
 index-of-requires c κs = search needs
 
-described-requires : tie.Need-described-requires
-described-requires c κs = search needs
+add-larger : tie.Need-add-larger
+add-larger c =
+    let met = c .before .before .before .before .before .before .before .before .before .before .before .before .before in
+    let (judged, kept, sized, sourced) = met .before .before .before .before .judge-into .ensures in
+    let a = accepted _ (judgement-given judged (met .judged .given .1)) in
+    let lists = sourced (a .ss) (read-given _ a) (a .h) (a .head) .lists in
+    let found = c .before .before .before .before .before .before .source-of .ensures in
+    omega (arith, pfil-low a lists found)
 
-mark-by-requires : tie.Need-mark-by-requires
-mark-by-requires c κs =
-    let met = c .before .before .before .before .before .before .before .before .before .before .before .before .before .before .before in
-    let judged = met .before .before .before .before .judge-into .ensures in
-    let a = accepted _ (judgement-given (judged .0) (met .judged .given .1)) in
-    let kept = accepted-kept a (judged .1) (omega arith) (omega arith) in
-    let end = c .before .before .before .described .ensures (a .ss) (c .before .before .before .before .before .before .before .before .before .sizes-at .ensures ∙ judged .2 (a .ss) (read-given _ a)) in
-    (search needs, (a .ss, accepted-in _ (a .h) (a .head) (a .all) kept end))
+larger-requires : tie.Need-larger-requires
+larger-requires c κs = search needs
+
+mark-all-requires : tie.Need-mark-all-requires
+mark-all-requires c κs =
+    let met = c .before .before .before .before .before .before .before .before .before .before .before .before .before .before .before .before .before .before .before in
+    let (judged, kept, sized, sourced) = met .before .before .before .before .judge-into .ensures in
+    let a = accepted _ (judgement-given judged (met .judged .given .1)) in
+    let lists = sourced (a .ss) (read-given _ a) (a .h) (a .head) .lists in
+    let found = c .before .before .before .before .before .before .before .before .before .before .before .before .source-of .ensures in
+    let ends = sized (a .ss) (read-given _ a) in
+    let few = c .before .before .before .before .before .before .before .before .before .before .before .before .before .before .before .before .before .if1 .left in
+    let tells = told-read _ _ _ _ _ _ _ (a .h) (a .head) (c .before .before .before .before .before .before .before .before .index-of .ensures) (a .ss) (a .all) ends (sourced (a .ss) (read-given _ a) (a .h) (a .head) .sources) (pfil-number a lists found) in
+    let numbered = told-filled _ (a .h) (a .ss) _ _ (a .boxes) tells (a .index) (omega (arith, a .counted, few)) in
+    let file = accepted-kept a kept (omega arith) sourced (omega arith) in (
+      omega (arith, a .counted, filled-room _ (a .boxes) _ numbered),
+      omega (arith, c .before .before .before .before .before .larger .ensures, few-sources a, pfil-low a lists found),
+      (a .ss, accepted-in _ (a .h) (a .head) (a .all) file ends),
+    )
 
 returns-3 : tie.Need-returns-3
 returns-3 c =
@@ -70,19 +85,21 @@ same-length c = search needs
 
 returns-4 : tie.Need-returns-4
 returns-4 c =
-    let met = c .before .before .before .before .before .before .before .before .before .before .before .before .before .before .before .before .before .before in
-    let judged = met .before .before .before .before .judge-into .ensures in
-    let a = accepted _ (judgement-given (judged .0) (met .judged .given .1)) in
-    let kept = accepted-kept a (judged .1) (omega arith) (omega arith) in
-    let sizes = c .before .before .before .before .before .before .before .before .before .before .before .before .sizes-at .ensures ∙ judged .2 (a .ss) (read-given _ a) in
-    let end = c .before .before .before .before .before .before .described .ensures (a .ss) sizes in
-    let table = c .before .before .before .before .before .before .before .before .before .before .before .before .before .before .before .before .before .before .before .before .before .before .before .before .before .before .before .before .args .table .now in
-    let room : indexRowLength * length (a .boxes) ≤ length table = omega (arith, a .counted, c .before .before .before .before .before .before .before .before .before .before .before .before .before .before .before .before .if1 .left) in
-    let (told, all) = index-told _ (a .h) (a .ss) (known-end (a .ss) sizes) (a .index) in
-    let tells = c .before .before .before .before .before .before .before .before .before .index-of .ensures (a .h) (a .ss) (a .head) (a .all) in
-    let plain = told-filled table _ (a .boxes) tells told all room in
-    let marked = c .before .before .mark-by .ensures (a .ss) (a .boxes) (accepted-in _ (a .h) (a .head) (a .all) kept end) (a .counted) (starts-filled _ table plain) in
-    indexes-given _ _ (a .ss) (a .boxes) (index-given _ _ (read-given _ a) (a .head) (a .index) room) (a .counted) (marked ∙ filled-over (a .ss) (a .boxes) table plain)
+    let met = c .before .before .before .before .before .before .before .before .before .before .before .before .before .before .before .before .before .before .before .before .before .before in
+    let (judged, kept, sized, sourced) = met .before .before .before .before .judge-into .ensures in
+    let a = accepted _ (judgement-given judged (met .judged .given .1)) in
+    let lists = sourced (a .ss) (read-given _ a) (a .h) (a .head) .lists in
+    let found = c .before .before .before .before .before .before .before .before .before .before .before .before .before .before .before .source-of .ensures in
+    let file = accepted-kept a kept (omega arith) sourced (omega arith) in
+    let ends = sized (a .ss) (read-given _ a) in
+    let few = c .before .before .before .before .before .before .before .before .before .before .before .before .before .before .before .before .before .before .before .before .if1 .left in
+    let last = c .before .before .before .before .before .before .before .before .larger .ensures in
+    let tells = told-read _ _ _ _ _ _ _ (a .h) (a .head) (c .before .before .before .before .before .before .before .before .before .before .before .index-of .ensures) (a .ss) (a .all) ends (sourced (a .ss) (read-given _ a) (a .h) (a .head) .sources) (pfil-number a lists found) in
+    let numbered = told-filled _ (a .h) (a .ss) _ _ (a .boxes) tells (a .index) (omega (arith, a .counted, few)) in
+    let marked = c .before .before .mark-all .ensures (a .ss) (a .boxes) (accepted-in _ (a .h) (a .head) (a .all) file ends) (a .counted) (starts-filled _ _ numbered) in
+    indexes-given _ _ (a .ss) (a .boxes) (index-given _ _ (read-given _ a) (a .head) (a .index) (omega (arith, a .counted, few))) (a .counted)
+    (filled-all (a .ss) _ (a .boxes) _ numbered marked
+    (below-all _ (a .h) (a .ss) (a .all) (a .index) _ (omega (arith, last, gathered-sources (a .ss) (a .gathered))) (omega (arith, last, pfil-number a lists found))))
 
 pub index-spec : {M : Type 1} → statement M
 index-spec =
@@ -95,10 +112,11 @@ index-spec =
     enum-known-judged
     returns
     returns-2
-    sizes-at-requires
+    source-of-requires
     index-of-requires
-    described-requires
-    mark-by-requires
+    add-larger
+    larger-requires
+    mark-all-requires
     returns-3
     same-length
     returns-4)

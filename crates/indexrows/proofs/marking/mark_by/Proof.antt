@@ -1,9 +1,17 @@
--- `indexrows::marking::mark_by` meets its contract: the list had that is made of the spans is the file's.
+-- `indexrows::marking::mark_by` meets its contract: the list had that is made of the spans is the source's.
+use mathlib.Core.Path.{_∙_}
 use native.Mathlib.Omega.{arith}
-use Rattle.indexrows.proofs.HadLaws.{good-few, had-many, had-room}
 use borrow.Author.Needs.{needs}
+use Rattle.partial.specs.Sources.{ofSource}
+use Rattle.indexrows.proofs.HadLaws.{good-few, had-many, had-room}
 use Rattle.indexrows.proofs.marking.mark_by.Statement.{statement}
 use Rattle.indexrows.proofs.marking.mark_by.Tie as tie
+
+sizes-at-requires : tie.Need-sizes-at-requires
+sizes-at-requires c κs = search needs
+
+described-requires : tie.Need-described-requires
+described-requires c κs = search needs
 
 slice-aggregate-file-spans : tie.Need-slice-aggregate-file-spans
 slice-aggregate-file-spans c = search needs
@@ -29,25 +37,36 @@ slice-aggregate-mark c = search needs
 mark-requires : tie.Need-mark-requires
 mark-requires c κs =
     let listed = c .before .before .before .before in
-    let (ss, a) = c .before .before .before .before .before .before .before .before .before .before .before .before .pre .1 in
-    let (ordered, spans) = listed .before .before .before .before .before .file-spans .ensures in
-    let known = had-many a (spans ss (a .kept) (omega (arith, good-few a))) (listed .put-lists .ensures ordered) (omega arith) in
-    (search needs, had-room known)
+    let spanned = listed .before .before .before .before .before in
+    let said = spanned .before .before in
+    let start = said .before .before .before in
+    let source = start .args .source in
+    let (ss, a) = start .pre .2 in
+    let (ordered, spans) = spanned .file-spans .ensures in
+    let end = said .described .ensures (ofSource source ss) (said .before .sizes-at .ensures ∙ a .ends .said source) in
+    let known = had-many a source end (spans ss (a .kept) (omega (arith, good-few a source))) (listed .put-lists .ensures ordered) (omega arith) in
+    (search needs, start .pre .1, had-room known)
 
 same-length : tie.Need-same-length
 same-length c = search needs
 
 returns : tie.Need-returns
-returns c = λ ss is a long starts.
+returns c = λ ss is say a long starts.
     let listed = c .before .before .before .before .before .before .before in
-    let (ordered, spans) = listed .before .before .before .before .before .file-spans .ensures in
-    let known = had-many a (spans ss (a .kept) (omega (arith, good-few a))) (listed .put-lists .ensures ordered) (omega arith) in
-    c .before .before .mark .ensures ss is known long starts
+    let spanned = listed .before .before .before .before .before in
+    let said = spanned .before .before in
+    let source = said .before .before .before .args .source in
+    let (ordered, spans) = spanned .file-spans .ensures in
+    let end = said .described .ensures (ofSource source ss) (said .before .sizes-at .ensures ∙ a .ends .said source) in
+    let known = had-many a source end (spans ss (a .kept) (omega (arith, good-few a source))) (listed .put-lists .ensures ordered) (omega arith) in
+    c .before .before .mark .ensures (ofSource source ss) is say known long starts
 
 pub mark-by-spec : {M : Type 1} → statement M
 mark-by-spec =
     tie.close
     (tie.spec
+    sizes-at-requires
+    described-requires
     slice-aggregate-file-spans
     file-spans-requires
     slice-aggregate-put-lists

@@ -1,5 +1,5 @@
 -- `listing::calls::counted` meets its contract.
-use Rattle.listing.proofs.CallsLaws.{of-file}
+use Rattle.listing.proofs.CallsLaws.{spanned-lists}
 use borrow.Author.Needs.{needs}
 use Rattle.listing.proofs.calls.counted.Statement.{statement}
 use Rattle.listing.proofs.calls.counted.Tie as tie
@@ -14,7 +14,7 @@ put-lists-requires : tie.Need-put-lists-requires
 put-lists-requires c κs = search needs
 
 returns : tie.Need-returns
-returns c = λ ordered ss spanned. of-file spanned (c .before .before .put-lists .ensures ordered) .counts
+returns c = λ ordered ss spanned. spanned-lists spanned (c .before .before .put-lists .ensures ordered) .counts
 
 pub counted-spec : {M : Type 1} → statement M
 counted-spec =

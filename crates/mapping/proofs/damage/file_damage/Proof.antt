@@ -7,7 +7,7 @@ use Rattle.mapping.proofs.damage.file_damage.Statement.{statement}
 use Rattle.mapping.proofs.damage.file_damage.Tie as tie
 
 returns : tie.Need-returns
-returns c = (ordered-none _ _, λ ss kept room. none-damaged ss _ _ (not-true _ (c .if1 .taken)))
+returns c = (ordered-none _ _, λ ss kept room. none-damaged _ _ _ (not-true _ (c .if1 .taken)))
 
 file-spans-requires : tie.Need-file-spans-requires
 file-spans-requires c κs = search needs

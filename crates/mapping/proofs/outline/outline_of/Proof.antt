@@ -1,18 +1,19 @@
 -- `mapping::outline::outline_of` meets its contract.
-use mathlib.Core.Path.{refl}
+use mathlib.Core.Path.{refl, _∙_}
 use native.Mathlib.Omega.{arith}
 use Rattle.partial.specs.Segments.{good, chunksOf}
-use Rattle.spans.proofs.ChunkLaws.{many-few, many-apart}
-use Rattle.mapping.proofs.OutlineLaws.{drawn-both, outlined-both}
+use Rattle.partial.specs.Sources.{ofSource}
+use Rattle.spans.proofs.ChunkLaws.{many-few, many-apart, source-few}
+use Rattle.mapping.proofs.OutlineLaws.{known-closed, drawn-both, outlined-both}
 use borrow.Author.Needs.{needs}
 use Rattle.mapping.proofs.outline.outline_of.Statement.{statement}
 use Rattle.mapping.proofs.outline.outline_of.Tie as tie
 
-add-most : tie.Need-add-most
-add-most c = search needs
+sizes-at-requires : tie.Need-sizes-at-requires
+sizes-at-requires c κs = search needs
 
-add-most-2 : tie.Need-add-most-2
-add-most-2 c = search needs
+described-requires : tie.Need-described-requires
+described-requires c κs = search needs
 
 file-spans-requires : tie.Need-file-spans-requires
 file-spans-requires c κs = search needs
@@ -42,21 +43,28 @@ returns : tie.Need-returns
 returns c =
     let (ordered, all) = c .before .before .before .before .before .before .file-spans .ensures in
     let (others, damage) = c .before .before .file-damage .ensures in
-    let long = c .before .before .file-damage .kept .1 .1 .1 .1 .1 .0 in (
-      drawn-both _ _ _ (ordered .spans .room) long (c .before .before .before .before .before .before .before .before .before .before .pre .0) ordered others,
+    let long = c .before .before .file-damage .kept .1 .1 .1 .1 .1 .1 .1 .0 in
+    let start = c .before .before .before .before .before .before .before .before .before .before .before in
+    let source = start .args .source in
+    let said = c .before .before .before .before .before .before .before .before .before .sizes-at .ensures in
+    let described = c .before .before .before .before .before .before .before .before .described .ensures in
+    let (ss₀, told₀) = start .pre in (
+      drawn-both _ _ _ (ordered .spans .room) long (omega (arith, described (ofSource source ss₀) (said ∙ told₀ .said source), told₀ .low source)) ordered others,
       refl,
-      λ ss room kept few ends closed.
-          let spans = all ss kept (omega (arith, room, many-few good (chunksOf ss), kept .chunks)) in
-          outlined-both _ _ _ (ordered .spans .room) long few ends closed spans
-          (damage ss kept (omega (arith, room, many-apart (chunksOf ss), spans .few, kept .chunks, long))),
+      λ ss room told.
+          let is = said ∙ told .said source in
+          let few = source-few source ss in
+          let spans = all ss (told .kept) (omega (arith, room, many-few good (chunksOf (ofSource source ss)), told .kept .chunks)) in
+          outlined-both _ _ _ (ordered .spans .room) long (described (ofSource source ss) is) (known-closed (ofSource source ss) is) spans
+          (damage ss (told .kept) (omega (arith, room, many-apart (chunksOf (ofSource source ss)), spans .few, told .kept .chunks, long))),
     )
 
 pub outline-of-spec : {M : Type 1} → statement M
 outline-of-spec =
     tie.close
     (tie.spec
-    add-most
-    add-most-2
+    sizes-at-requires
+    described-requires
     file-spans-requires
     mul-behind
     mul-file-damage

@@ -18,7 +18,7 @@ use Rattle.mapping.proofs.ranges.put_ranges.Tie as tie
 abbrev Inv-loop : tie.InvT-loop
 Inv-loop buffer₀ at good damaged o next₀ totals₀ sweeps₀ p₀ buffer next totals sweeps p =
     (p ≤ o .end .0)
-    × (next ≤ 50 + 50 * p)
+    × (next ≤ at + 50 * p)
     × (length buffer ≡ length buffer₀)
     × Bounded totals p
     × Swept good damaged o p sweeps

@@ -11,7 +11,7 @@ use Rattle.reading.proofs.indexed.index_stages.Tie as tie
 
 returns : tie.Need-returns
 unfolding countedAnswer
-returns c = λ h ss head known has. sym (nothing-staged _ _ h ss has (not-true _ (c .if1 .taken)))
+returns c = λ h ss number head known by has. sym (nothing-staged _ _ h ss has (not-true _ (c .if1 .taken)))
 
 slice-aggregate-index-of : tie.Need-slice-aggregate-index-of
 slice-aggregate-index-of c = search needs
@@ -30,13 +30,13 @@ past-36-requires c κs = search needs
 
 returns-2 : tie.Need-returns-2
 unfolding countedAnswer
-returns-2 c = λ h ss head known has.
-    sym (index-refused _ h _ ss _ _ _ (c .before .before .before .before .index-of .ensures h ss head known) _ (c .before .n .given .1))
+returns-2 c = λ h ss number head known by has.
+    sym (index-refused _ h _ ss number _ _ _ (c .before .before .before .before .index-of .ensures h ss number head known by) _ (c .before .n .given .1))
 
 returns-3 : tie.Need-returns-3
-returns-3 c = λ h ss head known has.
+returns-3 c = λ h ss number head known by has.
     let met = c .before .before in
-    let (is, read, marked) = index-marked _ h _ ss _ _ _ (met .before .before .before .index-of .ensures h ss head known) (met .marks .given .1) in
+    let (is, read, marked) = index-marked _ h _ ss number _ _ _ (met .before .before .before .index-of .ensures h ss number head known by) (met .marks .given .1) in
     c .past-36 .ensures is marked ∙ ap (staged _) (sym read)
 
 pub index-stages-spec : {M : Type 1} → statement M

@@ -15,7 +15,7 @@ judge-into-requires c κs = search needs
 returns : tie.Need-returns
 returns c =
     let into = c .before .before .judge-into .ensures in
-    (into .0, into .2)
+    (into .0, into .2, into .3)
 
 pub judge-spec : {M : Type 1} → statement M
 judge-spec =

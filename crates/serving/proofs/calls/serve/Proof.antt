@@ -22,7 +22,7 @@ same-length-2 c = search needs
 returns : tie.Need-returns
 returns c =
     let met = c .before .before .before .before .before .part-at .ensures in
-    record { part = handed-same (ap (handed _) (met .answer) ∙ served-handed _ _ _ _) (c .part-of .ensures); tables = met .tables }
+    record { part = handed-same (ap (handed _) (met .answer) ∙ served-handed _ _ _ _ _) (c .part-of .ensures); tables = met .tables }
 
 pub serve-spec : {M : Type 1} → statement M
 serve-spec =

@@ -1,105 +1,104 @@
--- `writing::append::append_to` meets its contract: 31, 32 and 35 in their order, then what is right in itself.
+-- `writing::append::append_to` meets its contract: 31 and 32 in their order, then what is right by its counts.
 use mathlib.Core.Bool.{true}
 use mathlib.Core.Path.{_≡_, sym, _∙_}
 use native.Mathlib.Omega.{arith}
 use borrow.Author.Needs.{needs}
 use borrow.Author.Tests.{not-true, not-false}
-use lib.ListN.{take}
-use Rattle.boxes.specs.Answer.{given}
-use Rattle.additions.specs.Addition.{asks, listRight, outsideRight}
-use Rattle.partial.specs.Heading.{Heading, heading}
-use Rattle.adding.specs.Counts.{Sorted}
-use Rattle.adding.proofs.OutsideLaws.{data-counted}
+use Rattle.additions.specs.Addition.{asks, listRight, listsRight}
 use Rattle.writing.proofs.AppendLaws.{appends-refused, list-odd, list-unright, list-right, data-differs, counted-of}
-use Rattle.writing.proofs.AppendLaws.{earlier, headed-mixed, wrong-list, wrong-data, wrong-outside}
+use Rattle.writing.proofs.AppendLaws.{list-first, lengths-second, lists-both, data-first, texts-second, even-told, whole-told}
+use Rattle.writing.proofs.AppendLaws.{earlier, wrong-lists, wrong-bytes}
 use Rattle.writing.proofs.append.append_to.Statement.{statement}
 use Rattle.writing.proofs.append.append_to.Tie as tie
-
-returns : tie.Need-returns
-returns c =
-    let start = c .before .before .before .before in
-    let file = earlier _ _ _ (start .pre .1) (start .pre .2) in
-    appends-refused _ _ _ (wrong-list _ _ _ _ _ _ (start .pre .0) _ file (list-odd _ (c .if1 .taken)))
 
 counts-of-requires : tie.Need-counts-of-requires
 counts-of-requires c κs = search needs
 
-returns-2 : tie.Need-returns-2
-returns-2 c =
-    let start = c .before .before .before .before .before .before .before in
-    let file = earlier _ _ _ (start .pre .1) (start .pre .2) in
-    appends-refused _ _ _ (wrong-list _ _ _ _ _ _ (start .pre .0) _ file (list-unright _ (c .before .before .counts-of .ensures) (not-true _ (c .if2 .taken))))
+texts-of-requires : tie.Need-texts-of-requires
+texts-of-requires c κs = search needs
 
--- past 31 the chunk list is right
-list-is-right : (c : tie.Else2) → listRight (c .before .before .before .before .before .before .before .args .list .now) ≡ true
-list-is-right c = list-right _ (c .before .before .counts-of .ensures) (c .before .before .before .if1 .left) (not-false _ (c .if2 .left))
+returns : tie.Need-returns
+unfolding asks
+returns c =
+    let (fits, told, going) = c .before .before .before .before .before .before .before .before .pre in
+    appends-refused _ _ _ (wrong-lists _ _ _ fits _ (earlier _ _ told) (list-first _ (list-odd _ (c .if1 .taken))))
+
+returns-2 : tie.Need-returns-2
+unfolding asks
+returns-2 c =
+    let (fits, told, going) = c .before .before .before .before .before .before .before .before .before .before .pre in
+    let counts = c .before .before .before .before .counts-of .ensures in
+    appends-refused _ _ _ (wrong-lists _ _ _ fits _ (earlier _ _ told) (list-first _ (list-unright _ counts (not-true _ (c .if2 .taken)))))
 
 returns-3 : tie.Need-returns-3
+unfolding asks
 returns-3 c =
-    let listed = c .before .before in
-    let start = listed .before .before .before .before .before .before .before in
-    let file = earlier _ _ _ (start .pre .1) (start .pre .2) in
-    appends-refused _ _ _
-    (wrong-data _ _ _ _ _ _ (start .pre .0) _ file (list-is-right listed) (data-differs _ _ _ _ (listed .before .before .counts-of .ensures) (omega (arith, start .good)) (c .if3 .taken)))
+    let (fits, told, going) = c .before .before .before .before .before .before .before .before .before .before .before .before .pre in
+    let uneven = sym (even-told _ _ (c .before .before .before .before .before .texts-of .ensures)) ∙ not-true _ (c .if3 .taken) in
+    appends-refused _ _ _ (wrong-lists _ _ _ fits _ (earlier _ _ told) (lengths-second _ uneven))
 
--- past 32 the counts are those of the addition, and what goes outside is known
-is-sorted : (c : tie.After-outside-of)
-    → Sorted (asks (c .before .before .before .before .before .before .before .before .before .before .before .args .header) (c .before .before .before .before .before .before .before .before .before .before .before .args .outside) (c .before .before .before .before .before .before .before .before .before .before .before .args .list .now) (c .before .before .before .before .before .before .before .before .before .before .before .args .bytes .now)) (c .before .before .before .before .before .before .counts-of .result) (c .outside-of .result)
+-- past 31 both lists are right
+list-is-right : (c : tie.Else2) → listRight (c .before .before .before .before .before .before .before .before .before .before .args .list .now) ≡ true
+list-is-right c = list-right _ (c .before .before .before .before .counts-of .ensures) (c .before .before .if1 .left) (not-false _ (c .if2 .left))
+
+lists-are-right : (c : tie.Else3) → listsRight (asks (c .before .before .before .before .before .before .before .before .before .before .before .before .args .header) (c .before .before .before .before .before .before .before .before .before .before .before .before .args .outside) (c .before .before .before .before .before .before .before .before .before .before .before .before .args .list .now) (c .before .before .before .before .before .before .before .before .before .before .before .before .args .bytes .now) (c .before .before .before .before .before .before .before .before .before .before .before .before .args .texts .now) (c .before .before .before .before .before .before .before .before .before .before .before .before .args .lengths .now)) ≡ true
 unfolding asks
-is-sorted c =
-    let counted = c .before .before in
-    let listed = counted .before .before in
-    record {
-      counted = counted-of _ _ _ _ (listed .before .before .counts-of .ensures) (omega (arith, listed .before .before .before .before .before .before .before .good)) (counted .if3 .left);
-      outside = c .outside-of .ensures;
-    }
-
-outside-of-requires : tie.Need-outside-of-requires
-outside-of-requires c κs = search needs
-
-outside-right-requires : tie.Need-outside-right-requires
-outside-right-requires c κs = search needs
-
--- 35 is told of any heading that the file has
-is-right : (c : tie.After-outside-right) (h : Heading) → heading (take (c .before .before .before .before .before .before .before .before .before .before .before .before .args .n) (c .before .before .before .before .before .before .before .before .before .before .before .before .args .buffer .now)) ≡ given h
-    → c .outside-right .result ≡ outsideRight h (asks (c .before .before .before .before .before .before .before .before .before .before .before .before .args .header) (c .before .before .before .before .before .before .before .before .before .before .before .before .args .outside) (c .before .before .before .before .before .before .before .before .before .before .before .before .args .list .now) (c .before .before .before .before .before .before .before .before .before .before .before .before .args .bytes .now))
-unfolding asks
-is-right c h head =
-    let file = earlier _ _ _ (c .before .before .before .before .before .before .before .before .before .before .before .before .pre .1) (c .before .before .before .before .before .before .before .before .before .before .before .before .pre .2) in
-    c .outside-right .ensures h _ (headed-mixed file head) (is-sorted (c .before) .outside)
+lists-are-right c = lists-both _ (list-is-right (c .before .before)) (sym (even-told _ _ (c .before .before .before .before .before .texts-of .ensures)) ∙ not-false _ (c .if3 .left))
 
 returns-4 : tie.Need-returns-4
 returns-4 c =
-    let met = c .before in
-    let listed = met .before .before .before .before .before in
-    let start = met .before .before .before .before .before .before .before .before .before .before .before .before in
-    let file = earlier _ _ _ (start .pre .1) (start .pre .2) in
-    appends-refused _ _ _
-    (wrong-outside _ _ _ _ _ _ (start .pre .0) _ file (list-is-right listed) (data-counted (is-sorted (met .before) .counted)) (sym (is-right met (file .h) (file .head)) ∙ not-true _ (c .if4 .taken)))
+    let listed = c .before .before in
+    let start = listed .before .before .before .before .before .before .before .before .before .before .before .before in
+    let (fits, told, going) = start .pre in
+    let differ = data-differs (start .args .header) (start .args .outside) (start .args .list .now) (start .args .bytes .now) (start .args .texts .now) (start .args .lengths .now) (listed .before .before .before .before .before .before .counts-of .ensures) (omega (arith, start .good)) (c .if4 .taken) in
+    appends-refused _ _ _ (wrong-bytes _ _ _ fits _ (earlier _ _ told) (lists-are-right listed) (data-first _ differ))
 
-append-right-requires : tie.Need-append-right-requires
-append-right-requires c κs =
-    let met = c .before .before in
-    let start = met .before .before .before .before .before .before .before .before .before .before .before .before in
-    (start .pre .0, start .pre .1, start .pre .2, list-is-right (met .before .before .before .before .before), is-sorted (met .before), λ h head. sym (is-right met h head) ∙ not-false _ (c .before .if4 .left))
+returns-5 : tie.Need-returns-5
+unfolding asks
+returns-5 c =
+    let listed = c .before .before .before .before in
+    let start = listed .before .before .before .before .before .before .before .before .before .before .before .before in
+    let (fits, told, going) = start .pre in
+    let differ = sym (whole-told _ _ (listed .before .before .before .before .before .texts-of .ensures) (start .args .header) (start .args .outside) (start .args .list .now) (start .args .bytes .now)) ∙ not-true _ (c .if5 .taken) in
+    appends-refused _ _ _ (wrong-bytes _ _ _ fits _ (earlier _ _ told) (lists-are-right listed) (texts-second _ differ))
+
+append-counted-requires : tie.Need-append-counted-requires
+unfolding asks
+append-counted-requires c κs =
+    let carried = c .before .before .before in
+    let listed = c .before .before .before .before .before in
+    let start = listed .before .before .before .before .before .before .before .before .before .before .before .before in
+    let (fits, told, going) = start .pre in
+    let texts = listed .before .before .before .before .before .texts-of .ensures in (
+      fits,
+      told,
+      going,
+      list-is-right (listed .before .before),
+      counted-of (start .args .header) (start .args .outside) (start .args .list .now) (start .args .bytes .now) (start .args .texts .now) (start .args .lengths .now) (listed .before .before .before .before .before .before .counts-of .ensures) (omega (arith, start .good)) (carried .if4 .left),
+      record {
+        counts = texts;
+        lengths = sym (even-told _ _ texts) ∙ not-false _ (listed .if3 .left);
+        bytes = sym (whole-told _ _ texts (start .args .header) (start .args .outside) (start .args .list .now) (start .args .bytes .now)) ∙ not-false _ (c .before .if5 .left);
+      },
+    )
 
 same-length : tie.Need-same-length
 same-length c = search needs
 
-returns-5 : tie.Need-returns-5
-returns-5 c = search needs
+returns-6 : tie.Need-returns-6
+returns-6 c = search needs
 
 pub append-to-spec : {M : Type 1} → statement M
 append-to-spec =
     tie.close
     (tie.spec
-    returns
     counts-of-requires
+    texts-of-requires
+    returns
     returns-2
     returns-3
-    outside-of-requires
-    outside-right-requires
     returns-4
-    append-right-requires
+    returns-5
+    append-counted-requires
     same-length
-    returns-5)
+    returns-6)

@@ -11,10 +11,11 @@ use lib.ListN.{length}
 use Rattle.boxes.specs.Answer.{given}
 use Rattle.additions.specs.Begin.{beginning, isText}
 use Rattle.partial.specs.Limits.{fileLimit}
-use Rattle.filling.proofs.PutsLaws.{puts-same, puts-more}
 use Rattle.gathering.proofs.RowLaws.{put-filled}
+use Rattle.puts.proofs.BoxLaws.{pfil-long}
+use Rattle.puts.proofs.PieceLaws.{pieces-same, pieces-more}
+use Rattle.writing.proofs.BeginLaws.{beginning-boxes, beginning-long}
 use Rattle.writing.proofs.BeginLaws.{url-zero, mime-zero, too-long, too-short, begun-given, begins-refused, begins-given}
-use Rattle.writing.proofs.BoxLaws.{ftyp-long, pfil-long, beginning-boxes, beginning-long}
 use Rattle.writing.proofs.begin.begin.Statement.{statement}
 use Rattle.writing.proofs.begin.begin.Tie as tie
 
@@ -64,17 +65,10 @@ returns-4 c =
     begins-refused _ _ _ _ (too-short _ _ _ _ (plain-url plain) (plain-mime plain) (omega arith) (omega arith))
 
 put-ftyp-requires : tie.Need-put-ftyp-requires
-put-ftyp-requires c κs =
-    let sized = c .before .before .before in
-    let brand = sized .before .before .before .before .before .before .before .before .args .brand in
-    omega (arith, ftyp-long brand, beginning-long [] [] brand, sized .size-with .ensures brand)
+put-ftyp-requires c κs = search needs
 
 put-pfil-requires : tie.Need-put-pfil-requires
-put-pfil-requires c κs =
-    let sized = c .before .before .before .before .before .before .before in
-    let args = sized .before .before .before .before .before .before .before .before .args in
-    let brand = args .brand in
-    omega (arith, beginning-long [] [] brand, ftyp-long brand, sized .size-with .ensures brand, pfil-long (args .url .now) (args .mime .now))
+put-pfil-requires c κs = search needs
 
 same-length : tie.Need-same-length
 same-length c = search needs
@@ -90,8 +84,9 @@ returns-5 c =
     let size = sized .size-with .ensures (args .brand) in
     let small : length (beginning (args .brand) (args .url .now) (args .mime .now)) ≤ fileLimit = omega arith in
     let room : length (beginning (args .brand) (args .url .now) (args .mime .now)) ≤ length (args .buffer .now) = omega arith in
-    let boxes = puts-more (first .before .before .put-ftyp .ensures) (c .before .before .put-pfil .ensures) in
-    let all = puts-same (sym (beginning-boxes (args .url .now) (args .mime .now) (args .brand))) boxes in
+    let pfil = c .before .before .put-pfil .ensures (omega (arith, pfil-long (args .url .now) (args .mime .now))) in
+    let boxes = pieces-more (first .before .before .put-ftyp .ensures) pfil in
+    let all = pieces-same (sym (beginning-boxes (args .url .now) (args .mime .now) (args .brand))) boxes .puts (omega arith) in
     let answer = begun-given _ _ _ _ (plain-url plain) (plain-mime plain) small room in
     begins-given _ _ _ _ (answer ∙ ap given (sym (all .end ∙ zero-add _))) (put-filled _ (all .put) room)
 

@@ -2,7 +2,7 @@
 use mathlib.Core.List.{[]}
 use native.Mathlib.Omega.{arith}
 use borrow.Author.Needs.{needs}
-use Rattle.writing.proofs.BoxLaws.{beginning-long}
+use Rattle.writing.proofs.BeginLaws.{beginning-long}
 use Rattle.writing.proofs.begin.size_with.Statement.{statement}
 use Rattle.writing.proofs.begin.size_with.Tie as tie
 

@@ -1,0 +1,49 @@
+// Bytes, numbers and box headers, put into a lent buffer. Each put hands on where its piece ends; a piece for which
+// there is no room is counted alone, and so is a value that its field does not hold. An end past 64 bits counts as the
+// largest number that they hold.
+use boxes::framing::FRONT_SIZE;
+use boxes::framing::put_header;
+use numerals::numbers::Offset;
+use numerals::numbers::put_number;
+use numerals::numbers::put_offset;
+use numerals::numbers::within;
+use numerals::order::sum_of;
+use numerals::place::Place;
+ghost use Prim.Native.Nat.{_+_, min};
+ghost use Rattle.boxes.specs.Framing.{frontSize, front};
+ghost use Rattle.numerals.specs.Numbers.{bytesOf, twosComplement, holds, holdsOffset};
+ghost use Rattle.numerals.specs.declared.numbers.Offset.the-variants.{Back};
+ghost use Rattle.texts.specs.Pieces.{PutsPiece};
+ghost use Rattle.puts.specs.Pieces.{PutsField};
+use texts::puts::put_text;
+
+// Puts bytes, in one block copy.
+pub fn put_bytes(buffer: &mut [u8], at: Place, bytes: &[u8]) -> Place
+    ensures { λ r. ⌜ PutsPiece (now (buffer .entry)) (at .0) (now (bytes .entry)) (now (buffer .exit)) (r .0) ⌝ }
+{
+    Place(put_text(buffer, at.0, bytes))
+}
+
+// Puts a number of that width; a width over 8 counts as 8.
+pub fn put_field(buffer: &mut [u8], at: Place, width: usize, n: u64) -> Place
+    ensures { λ r. ⌜ PutsField (holds (min width 8) n) (now (buffer .entry)) (at .0) (bytesOf (min width 8) n) (now (buffer .exit)) (r .0) ⌝ }
+{
+    put_number(buffer, at, width, n);
+    Place(sum_of(at.0, within(width) as u64))
+}
+
+// Puts an offset of that width, so many back; a width over 8 counts as 8.
+pub fn put_back(buffer: &mut [u8], at: Place, width: usize, n: u64) -> Place
+    ensures { λ r. ⌜ PutsField (holdsOffset (min width 8) (Back n)) (now (buffer .entry)) (at .0) (bytesOf (min width 8) (twosComplement (min width 8) (Back n))) (now (buffer .exit)) (r .0) ⌝ }
+{
+    put_offset(buffer, at, width, Offset::Back(n));
+    Place(sum_of(at.0, within(width) as u64))
+}
+
+// Puts the header of a box with a body of n bytes; 32 bits have to hold the size of the box.
+pub fn put_front(buffer: &mut [u8], at: Place, kind: u32, n: u64) -> Place
+    ensures { λ r. ⌜ PutsField (holds 4 (frontSize + n)) (now (buffer .entry)) (at .0) (front kind n) (now (buffer .exit)) (r .0) ⌝ }
+{
+    put_header(buffer, at, kind, n);
+    Place(sum_of(at.0, FRONT_SIZE))
+}

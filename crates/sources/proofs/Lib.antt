@@ -1,0 +1,4 @@
+pub mod NumberLaws
+pub mod ListLaws
+pub mod HeldLaws
+pub mod Determined

@@ -1,0 +1,55 @@
+-- Where the lists of URLs of sources stand, in a table with an entry for each source that a file may have.
+use Prim.Native.Nat.{ℕ, _+_, _*_, _<_}
+use mathlib.Core.Bool.{true, false}
+use mathlib.Core.List.{List}
+use mathlib.Core.Path.{_≡_}
+use lib.Dec.{eqb, ltb}
+use lib.ListN.{length, getD}
+use Rattle.boxes.specs.declared.kinds.Container.{Container}
+use Rattle.boxes.specs.declared.kinds.Container.the-variants.{File, Pfil, Pseg, Fidx, Bidx}
+use Rattle.partial.specs.Limits.{segmentLimit}
+use Rattle.surls.specs.declared.body.Body.{Body}
+
+-- the numbers of an entry, and those of the table
+abbrev pub listLength : ℕ
+listLength = 3
+
+abbrev pub allLists : ℕ
+allLists = listLength * segmentLimit
+
+-- a container as a number, and the container of a number
+unfoldable pub containerNumber : Container → ℕ
+containerNumber File = 0
+containerNumber Pfil = 1
+containerNumber Pseg = 2
+containerNumber Fidx = 3
+containerNumber Bidx = 4
+
+unfoldable pub containerOf : ℕ → Container
+containerOf n =
+    elim (eqb n 0) [
+      | true ↦ File
+      | false ↦ elim (eqb n 1) [ true ↦ Pfil | false ↦ elim (eqb n 2) [ true ↦ Pseg | false ↦ elim (eqb n 3) [ true ↦ Fidx | false ↦ Bidx ] ] ]
+    ]
+
+-- an entry: the container, and where its body starts and ends; so zeros are the entry of no list
+abbrev pub bodyIn : List ℕ → ℕ → Body
+bodyIn t at = record { container = containerOf (getD t at 0); start = record { 0 = getD t (at + 1) 0 }; end = record { 0 = getD t (at + 2) 0 } }
+
+abbrev pub noList : Body
+noList = record { container = File; start = record { 0 = 0 }; end = record { 0 = 0 } }
+
+-- the entry of a source; past the table that of no list
+unfoldable pub listIn : List ℕ → ℕ → Body
+listIn t source = elim (ltb source segmentLimit) [ true ↦ bodyIn t (listLength * source) | false ↦ noList ]
+
+-- a table after the entry of a source was put, where it has one: every other stays
+pub record ListPut (before : List ℕ) (source : ℕ) (list : Body) (table : List ℕ) : Type 0 where
+  pub long : length table ≡ length before
+  pub here : source < segmentLimit → length before ≡ allLists → listIn table source ≡ list
+  pub others : (k : ℕ) → (k ≡ source → ⊥) → listIn table k ≡ listIn before k
+
+-- a table of no list
+pub record Unlisted (table : List ℕ) : Type 0 where
+  pub long : length table ≡ allLists
+  pub none : (source : ℕ) → listIn table source ≡ noList
