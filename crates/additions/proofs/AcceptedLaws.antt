@@ -49,7 +49,7 @@ read-taken limit f h ss a t below plain =
     let read : reading limit (f ++ added a) ≡ given (ss ++ new) = rw same at (reading-added limit f h ss (cut a) u (taken-sayable limit f h ss (cut a) u below (mod-lt (a .repairTime) (lit< tt))) plain) in
     let grew : Extended f (f ++ added a) h ss (ss ++ new) (cut a) = rw same at (extended-taken limit f h ss (cut a) u) in
     let its = grew .grown in
-    (ss ++ new, read, record { grown = record { kept = its .kept; noShorter = its .noShorter }; untouched = grew .untouched; numbers = grew .numbers })
+    (ss ++ new, read, record { grown = record { kept = its .kept; noShorter = its .noShorter }; untouched = grew .untouched; numbered = grew .numbered; numbers = grew .numbers })
 
 module _ (limit : ℕ) (buffer : List ℕ) (n : ℕ) (a : Addition) (size : ℕ) (file : Taking limit buffer n) (e : appended limit buffer n a ≡ given size) where
   pub extends : Extended (fileIn (lent buffer n)) (fileIn (append limit (lent buffer n) a)) (file .h) (file .ss) (file .ss ++ (newSegment (file .h) (file .ss) (psegPlace n a) a ∷ [])) a

@@ -85,7 +85,7 @@ pub extended : (f : List ℕ) (h : Heading) (ss : List Segment) (a : Addition) �
     → agreed (ss ++ (newSegment h ss (psegPlace (length f) a) a ∷ [])) ≡ true
     → Extended f (f ++ added a) h ss (ss ++ (newSegment h ss (psegPlace (length f) a) a ∷ [])) a
 unfolding ofUrls
-extended f h ss a ok numbered right sizes = record { grown = its; untouched = others; numbers = numbers }
+extended f h ss a ok numbered right sizes = record { grown = its; untouched = others; numbered = numbered-more ss numbered new next; numbers = numbers }
   where
     new : Segment
     new = newSegment h ss (psegPlace (length f) a) a

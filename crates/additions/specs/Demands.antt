@@ -23,7 +23,7 @@ use Rattle.partial.specs.Sources.{urlsFor, sourceBeside, ofUrls}
 use Rattle.partial.specs.Index.{SourceBox, indexed}
 use Rattle.partial.specs.Reading.{reading, earlierSegments}
 use Rattle.partial.specs.Memory.{written}
-use Rattle.partial.specs.ReadingDemands.{oneOf, ofIndex, ofStages, InAgreement, Demand1OfReading, Demand2OfReading, Takes}
+use Rattle.partial.specs.ReadingDemands.{oneOf, ofIndex, ofStages, InAgreement, Numbered, Demand1OfReading, Demand2OfReading, Takes}
 use Rattle.additions.specs.Begin.{beginning, isText, begun}
 use Rattle.additions.specs.Addition.{Addition, items, listsRight, bytesRight, outsideRight, sayable}
 use Rattle.additions.specs.Append.{addedBoxes, innerBoxes, placed, plocBody, pshdBody, psegBody, added, psegPlace, newUrls, newSegment, appended, result}
@@ -31,7 +31,7 @@ use Rattle.additions.specs.Runs.{Lent, lent, bufferIn, fileIn, begin, ap
 use Rattle.additions.specs.Again.{again, settled, writeAgain}
 use Rattle.additions.specs.Carried.{carried}
 
--- an addition without texts: append is given none today, since 16 refuses to read a `surl` in a segment; so what is
+-- an addition without texts: append is given none, since 16 refuses to read a `surl` in a segment; so what is
 -- said of reading the result is said of such additions
 abbrev pub Plain : Addition → Type 0
 Plain a = a .lengths ≡ []
@@ -146,7 +146,8 @@ pub record Extended (f g : List ℕ) (h : Heading) (ss ts : List Segment) (a : A
   pub grown : let us = newUrls h a in Grown f g (ofUrls us ss) (ofUrls us ts) a
   -- it "changes no length, list or served byte of another"
   pub untouched : (us : List (List ℕ)) → (newUrls h a ≡ us → ⊥) → Untouched f g (ofUrls us ss) (ofUrls us ts)
-  -- each source of the file before keeps its number
+  -- each source of the file before keeps its number, and a new one has the next
+  pub numbered : Numbered ts
   pub numbers : (s : Segment) → List·Memᴰ s ss → sourceBeside ts (s .urls) ≡ s .source
 
 -- an addition with right lists, data and texts for a file with that heading: it has none of 31, 32, 35 and 34

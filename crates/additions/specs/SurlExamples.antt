@@ -1,5 +1,5 @@
 -- Document 02, [8]: worked examples of additions with the texts of `surl` boxes, computed over the definitions, as one
--- table with one statement. (16 still refuses to read what they leave.)
+-- table with one statement. (16 refuses to read what they leave.)
 use Prim.Native.Nat.{ℕ, _+_}
 use mathlib.Core.Bool.{true, false}
 use mathlib.Core.List.{List, [], _∷_, _++_, map}

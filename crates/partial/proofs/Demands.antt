@@ -3,7 +3,7 @@ use Prim.Native.Nat.{ℕ}
 use Rattle.partial.specs.Limits.{sourceLimit, programBuffer}
 use Rattle.partial.specs.Map.{mapOf, missmapOf}
 use Rattle.partial.specs.ReadingDemands.{NeverShort, Demand2OfReading}
-use Rattle.partial.proofs.Meaning.AskedLaws.{received-sum, missing-sum, absent}
+use Rattle.partial.proofs.Meaning.AskedLaws.{answered, absent}
 use Rattle.partial.proofs.Reading.AgreementReadLaws.{agrees, disagrees, index-refused}
 use Rattle.partial.proofs.Reading.IndexingLaws.{indexing}
 use Rattle.partial.proofs.Reading.PartLaws.{part-empty}
@@ -20,8 +20,7 @@ demand2-of-reading limit =
       mapped = λ f h ss head read. mapped-of limit f head read;
       oneSource = λ f ss read. one-source limit f read;
       absent = absent;
-      receivedTotal = received-sum;
-      missingTotal = missing-sum;
+      answered = answered;
       agrees = agrees limit;
       disagrees = disagrees limit;
       indexRefused = index-refused limit;

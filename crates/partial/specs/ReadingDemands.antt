@@ -18,7 +18,7 @@ use Rattle.partial.specs.Sequences.{someOf, within}
 use Rattle.partial.specs.Segments.{Chunk, Segment, good, elsewhere, endOf, chunksOf}
 use Rattle.partial.specs.Heading.{Part, Heading, heading, bytesIn}
 use Rattle.partial.specs.Mixed.{allowed}
-use Rattle.partial.specs.Meaning.{givesSize, describedLength, covers, supplier, supplied, chunkNo, chunkFor, served, servedRun, missingRun}
+use Rattle.partial.specs.Meaning.{givesSize, describedLength, isClosed, covers, supplier, supplied, chunkNo, chunkFor, served, servedRun, missingRun}
 use Rattle.partial.specs.Meaning.{reply, servedFor, missingFor, notBelow}
 use Rattle.partial.specs.Sources.{sourceCount, ofSource, ofUrls}
 use Rattle.partial.specs.Index.{SourceBox, boxesAlone, indexed, indexedSize}
@@ -27,7 +27,7 @@ use Rattle.partial.specs.Reading.{segmentsFrom, reading, earlierSegments
 use Rattle.partial.specs.Ranges.{had, rangesOf, ofClass, hadList, missingList, total, among, apart, inRow}
 use Rattle.partial.specs.Naming.{damagedAt, namedRanges, heldList, lostList}
 use Rattle.partial.specs.Memory.{after, written, textWritten}
-use Rattle.partial.specs.Tables.{hadRows, missingRows, tabled, listed, indexTabled, indexTable, summary, totals, partOf, servedPart, asked, textOf}
+use Rattle.partial.specs.Tables.{rangeRows, hadRows, missingRows, tabled, listed, indexTabled, indexTable, summary, totals, partOf, servedPart, asked, textOf}
 use Rattle.partial.specs.Map.{decimal, line, refusedLine, textFor}
 use Rattle.partial.specs.BoxList.{each, boxLine, boxesText}
 
@@ -222,6 +222,20 @@ pub record Mapped (f : List ℕ) (h : Heading) (ss : List Segment) : Type 0 wher
   pub missing : (p : ℕ) → p < describedLength ss → supplied ss p ≡ false → Missing f ss p
   pub beyond : (p : ℕ) → describedLength ss ≤ p → reply ss p ≡ notBelow
 
+-- "Described length, lists, serving .. are per source": what is answered of a source is what its own segments say
+pub record Answered (source : ℕ) (ss : List Segment) : Type 0 where
+  pub served : (p : ℕ) → servedPart (given ss) source p ≡ partOf (ofSource source ss) p
+  pub told : (p : ℕ) → asked (given ss) source p ≡ given (reply (ofSource source ss) p)
+  pub described : summary source ss .described ≡ describedLength (ofSource source ss)
+  pub closed : summary source ss .closed ≡ isClosed (ofSource source ss)
+  pub had : hadRows source ss ≡ rangeRows (hadList (ofSource source ss))
+  pub missing : missingRows source ss ≡ rangeRows (missingList (ofSource source ss))
+  pub hadRanges : totals source ss .hadRanges ≡ length (hadList (ofSource source ss))
+  pub missingRanges : totals source ss .missingRanges ≡ length (missingList (ofSource source ss))
+  -- the totals that listing answers are the sums of the lengths
+  pub receivedTotal : totals source ss .receivedTotal ≡ total (hadList (ofSource source ss))
+  pub missingTotal : totals source ss .missingTotal ≡ total (missingList (ofSource source ss))
+
 -- "Every position of a source number not in the file is above its length": it has no positions, none is served, and its
 -- lists are empty
 pub record Absent (source : ℕ) (ss : List Segment) : Type 0 where
@@ -288,9 +302,8 @@ pub record Demand2OfReading (limit : ℕ) : Type 0 where
   pub oneSource : (f : List ℕ) (ss : List Segment) → reading limit f ≡ given ss → ofSource 0 ss ≡ ss
   -- of a source number that is not in a file
   pub absent : (source : ℕ) (ss : List Segment) → sourceCount ss ≤ source → Absent source ss
-  -- the totals that listing answers are the sums of the lengths
-  pub receivedTotal : (source : ℕ) (ss : List Segment) → totals source ss .receivedTotal ≡ total (hadList (ofSource source ss))
-  pub missingTotal : (source : ℕ) (ss : List Segment) → totals source ss .missingTotal ≡ total (missingList (ofSource source ss))
+  -- of any
+  pub answered : (source : ℕ) (ss : List Segment) → Answered source ss
   -- a file that reaches 25 is accepted exactly if its sizes agree and its index is told, and no other is; it is 25
   -- exactly if they do not. Its segments, over which serving, lists and maps are, are those that it reaches 25 with:
   -- the index never changes what is served
