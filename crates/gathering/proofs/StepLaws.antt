@@ -25,6 +25,7 @@ use Rattle.partial.specs.Sources.{urlsFor, sourceBeside}
 use Rattle.partial.specs.Tables.{segmentRowLength, segmentRow}
 use Rattle.partial.proofs.Meaning.SequenceLaws.{both}
 use Rattle.partial.proofs.Meaning.SourceLaws.{beside-most, count-most}
+use Rattle.partial.proofs.Reading.LimitLaws.{segment-low}
 use Rattle.fields.specs.Fields.{valuesOf}
 use Rattle.fields.specs.declared.fields.Fields.{Fields}
 use Rattle.surls.specs.declared.body.Body.{Body}
@@ -156,6 +157,7 @@ module _ (f : List ℕ) (h : Heading) (ss : List Segment) (b : Framed) where
     next-list beside cs =
         let s = built f h ss (b .at .0) (inside .0) (partsOf p) cs in
         record {
+          within = beside .inPfil .within;
           segments = gathered-segments ss (beside .gathered);
           few = beside .few;
           sources = gathered-sources ss (beside .gathered);
@@ -208,7 +210,7 @@ module _ (f : List ℕ) (h : Heading) (ss : List Segment) (b : Framed) where
               put-same (ap (λ (n : ℕ). segmentRowLength * n) number) (ap (λ (n : ℕ). rowBy (b .at .0) (p .fields) n (boxOf (p .header))) (sym many)) (entered .row),
               put-same (ap (λ (n : ℕ). formLength numbered * n) (gathered-chunks ss (beside .gathered))) (ap (λ (n : ℕ). putsOf numbered n cs) number) (ran .rows),
               record {
-                sizes = entered .sizes ss s source (omega (arith, beside .few)) (beside .noted .sizes) refl (sym many) (ran .ends);
+                sizes = entered .sizes ss s source (omega (arith, beside .few)) (beside .noted .sizes) refl (sym many) (ran .ends) (segment-low sourceLimit f h ss (boxOf b) (segment-read e));
                 sourced = joined next sourced (entered .joins);
               },
             )

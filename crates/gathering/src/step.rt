@@ -69,7 +69,7 @@ fn put_read(
 // URLs of its own, so its list is that in `pfil`.
 pub(crate) fn segment_of(
     file: &[u8],
-    tops: &[u64; TOPS],
+    tops: &[u32; TOPS],
     mixed: bool,
     list: Body,
     b: Framed,
