@@ -13,6 +13,7 @@ pub mod Ranges
 pub mod Naming
 pub mod Memory
 pub mod Tables
+pub mod Texts
 pub mod Map
 pub mod BoxList
 pub mod Answers
