@@ -13,6 +13,7 @@ use Rattle.boxes.proofs.ToldLaws.{Tells}
 use Rattle.surls.specs.Parts.{partOf, Within}
 use Rattle.surls.specs.declared.body.Body.{Body}
 use Rattle.surls.proofs.first.first_text.Reads as first-text
+use Rattle.surls.proofs.first.has_surl.Reads as has-surl
 use Rattle.surls.proofs.formed.surls_formed.Reads as surls-formed
 use Rattle.surls.proofs.texts.mime_of.Reads as mime-of
 use Rattle.surls.proofs.texts.url_of.Reads as url-of
@@ -36,6 +37,9 @@ surls-formed-result κs args bs (inside, known) x y after after′ p q = p insid
 -- the container of a body lies in the file and has these boxes
 abbrev Stands : List ℕ → Body → List Box → Type 0
 Stands f body bs = (boxesIn (body .container) f (body .start .0) (body .end .0) ≡ given bs) × (body .end .0 ≤ length f)
+
+has-surl-result : OneKnown has-surl.Post (λ κs args (bs : List Box). Stands (now (args .0)) (args .1 .0) bs)
+has-surl-result κs args bs (known, inside) x y after after′ p q = p bs known ∙ sym (q bs known)
 
 first-text-result : OneKnown first-text.Post (λ κs args (bs : List Box). Stands (now (args .0)) (args .1 .0) bs)
 first-text-result κs args bs (known, inside) x y after after′ p q = part-told x y (p bs known inside ∙ sym (q bs known inside))

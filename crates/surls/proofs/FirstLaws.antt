@@ -4,13 +4,26 @@ use mathlib.Core.Bool.{true, false, true≢false}
 use mathlib.Core.List.{List, [], _∷_}
 use mathlib.Core.Path.{_≡_, refl, sym, ap, _∙_}
 use native.Mathlib.Omega.{arith}
-use lib.Dec.{lit<}
+use borrow.Author.Tests.{lt-ltb, ne-eqb}
+use lib.Dec.{ltb, lit<}
 use lib.ListN.{length}
 use Rattle.boxes.specs.Framing.{Box}
-use Rattle.boxes.specs.Kinds.{surl, is, those, boxAt, firstOf}
-use Rattle.boxes.proofs.KindLaws.{boxAt-getD, is-there, firstOf-those, those-nth}
+use Rattle.boxes.specs.Kinds.{surl, is, those, noBox, boxAt, firstOf}
+use Rattle.boxes.proofs.KindLaws.{boxAt-getD, is-there, is-eqb, firstOf-those, those-nth}
 use Rattle.partial.specs.Heading.{Part}
 use Rattle.partial.specs.Tables.{nowhere, firstText}
+
+-- whether one is found
+pub first-any : (bs : List Box) → is surl (firstOf surl bs) ≡ ltb 0 (length (those surl bs))
+first-any bs = go (those surl bs) refl
+  where
+    go : (cs : List Box) → those surl bs ≡ cs → is surl (firstOf surl bs) ≡ ltb 0 (length (those surl bs))
+    go [] e =
+        ap (is surl) (firstOf-those surl bs ∙ ap (boxAt 0) e ∙ boxAt-getD 0 []) ∙ is-eqb surl noBox ∙ ne-eqb 0 (surl .code) (λ same. omega (arith, lit< {m = 0} {n = surl .code} tt))
+        ∙ sym (ap (λ (bs : List Box). ltb 0 (length bs)) e)
+    go (c ∷ cs) e =
+        let (m, t) = those-nth surl bs 0 (omega (arith, ap length e)) in
+        ap (is surl) (firstOf-those surl bs ∙ t .same) ∙ t .kind ∙ sym (lt-ltb 0 (length (those surl bs)) (omega (arith, ap length e)))
 
 module _ (which : List ℕ → Box → Part) (f : List ℕ) (bs : List Box) where
   pub first-found : is surl (firstOf surl bs) ≡ true → firstText which f bs ≡ which f (firstOf surl bs)

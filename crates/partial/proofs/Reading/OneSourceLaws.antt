@@ -29,7 +29,7 @@ use Rattle.partial.proofs.Reading.NumberedLaws.{reading-numbered}
 use Rattle.partial.proofs.Reading.ReadingLaws.{reading-read, reading-known}
 
 -- a list that is one's own, or that of `pfil`
-urls-own : (f : List ℕ) (bs : List Box) (us : List (List ℕ)) → 0 < length (those surl bs) → urlsFor (urlsIn f bs) us ≡ urlsIn f bs
+pub urls-own : (f : List ℕ) (bs : List Box) (us : List (List ℕ)) → 0 < length (those surl bs) → urlsFor (urlsIn f bs) us ≡ urlsIn f bs
 unfolding urlsIn urlsFor
 urls-own f bs us some = go (those surl bs) refl
   where
@@ -37,7 +37,7 @@ urls-own f bs us some = go (those surl bs) refl
     go [] e = absurd (let none : length (those surl bs) ≡ 0 = rw e in omega arith)
     go (c ∷ cs) e = rw (urlsIn, e)
 
-urls-pfil : (f : List ℕ) (bs : List Box) (us : List (List ℕ)) → those surl bs ≡ [] → urlsFor (urlsIn f bs) us ≡ us
+pub urls-pfil : (f : List ℕ) (bs : List Box) (us : List (List ℕ)) → those surl bs ≡ [] → urlsFor (urlsIn f bs) us ≡ us
 unfolding urlsIn urlsFor
 urls-pfil f bs us none = rw (urlsIn, none)
 
