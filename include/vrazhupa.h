@@ -10,8 +10,7 @@
    and has room for as many numbers as its array has; a length in bytes is below 2^63. Memory that a call writes to
    may not overlap other memory that it is given. Nothing is kept between calls, and two threads may call at once,
    each with memory of its own to write to. No call allocates, blocks or fails in another way. `vrazhupa_index` needs
-   about 55 KiB of stack, `vrazhupa_list`, `vrazhupa_map` and `vrazhupa_missmap` about 38 KiB, `vrazhupa_append` about 12
-   KiB, the others under 11 KiB. */
+   about 53 KiB of stack, `vrazhupa_list`, `vrazhupa_map` and `vrazhupa_missmap` about 36 KiB, the others under 9 KiB. */
 #ifndef VRAZHUPA_H
 #define VRAZHUPA_H
 

@@ -1,11 +1,12 @@
 -- Laws of the index of a file beside a new segment, which has none: that of a file with a segment is told again, that
 -- of one without goes by its stages.
-use Prim.Native.Nat.{ℕ, _<_}
+use Prim.Native.Nat.{ℕ, _≤_, _<_}
 use mathlib.Core.Bool.{Bool, true, false, _&&_}
 use mathlib.Core.Option.{Option, none as unknown, some}
 use mathlib.Core.List.{List, [], _∷_, _++_}
 use mathlib.Core.Logic.{inl, inr}
 use mathlib.Core.Path.{_≡_, refl, sym, ap, ap₂, subst, _∙_}
+use native.Mathlib.Nat.{mod-eq-of-lt}
 use native.Mathlib.Omega.{arith}
 use borrow.Author.Tests.{eq-eqb, ne-eqb}
 use lib.Dec.{lit<}
@@ -55,10 +56,12 @@ unfolding endBy knownSize
 new-end s gives ends = ap₂ (λ (b : Bool) (n : ℕ). endBy (record { known = b; at = record { 0 = n } })) gives ends
 
 -- a table that has it as the end of the first source
-pub end-put : (size : End) (z t : List ℕ) → length z ≡ allSizes → SizesPut z 0 (record { known = size .known; size = size .at; largest = size .at; same = true }) t
+pub end-put : (size : End) (z t : List ℕ) → length z ≡ allSizes → size .at .0 ≤ sourceLimit → SizesPut z 0 (record { known = size .known; size = size .at; largest = size .at; same = true }) t
     → endIn t 0 ≡ endBy size
 unfolding endIn endBy
-end-put size z t long put = ap (λ (x : Sizes). elim (x .known) [ true ↦ some (x .size .0) | false ↦ unknown ]) (put .here (lit< tt) long)
+end-put size z t long low put =
+    ap (λ (x : Sizes). elim (x .known) [ true ↦ some (x .size .0) | false ↦ unknown ]) (put .here (lit< tt) long)
+    ∙ ap (λ (n : ℕ). elim (size .known) [ true ↦ some n | false ↦ unknown ]) (mod-eq-of-lt (omega arith))
 
 module _ {f : List ℕ} {h : Heading} (ss : List Segment) {inPfil : Bool} (file : Known f h ss inPfil) (s : Segment) (lacks : those fidx (s .inner) ≡ []) where
   -- a file with a segment was accepted

@@ -31,6 +31,7 @@ use partial::refusals::TOO_MANY_SEGMENTS;
 use reading::indexed::index_stages;
 use reading::judging::Judged;
 use sources::numbers::ALL_SOURCES;
+ghost use Prim.Native.Nat.{_≤_};
 ghost use mathlib.Core.Bool.{true};
 ghost use mathlib.Core.List.{List, [], _∷_};
 ghost use mathlib.Core.Path.{_≡_};
@@ -41,6 +42,7 @@ ghost use Rattle.additions.specs.Append.{addedBoxes};
 ghost use Rattle.partial.specs.Answers.{writtenAnswer};
 ghost use Rattle.partial.specs.Heading.{Heading};
 ghost use Rattle.partial.specs.Index.{sizeFor};
+ghost use Rattle.partial.specs.Limits.{sourceLimit};
 ghost use Rattle.partial.specs.Meaning.{givesSize};
 ghost use Rattle.partial.specs.Segments.{Segment, endOf as segmentEnd};
 ghost use Rattle.partial.specs.Sources.{sameUrls, sourceBeside, ofSource};
@@ -90,7 +92,7 @@ pub struct Target {
 // Where the source of the list in `pfil` ends beside a new segment alone, which is of that source or not, and gives its
 // size or not.
 fn end_beside(in_pfil: bool, gives: bool, end: Position) -> End
-    ensures { λ r. ⌜ ((h : Heading) (s : Segment) → in_pfil ≡ sameUrls (h .urls) (s .urls) → gives ≡ givesSize s → end .0 ≡ segmentEnd s
+    ensures { λ r. ⌜ (r .at .0 ≤ end .0) × ((h : Heading) (s : Segment) → in_pfil ≡ sameUrls (h .urls) (s .urls) → gives ≡ givesSize s → end .0 ≡ segmentEnd s
         → endOf r ≡ sizeFor (s ∷ []) (h .urls)) ⌝ }
 {
     if in_pfil {
@@ -110,6 +112,7 @@ fn end_beside(in_pfil: bool, gives: bool, end: Position) -> End
 fn index_beside(file: &[u8], indexed: bool, segments: u64, size: End) -> Verdict
     ensures { λ r. ⌜ ((h : Heading) (ss : List Segment) (s : Segment) → Known (now (file .entry)) h ss indexed
         → segments ≡ length ss → those fidx (s .inner) ≡ [] → s .source ≡ sourceBeside ss (s .urls) → endOf size ≡ sizeFor (s ∷ []) (h .urls)
+        → size .at .0 ≤ sourceLimit
         → admittedAnswer r ≡ indexedBeside (now (file .entry)) h ss s) ⌝ }
 {
     if segments != 0 {

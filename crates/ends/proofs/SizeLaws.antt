@@ -3,6 +3,7 @@
 use Prim.Native.Nat.{ℕ, _%_, _≤_, _<_, max}
 use mathlib.Core.Bool.{true, false, not, _&&_, and-true, and-false}
 use mathlib.Core.List.{List, [], _∷_, _++_, map}
+use mathlib.Core.Logic.{inl, inr}
 use mathlib.Core.Option.{Option·getD}
 use mathlib.Core.Path.{_≡_, refl, sym, ap, _∙_}
 use native.Mathlib.Omega.{arith}
@@ -12,7 +13,7 @@ use lib.ListN.{length}
 use Rattle.partial.specs.Sequences.{allOf, largest}
 use Rattle.partial.specs.Segments.{Chunk, Segment, endOf, isLast, isOpen}
 use Rattle.partial.specs.Meaning.{givesSize, knownSize, isClosed, agree, describedLength}
-use Rattle.partial.proofs.Meaning.SequenceLaws.{all-append}
+use Rattle.partial.proofs.Meaning.SequenceLaws.{which, all-append}
 use Rattle.partial.proofs.Meaning.KnownLaws.{largest-both, known-open, agree-open, agree-closed, described-open, described-closed}
 use Rattle.partial.proofs.Meaning.KnownLaws.{known-stays, known-first, known-new, closed-same, closed-some, none-gives}
 use Rattle.ends.specs.declared.sizes.Sizes.{Sizes}
@@ -41,6 +42,18 @@ module _ (ss : List Segment) (s : Segment) where
   last-largest : largest (map endOf (ss ++ (s ∷ []))) ≡ max (largest (map endOf ss)) (endOf s)
   unfolding largest
   last-largest = largest-both endOf ss (s ∷ []) ∙ omega arith
+
+  -- what is gathered is within a limit where it was, and where the segment ends within it
+  pub sizes-within : (limit : ℕ) → sizesOf ss .size .0 ≤ limit → sizesOf ss .largest .0 ≤ limit → endOf s ≤ limit
+      → (sizesOf (ss ++ (s ∷ [])) .size .0 ≤ limit) × (sizesOf (ss ++ (s ∷ [])) .largest .0 ≤ limit)
+  unfolding sizesOf
+  sizes-within limit size most ends = (
+    elim (which (givesSize s)) [
+      | inr lacks ↦ rw (known-stays ss s lacks) size
+      | inl gives ↦ elim (which (isClosed ss)) [ inl closed ↦ rw (known-first ss s closed) size | inr unknown ↦ rw (known-new ss s unknown gives) ends ]
+    ],
+    omega (arith, last-largest),
+  )
 
   module _ (most : ℕ) (larger : most ≡ max (largest (map endOf ss)) (endOf s)) where
     -- a segment that does not make the size known

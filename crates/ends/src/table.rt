@@ -8,9 +8,11 @@ ghost use Rattle.partial.specs.Sources.{sourceCount, agreed};
 ghost use Rattle.ends.specs.Table.{sizesIn, SizesPut, Cleared, Holds};
 
 // The numbers of an entry.
-const ENTRY: u64 = 4;
+const ENTRY: u64 = 2;
 // The entries of as many sources as a file may have segments: 25 is asked before sources are counted.
-pub const ALL_SIZES: usize = 256;
+pub const ALL_SIZES: usize = 128;
+// Above every position: a number of an entry has a position, and this once more for a flag.
+const FLAG: u64 = 1_099_511_627_776;
 // The number of the source of a file.
 pub const ONE_SOURCE: u64 = 0;
 
@@ -22,11 +24,13 @@ pub fn sizes_at(table: &[u64; ALL_SIZES], source: u64) -> Sizes
         return Sizes::none();
     }
     let at = (ENTRY * source) as usize;
+    let size = table[at];
+    let largest = table[at + 1];
     Sizes {
-        known: table[at] != 0,
-        size: Position(table[at + 1]),
-        largest: Position(table[at + 2]),
-        same: table[at + 3] == 0,
+        known: size / FLAG != 0,
+        size: Position(size % FLAG),
+        largest: Position(largest % FLAG),
+        same: largest / FLAG == 0,
     }
 }
 
@@ -38,10 +42,8 @@ pub fn put_sizes(table: &mut [u64; ALL_SIZES], source: u64, sizes: Sizes)
         return;
     }
     let at = (ENTRY * source) as usize;
-    table[at] = sizes.known as u64;
-    table[at + 1] = sizes.size.0;
-    table[at + 2] = sizes.largest.0;
-    table[at + 3] = !sizes.same as u64;
+    table[at] = sizes.size.0 % FLAG + FLAG * (sizes.known as u64);
+    table[at + 1] = sizes.largest.0 % FLAG + FLAG * (!sizes.same as u64);
 }
 
 // Makes each entry that of no segment.

@@ -27,6 +27,7 @@ use Rattle.partial.specs.Tables.{segmentRowLength, segmentRow}
 use Rattle.partial.specs.Texts.{listBoxes}
 use Rattle.partial.proofs.Meaning.SequenceLaws.{which, both}
 use Rattle.partial.proofs.Meaning.SourceLaws.{beside-most, count-most}
+use Rattle.partial.proofs.Reading.LimitLaws.{segment-low}
 use Rattle.partial.proofs.Reading.OneSourceLaws.{urls-own, urls-pfil}
 use Rattle.fields.specs.Fields.{valuesOf}
 use Rattle.fields.specs.declared.fields.Fields.{Fields}
@@ -178,6 +179,7 @@ module _ (f : List ℕ) (h : Heading) (ss : List Segment) (b : Framed) {inPfil :
       pub next-list : Next f h ss (before .segments) (before .sources) (chosenList b (p .listed) list) (built f h ss (b .at .0) (inside .0) (partsOf p) cs)
       next-list =
           record {
+            within = beside .inPfil .within;
             segments = gathered-segments ss (beside .gathered);
             few = beside .few;
             sources = gathered-sources ss (beside .gathered);
@@ -242,7 +244,7 @@ module _ (f : List ℕ) (h : Heading) (ss : List Segment) (b : Framed) {inPfil :
               put-same (ap (λ (n : ℕ). segmentRowLength * n) number) (ap₂ (λ (n m : ℕ). rowBy (b .at .0) (p .fields) n (boxOf (p .header)) m) (sym many) source) (entered .row),
               put-same (ap (λ (n : ℕ). formLength numbered * n) (gathered-chunks ss (beside .gathered))) (ap (λ (n : ℕ). putsOf numbered n cs) number) (ran .rows),
               record {
-                sizes = entered .sizes ss s source (omega (arith, beside .few)) (beside .noted .sizes) refl (sym many) (ran .ends);
+                sizes = entered .sizes ss s source (omega (arith, beside .few)) (beside .noted .sizes) refl (sym many) (ran .ends) (segment-low sourceLimit f h ss (boxOf b) (segment-read e));
                 sourced = joined next sourced (entered .joins);
               },
             )

@@ -62,6 +62,7 @@ pub record Entered (f : List ℕ) (list : Body) (before : Gathered) (place : ℕ
   pub joins : Joins f list (before .segments) (before .sources) n₀ l₀ source n l
   pub sizes : (ss : List Segment) (s : Segment) → source ≡ s .source → s .source < sources → Holds z₀ ss → p .fields .flags ≡ s .flags → p .location .count ≡ length (s .chunks)
       → end ≡ endOf s
+      → endOf s ≤ sourceLimit
       → Holds z (ss ++ (s ∷ []))
   pub segments : r .segments ≡ before .segments + 1
   pub chunks : r .chunks ≡ before .chunks + p .location .count

@@ -26,7 +26,7 @@ pub enum ChunksRead {
 // may be left over.
 pub(crate) fn chunks_of(
     file: &[u8],
-    tops: &[u64; TOPS],
+    tops: &[u32; TOPS],
     mixed: bool,
     pseg: Place,
     l: Location,

@@ -12,7 +12,7 @@ ghost use mathlib.Core.Path.{_≡_};
 ghost use lib.ListN.{length};
 ghost use Rattle.boxes.specs.Framing.{boxLimit};
 ghost use Rattle.partial.specs.Index.{hasIndex};
-ghost use Rattle.partial.specs.Limits.{chunkLimit};
+ghost use Rattle.partial.specs.Limits.{chunkLimit, sourceLimit};
 ghost use Rattle.partial.specs.Segments.{Segment, endOf};
 ghost use Rattle.ends.specs.Table.{sources, Holds};
 ghost use Rattle.gathering.specs.Gathered.{gatheredOf};
@@ -64,7 +64,7 @@ pub(crate) fn add_end(
     end: Position,
 )
     ensures { λ _. ⌜ ((ss : List Segment) (s : Segment) → source ≡ s .source → s .source < sources → Holds (now (sizes .entry)) ss
-        → flags ≡ s .flags → count ≡ length (s .chunks) → end .0 ≡ endOf s → Holds (now (sizes .exit)) (ss ++ (s ∷ []))) ⌝ }
+        → flags ≡ s .flags → count ≡ length (s .chunks) → end .0 ≡ endOf s → endOf s ≤ sourceLimit → Holds (now (sizes .exit)) (ss ++ (s ∷ []))) ⌝ }
 {
     let before = sizes_at(sizes, source);
     put_sizes(sizes, source, before.with(end, gives_size(flags, count)));

@@ -95,7 +95,7 @@ fn list_of(b: Framed, own: bool, in_pfil: Body) -> Body
 // URLs stands in that container, or none.
 pub(crate) fn segment_of(
     file: &[u8],
-    tops: &[u64; TOPS],
+    tops: &[u32; TOPS],
     mixed: bool,
     list: Body,
     in_pfil: bool,

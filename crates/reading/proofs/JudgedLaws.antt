@@ -14,7 +14,7 @@ use Rattle.boxes.specs.declared.kinds.Container.the-variants.{File}
 use Rattle.boxes.proofs.AnswerLaws.{not-both, refused-same, given-same, both-given, held}
 use Rattle.partial.specs.Heading.{Heading, heading}
 use Rattle.partial.specs.Index.{SourceBox, hasIndex, indexed}
-use Rattle.partial.specs.Limits.{segmentLimit, layerLimit, sourceLimit}
+use Rattle.partial.specs.Limits.{fileLimit, segmentLimit, layerLimit, sourceLimit}
 use Rattle.partial.specs.Sources.{sourceCount, agreed}
 use Rattle.partial.specs.Reading.{segments, reading, earlierSegments}
 use Rattle.partial.specs.Segments.{Segment}
@@ -74,7 +74,7 @@ unfolding factsOf
 opened f h known e few =
     let t = headed f h known in
     subst (λ (x : Facts). Opened f (x .mixed) (x .list) h) e
-    (record { boxes = t .boxes; few = few; mix = refl; inPfil = record { stands = record { boxes = t .inner; inside = pfil-inside f h known }; urls = t .urls } })
+    (record { boxes = t .boxes; few = few; mix = refl; inPfil = record { within = leb-true (length f) fileLimit (t .small); stands = record { boxes = t .inner; inside = pfil-inside f h known }; urls = t .urls } })
 
 -- ---- stages 13 to 25, and 40
 

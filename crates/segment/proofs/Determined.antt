@@ -1,6 +1,7 @@
 -- Each public call's contract determines its answer: two that it allows of the same arguments are equal. The table of a
 -- file's boxes is determined where these are known. So is a call that searches a file for a data box or for whole
 -- boxes, where it is lent their table, and so is which box it names.
+use Prim.Native.Nat.{_^_, _<_}
 use mathlib.Core.List.{List, []}
 use mathlib.Core.Path.{_≡_, sym, _∙_}
 use denote.Ref.{now}
@@ -22,8 +23,8 @@ use Rattle.segment.proofs.tops.tops_of.Reads as tops-of
 use Rattle.segment.proofs.whole.whole_at.Reads as whole-at
 
 tops-of-table : (bs : List Box)
-    → OneLeft (λ κs args x after. Tops [] (now (args .1 .0)) × (boxesIn File (now (args .0)) 0 (length (now (args .0))) ≡ given bs) × tops-of.Post κs args x after) (λ κs after. now (after .1 .0))
-tops-of-table bs κs args x y after after′ (none, known, p) (_, _, q) = one-table (p bs none known) (q bs none known)
+    → OneLeft (λ κs args x after. (length (now (args .0)) < 2 ^ 32) × Tops [] (now (args .1 .0)) × (boxesIn File (now (args .0)) 0 (length (now (args .0))) ≡ given bs) × tops-of.Post κs args x after) (λ κs after. now (after .1 .0))
+tops-of-table bs κs args x y after after′ (short, none, known, p) (_, _, _, q) = one-table (p bs short none known) (q bs short none known)
 
 held-at-result : OneKnown held-at.Post (λ κs args (bs : List Box). Searched (now (args .0)) (boxOf (args .1 .1 .0)) bs × Tops bs (now (args .1 .0)))
 held-at-result κs args bs (known, listed) x y after after′ p q = one-found bs known listed x y p q

@@ -1,13 +1,13 @@
 -- Laws of the table of a file's boxes: how it is filled, and that the box that holds a chunk is the last one that
 -- starts before it.
-use Prim.Native.Nat.{ℕ, _+_, _^_, _≤_, _<_}
+use Prim.Native.Nat.{ℕ, zero, suc, _+_, _%_, _^_, _≤_, _<_}
 use mathlib.Core.Bool.{Bool, true, false, false≢true}
 use mathlib.Core.List.{List, [], _∷_, _++_}
 use mathlib.Core.Logic.{inl, inr}
 use mathlib.Core.Option.{some}
 use mathlib.Core.Path.{_≡_, sym, ap, subst, _∙_}
 use native.Mathlib.Decide.{decLe}
-use native.Mathlib.Nat.{add-zero, eq-or-lt-of-le, le-refl}
+use native.Mathlib.Nat.{add-zero, eq-or-lt-of-le, le-refl, mod-eq-of-lt}
 use native.Mathlib.Omega.{arith}
 use lib.ListN.{length, getD, set, replicate, length-append, length-set, length-replicate, getD-replicate}
 use lib.Seq.{getD-set-same, getD-set-other, ext-getD}
@@ -20,7 +20,7 @@ use Rattle.boxes.specs.declared.kinds.Container.the-variants.{File}
 use Rattle.boxes.specs.declared.walk.Walk.{Walk}
 use Rattle.numerals.specs.declared.place.Place.{Place}
 use Rattle.boxes.proofs.AnswerLaws.{given-same}
-use Rattle.boxes.proofs.ContainerLaws.{box-limit, boxes-few, boxes-standing, boxes-apart}
+use Rattle.boxes.proofs.ContainerLaws.{Filled, full, next, box-limit, boxes-filled, boxes-few, boxes-standing, boxes-apart}
 use Rattle.boxes.proofs.HeaderLaws.{header-inside}
 use Rattle.boxes.proofs.KindLaws.{boxAt-getD, boxAt-first, boxAt-second}
 use Rattle.boxes.proofs.WalkLaws.{Passed, met, over-left}
@@ -35,13 +35,26 @@ pub room-left : {s : List ℕ} {c : Container} {start end : Place} {w₀ w w′ 
     → stepped s w ≡ given (some (b, w′)) → length bs < 512
 room-left {s} {w = w} new p h = omega (arith, met s w h .allowed, p .counted, over-left new)
 
+-- and the box ends in the container
+pub ends-inside : {s : List ℕ} {c : Container} {start end : Place} {w₀ w w′ : Walk} {bs : List Box} {b : Box} → w₀ ≡ walkOver c start end → Passed s w₀ bs w
+    → stepped s w ≡ given (some (b, w′)) → (b .at ≤ b .end) × (b .end ≤ end .0)
+ends-inside {s} {w = w} new p h =
+    let inside = met s w h .inside in
+    (omega arith, omega (arith, ap (λ (e : Place). e .0) (p .same-end ∙ ap (λ (w : Walk). w .end) new)))
+
 -- a table of no box
-pub tops-none : Tops [] (replicate 512 0xffffffffffffffff)
-tops-none = record { long = length-replicate {A = ℕ} 512 0xffffffffffffffff; listed = λ k h. absurd (omega arith); beyond = λ k _ h. getD-replicate 512 k 0xffffffffffffffff 0 h }
+pub tops-none : Tops [] (replicate 512 0xffffffff)
+tops-none =
+    record {
+      long = length-replicate {A = ℕ} 512 0xffffffff;
+      listed = λ k h. absurd (omega arith);
+      beyond = λ k _ h. getD-replicate 512 k 0xffffffff 0 h;
+      short = λ k h. absurd (omega arith);
+    }
 
 -- and with the place of one box more
-pub tops-more : {bs : List Box} {tops : List ℕ} (b : Box) {i at : ℕ} → length bs ≡ i → b .at ≡ at → i < 512 → Tops bs tops → Tops (bs ++ (b ∷ [])) (set tops i at)
-tops-more {bs} {tops} b {i} {at} many place room t =
+pub tops-more : {bs : List Box} {tops : List ℕ} (b : Box) {i at : ℕ} → length bs ≡ i → b .at ≡ at → i < 512 → b .end < 2 ^ 32 → Tops bs tops → Tops (bs ++ (b ∷ [])) (set tops i at)
+tops-more {bs} {tops} b {i} {at} many place room ends t =
     let more : length (bs ++ (b ∷ [])) ≡ i + 1 = length-append bs (b ∷ []) ∙ omega arith in
     let last : boxAt i (bs ++ (b ∷ [])) ≡ b = ap (λ (n : ℕ). boxAt n (bs ++ (b ∷ []))) (sym many ∙ sym (add-zero (length bs))) ∙ boxAt-second bs (b ∷ []) 0 ∙ boxAt-getD 0 (b ∷ []) in
     record {
@@ -53,7 +66,14 @@ tops-more {bs} {tops} b {i} {at} many place room t =
                 rw here (getD-set-same tops i at 0 (omega (arith, t .long)) ∙ sym place ∙ ap (λ (x : Box). x .at) (sym last))
             | no less ↦ getD-set-other tops i k at 0 (λ e. omega arith) ∙ t .listed k (omega arith) ∙ ap (λ (x : Box). x .at) (sym (boxAt-first bs (b ∷ []) k (omega arith)))
           ];
-      beyond = λ k h short. getD-set-other tops i k at 0 (λ e. omega arith) ∙ t .beyond k (omega arith) short;
+      beyond = λ k h inner. getD-set-other tops i k at 0 (λ e. omega arith) ∙ t .beyond k (omega arith) inner;
+      short = λ k h.
+          elim (decLe i k) [
+            | yes most ↦
+                let here : k ≡ i = omega arith in
+                rw (here, last) ends
+            | no less ↦ rw (boxAt-first bs (b ∷ []) k (omega arith)) (t .short k (omega arith))
+          ];
     }
 
 -- one table at most is that of some boxes
@@ -86,8 +106,18 @@ module _ {tops : List ℕ} {place k : ℕ} where
             ];
       }
 
+-- what boxes fill ends no later than they do
+fills-short : {f : List ℕ} {end at most : ℕ} {bs : List Box} → Filled File f end at bs → at < most → ((k : ℕ) → k < length bs → boxAt k bs .end < most) → end < most
+unfolding boxAt
+fills-short (full e) low each = omega arith
+fills-short (next less read rest) low each = fills-short rest (each zero (omega arith)) (λ k there. each (suc k) (omega arith))
+
 -- the table of the boxes of a file
-module _ (f : List ℕ) {bs : List Box} (known : boxesIn File f 0 (length f) ≡ given bs) (short : length f < 2 ^ 64) {tops : List ℕ} (t : Tops bs tops) where
+module _ (f : List ℕ) {bs : List Box} (known : boxesIn File f 0 (length f) ≡ given bs) {tops : List ℕ} (t : Tops bs tops) where
+  -- the file is short
+  pub file-short : length f < 2 ^ 32
+  file-short = fills-short (boxes-filled File f 0 (length f) known) (omega arith) (t .short)
+
   -- it has room for all
   pub few : length bs ≤ 512
   few = rw box-limit at (boxes-few File f 0 (length f) known)
@@ -109,13 +139,13 @@ module _ (f : List ℕ) {bs : List Box} (known : boxesIn File f 0 (length f) ≡
         | no there ↦
             let inside = boxes-standing File f 0 (length f) known i (omega arith) .inside in
             elim (decLe (length bs) j) [
-              | yes past ↦ omega (arith, t .listed i (omega arith), t .beyond j past inner)
+              | yes past ↦ omega (arith, t .listed i (omega arith), t .beyond j past inner, file-short)
               | no there ↦ omega (arith, t .listed i (omega arith), t .listed j (omega arith), ascend i j most (omega arith))
             ]
       ]
 
   -- the last box that starts before a place
-  module _ {place k : ℕ} (last : Before tops place k) where
+  module _ {place k top : ℕ} (last : Before tops place k) (stands-at : top ≡ getD tops k 0) where
     -- it holds a chunk at the place, or none does, since a chunk is behind the header of its box and not behind its end
     only-last : (size j : ℕ) → j < length bs → holdsChunk place size (boxAt j bs) ≡ true → j ≡ k
     only-last size j there holds =
@@ -132,19 +162,20 @@ module _ (f : List ℕ) {bs : List Box} (known : boxesIn File f 0 (length f) ≡
                 | inr less ↦
                     let before = last .before (omega arith) in
                     elim (decLe (length bs) k) [
-                      | yes past ↦ absurd (omega (arith, t .beyond k past (last .there)))
+                      | yes past ↦ absurd (omega (arith, t .beyond k past (last .there), file-short))
                       | no inner ↦ absurd (omega (arith, t .listed k (omega arith), boxes-apart File f 0 (length f) known j k less (omega arith)))
                     ]
               ]
         ]
 
     -- what is read where it stands is one of the file's boxes
-    pub last-among : {b : Box} → header File f (getD tops k 0) (length f) ≡ given b → Among bs b
-    last-among {b} read =
+    pub last-among : {b : Box} → header File f top (length f) ≡ given b → Among bs b
+    last-among {b} read-top =
+        let read = subst (λ (n : ℕ). header File f n (length f) ≡ given b) stands-at read-top in
         elim (decLe (length bs) k) [
           | yes past ↦
               let inside = header-inside File f (getD tops k 0) (length f) read in
-              absurd (omega (arith, t .beyond k past (last .there)))
+              absurd (omega (arith, t .beyond k past (last .there), file-short))
           | no there ↦
               let stands = boxes-standing File f 0 (length f) known k (omega arith) in
               record {
@@ -155,7 +186,7 @@ module _ (f : List ℕ) {bs : List Box} (known : boxesIn File f 0 (length f) ≡
         ]
 
     -- where it does not hold the chunk no box does
-    pub last-other : (size : ℕ) → ((j : ℕ) → j < length bs → header File f (getD tops k 0) (length f) ≡ given (boxAt j bs) → holdsChunk place size (boxAt j bs) ≡ true → ⊥) → someOf (holdsChunk place size) bs ≡ false
+    pub last-other : (size : ℕ) → ((j : ℕ) → j < length bs → header File f top (length f) ≡ given (boxAt j bs) → holdsChunk place size (boxAt j bs) ≡ true → ⊥) → someOf (holdsChunk place size) bs ≡ false
     last-other size none =
         elim (which (someOf (holdsChunk place size) bs)) [
           | inr e ↦ e
@@ -164,6 +195,6 @@ module _ (f : List ℕ) {bs : List Box} (known : boxesIn File f 0 (length f) ≡
               let holds = rw (← boxAt-getD j bs) at found in
               let here = only-last size j there holds in
               let stands = boxes-standing File f 0 (length f) known j there in
-              let starts : boxAt j bs .at ≡ getD tops k 0 = sym (t .listed j there) ∙ ap (λ (n : ℕ). getD tops n 0) here in
+              let starts : boxAt j bs .at ≡ top = sym (t .listed j there) ∙ ap (λ (n : ℕ). getD tops n 0) here ∙ sym stands-at in
               absurd (none j there (subst (λ (n : ℕ). header File f n (length f) ≡ given (boxAt j bs)) starts (stands .read)) holds)
         ]

@@ -22,7 +22,7 @@ use Rattle.boxes.proofs.WalkLaws.{ahead, known-next, known-end, known-sound}
 use Rattle.partial.specs.Mixed.{allowed, fillUp, wholeBoxes}
 use Rattle.partial.proofs.Meaning.SequenceLaws.{which}
 use Rattle.segment.specs.Tops.{Tops, Listed}
-use Rattle.segment.proofs.TopsLaws.{few, tops-ascend}
+use Rattle.segment.proofs.TopsLaws.{file-short, few, tops-ascend}
 
 -- ---- boxes that follow each other, from the first on
 
@@ -132,21 +132,21 @@ module _ (f : List ℕ) {bs : List Box} (known : boxesIn File f 0 (length f) ≡
   whole-past = whole-short (boxes-filled File f 0 (length f) known)
 
   -- whether one starts at a place is told by the table
-  module _ (short : length f < 2 ^ 64) {tops : List ℕ} (t : Tops bs tops) {place : ℕ} {r : Bool} (listed : Listed tops place r) (end : ℕ) where
+  module _ {tops : List ℕ} (t : Tops bs tops) {place : ℕ} {r : Bool} (listed : Listed tops place r) (end : ℕ) where
     pub whole-missing : r ≡ false → wholeBoxes bs place end ≡ false
     whole-missing none =
         whole-none bs place end
-        (λ k there here. listed .missing none (tops-ascend f known short t) k (omega (arith, few f known short t)) (t .listed k there ∙ here))
+        (λ k there here. listed .missing none (tops-ascend f known t) k (omega (arith, few f known t)) (t .listed k there ∙ here))
 
     pub whole-listed : r ≡ true → {w : Bool} → ((cs : List Box) → boxesIn File f place (length f) ≡ given cs → w ≡ fillUp cs end) → w ≡ wholeBoxes bs place end
     whole-listed there {w} fills =
         let (k, inner, at) = listed .there there in
         elim (decLe (length bs) k) [
           | yes past ↦
-              let far : place ≡ 0xffffffffffffffff = sym at ∙ t .beyond k past inner in
-              fills [] (boxes-none File f place (length f) (omega arith))
+              let far : place ≡ 0xffffffff = sym at ∙ t .beyond k past inner in
+              fills [] (boxes-none File f place (length f) (omega (arith, file-short f known t)))
               ∙ fill-none end
-              ∙ sym (whole-none bs place end (λ j there here. omega (arith, boxes-standing File f 0 (length f) known j there .inside)))
+              ∙ sym (whole-none bs place end (λ j there here. omega (arith, boxes-standing File f 0 (length f) known j there .inside, file-short f known t)))
           | no less ↦
               let here : boxAt k bs .at ≡ place = sym (t .listed k (omega arith)) ∙ at in
               let (cs, filled, less-many, _, same) = whole-some (boxes-filled File f 0 (length f) known) k (omega arith) end in

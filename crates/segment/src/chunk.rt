@@ -58,7 +58,7 @@ impl Cursor {
     pub fn step(
         self,
         s: &[u8],
-        tops: &[u64; TOPS],
+        tops: &[u32; TOPS],
         mixed: bool,
         pseg: Place,
         l: Location,

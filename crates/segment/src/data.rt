@@ -1,5 +1,6 @@
 // Where a chunk lies: the data box of a file that holds it.
 use crate::tops::TOPS;
+use crate::tops::top_at;
 use crate::tops::top_before;
 use boxes::framing::Framed;
 use boxes::framing::Header;
@@ -36,14 +37,14 @@ fn holds(b: Framed, place: Place, size: u64) -> bool
 // The data box of a file that holds so many bytes at a place, by the table of the file's boxes. Chunks often follow
 // each other in one box, so the box that held the last one is looked at first. Any other that holds the chunk is the
 // last one that starts before it.
-pub fn held_at(s: &[u8], tops: &[u64; TOPS], last: Framed, place: Place, size: u64) -> Held
+pub fn held_at(s: &[u8], tops: &[u32; TOPS], last: Framed, place: Place, size: u64) -> Held
     ensures { λ r. ⌜ Finds (now (s .entry)) (now (tops .entry)) (boxOf last) (place .0) size r ⌝ }
 {
     if holds(last, place, size) {
         return Held::In(last);
     }
     let number = top_before(tops, place);
-    let top = tops[number];
+    let top = top_at(tops, number);
     let Header::Found(b) = header_at(s, Container::File, Place(top), Place(s.len() as u64)) else {
         return Held::Nowhere;
     };

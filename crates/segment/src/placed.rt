@@ -54,7 +54,7 @@ fn offset_place(pseg: Place, offset: Offset) -> Reached
 // Whether so many bytes at a place are a chunk outside `pdat`: a good one of a mixed file, as whole boxes.
 fn lies_whole(
     s: &[u8],
-    tops: &[u64; TOPS],
+    tops: &[u32; TOPS],
     mixed: bool,
     state: u64,
     place: Place,
@@ -78,7 +78,7 @@ fn lies_whole(
 // Where the chunk of an entry lies. The place of an empty chunk is not checked.
 pub(crate) fn placed_at(
     s: &[u8],
-    tops: &[u64; TOPS],
+    tops: &[u32; TOPS],
     mixed: bool,
     last: Framed,
     pseg: Place,

@@ -1,5 +1,6 @@
 // Whole boxes, as which a good chunk of a mixed file may lie outside `pdat`.
 use crate::tops::TOPS;
+use crate::tops::top_at;
 use crate::tops::top_before;
 use boxes::kinds::Container;
 use boxes::walk::Step;
@@ -39,22 +40,22 @@ fn fill_up(s: &[u8], place: Place, end: Place) -> bool
 }
 
 // Whether a place stands in a table of places: it is the first, or follows the last one before it.
-fn starts(tops: &[u64; TOPS], place: Place) -> bool
+fn starts(tops: &[u32; TOPS], place: Place) -> bool
     ensures { λ r. ⌜ Listed (now (tops .entry)) (place .0) r ⌝ }
 {
     let number = top_before(tops, place);
-    if tops[number] == place.0 {
+    if top_at(tops, number) == place.0 {
         return true;
     }
     if number + 1 == TOPS {
         return false;
     }
-    tops[number + 1] == place.0
+    top_at(tops, number + 1) == place.0
 }
 
 // Whether exactly one or several neighbouring whole boxes stand from a place up to an end, all of them allowed, by the
 // table of the file's boxes.
-pub fn whole_at(s: &[u8], tops: &[u64; TOPS], place: Place, end: Place) -> bool
+pub fn whole_at(s: &[u8], tops: &[u32; TOPS], place: Place, end: Place) -> bool
     ensures { λ r. ⌜ ((bs : List Box) → boxesIn File (now (s .entry)) 0 (length (now (s .entry))) ≡ given bs → Tops bs (now (tops .entry)) → r ≡ wholeBoxes bs (place .0) (end .0)) ⌝ }
 {
     if !starts(tops, place) {

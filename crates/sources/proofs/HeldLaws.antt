@@ -1,6 +1,6 @@
 -- Laws of tables that hold the sources of segments: the source of a list by those that are held, and what is held with
 -- one segment more.
-use Prim.Native.Nat.{ℕ, suc, _+_, _≤_, _<_}
+use Prim.Native.Nat.{ℕ, suc, _+_, _≤_, _<_, min}
 use mathlib.Core.Bool.{Bool, true, false, true≢false}
 use mathlib.Core.List.{List, [], _∷_, _++_, map, List·Memᴰ, List·Memᴰ·head, List·Memᴰ·eq-of-singleton}
 use mathlib.Core.Path.{_≡_, refl, sym, ap, ap₂, subst, _∙_}
@@ -11,8 +11,9 @@ use lib.Seq.{take-suc-set}
 use Rattle.boxes.specs.Framing.{Box}
 use Rattle.boxes.specs.Kinds.{surl, those}
 use Rattle.boxes.proofs.AnswerLaws.{given-same}
+use Rattle.boxes.proofs.ContainerLaws.{boxes-none}
 use Rattle.partial.specs.Heading.{Heading, urlsIn}
-use Rattle.partial.specs.Limits.{segmentLimit}
+use Rattle.partial.specs.Limits.{fileLimit, segmentLimit}
 use Rattle.partial.specs.ReadingDemands.{Numbered}
 use Rattle.partial.specs.Segments.{Segment}
 use Rattle.partial.specs.Sequences.{largest}
@@ -23,7 +24,7 @@ use Rattle.partial.specs.Texts.{listBoxes}
 use Rattle.partial.proofs.Reading.OneSourceLaws.{urls-own, urls-pfil}
 use Rattle.surls.specs.declared.body.Body.{Body}
 use Rattle.sources.specs.Held.{Stands, PfilList, SourcesHeld, ListHeld, ListsHeld, Sourced, Joins}
-use Rattle.sources.specs.Lists.{allLists, containerNumber, containerOf, listIn, ListPut, Unlisted}
+use Rattle.sources.specs.Lists.{allLists, containerNumber, containerOf, keptList, listIn, ListPut, Unlisted}
 use Rattle.sources.specs.Numbers.{sourcePut, noSources}
 use Rattle.sources.proofs.ListLaws.{container-back}
 use Rattle.sources.proofs.NumberLaws.{put-there}
@@ -95,6 +96,25 @@ module _ (f : List ℕ) (h : Heading) (s : Segment) (own : 0 < length (those sur
   pub own-urls : s .urls ≡ urlsFor (urlsIn f (s .inner)) (h .urls) → urlsIn f (listBoxes h s) ≡ s .urls
   own-urls urls = ap (urlsIn f) own-boxes ∙ sym (urls ∙ urls-own f (s .inner) (h .urls) own)
 
+-- a container stands in a file of no more bytes than it may have also as a table keeps it
+stands-kept : {f : List ℕ} {list : Body} {bs : List Box} → length f ≤ fileLimit → Stands f list bs → Stands f (keptList list) bs
+stands-kept {f} {list} {bs} within stands =
+    let inside = stands .inside in
+    let end : min (list .end .0) fileLimit ≡ list .end .0 = omega arith in
+    record {
+      boxes =
+          elim (decLe (list .start .0) fileLimit) [
+            | yes low ↦
+                let start : min (list .start .0) fileLimit ≡ list .start .0 = omega arith in
+                rw (start, end) (stands .boxes)
+            | no past ↦
+                boxes-none (list .container) f (min (list .start .0) fileLimit) (min (list .end .0) fileLimit) (omega arith)
+                ∙ sym (boxes-none (list .container) f (list .start .0) (list .end .0) (omega arith))
+                ∙ stands .boxes
+          ];
+      inside = omega arith;
+    }
+
 -- ---- with one segment more
 
 module _ (f : List ℕ) (h : Heading) (ss : List Segment) (s : Segment) where
@@ -133,12 +153,12 @@ module _ (f : List ℕ) (h : Heading) (ss : List Segment) (s : Segment) where
   lists-same held old = record { long = held .long; each = λ n low. held-on (held .each n (omega (arith, source-count-more ss s))) }
 
   -- of a new one
-  pub lists-new : {u u′ : List ℕ} {list : Body} → ListsHeld f h u ss → s .source ≡ sourceCount ss → sourceCount ss < segmentLimit
+  pub lists-new : {u u′ : List ℕ} {list : Body} → length f ≤ fileLimit → ListsHeld f h u ss → s .source ≡ sourceCount ss → sourceCount ss < segmentLimit
       → Stands f list (listBoxes h s)
       → urlsIn f (listBoxes h s) ≡ s .urls
       → ListPut u (s .source) list u′
       → ListsHeld f h u′ (ss ++ (s ∷ []))
-  lists-new {u} {u′} {list} held new few stands urls put =
+  lists-new {u} {u′} {list} within held new few stands urls put =
       record {
         long = put .long ∙ held .long;
         each = λ n low.
@@ -153,7 +173,7 @@ module _ (f : List ℕ) (h : Heading) (ss : List Segment) (s : Segment) where
                     leads =
                         of-append (s .source) ss (s ∷ [])
                         ∙ ap₂ _++_ (of-none (s .source) ss (omega arith)) (of-one (s .source) (s ∷ []) (λ t there. ap (λ (x : Segment). x .source) (List·Memᴰ·eq-of-singleton there)));
-                    stands = subst (λ (b : Body). Stands f b (listBoxes h s)) (sym (put .here (omega arith) (held .long))) stands;
+                    stands = subst (λ (b : Body). Stands f b (listBoxes h s)) (sym (put .here (omega arith) (held .long))) (stands-kept within stands);
                     urls = urls;
                   })
             ];
@@ -170,6 +190,7 @@ sourced-none f h {t} sources lists =
 
 -- one segment more, whose list stands in that container, beside segments of so many sources
 pub record Next (f : List ℕ) (h : Heading) (ss : List Segment) (segment many : ℕ) (list : Body) (s : Segment) : Type 0 where
+  pub within : length f ≤ fileLimit
   pub segments : segment ≡ length ss
   pub few : length ss < segmentLimit
   pub sources : many ≡ sourceCount ss
@@ -190,7 +211,7 @@ module _ {f : List ℕ} {h : Heading} {ss : List Segment} {segment many r : ℕ}
         | yes new ↦
             let first : s .source ≡ sourceCount ss = sym joined-number ∙ new ∙ next .sources in
             let few : sourceCount ss < segmentLimit = omega (arith, next .few, count-most ss (next .numbered)) in
-            lists-new f h ss s (held .lists) first few (next .stands) (next .urls) (subst (λ (n : ℕ). ListPut u n list u′) joined-number (joins .new new))
+            lists-new f h ss s (next .within) (held .lists) first few (next .stands) (next .urls) (subst (λ (n : ℕ). ListPut u n list u′) joined-number (joins .new new))
         | no old ↦ rw (joins .old old) (lists-same f h ss s (held .lists) (omega (arith, joined-number, next .sources, next .number, beside-most ss (s .urls))))
       ]
 

@@ -7,7 +7,7 @@ use lib.ListN.{length, take}
 use Rattle.boxes.specs.Answer.{given}
 use Rattle.boxes.specs.Framing.{Box, boxesIn}
 use Rattle.partial.specs.Heading.{Heading, urlsIn}
-use Rattle.partial.specs.Limits.{segmentLimit}
+use Rattle.partial.specs.Limits.{fileLimit, segmentLimit}
 use Rattle.partial.specs.Segments.{Segment}
 use Rattle.partial.specs.ReadingDemands.{Numbered}
 use Rattle.partial.specs.Sources.{sourceCount, sourceBeside, ofSource}
@@ -21,8 +21,9 @@ pub record Stands (f : List ℕ) (body : Body) (bs : List Box) : Type 0 where
   pub boxes : boxesIn (body .container) f (body .start .0) (body .end .0) ≡ given bs
   pub inside : body .end .0 ≤ length f
 
--- the list of URLs in `pfil` stands in a container
+-- the list of URLs in `pfil` stands in a container of a file that has no more bytes than it may
 pub record PfilList (f : List ℕ) (h : Heading) (list : Body) : Type 0 where
+  pub within : length f ≤ fileLimit
   pub stands : Stands f list (h .inner)
   pub urls : h .urls ≡ urlsIn f (h .inner)
 

@@ -1,14 +1,19 @@
 // Where the list of URLs of each source stands, in a table: the body of the container whose `surl` boxes have it.
 use boxes::kinds::Container;
+use numerals::order::smaller;
 use numerals::place::Place;
+use partial::limits::FILE_LIMIT;
 use surls::body::Body;
 ghost use mathlib.Core.Path.{_≡_};
 ghost use Rattle.sources.specs.Lists.{containerNumber, containerOf, listIn, ListPut, Unlisted};
 
-// The numbers of an entry: the container, and where its body starts and ends.
-const ENTRY: u64 = 3;
-// The entries of as many sources as a file may have segments.
-pub const ALL_LISTS: usize = 192;
+// The entries of as many sources as a file may have segments. An entry is one number: of the container, above that of
+// where its body starts, and above that of where it ends.
+pub const ALL_LISTS: usize = 64;
+// More than there are containers.
+const CONTAINERS: u64 = 8;
+// As many as a file may have places.
+const PLACES: u64 = 1_073_741_825;
 
 // A container as a number, of which it is read back.
 pub(crate) fn number_of(container: Container) -> u64
@@ -40,34 +45,34 @@ fn container_of(n: u64) -> Container
 pub fn list_at(lists: &[u64; ALL_LISTS], source: u64) -> Body
     ensures { λ r. ⌜ r ≡ listIn (now (lists .entry)) source ⌝ }
 {
-    if ALL_LISTS as u64 / ENTRY <= source {
+    if ALL_LISTS as u64 <= source {
         return Body {
             container: Container::File,
             start: Place(0),
             end: Place(0),
         };
     }
-    let at = (ENTRY * source) as usize;
-    let container = container_of(lists[at]);
+    let at = source as usize;
+    let list = lists[at];
+    let container = container_of(list % CONTAINERS);
     Body {
         container,
-        start: Place(lists[at + 1]),
-        end: Place(lists[at + 2]),
+        start: Place(list / CONTAINERS % PLACES),
+        end: Place(list / CONTAINERS / PLACES),
     }
 }
 
-// Puts where the list of a source stands, if the table has an entry for it.
+// Puts where the list of a source stands, if the table has an entry for it. A place past every file is kept as the last.
 pub fn put_list(lists: &mut [u64; ALL_LISTS], source: u64, list: Body)
     ensures { λ _. ⌜ ListPut (now (lists .entry)) source list (now (lists .exit)) ⌝ }
 {
-    if ALL_LISTS as u64 / ENTRY <= source {
+    if ALL_LISTS as u64 <= source {
         return;
     }
-    let at = (ENTRY * source) as usize;
     let container = list.container;
-    lists[at] = number_of(container);
-    lists[at + 1] = list.start.0;
-    lists[at + 2] = list.end.0;
+    let start = smaller(list.start.0, FILE_LIMIT);
+    let end = smaller(list.end.0, FILE_LIMIT);
+    lists[source as usize] = number_of(container) + CONTAINERS * (start + PLACES * end);
 }
 
 // Makes each entry one of no list.

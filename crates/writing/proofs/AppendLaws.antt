@@ -5,7 +5,7 @@ use mathlib.Core.List.{List, [], _∷_, _++_, append-assoc}
 use mathlib.Core.Logic.{inl, inr}
 use mathlib.Core.Path.{_≡_, refl, sym, ap, subst, _∙_}
 use native.Mathlib.Omega.{arith}
-use borrow.Author.Tests.{le-leb, lt-leb, eq-eqb, ne-eqb}
+use borrow.Author.Tests.{leb-true, le-leb, lt-leb, eq-eqb, ne-eqb}
 use lib.Dec.{leb, eqb}
 use lib.ListN.{length, take, drop, length-append}
 use lib.Seq.{length-take-le}
@@ -227,7 +227,7 @@ earlier f j e =
             segments = gathered;
           };
           mixed = sym (ap (λ x. x .mixed) facts);
-          inPfil = subst (PfilList f h) (ap (λ x. x .list) facts) (record { stands = record { boxes = headed f h head .inner; inside = pfil-inside f h head }; urls = headed f h head .urls });
+          inPfil = subst (PfilList f h) (ap (λ x. x .list) facts) (record { within = leb-true (length f) fileLimit (headed f h head .small); stands = record { boxes = headed f h head .inner; inside = pfil-inside f h head }; urls = headed f h head .urls });
         }
 
 -- it has one heading

@@ -105,7 +105,7 @@ chunks-low limit f h from l (suc n) c low e =
     let (ends, below) = step-low limit f h from l c read in
     omega (arith, chunks-low limit f h from l n (met .1) below others, ap (λ (cs : List Chunk). sum (map (λ c. c .size) cs)) (given-same e))
 
-segment-low : (limit : ℕ) (f : List ℕ) (h : Heading) (before : List Segment) (b : Box) {s : Segment} → segment limit f h before b ≡ given s → endOf s ≤ limit
+pub segment-low : (limit : ℕ) (f : List ℕ) (h : Heading) (before : List Segment) (b : Box) {s : Segment} → segment limit f h before b ≡ given s → endOf s ≤ limit
 unfolding endOf
 segment-low limit f h before b e =
     let (inner, l, cs, t, same) = stepped limit f h before b e in

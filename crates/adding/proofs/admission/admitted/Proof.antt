@@ -104,7 +104,7 @@ returns-5 c = λ h ss s file known said next number list tells lacks.
     let past = left .before .before .before .before .before .before .before .before in
     let gives = left .before .before .before .before .before .before .gives-size .ensures s (tells .flags) (tells .items) in
     let ends = source-end ss known tells (sym (not-false _ (past .if3 .left)) ∙ past .before .ends-by2 .ensures) in
-    c .index-beside .ensures h ss s file (gathered-segments ss known) lacks next (c .before .end-beside .ensures h s list gives ends)
+    c .index-beside .ensures h ss s file (gathered-segments ss known) lacks next (c .before .end-beside .ensures .1 h s list gives ends) (omega (arith, c .before .end-beside .ensures .0, ends, leb-true (endOf s) sourceLimit (sym (low-past past ss known tells))))
     ∙ admitted-by _ h ss s (few-past past ss known tells) (chunks-past past ss known tells) (low-past past ss known tells) (sym (not-false _ (left .if4 .left)) ∙ sizes-agree (left .before) ss s known said number tells ∙ agreed-beside ss s (earlier-agreed file))
 
 pub admitted-spec : {M : Type 1} → statement M

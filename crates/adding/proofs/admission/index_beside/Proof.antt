@@ -12,7 +12,7 @@ use Rattle.adding.proofs.admission.index_beside.Tie as tie
 
 returns : tie.Need-returns
 unfolding admittedAnswer
-returns c = λ h ss s file many lacks next ends. told-again ss file s lacks next (λ none. c .if1 .taken (many ∙ none))
+returns c = λ h ss s file many lacks next ends low. told-again ss file s lacks next (λ none. c .if1 .taken (many ∙ none))
 
 put-sizes-requires : tie.Need-put-sizes-requires
 put-sizes-requires c κs = search needs
@@ -28,21 +28,21 @@ enum-told c = search needs
 
 returns-2 : tie.Need-returns-2
 unfolding admittedAnswer countedAnswer
-returns-2 c = λ h ss s file many lacks next ends.
+returns-2 c = λ h ss s file many lacks next ends low.
     let met = c .before .before .before in
     let put = met .before .before .before in
     let none = sym many ∙ put .before .before .before .if1 .left in
-    let ends-there = end-put _ _ _ refl (put .put-sizes .ensures) ∙ ends in
+    let ends-there = end-put _ _ _ refl low (put .put-sizes .ensures) ∙ ends in
     let told = met .index-stages .ensures h [] (λ _. 0) (file .head) (begun-known ss file s lacks none) (begun-numbered ss file s lacks none) (begun-has ss file s lacks none) in
     ap (λ r. countedAnswer r >>= λ _. given tt) (sym (c .before .k .given .1)) ∙ begun-beside ss file s lacks none _ ends-there told
 
 returns-3 : tie.Need-returns-3
 unfolding admittedAnswer countedAnswer
-returns-3 c = λ h ss s file many lacks next ends.
+returns-3 c = λ h ss s file many lacks next ends low.
     let met = c .before .before in
     let put = met .before .before .before in
     let none = sym many ∙ put .before .before .before .if1 .left in
-    let ends-there = end-put _ _ _ refl (put .put-sizes .ensures) ∙ ends in
+    let ends-there = end-put _ _ _ refl low (put .put-sizes .ensures) ∙ ends in
     let told = met .index-stages .ensures h [] (λ _. 0) (file .head) (begun-known ss file s lacks none) (begun-numbered ss file s lacks none) (begun-has ss file s lacks none) in
     ap (λ r. countedAnswer r >>= λ _. given tt) (sym (c .enum-told .given .1)) ∙ begun-beside ss file s lacks none _ ends-there told
 

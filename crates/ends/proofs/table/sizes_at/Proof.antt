@@ -15,38 +15,20 @@ returns c = c .none .ensures ∙ sym (sizes-past _ _ (c .before .if1 .taken))
 mul-at : tie.Need-mul-at
 mul-at c = search needs
 
-mul-t7 : tie.Need-mul-t7
-mul-t7 c = search needs
+mul-size : tie.Need-mul-size
+mul-size c = search needs
 
-element-copy-out-t5 : tie.Need-element-copy-out-t5
-element-copy-out-t5 c = search needs
+element-copy-out-size : tie.Need-element-copy-out-size
+element-copy-out-size c = search needs
 
-add-t10 : tie.Need-add-t10
-add-t10 c = search needs
+add-largest : tie.Need-add-largest
+add-largest c = search needs
 
-mul-t11 : tie.Need-mul-t11
-mul-t11 c = search needs
+mul-largest : tie.Need-mul-largest
+mul-largest c = search needs
 
-element-copy-out-t4 : tie.Need-element-copy-out-t4
-element-copy-out-t4 c = search needs
-
-add-t15 : tie.Need-add-t15
-add-t15 c = search needs
-
-mul-t16 : tie.Need-mul-t16
-mul-t16 c = search needs
-
-element-copy-out-t19 : tie.Need-element-copy-out-t19
-element-copy-out-t19 c = search needs
-
-add-t21 : tie.Need-add-t21
-add-t21 c = search needs
-
-mul-t22 : tie.Need-mul-t22
-mul-t22 c = search needs
-
-element-copy-out-t25 : tie.Need-element-copy-out-t25
-element-copy-out-t25 c = search needs
+element-copy-out-largest : tie.Need-element-copy-out-largest
+element-copy-out-largest c = search needs
 
 returns-2 : tie.Need-returns-2
 returns-2 c = sym (sizes-there _ _ (omega arith))
@@ -58,15 +40,9 @@ sizes-at-spec =
     none-requires
     returns
     mul-at
-    mul-t7
-    element-copy-out-t5
-    add-t10
-    mul-t11
-    element-copy-out-t4
-    add-t15
-    mul-t16
-    element-copy-out-t19
-    add-t21
-    mul-t22
-    element-copy-out-t25
+    mul-size
+    element-copy-out-size
+    add-largest
+    mul-largest
+    element-copy-out-largest
     returns-2)

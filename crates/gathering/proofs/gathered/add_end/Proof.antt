@@ -20,9 +20,9 @@ put-sizes-requires : tie.Need-put-sizes-requires
 put-sizes-requires c κs = search needs
 
 returns : tie.Need-returns
-returns c = λ ss s source there holds flags count ends.
+returns c = λ ss s source there holds flags count ends within.
     let with = c .before .with .ensures (ofSource (s .source) ss) s (c .before .before .before .before .sizes-at .ensures ∙ ap (sizesIn _) source ∙ holds .said (s .source)) ends (c .before .before .gives-size .ensures s flags count) in
-    holds-more s source there holds with (c .put-sizes .ensures)
+    holds-more s source there within holds with (c .put-sizes .ensures)
 
 pub add-end-spec : {M : Type 1} → statement M
 add-end-spec =

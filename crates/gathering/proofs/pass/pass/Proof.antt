@@ -92,7 +92,7 @@ returns c = λ h opened.
     let at-loop = met .before .before .before in
     let so-far = at-loop .loop .inv .4 h opened in
     let any = at-loop .before .before .before .before .before .before .before .before .before .has-surl .ensures (h .inner) (opened .inPfil .stands .boxes) in
-    let listed = at-loop .before .before .before .before .before .before .before .tops-of .ensures (h .boxes) tops-none (opened .boxes) in
+    let listed = at-loop .before .before .before .before .before .before .before .tops-of .ensures (h .boxes) (omega (arith, opened .inPfil .within)) tops-none (opened .boxes) in
     let step = next-box (met .before .before .step .ensures) (met .b .given .1) in
     let kind = is-kind pseg _ (c .before .before .before .before .before .before .before .before .before .before .before .before .before .before .if1 .taken) in
     let told = c .before .before .before .before .before .before .before .segment-of .ensures .1 h (so-far .before) (opened .mix) (so-far .known) listed (midway-beside _ h _ _ _ so-far step kind (opened .inPfil) any) in
@@ -124,7 +124,7 @@ loop-again c =
           let so-far = inv .4 h opened in
           let any = at-loop .before .before .before .before .before .before .before .before .before .has-surl .ensures (h .inner) (opened .inPfil .stands .boxes) in
           let kind = is-kind pseg _ (c .before .before .before .before .before .before .before .before .before .before .before .before .before .before .if1 .taken) in
-          let listed = at-loop .before .before .before .before .before .before .before .tops-of .ensures (h .boxes) tops-none (opened .boxes) in
+          let listed = at-loop .before .before .before .before .before .before .before .tops-of .ensures (h .boxes) (omega (arith, opened .inPfil .within)) tops-none (opened .boxes) in
           let told = read .1 h (so-far .before) (opened .mix) (so-far .known) listed (midway-beside _ h _ _ _ so-far step kind (opened .inPfil) any) in
           midway-more _ h _ _ _ so-far step kind (subst (Segmented _ h _ _ _ _ _ _ _ _ _ _) (c .before .more .given .1) told),
       ap (λ e. e .0) (end-kept _ _ _ step) ∙ inv .5,

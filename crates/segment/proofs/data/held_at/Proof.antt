@@ -22,11 +22,8 @@ returns c =
 top-before-requires : tie.Need-top-before-requires
 top-before-requires c κs = search needs
 
-mul-top : tie.Need-mul-top
-mul-top c = search needs
-
-element-copy-out-top : tie.Need-element-copy-out-top
-element-copy-out-top c = search needs
+top-at-requires : tie.Need-top-at-requires
+top-at-requires c κs = c .top-before .ensures .there
 
 header-at-requires : tie.Need-header-at-requires
 header-at-requires c κs = search needs
@@ -41,7 +38,7 @@ returns-2 : tie.Need-returns-2
 returns-2 c =
     let read = c .before .before in
     let fault = header-fault (read .header-at .ensures) (c .enum-told .given .1) in
-    finds-none (λ bs p t. last-other _ (p .boxes) (omega arith) t (read .before .before .top-before .ensures) _
+    finds-none (λ bs p t. last-other _ (p .boxes) t (read .before .before .top-before .ensures) (read .before .top-at .ensures) _
     (λ j there here holds. not-both (sym fault ∙ here)))
 
 holds-requires-2 : tie.Need-holds-requires-2
@@ -52,7 +49,7 @@ returns-3 c =
     let met = c .before .before .before in
     let read = met .before .before in
     let read-at = header-found (read .header-at .ensures) (met .b .given .1) in
-    finds-box _ (sym (c .before .holds2 .ensures) ∙ c .if2 .taken) (λ bs p t. last-among _ (p .boxes) (omega arith) t (read .before .before .top-before .ensures) read-at)
+    finds-box _ (sym (c .before .holds2 .ensures) ∙ c .if2 .taken) (λ bs p t. last-among _ (p .boxes) t (read .before .before .top-before .ensures) (read .before .top-at .ensures) read-at)
 
 returns-4 : tie.Need-returns-4
 returns-4 c =
@@ -60,7 +57,7 @@ returns-4 c =
     let read = met .before .before in
     let read-at = header-found (read .header-at .ensures) (met .b .given .1) in
     let other = sym (c .before .holds2 .ensures) ∙ c .if2 .left in
-    finds-none (λ bs p t. last-other _ (p .boxes) (omega arith) t (read .before .before .top-before .ensures) _
+    finds-none (λ bs p t. last-other _ (p .boxes) t (read .before .before .top-before .ensures) (read .before .top-at .ensures) _
     (λ j there here holds. false≢true (sym other ∙ ap (holdsChunk _ _) (given-same (sym read-at ∙ here)) ∙ holds)))
 
 pub held-at-spec : {M : Type 1} → statement M
@@ -70,8 +67,7 @@ held-at-spec =
     holds-requires
     returns
     top-before-requires
-    mul-top
-    element-copy-out-top
+    top-at-requires
     header-at-requires
     enum-known-b
     enum-told

@@ -30,23 +30,20 @@ sub-middle c = search needs
 add-middle : tie.Need-add-middle Inv-loop μ-loop
 add-middle c = search needs
 
-mul-if1 : tie.Need-mul-if1 Inv-loop μ-loop
-mul-if1 c = search needs
-
-element-copy-out-if1 : tie.Need-element-copy-out-if1 Inv-loop μ-loop
-element-copy-out-if1 c = search needs
+top-at-requires : tie.Need-top-at-requires Inv-loop μ-loop
+top-at-requires c κs = omega arith
 
 loop-less : tie.Need-loop-less Inv-loop μ-loop
 loop-less c = search needs
 
 loop-again : tie.Need-loop-again Inv-loop μ-loop
-loop-again c = (omega arith, search needs, λ _. c .if1 .taken, search needs)
+loop-again c = (omega arith, search needs, λ _. omega (arith, c .before .before .top-at .ensures), search needs)
 
 loop-less-2 : tie.Need-loop-less-2 Inv-loop μ-loop
 loop-less-2 c = search needs
 
 loop-again-2 : tie.Need-loop-again-2 Inv-loop μ-loop
-loop-again-2 c = (omega arith, omega arith, search needs, λ _. c .if1 .left)
+loop-again-2 c = (omega arith, omega arith, search needs, λ _. omega (arith, c .before .before .top-at .ensures))
 
 returns : tie.Need-returns Inv-loop μ-loop
 returns c =
@@ -69,8 +66,7 @@ top-before-spec =
     sub-loop
     sub-middle
     add-middle
-    mul-if1
-    element-copy-out-if1
+    top-at-requires
     loop-less
     loop-again
     loop-less-2

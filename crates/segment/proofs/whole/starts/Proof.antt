@@ -1,7 +1,7 @@
 -- `segment::whole::starts` meets its contract: of a table that ascends the last place before one is followed by that
 -- one, or it stands first or not at all.
 use mathlib.Core.Logic.{⊎-elim}
-use mathlib.Core.Path.{refl}
+use mathlib.Core.Path.{refl, sym, _∙_}
 use native.Mathlib.Omega.{arith}
 use borrow.Author.Needs.{needs}
 use borrow.Author.Tests.{eqb-true, eqb-false}
@@ -13,34 +13,31 @@ use Rattle.segment.proofs.whole.starts.Tie as tie
 top-before-requires : tie.Need-top-before-requires
 top-before-requires c κs = search needs
 
-mul-if1 : tie.Need-mul-if1
-mul-if1 c = search needs
-
-element-copy-out-if1 : tie.Need-element-copy-out-if1
-element-copy-out-if1 c = search needs
+top-at-requires : tie.Need-top-at-requires
+top-at-requires c κs = c .top-before .ensures .there
 
 returns : tie.Need-returns
-returns c = listed-at (c .before .before .before .top-before .ensures .there) (c .if1 .taken) refl
+returns c = listed-at (c .before .before .before .top-before .ensures .there) (sym (c .before .before .top-at .ensures) ∙ c .if1 .taken) refl
 
 add-if2 : tie.Need-add-if2
 add-if2 c = search needs
 
 returns-2 : tie.Need-returns-2
-returns-2 c = listed-not (c .before .before .before .before .top-before .ensures) (c .before .if1 .left) (λ more. absurd (omega arith)) refl
+returns-2 c = listed-not (c .before .before .before .before .top-before .ensures) (λ here. c .before .if1 .left (c .before .before .before .top-at .ensures ∙ here)) (λ more. absurd (omega arith)) refl
 
-add-result : tie.Need-add-result
-add-result c = search needs
+add-top-at : tie.Need-add-top-at
+add-top-at c = search needs
 
-mul-result : tie.Need-mul-result
-mul-result c = search needs
-
-element-copy-out-result : tie.Need-element-copy-out-result
-element-copy-out-result c = search needs
+top-at-requires-2 : tie.Need-top-at-requires-2
+top-at-requires-2 c κs = omega (arith, c .before .before .before .before .top-before .ensures .there)
 
 returns-3 : tie.Need-returns-3
 returns-3 c =
-    let before = c .before .before .before .before .before .before .top-before .ensures in
-    ⊎-elim (λ found. listed-at (omega arith) (eqb-true _ _ found) found) (λ none. listed-not before (c .before .before .before .if1 .left) (λ _. eqb-false _ _ none) none)
+    let first = c .before .before .before in
+    let last = first .before .before .before .top-before .ensures in
+    let next = c .before .top-at2 .ensures in
+    ⊎-elim (λ found. listed-at (omega (arith, last .there)) (sym next ∙ eqb-true _ _ found) found)
+    (λ none. listed-not last (λ here. first .if1 .left (first .before .before .top-at .ensures ∙ here)) (λ _ here. eqb-false _ _ none (next ∙ here)) none)
     (which _)
 
 pub starts-spec : {M : Type 1} → statement M
@@ -48,12 +45,10 @@ starts-spec =
     tie.close
     (tie.spec
     top-before-requires
-    mul-if1
-    element-copy-out-if1
+    top-at-requires
     returns
     add-if2
     returns-2
-    add-result
-    mul-result
-    element-copy-out-result
+    add-top-at
+    top-at-requires-2
     returns-3)

@@ -12,13 +12,13 @@ starts-requires : tie.Need-starts-requires
 starts-requires c κs = search needs
 
 returns : tie.Need-returns
-returns c = λ bs known t. sym (whole-missing _ known (omega arith) t (c .before .starts .ensures) _ (not-true _ (c .if1 .taken)))
+returns c = λ bs known t. sym (whole-missing _ known t (c .before .starts .ensures) _ (not-true _ (c .if1 .taken)))
 
 fill-up-requires : tie.Need-fill-up-requires
 fill-up-requires c κs = search needs
 
 returns-2 : tie.Need-returns-2
-returns-2 c = λ bs known t. whole-listed _ known (omega arith) t (c .before .before .starts .ensures) _ (not-false _ (c .before .if1 .left)) (c .fill-up .ensures)
+returns-2 c = λ bs known t. whole-listed _ known t (c .before .before .starts .ensures) _ (not-false _ (c .before .if1 .left)) (c .fill-up .ensures)
 
 pub whole-at-spec : {M : Type 1} → statement M
 whole-at-spec = tie.close (tie.spec starts-requires returns fill-up-requires returns-2)
