@@ -58,10 +58,13 @@ goodOf flags start bytes boxes =
     (0x00 ∷ 0x00 ∷ 0x00 ∷ (8 + length bytes) ∷ 0x70 ∷ 0x64 ∷ 0x61 ∷ 0x74 ∷ bytes)
     ++ segmentOf flags start 1 (0x40 ∷ length bytes ∷ (256 - length bytes) ∷ []) boxes
 
--- an open one at 0 in which these boxes stand for its `ploc`
+-- the `pshd` of an open one at 0; one in which these boxes stand for its `ploc`
+abbrev header : List ℕ
+header = take 24 (drop 8 (openOf 0 []))
+
 abbrev segmentWith : List ℕ → List ℕ
 segmentWith boxes =
-    0x00 ∷ 0x00 ∷ 0x00 ∷ (32 + length boxes) ∷ (take 28 (drop 4 (openOf 0 [])) ++ boxes)
+    0x00 ∷ 0x00 ∷ 0x00 ∷ (32 + length boxes) ∷ 0x70 ∷ 0x73 ∷ 0x65 ∷ 0x67 ∷ (header ++ boxes)
 
 -- its `ploc`, one of another version, and one of 1,024 chunks without their entries
 abbrev noChunks : List ℕ
@@ -151,17 +154,17 @@ layersAsked =
     }
 
 -- both lists of each source with their numbers of ranges and totals; none of a number that is not in the file. Listing
--- one fills two lists just long enough, and is 26 where one is too short
+-- one fills two lists just long enough for it, of that number none, and is 26 where one is too short
 abbrev layersListed : Example
 layersListed =
     let of : List Segment → ℕ → List ℕ = λ ss source.
     let told = totals source ss in
     told .hadRanges ∷ told .missingRanges ∷ told .receivedTotal ∷ told .missingTotal ∷ (hadRows source ss ++ missingRows source ss) in
-    let listing : ℕ → ℕ → List ℤ = λ source n.
-    let answer = listed sourceLimit film source (replicate 24 9) (replicate 18 9) (replicate 2 9) (replicate n 9) in
-    says (answer >>= λ _. given []) ++ map pos (after (hadRows source) answer (replicate 2 9) ++ after (missingRows source) answer (replicate n 9)) in
+    let listing : ℕ → ℕ → ℕ → List ℤ = λ source m n.
+    let answer = listed sourceLimit film source (replicate 24 9) (replicate 18 9) (replicate m 9) (replicate n 9) in
+    says (answer >>= λ _. given []) ++ map pos (after (hadRows source) answer (replicate m 9) ++ after (missingRows source) answer (replicate n 9)) in
     record {
-      defined = toldOf film (λ ss. of ss 0 ++ (of ss 1 ++ of ss 2)) ++ (listing 1 2 ++ listing 0 1);
+      defined = toldOf film (λ ss. of ss 0 ++ (of ss 1 ++ of ss 2)) ++ (listing 1 2 2 ++ (listing 2 0 0 ++ listing 0 2 1));
       paper =
           map pos
           (1 ∷ 1 ∷ 4 ∷ 5 ∷ 0 ∷ 4 ∷ 4 ∷ 5
@@ -246,12 +249,13 @@ textsOfSegments =
           ∷ 98 ∷ 122 ∷ 1 ∷ 1 ∷ []);
     }
 
--- in lent memory of so many bytes and numbers: just enough, and one more; 26 where either has one less, and both as
--- they were
+-- those of the second segment in lent memory of so many bytes and numbers: just enough, and one more; 26 where either
+-- has one less, and both as they were
 abbrev textsInMemory : Example
 textsInMemory =
+    let f = fileOf [] (openOf 0 (surlOf b []) ++ openOf 0 (surlOf a (ascii "xy") ++ surlOf b [])) in
     let of : ℕ → ℕ → List ℤ = λ m n.
-    let answer = textsTabled sourceLimit (fileOf (surlOf b []) (openOf 0 (surlOf a (ascii "xy") ++ surlOf b []))) 0 (replicate m 9) (replicate n 9) in
+    let answer = textsTabled sourceLimit f 1 (replicate m 9) (replicate n 9) in
     says (answer >>= λ _. given []) ++ map pos (after textsFor answer (replicate m 9) ++ after lengthsFor answer (replicate n 9)) in
     record {
       defined = of 4 4 ++ (of 5 5 ++ (of 3 4 ++ of 4 3));
@@ -280,7 +284,7 @@ illFormed =
     ∷ []
 
 -- "11 and 16 now mean only an ill-formed `surl`", behind a right one too: 11 in `pfil`, before 12; 16 in a segment,
--- after 15 and before 17
+-- after 14 and 15 and before 17
 abbrev illFormedRefused : Example
 illFormedRefused =
     let wrong = surlOf [] (0x01 ∷ 0x00 ∷ []) in
@@ -288,13 +292,13 @@ illFormedRefused =
       defined =
           numbersOfEach (map (λ u. fileOf (surlOf a [] ++ u) []) illFormed)
           ++ (numbersOfEach (map (λ u. fileOf (surlOf a []) (openOf 0 (surlOf b [] ++ u))) illFormed)
-          ++ numbersOfEach (map (λ boxes. fileOf (surlOf a []) (segmentWith boxes)) (wrong ∷ (wrongPloc ++ wrong) ∷ [])));
-      paper = map pos (11 ∷ 11 ∷ 11 ∷ 11 ∷ 16 ∷ 16 ∷ 16 ∷ 16 ∷ 15 ∷ 16 ∷ []);
+          ++ numbersOfEach (map (λ boxes. fileOf (surlOf a []) (segmentWith boxes)) ((header ++ wrong) ∷ wrong ∷ (wrongPloc ++ wrong) ∷ [])));
+      paper = map pos (11 ∷ 11 ∷ 11 ∷ 11 ∷ 16 ∷ 16 ∷ 16 ∷ 16 ∷ 14 ∷ 15 ∷ 16 ∷ []);
     }
 
 -- "41, after 16 .. when neither segment nor `pfil` has one": of one segment, of one behind another that has its own,
--- and where a `surl` stands in the file itself. 12 and 15 come before it; 17 of its own `ploc` comes after it, and that
--- of a segment before it does not
+-- and where a `surl` stands in the file itself. 12, 14 and 15 come before it; 17 of its own `ploc` comes after it, and
+-- that of a segment before it does not. Asking for texts answers it too
 abbrev wantOfList : Example
 wantOfList =
     record {
@@ -305,11 +309,14 @@ wantOfList =
           ∷ (openOf 0 (surlOf b []) ++ openOf 0 [])
           ∷ (surlOf a [] ++ openOf 0 [])
           ∷ []
+          ∷ segmentWith header
           ∷ segmentWith []
           ∷ segmentWith wrongPloc
           ∷ (segmentWith (wrongPloc ++ surlOf b []) ++ openOf 0 [])
-          ∷ []));
-      paper = map pos (41 ∷ 41 ∷ 41 ∷ 12 ∷ 15 ∷ 41 ∷ 17 ∷ []);
+          ∷ []))
+          ++ (says (sourceTextOf url sourceLimit (fileOf [] (openOf 0 [])) 0 >>= λ _. given [])
+          ++ says (textsTabled sourceLimit (fileOf [] (openOf 0 [])) 0 [] [] >>= λ _. given []));
+      paper = map pos (41 ∷ 41 ∷ 41 ∷ 12 ∷ 14 ∷ 15 ∷ 41 ∷ 17 ∷ 41 ∷ 41 ∷ []);
     }
 
 -- a `pfil` without a list is taken where each segment has its own: the texts of the file are empty, those of its
@@ -317,16 +324,16 @@ wantOfList =
 -- `pfil`
 abbrev ownLists : Example
 ownLists =
-    let f = fileOf [] (openOf 0 (surlOf b (ascii "m")) ++ openOf 0 (surlOf a [])) in
+    let f = fileOf [] (openOf 0 (surlOf b []) ++ openOf 0 (surlOf a (ascii "m"))) in
     let of : (List ℕ → Box → Part) → List ℤ = λ which.
-    map pos (bytesIn f (textOf which sourceLimit f)) ++ says (sourceTextOf which sourceLimit f 0 >>= λ t. given (map pos (textIn f t))) in
+    map pos (bytesIn f (textOf which sourceLimit f)) ++ says (sourceTextOf which sourceLimit f 1 >>= λ t. given (map pos (textIn f t))) in
     record {
       defined =
           numbersIn f
           ++ (of url
           ++ (of mime
           ++ numbersOfEach (fileOf (surlOf [] []) (openOf 0 []) ∷ fileOf (surlOf a []) (openOf 0 [] ++ openOf 0 (surlOf [] [])) ∷ [])));
-      paper = map pos (0 ∷ 1 ∷ 1 ∷ 98 ∷ 1 ∷ 109 ∷ 0 ∷ 0 ∷ 1 ∷ []);
+      paper = map pos (0 ∷ 1 ∷ 1 ∷ 97 ∷ 1 ∷ 109 ∷ 0 ∷ 0 ∷ 1 ∷ []);
     }
 
 -- "the agreement of sizes .. per source": the size of `b` is 4, that of `a` 9. An open segment of `a` may start at 5;
