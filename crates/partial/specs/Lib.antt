@@ -20,5 +20,6 @@ pub mod Answers
 pub mod Lesson
 pub mod Examples
 pub mod IndexExamples
+pub mod SourceExamples
 pub mod ReadingDemands
 pub mod ReadingRaised
