@@ -98,12 +98,13 @@ struct index {
     struct part body;
 };
 
-/* The `surl` boxes of a `pfil` or a `pseg`: how many, whether each is well-formed, and the part of the file from the
-   first one on to behind the last one. */
+/* The `surl` boxes of a `pfil` or a `pseg`: how many, whether each is well-formed, the part of the file from the first
+   one on to behind the last one, and a digest of their URLs, so that lists that differ seldom have to be compared. */
 struct surls {
     uint32_t count;
     bool formed;
     file_place first, end;
+    uint64_t digest;
 };
 
 struct segment {
