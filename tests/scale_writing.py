@@ -11,6 +11,7 @@ import writes_limits
 import writes_mixed
 import writes_random
 import writes_refusals
+import writes_sources
 from boxes import bare_head
 from scale_reading import awkward, file_cases, number_of
 from scale_stream import AFTER, BEFORE, DATA, LENGTHS, LIST, MIME, NONE, TEXTS, URL, Memory, packed
@@ -161,7 +162,7 @@ def run_of_corpus(stream, run):
 
 
 def corpus_runs(stream):
-    for run in [*writes_limits.runs(), *writes_refusals.runs(), *writes_mixed.runs(), *writes_elsewhere.runs(), *writes_index.runs()]:
+    for run in [*writes_limits.runs(), *writes_refusals.runs(), *writes_mixed.runs(), *writes_elsewhere.runs(), *writes_index.runs(), *writes_sources.runs()]:
         run_of_corpus(stream, run)
 
 
