@@ -102,7 +102,7 @@ static void settle(struct addition *addition, const struct ahead *ahead, bool of
         misused("no chunk follows", ahead->placed ? "--at" : "--size");
     }
     if (addition->meant.named && addition->surl_count > 0) {
-        misused("--url is for another source than --source names", NULL);
+        misused("--source and --url are at odds", NULL);
     }
     if (addition->open == (addition->count > 0)) {
         misused(addition->open ? "--open is for a segment without chunks" : "no chunk is given", NULL);

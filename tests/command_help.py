@@ -4,13 +4,13 @@ README.md's table."""
 import os
 import re
 
-from command_run import SENTENCES, claim
-from command_wanted import begun
+from command_run import SENTENCES, claim, lost
+from command_wanted import appended, begun
 from corpus import ROOT
 from expecting import expect
 
-SUBCOMMANDS = ["map", "info", "boxes", "rows", "index", "get", "begin", "append", "why"]
-NUMBERS = [*range(1, 21), *range(22, 28), *range(30, 40)]
+SUBCOMMANDS = ["map", "sources", "info", "boxes", "rows", "index", "get", "begin", "append", "why"]
+NUMBERS = [*range(1, 21), *range(22, 28), *range(30, 42)]
 LAST = b"The manual page, `man paff`, says all of it.\n"
 
 
@@ -22,7 +22,7 @@ def text_of(*path):
 def helping(command):
     """On standard output with status 0: of all subcommands, or of one, whatever else stands there."""
     every = command.run("--help").out
-    expect("the help names each subcommand", re.findall(rb"(?:usage:|      ) paff (\w+)", every.replace(b"       paff append FILE --offset N --open", b"")),
+    expect("the help names each subcommand", re.findall(rb"(?:usage:|      ) paff (\w+)", re.sub(rb"       paff append [^\n]*--open", b"", every)),
            [name.encode() for name in SUBCOMMANDS])
     expect("the help ends so", every.endswith(LAST))
     claim("help", command.run("help"), 0, every)
@@ -64,8 +64,10 @@ def limits(command):
     answer = command.run("append", "film", "--offset", far, "--lost", far, "--good", long, *["--good", command.put("piece", b"x")] * 1_022)
     claim("the largest addition", answer, 0, err=b"paff: film: 0 of 1024 chunks are left\n")
     expect("what it adds beside its data", os.path.getsize(command.path("film")) - len(begun(b"u")) - 8_400_000 - 1_022, int(stated["ADDED"]))
+    lengths = [len(appended(begun(b"u"), 0, [lost(1)], surls=surls)[1]) for surls in ([], [(b"url", b"mime")])]
+    expect("what a surl has beside its texts", int(stated["ADDED_SURL"]), lengths[1] - lengths[0] - len("urlmime"))
     expect("the longest texts", (int(stated["MAP_TEXT"]), int(stated["BOXES_TEXT"])),
-           ((1 + 64 + 1_024) * len("held\t1099511627775\t1099511627775\n") + len("source\t1099511627775\tclosed\n") + len("total" + 3 * "\t1099511627775" + "\n"),
+           ((8 + 64 + 1_024) * len("held\t1099511627775\t1099511627775\n") + 8 * (len("source\t1099511627775\tclosed\n") + len("total" + 3 * "\t1099511627775" + "\n")),
             512 * len("1073741824\t1073741824\tuuid\t" + 32 * "f" + "\n") + len("1073741824\t5\n")))
 
 

@@ -23,15 +23,18 @@ KINDS = ["lost", "damaged", "good", "elsewhere"]
 MOOF, MDAT = box(b"moof", b"0123456789"), box(b"mdat", b"abcd", large=True)
 
 
-def claim_append(name, command, file, offset, chunks, last=False, time=None, outside=False):
-    """The model's answer and the model's file; the file after it."""
+def claim_append(name, command, file, offset, chunks, last=False, time=None, outside=False, source=None, surls=()):
+    """The model's answer and the model's file; the file after it. The source is named where there is a number, and else
+    it is the only one."""
     command.put("film", file)
-    number, wanted = appended(file, offset, chunks, last, time, outside)
-    answer = command.append("film", offset, chunks, last, time, outside)
+    number, wanted = appended(file, offset, chunks, last, time, outside, source or 0, surls)
+    to = [] if source is None else ["--source", str(source)]
+    to += [word for url, mime in surls for word in (b"--url=" + url, b"--mime=" + mime)]
+    answer = command.append("film", offset, chunks, last, time, outside, to)
     if number:
         claim_refused(name, answer, number)
     else:
-        claim(name, answer, 0, err=left("film", wanted))
+        claim(name, answer, 0, err=left("film", file, wanted))
     claim_held(f"the file after {name}", command, "film", wanted)
     return wanted
 
@@ -242,7 +245,7 @@ def times(command):
         command.put("film", begun(b"u"))
         claim(f"append --time {text}", command.run("append", "film", "--offset", "0", "--lost", "1", "--time", text), 0)
         claim_held(f"the file after --time {text}", command, "film", appended(begun(b"u"), 0, [lost(1)], False, timestamp)[1])
-        expect(f"the row of {text}", b"\t%d\t1\t71\t16\t%s\n" % (timestamp, text.encode("ascii")) in command.run("rows", "film").out)
+        expect(f"the row of {text}", b"\t%d\t1\t71\t16\t%s\t0\n" % (timestamp, text.encode("ascii")) in command.run("rows", "film").out)
     command.put("film", begun(b"u"))
     before = clock.time()
     claim("append --time now", command.run("append", "film", "--offset", "0", "--lost", "1", "--time=now"), 0)
