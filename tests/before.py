@@ -62,7 +62,7 @@ def by_elsewhere(call, old):
     with 31."""
     with patch.object(model, "state_of", state_or_neither):
         before = number_of(call.file)
-    if call.name == "append" and before == 0 and old == model.CHUNK_LIST_FAULT:
+    if call.name == "append" and before == 0 and old == model.LIST_FAULT:
         return wants_elsewhere(numbers_in(call.packed_list))
     return refused_with(call, old, before, {NEITHER_BIT})
 
@@ -87,8 +87,8 @@ def by_names(call, old):
     return call.name == "map" and old == 0 and len(call.file) <= call.numbers[0] and model.attempt(model.accept, call.file)[0] == 0
 
 
-def no_index(file, boxes, offsets, size):
-    return []
+def no_index(file, boxes, starts, sizes):
+    return [[] for start in starts]
 
 
 def by_index(call, old):
