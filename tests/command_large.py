@@ -127,7 +127,7 @@ def adding(command):
 
 def over_the_limit(command):
     os.truncate(command.path("film"), LIMIT + 1)
-    for words in [("map", "film"), ("map", "--missing", "film"), ("map", "--source", "0", "film"), ("sources", "film"), ("boxes", "film"), ("rows", "film"), ("index", "film"), ("index", "--tree", "film"), ("get", "film", "0", "1"), ("append", "film", "--offset", "0", "--lost", "1")]:
+    for words in [("map", "film"), ("map", "--missing", "film"), ("map", "--source=0", "film"), ("sources", "film"), ("boxes", "film"), ("rows", "film"), ("index", "film"), ("index", "--tree", "film"), ("get", "film", "0", "1"), ("append", "film", "--offset", "0", "--lost", "1")]:
         claim_each_refused(f"{words[0]} of a file over the limit", command, words, 1)
     expect("the length of that file", os.path.getsize(command.path("film")), LIMIT + 1)
     command.put("far", b"")

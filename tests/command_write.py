@@ -9,9 +9,10 @@ import time as clock
 import additions
 import generate
 import model
+from additions_texts import pairs_of
 from boxes import box, head, lost_segment, open_segment
 from command_run import KEPT, Chunk, claim, claim_held, claim_missing, claim_refused, damaged, elsewhere, ended, good, lost
-from command_wanted import appended, begun, claim_boxes, claim_map, claim_rows, film_of, left
+from command_wanted import appended, begun, claim_boxes, claim_map, claim_rows, film_of, left, number_of, source_count
 from expecting import expect
 from foreign import LIMIT, WIDE
 from model import PMFF
@@ -381,7 +382,8 @@ def sizes_refused(command):
 # Seeded runs.
 
 def some_addition(rng, file):
-    """What append is asked; one in four with a fault, which may need another file."""
+    """What append is asked; one in four with a fault, which may need another file. Where several sources are there, and
+    no URL is given, one of them is named."""
     given = additions.acceptable(rng, file)
     if rng.random() < 0.25:
         rng.choice([additions.overstep_limit, additions.overstep_size, additions.spoil_outside])(rng, given)
@@ -391,7 +393,10 @@ def some_addition(rng, file):
         chunks.append(Chunk(kind, given["data"][at:at + size] if kind in KEPT else size))
         at += size if kind in KEPT else 0
     time = given["repair_time"] if rng.random() < 0.8 else None
-    return given["buffer"], given["source_offset"], chunks or [lost(1)], given["last"], time, given["outside"]
+    surls = pairs_of(given["texts"], given["lengths"])
+    count = 1 if number_of(given["buffer"]) else source_count(given["buffer"])
+    source = rng.randrange(count) if count > 1 and not surls else None
+    return given["buffer"], given["source_offset"], chunks or [lost(1)], given["last"], time, given["outside"], source, surls
 
 
 def random_runs(command):
