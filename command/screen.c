@@ -76,7 +76,7 @@ static void put_film(const struct source *source)
 static void put_sources(const struct facts *facts)
 {
     const struct sources *sources = &facts->sources;
-    size_t bars = 0;
+    bool bars = false;
     for (size_t i = 0; i < sources->count; i++) {
         const struct source *source = &sources->each[i];
         if (sources->count > 1) {
@@ -84,9 +84,9 @@ static void put_sources(const struct facts *facts)
             put_texts(facts->held.bytes.at, source->url, source->mime);
         }
         put_film(source);
-        bars += source->count > 0;
+        bars = bars || source->count > 0;
     }
-    if (bars > 0) {
+    if (bars) {
         printf("# received   ~ held, damaged   . lost   %% more than one of these\n");
     }
 }

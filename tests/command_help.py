@@ -4,8 +4,8 @@ README.md's table."""
 import os
 import re
 
-from command_run import SENTENCES, claim, lost
-from command_wanted import appended, begun
+from command_run import SENTENCES, claim
+from command_wanted import begun
 from corpus import ROOT
 from expecting import expect
 
@@ -60,12 +60,12 @@ def limits(command):
     stated = dict(re.findall(r"VRAZHUPA_(\w+) = (\d+)", text_of("include", "vrazhupa.h")))
     expect("what a new file has beside its texts", int(stated["BEGUN"]), len(begun(b"")))
     long, far = command.put("long", bytes(8_400_000)), str(2 ** 33)
-    command.put("film", begun(b"u"))
-    answer = command.run("append", "film", "--offset", far, "--lost", far, "--good", long, *["--good", command.put("piece", b"x")] * 1_022)
-    claim("the largest addition", answer, 0, err=b"paff: film: 0 of 1024 chunks are left\n")
-    expect("what it adds beside its data", os.path.getsize(command.path("film")) - len(begun(b"u")) - 8_400_000 - 1_022, int(stated["ADDED"]))
-    lengths = [len(appended(begun(b"u"), 0, [lost(1)], surls=surls)[1]) for surls in ([], [(b"url", b"mime")])]
-    expect("what a surl has beside its texts", int(stated["ADDED_SURL"]), lengths[1] - lengths[0] - len("urlmime"))
+    largest = ["--offset", far, "--lost", far, "--good", long, *["--good", command.put("piece", b"x")] * 1_022]
+    for count in (0, 510):
+        command.put("film", begun(b"u"))
+        claim(f"the largest addition, with {count} URLs", command.run("append", "film", *largest, *["--url", "url", "--mime", "mime"] * count), 0, err=b"paff: film: 0 of 1024 chunks are left\n")
+        added = os.path.getsize(command.path("film")) - len(begun(b"u")) - 8_400_000 - 1_022 - len("urlmime") * count
+        expect(f"what it adds beside its data and its texts, {count}", added, int(stated["ADDED"]) + count * int(stated["ADDED_SURL"]))
     expect("the longest texts", (int(stated["MAP_TEXT"]), int(stated["BOXES_TEXT"])),
            ((8 + 64 + 1_024) * len("held\t1099511627775\t1099511627775\n") + 8 * (len("source\t1099511627775\tclosed\n") + len("total" + 3 * "\t1099511627775" + "\n")),
             512 * len("1073741824\t1073741824\tuuid\t" + 32 * "f" + "\n") + len("1073741824\t5\n")))

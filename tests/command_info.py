@@ -11,11 +11,12 @@ import termios
 
 import generate
 import model
-from boxes import box, head, lost_segment, open_segment
+from boxes import bidx, box, fidx, head, lost_segment, open_segment
 from command_run import SENTENCES, claim, damaged, ended, good, lost, why
 from command_show import put_sample
 from command_wanted import begun, boxes_text, fault_in, film_of, lines_of, map_text, number_of, part, source_count
 from expecting import expect
+from film_boxes import with_index
 from model import PMFF
 
 SEED = 23_001_143
@@ -48,6 +49,8 @@ def indexes(command):
     expect("info of an index", b"sources   1 of 8\nindex     15 boxes, 11 whole\nfilm      668 bytes, closed\nreceived  400 bytes, 59.8 %\n" in out or out)
     found = json.loads(run(command, "--json", "index.paff").out)
     expect("JSON of an index", (found["indexed"], found["whole"]), (15, 11))
+    command.put("film", with_index(film_of((0, [good(b"abcdefgh")])), b"pfil", fidx(bidx(8, b"free"))))
+    expect("info of an index of one box", b"\nindex     1 boxes, 1 whole\n" in run(command, "film").out)
     put_sample(command, "lesson.paff")
     answer = run(command, "--json", "index.paff", "lesson.paff", "index.paff")
     expect("JSON of a file without one between two", [json.loads(line)["indexed"] for line in answer.out.splitlines()], [15, 0, 15])
