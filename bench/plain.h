@@ -92,18 +92,35 @@ struct part {
     uint32_t length;
 };
 
+struct container {
+    file_place place, end; /* of the next box, and of the byte after the last one */
+    uint32_t boxes;        /* framed so far */
+};
+
+struct box {
+    uint32_t type;
+    file_place place, body, end;
+};
+
+/* What the header of a box says: its type, its own size and that of the box. */
+struct header {
+    uint32_t type, header_size;
+    uint64_t size;
+};
+
 /* The `fidx` boxes of a `pfil` or a `pseg`: how many, and the body of the last one. */
 struct index {
     uint32_t count;
     struct part body;
 };
 
-/* The `surl` boxes of a `pfil` or a `pseg`: how many, whether each is well-formed, and the part of the file from the
-   first one on to behind the last one. */
+/* The `surl` boxes of a `pfil` or a `pseg`: how many, whether each is well-formed, the part of the file from the first
+   one on to behind the last one, and a digest of their URLs, so that lists that differ seldom have to be compared. */
 struct surls {
     uint32_t count;
     bool formed;
     file_place first, end;
+    uint64_t digest;
 };
 
 struct segment {
@@ -114,7 +131,7 @@ struct segment {
     uint32_t flags;
     uint32_t source;             /* the number of its source */
     uint32_t first, chunk_count; /* its first chunk among those of the file, and how many it has */
-    uint64_t offset; /* source_byte_offset, not over the limit once the file is accepted */
+    uint64_t offset;             /* source_byte_offset, not over the limit once the file is accepted */
     uint64_t repair_time;
 };
 
@@ -173,14 +190,11 @@ struct ranges {
     const struct range *range;
 };
 
-/* The ranges of each source of an accepted file, and none for those behind the last one. */
+/* The ranges of each source of an accepted file, and behind the last source none. */
 struct covered {
     struct ranges of[VRAZHUPA_SOURCES + 1];
     struct range room[VRAZHUPA_CHUNKS + VRAZHUPA_SOURCES + 1];
 };
-
-struct box;
-struct container;
 
 /* Reads a file up to its segments, which are counted; ACCEPTED or its refusal, 1 to 11. */
 enum refusal plain_heading(const uint8_t *file, size_t file_length, struct partial *partial);
@@ -235,22 +249,6 @@ static inline uint64_t load64(const uint8_t *at)
 {
     return (uint64_t)load32(at) << 32 | load32(at + 4);
 }
-
-struct container {
-    file_place place, end; /* of the next box, and of the byte after the last one */
-    uint32_t boxes;        /* framed so far */
-};
-
-struct box {
-    uint32_t type;
-    file_place place, body, end;
-};
-
-/* What the header of a box says: its type, its own size and that of the box. */
-struct header {
-    uint32_t type, header_size;
-    uint64_t size;
-};
 
 /* Reads the header of a box in a container that has so many bytes left. */
 static inline enum refusal read_header(const uint8_t *at, uint64_t left, struct header *header)

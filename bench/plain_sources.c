@@ -3,8 +3,9 @@
 
 #include <string.h>
 
-/* Whether a `surl` is well-formed: version and flags 0, then two texts, each closed by a zero byte, and nothing after. */
-static bool is_formed(const uint8_t *file, const struct box *surl)
+/* Finds the length of the URL of a `surl`; false where that is not well-formed: version and flags 0, then two texts, each
+   closed by a zero byte, and nothing after. */
+static bool measure_url(const uint8_t *file, const struct box *surl, size_t *length)
 {
     const uint8_t *body = file + surl->body, *end = file + surl->end;
     const uint8_t *url, *url_end, *mime_end;
@@ -16,16 +17,41 @@ static bool is_formed(const uint8_t *file, const struct box *surl)
     if (url_end == NULL || url_end + 1 == end)
         return false;
     mime_end = memchr(url_end + 1, 0, (size_t)(end - url_end - 1));
+    *length = (size_t)(url_end - url);
     return mime_end != NULL && mime_end + 1 == end;
+}
+
+/* Takes eight bytes of a URL into a digest. */
+static uint64_t digest_word(uint64_t digest, uint64_t word)
+{
+    digest = (digest ^ word) * UINT64_C(0x9e3779b97f4a7c15);
+    return digest ^ digest >> 32;
+}
+
+static uint64_t digest_url(uint64_t digest, const uint8_t *url, size_t length)
+{
+    uint64_t word = 0;
+
+    digest = digest_word(digest, length);
+    for (; length >= 8; url += 8, length -= 8)
+        digest = digest_word(digest, load64(url));
+    while (length-- > 0)
+        word = word << 8 | *url++;
+    return digest_word(digest, word);
 }
 
 void plain_note_surl(const uint8_t *file, struct surls *surls, const struct box *surl)
 {
+    size_t length;
+
     if (surls->count == 0)
         surls->first = surl->place;
     surls->count++;
     surls->end = surl->end;
-    surls->formed = surls->formed && is_formed(file, surl);
+    if (measure_url(file, surl, &length))
+        surls->digest = digest_url(surls->digest, file + surl->body + 4, length);
+    else
+        surls->formed = false;
 }
 
 struct container plain_walk_over(const struct surls *surls)
@@ -50,7 +76,7 @@ static bool are_same_urls(const uint8_t *file, const struct surls *one, const st
     struct container in_one = plain_walk_over(one), in_other = plain_walk_over(other);
     const char *url;
 
-    if (one->count != other->count)
+    if (one->count != other->count || one->digest != other->digest)
         return false;
     if (one->first == other->first)
         return true;
