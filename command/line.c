@@ -95,7 +95,10 @@ static void put_facts(const struct facts *facts)
 /* The file, its state, and what is told of a file in that state. */
 void put_line(const struct facts *facts)
 {
-    const char *state = facts->why != NULL ? "failed" : is_refused(facts) ? "refused" : facts->refusal != 0 ? "begun" : state_of(sum_of(&facts->sources).closed);
+    const char *state = facts->why != NULL     ? "failed"
+                        : is_refused(facts)   ? "refused"
+                        : facts->refusal != 0 ? "begun"
+                                              : state_of(sum_of(&facts->sources).closed);
     printf("{\"file\":");
     put_json((const uint8_t *)facts->name, strlen(facts->name));
     printf(",\"state\":\"%s\"", state);
