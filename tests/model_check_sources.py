@@ -99,6 +99,7 @@ def check_own_segments_alone():
         segments.append(box(b"pseg", pshd(offset, flags), ploc(1, 2, [entry(flag_byte, 1, size, 2, len(head()) + 8 + at - begins)]), surls(urls)))
     file = head() + pdat + b"".join(segments)
     expect("lengths apart", [model.length(file, source)[1:] for source in (0, 1, 2)], [(6, False), (4, True), (8, False)])
+    expect("chunks in file order", model.read(file)[2], [(0, 0, 0, 4, 1, 63), (1, 0, 0, 4, 2, 67), (2, 0, 2, 4, 2, 65), (3, 0, 0, 8, 2, 63)])
     expect("served apart", [model.serve(file, 2, source=source) for source in (0, 1, 2)], [(65, 4), (69, 2), (65, 6)])
     expect("names apart", model.map_text(file), b"source\t6\topen\nheld\t0\t2\nhave\t2\t4\ntotal\t4\t2\t0\nsource\t4\tclosed\nhave\t0\t4\ntotal\t4\t0\t0\nsource\t8\topen\nhave\t0\t8\ntotal\t8\t0\t0\n")
     ends = head() + opened(offset=5) + opened(b"v", offset=LIMIT) + lost(9, b"w", flags=1)

@@ -1,7 +1,8 @@
 /* Makes the calls of a stream on whatever implements include/vrazhupa.h, compares all that comes of each, and counts.
    It knows nothing of partial files. With the word `report` it compares nothing, and prints of each call the answer and
    a sum of each memory afterwards; with `calls`, the calls that are there. For an implementation from before request 2
-   it is built with that one's header and -DBEFORE_MIXED, and leaves out what begin and append are asked since. */
+   it is built with that one's header and -DBEFORE_MIXED, and leaves out what begin and append are asked since; for one
+   from before request 8 with -DBEFORE_SOURCES, and leaves out all sources but the first, and the texts of append. */
 #include "lent.h"
 #include "stream.h"
 
@@ -15,21 +16,34 @@
 #include <string.h>
 #include <unistd.h>
 
-/* An implementation from before request 1 lacks the first of these calls, one from before request 6 the second too, and
-   one from before request 7 the others; so may its header. */
+/* An implementation from before request 1 lacks the first of these calls, one from before request 6 the second too, one
+   from before request 7 the two behind, and one from before request 8 the others; so may its header. */
 extern __typeof__(vrazhupa_map) vrazhupa_missmap;
 extern uint64_t vrazhupa_heading(const uint8_t *file, size_t file_length, uint64_t told[7]);
 extern uint64_t vrazhupa_index(const uint8_t *file, size_t file_length, uint64_t *table, size_t table_length, uint64_t told[1]);
+extern uint64_t vrazhupa_source_url(const uint8_t *file, size_t file_length, uint64_t source, uint64_t told[2]);
+extern uint64_t vrazhupa_source_mime(const uint8_t *file, size_t file_length, uint64_t source, uint64_t told[2]);
+extern uint64_t vrazhupa_texts(const uint8_t *file, size_t file_length, uint64_t segment, uint8_t *texts, size_t texts_length, uint64_t *lengths,
+                               size_t lengths_length, uint64_t told[2]);
 #pragma weak vrazhupa_boxes
 #pragma weak vrazhupa_missmap
 #pragma weak vrazhupa_heading
 #pragma weak vrazhupa_index
+#pragma weak vrazhupa_source_url
+#pragma weak vrazhupa_source_mime
+#pragma weak vrazhupa_texts
 
-/* An argument that came with request 2. */
+/* An argument that came with request 2, and those that came with request 8. */
 #ifdef BEFORE_MIXED
 #define SINCE_MIXED(number)
 #else
 #define SINCE_MIXED(number) (number) != 0,
+#endif
+#ifdef BEFORE_SOURCES
+#include "before.h"
+#define SINCE_SOURCES(...)
+#else
+#define SINCE_SOURCES(...) __VA_ARGS__,
 #endif
 
 enum {
@@ -124,7 +138,8 @@ static uint64_t call_for_text(__typeof__(&vrazhupa_map) call, uint64_t most)
 static uint64_t call_append(const uint64_t *numbers)
 {
     return vrazhupa_append(lent[0].at, lent[0].length, numbers[0], numbers[1], numbers[2], numbers[3] != 0, SINCE_MIXED(numbers[4]) numbers_of(&lent[1]),
-                           lent[1].length, lent[2].at, lent[2].length, lent[3].at, lent[3].length, numbers_of(&lent[4]), lent[4].length, numbers_of(&told));
+                           lent[1].length, lent[2].at, lent[2].length,
+                           SINCE_SOURCES(lent[3].at, lent[3].length, numbers_of(&lent[4]), lent[4].length) numbers_of(&told));
 }
 
 static uint64_t call_for_texts(const uint64_t *numbers)
@@ -224,7 +239,9 @@ static void run_case(void)
 static bool is_there(unsigned call)
 {
     return call > BLOCK && call < KINDS && (call != BOXES || vrazhupa_boxes != NULL) && (call != MISSMAP || vrazhupa_missmap != NULL) &&
-           (call != HEADING || vrazhupa_heading != NULL) && (call != INDEX || vrazhupa_index != NULL);
+           (call != HEADING || vrazhupa_heading != NULL) && (call != INDEX || vrazhupa_index != NULL) &&
+           (call != SOURCE_URL || vrazhupa_source_url != NULL) && (call != SOURCE_MIME || vrazhupa_source_mime != NULL) &&
+           (call != TEXTS || vrazhupa_texts != NULL);
 }
 
 static int say_calls(void)
@@ -236,6 +253,9 @@ static int say_calls(void)
     }
 #ifndef BEFORE_MIXED
     printf("begin-mixed\nappend-outside\n");
+#endif
+#ifndef BEFORE_SOURCES
+    printf("sources\nappend-texts\n");
 #endif
     return EXIT_SUCCESS;
 }
