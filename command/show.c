@@ -11,7 +11,7 @@
 #include <inttypes.h>
 #include <stdio.h>
 
-/* Prints a text of a file, and why it is no better. */
+/* Prints a text of a file, and of a fault that it tells of, why. */
 static _Noreturn void show_text(const char *name, struct text text)
 {
     if (fwrite(text.at, 1, text.length, stdout) != text.length) {
