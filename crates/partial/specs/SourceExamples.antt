@@ -190,7 +190,7 @@ layersMapped =
 -- ---- sources by their lists of URLs
 
 -- the list in `pfil` is `a`, `b`. Six open segments: with `b`; with none; with `a`, `b` and other MIME texts; with `b`,
--- `a`, one of them before its `ploc`; with `b` and a MIME text; with `a`
+-- `a`, one of them before its `ploc`; with `b` and a MIME text; with `ba`
 abbrev gathered : List ℕ
 gathered =
     fileOf (surlOf a (ascii "p") ++ surlOf b [])
@@ -198,7 +198,7 @@ gathered =
     ++ (openOf 0 []
     ++ (openOf 0 (surlOf a (ascii "xy") ++ surlOf b [])
     ++ (segmentWith (surlOf b (ascii "q") ++ (noChunks ++ surlOf a []))
-    ++ (openOf 0 (surlOf b (ascii "z")) ++ openOf 0 (surlOf a []))))))
+    ++ (openOf 0 (surlOf b (ascii "z")) ++ openOf 0 (surlOf (b ++ a) []))))))
 
 -- the source number of each segment, or the refusal
 abbrev numbersIn : List ℕ → List ℤ
@@ -232,7 +232,7 @@ textsOfSources =
           (map pos
           (of url 0 ++ (of url 1 ++ (of url 2 ++ (of url 3 ++ (of url 4
           ++ (of mime 0 ++ (of mime 1 ++ (of mime 2 ++ (of mime 3 ++ of mime 4)))))))))));
-      paper = map pos (1 ∷ 98 ∷ 1 ∷ 97 ∷ 1 ∷ 98 ∷ 1 ∷ 97 ∷ 0 ∷ 0 ∷ 1 ∷ 112 ∷ 1 ∷ 113 ∷ 0 ∷ 0 ∷ []);
+      paper = map pos (1 ∷ 98 ∷ 1 ∷ 97 ∷ 1 ∷ 98 ∷ 2 ∷ 98 ∷ 97 ∷ 0 ∷ 0 ∷ 1 ∷ 112 ∷ 1 ∷ 113 ∷ 0 ∷ 0 ∷ []);
     }
 
 -- the texts of the own `surl` boxes of some segments, and their lengths, URL and MIME by turns, as append takes them;
@@ -273,11 +273,12 @@ abbrev numbersOfEach : List (List ℕ) → List ℤ
 numbersOfEach [] = []
 numbersOfEach (f ∷ fs) = numbersIn f ++ numbersOfEach fs
 
--- a `surl` with a flag set, one with a byte behind its MIME text, one that ends with its URL, and one whose MIME text
--- is not closed
+-- a `surl` of another version, one with a flag set, one with a byte behind its MIME text, one that ends with its URL,
+-- and one whose MIME text is not closed
 abbrev illFormed : List (List ℕ)
 illFormed =
-    (take 11 (surlOf a []) ++ (0x01 ∷ drop 12 (surlOf a [])))
+    (take 8 (surlOf a []) ++ (0x01 ∷ drop 9 (surlOf a [])))
+    ∷ (take 11 (surlOf a []) ++ (0x01 ∷ drop 12 (surlOf a [])))
     ∷ surlOf a (0x00 ∷ [])
     ∷ (0x00 ∷ 0x00 ∷ 0x00 ∷ 0x0e ∷ take 10 (drop 4 (surlOf a [])))
     ∷ (take 15 (surlOf a (ascii "m")) ++ (0x6d ∷ []))
@@ -293,7 +294,7 @@ illFormedRefused =
           numbersOfEach (map (λ u. fileOf (surlOf a [] ++ u) []) illFormed)
           ++ (numbersOfEach (map (λ u. fileOf (surlOf a []) (openOf 0 (surlOf b [] ++ u))) illFormed)
           ++ numbersOfEach (map (λ boxes. fileOf (surlOf a []) (segmentWith boxes)) ((header ++ wrong) ∷ wrong ∷ (wrongPloc ++ wrong) ∷ [])));
-      paper = map pos (11 ∷ 11 ∷ 11 ∷ 11 ∷ 16 ∷ 16 ∷ 16 ∷ 16 ∷ 14 ∷ 15 ∷ 16 ∷ []);
+      paper = map pos (11 ∷ 11 ∷ 11 ∷ 11 ∷ 11 ∷ 16 ∷ 16 ∷ 16 ∷ 16 ∷ 16 ∷ 14 ∷ 15 ∷ 16 ∷ []);
     }
 
 -- "41, after 16 .. when neither segment nor `pfil` has one": of one segment, of one behind another that has its own,
