@@ -2,7 +2,6 @@
 use Prim.Native.Nat.{ℕ}
 use mathlib.Core.List.{List}
 use mathlib.Core.Path.{_≡_}
-use lib.ListN.{length}
 use Rattle.boxes.specs.Answer.{given, _>>=_}
 use Rattle.boxes.specs.Framing.{Box}
 use Rattle.additions.specs.Addition.{Addition}
@@ -18,6 +17,7 @@ use Rattle.partial.specs.Tables.{indexTabled, indexTable, indexCount}
 use Rattle.partial.specs.Tables.{tabled, listed, summary, totals, servedPart, asked, textOf, hadRows, missingRows}
 use Rattle.partial.specs.Texts.{sourceTextOf, textsFor, lengthsFor, textsTabled}
 use Rattle.reading.specs.Tables.{Filled}
+use Rattle.surltexts.specs.Calls.{amounts}
 use Rattle.vrazhupa.specs.Says.{Says, headingNumbers, summaryNumbers, totalsNumbers, replyNumbers, partNumbers, textsNumbers, oneNumber}
 
 -- the heading alone, so that a file that was only begun is told of too
@@ -39,7 +39,7 @@ pub record SaysSourceText (which : List ℕ → Box → Part) (f : List ℕ) (so
 
 -- how many bytes the texts of a segment have and how many lengths there are, and both in the lent memory
 pub record SaysTexts (f : List ℕ) (segment : ℕ) (texts texts′ lengths lengths′ told told′ : List ℕ) (r : ℕ) : Type 0 where
-  pub said : Says textsNumbers (textsTabled sourceLimit f segment texts lengths >>= λ surls. given (length (textsFor surls), length (lengthsFor surls))) told told′ r
+  pub said : Says textsNumbers (textsTabled sourceLimit f segment texts lengths >>= λ surls. given (amounts surls)) told told′ r
   pub bytes : texts′ ≡ after textsFor (textsTabled sourceLimit f segment texts lengths) texts
   pub numbers : lengths′ ≡ after lengthsFor (textsTabled sourceLimit f segment texts lengths) lengths
 

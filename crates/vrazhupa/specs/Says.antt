@@ -8,6 +8,7 @@ use Rattle.heading.specs.Facts.{Facts}
 use Rattle.partial.specs.Heading.{Part}
 use Rattle.partial.specs.Meaning.{Reply, servedFor, missingFor, notBelow}
 use Rattle.partial.specs.Tables.{Summary, Totals}
+use Rattle.surltexts.specs.Calls.{Amounts}
 
 -- 0, or the number of the refusal
 unfoldable pub numberOf : {A : Type 0} → Answer A → ℕ
@@ -46,8 +47,8 @@ unfoldable pub partNumbers : Part → List ℕ
 partNumbers p = p .place ∷ p .size ∷ []
 
 -- how many bytes texts have, and how many lengths there are
-unfoldable pub textsNumbers : ℕ × ℕ → List ℕ
-textsNumbers told = told .0 ∷ told .1 ∷ []
+unfoldable pub textsNumbers : Amounts → List ℕ
+textsNumbers told = told .bytes ∷ told .lengths ∷ []
 
 -- 1 where the file is mixed, how many boxes it has and how many of them are `pseg`, then the URL and the MIME text in its `pfil`
 unfoldable pub headingNumbers : Facts → List ℕ

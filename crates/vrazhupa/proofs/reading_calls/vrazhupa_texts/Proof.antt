@@ -19,7 +19,7 @@ same-length-2 c = search needs
 returns : tie.Need-returns
 returns c =
     let met = c .before .before .before .before .before .before .segment-texts .ensures in
-    record { said = says-same _ (met .answer) (c .say-texts .ensures); bytes = met .texts; numbers = met .lengths }
+    record { said = says-same _ (met .answer) (c .say-texts .ensures); bytes = met .bytes; numbers = met .sizes }
 
 pub vrazhupa-texts-spec : {M : Type 1} → statement M
 vrazhupa-texts-spec =
