@@ -1,4 +1,4 @@
--- Document 01, refusals 1 to 11: the file's boxes, `ftyp` and `pfil`. Boxes of other kinds are passed over.
+-- Document 01, refusals 1 to 11, and document 02, [8], for 11: the file's boxes, `ftyp` and `pfil`. Boxes of other kinds are passed over.
 use Prim.Native.Nat.{ℕ, zero, suc, _+_, _-_, _/_, _%_}
 use mathlib.Core.Bool.{Bool, not, _&&_, _||_}
 use mathlib.Core.List.{List, [], _∷_, map}

@@ -27,8 +27,8 @@ use Rattle.partial.specs.Reading.{segmentsFrom, reading, earlierSegments
 use Rattle.partial.specs.Ranges.{had, rangesOf, ofClass, hadList, missingList, total, among, apart, inRow}
 use Rattle.partial.specs.Naming.{damagedAt, namedRanges, heldList, lostList}
 use Rattle.partial.specs.Memory.{after, written, textWritten}
-use Rattle.partial.specs.Tables.{rangeRows, hadRows, missingRows, tabled, listed, indexTabled, indexTable, summary, totals, partOf, servedPart, asked, textOf}
-use Rattle.partial.specs.Texts.{Surl, sourceTextOf, textsTabled}
+use Rattle.partial.specs.Tables.{rangeRows, hadRows, missingRows, tabled, listed, indexTabled, indexTable, summary, totals, nowhere, partOf, servedPart, asked, textOf}
+use Rattle.partial.specs.Texts.{Surl, sourceText, sourceTextOf, textsTabled}
 use Rattle.partial.specs.Map.{decimal, line, refusedLine, textFor}
 use Rattle.partial.specs.BoxList.{each, boxLine, boxesText}
 
@@ -40,7 +40,7 @@ oneOf numbers n = someOf (eqb n) numbers
 abbrev pub upTo24 : ℕ → Bool
 upTo24 n = within 1 11 n || (within 13 8 n || within 22 3 n)
 
--- all of those stages: these, and 41
+-- all of those stages: with 41 of document 02, [8]
 abbrev pub beforeAgreement : ℕ → Bool
 beforeAgreement n = upTo24 n || eqb n 41
 
@@ -79,7 +79,7 @@ pub record Demand1OfReading (limit : ℕ) : Type 0 where
   pub sourceTextNumbers :
       (which : List ℕ → Box → Part) (f : List ℕ) (source n : ℕ)
       → sourceTextOf which limit f source ≡ refused n
-      → T (ofStages n || oneOf (12 ∷ 26 ∷ []) n)
+      → T (ofStages n || eqb n 12)
   pub segmentTextsNumbers : (f t u : List ℕ) (k n : ℕ) → textsTabled limit f k t u ≡ refused n → T (ofStages n || oneOf (12 ∷ 26 ∷ []) n)
   pub textNumbers : (text buffer : List ℕ) (n : ℕ) → textWritten text buffer ≡ refused n → n ≡ 33
   -- document 02, [4]: none of them is 21
@@ -213,7 +213,7 @@ pub record Numbered (ss : List Segment) : Type 0 where
 -- the list of URLs by which a segment of an accepted file is told to be of its source; it is not empty
 pub record ListedBy (f : List ℕ) (h : Heading) (s : Segment) : Type 0 where
   pub own : 0 < length (those surl (s .inner)) → s .urls ≡ urlsIn f (s .inner)
-  pub inPfil : those surl (s .inner) ≡ [] → s .urls ≡ h .urls
+  pub inPfil : those surl (s .inner) ≡ [] → s .urls ≡ urlsIn f (h .inner)
   pub some : 0 < length (s .urls)
 
 -- no segment ends above, or differs from, a size that one of its source makes known
@@ -259,6 +259,7 @@ pub record Answered (source : ℕ) (ss : List Segment) : Type 0 where
   pub told : (p : ℕ) → asked (given ss) source p ≡ given (reply (ofSource source ss) p)
   pub described : summary source ss .described ≡ describedLength (ofSource source ss)
   pub closed : summary source ss .closed ≡ isClosed (ofSource source ss)
+  pub sources : summary source ss .sources ≡ sourceCount ss
   pub had : hadRows source ss ≡ rangeRows (hadList (ofSource source ss))
   pub missing : missingRows source ss ≡ rangeRows (missingList (ofSource source ss))
   pub hadRanges : totals source ss .hadRanges ≡ length (hadList (ofSource source ss))
@@ -268,7 +269,7 @@ pub record Answered (source : ℕ) (ss : List Segment) : Type 0 where
   pub missingTotal : totals source ss .missingTotal ≡ total (missingList (ofSource source ss))
 
 -- "Every position of a source number not in the file is above its length": it has no positions, none is served, and its
--- lists are empty
+-- lists and texts are empty
 pub record Absent (source : ℕ) (ss : List Segment) : Type 0 where
   pub above : (p : ℕ) → asked (given ss) source p ≡ given notBelow
   pub unserved : (f : List ℕ) (p : ℕ) → bytesIn f (servedPart (given ss) source p) ≡ []
@@ -276,6 +277,7 @@ pub record Absent (source : ℕ) (ss : List Segment) : Type 0 where
   pub unknown : summary source ss .closed ≡ false
   pub had : hadRows source ss ≡ []
   pub missing : missingRows source ss ≡ []
+  pub textless : (which : List ℕ → Box → Part) (f : List ℕ) (h : Heading) → sourceText which f h ss source ≡ nowhere
 
 -- "The map program": what a program prints for its input that prints that of an accepted file, whatever the most is
 -- that it takes, and what the call leaves that writes this into a lent buffer

@@ -154,24 +154,29 @@ layersAsked =
     }
 
 -- both lists of each source with their numbers of ranges and totals; none of a number that is not in the file. Listing
--- one fills two lists just long enough for it, of that number none, and is 26 where one is too short
+-- one fills two lists just long enough for it, of that number none, and is 26 where one is too short; so of a file that
+-- has position 2 and lacks 0 and 1 and then 3 to 5
 abbrev layersListed : Example
 layersListed =
     let of : List Segment → ℕ → List ℕ = λ ss source.
     let told = totals source ss in
     told .hadRanges ∷ told .missingRanges ∷ told .receivedTotal ∷ told .missingTotal ∷ (hadRows source ss ++ missingRows source ss) in
-    let listing : ℕ → ℕ → ℕ → List ℤ = λ source m n.
-    let answer = listed sourceLimit film source (replicate 24 9) (replicate 18 9) (replicate m 9) (replicate n 9) in
+    let uneven = fileOf (surlOf a []) (goodOf 0 2 (1 ∷ []) [] ++ lostOf 0 5 1 []) in
+    let listing : List ℕ → ℕ → ℕ → ℕ → List ℤ = λ f source m n.
+    let answer = listed sourceLimit f source (replicate 24 9) (replicate 18 9) (replicate m 9) (replicate n 9) in
     says (answer >>= λ _. given []) ++ map pos (after (hadRows source) answer (replicate m 9) ++ after (missingRows source) answer (replicate n 9)) in
     record {
-      defined = toldOf film (λ ss. of ss 0 ++ (of ss 1 ++ of ss 2)) ++ (listing 1 2 2 ++ (listing 2 0 0 ++ listing 0 2 1));
+      defined = toldOf film (λ ss. of ss 0 ++ (of ss 1 ++ of ss 2)) ++ (listing film 1 2 2 ++ (listing film 2 0 0 ++ (listing film 0 2 1
+          ++ (listing uneven 0 2 4 ++ (listing uneven 0 1 4 ++ (listing uneven 0 2 3 ++ listing uneven 0 4 2))))));
       paper =
           map pos
           (1 ∷ 1 ∷ 4 ∷ 5 ∷ 0 ∷ 4 ∷ 4 ∷ 5
           ∷ 1 ∷ 1 ∷ 5 ∷ 2 ∷ 2 ∷ 5 ∷ 0 ∷ 2
           ∷ 0 ∷ 0 ∷ 0 ∷ 0
           ∷ 2 ∷ 5 ∷ 0 ∷ 2
-          ∷ 26 ∷ 9 ∷ 9 ∷ 9 ∷ []);
+          ∷ 26 ∷ 9 ∷ 9 ∷ 9
+          ∷ 2 ∷ 1 ∷ 0 ∷ 2 ∷ 3 ∷ 3
+          ∷ 26 ∷ 9 ∷ 9 ∷ 9 ∷ 9 ∷ 9 ∷ 26 ∷ 9 ∷ 9 ∷ 9 ∷ 9 ∷ 9 ∷ 26 ∷ 9 ∷ 9 ∷ 9 ∷ 9 ∷ 9 ∷ 9 ∷ []);
     }
 
 -- "The map prints its lines per source, in number order", and so does the other program
@@ -253,17 +258,17 @@ textsOfSegments =
 -- has one less, and both as they were
 abbrev textsInMemory : Example
 textsInMemory =
-    let f = fileOf [] (openOf 0 (surlOf b []) ++ openOf 0 (surlOf a (ascii "xy") ++ surlOf b [])) in
+    let f = fileOf [] (openOf 0 (surlOf b []) ++ openOf 0 (surlOf a (ascii "xyz") ++ surlOf b [])) in
     let of : ℕ → ℕ → List ℤ = λ m n.
     let answer = textsTabled sourceLimit f 1 (replicate m 9) (replicate n 9) in
     says (answer >>= λ _. given []) ++ map pos (after textsFor answer (replicate m 9) ++ after lengthsFor answer (replicate n 9)) in
     record {
-      defined = of 4 4 ++ (of 5 5 ++ (of 3 4 ++ of 4 3));
+      defined = of 5 4 ++ (of 6 5 ++ (of 4 4 ++ of 5 3));
       paper =
           map pos
-          (97 ∷ 120 ∷ 121 ∷ 98 ∷ 1 ∷ 2 ∷ 1 ∷ 0
-          ∷ 97 ∷ 120 ∷ 121 ∷ 98 ∷ 9 ∷ 1 ∷ 2 ∷ 1 ∷ 0 ∷ 9
-          ∷ 26 ∷ (replicate 7 9 ++ (26 ∷ replicate 7 9)));
+          (97 ∷ 120 ∷ 121 ∷ 122 ∷ 98 ∷ 1 ∷ 3 ∷ 1 ∷ 0
+          ∷ 97 ∷ 120 ∷ 121 ∷ 122 ∷ 98 ∷ 9 ∷ 1 ∷ 3 ∷ 1 ∷ 0 ∷ 9
+          ∷ 26 ∷ (replicate 8 9 ++ (26 ∷ replicate 8 9)));
     }
 
 -- ---- refusals

@@ -4,12 +4,12 @@
 use Prim.Native.Nat.{ℕ, suc}
 use mathlib.Core.Bool.{Bool, true, false, _&&_}
 use mathlib.Core.List.{List, [], _∷_, _++_}
-use lib.ListN.{length, take, drop}
+use lib.ListN.{length}
 use Rattle.boxes.specs.Answer.{Answer, refused, given, _>>=_, hold}
 use Rattle.boxes.specs.Kinds.{surl, those}
 use Rattle.boxes.specs.Framing.{Box}
 use Rattle.partial.specs.Segments.{Chunk, Segment, chunksOf}
-use Rattle.partial.specs.Heading.{Part, Heading, heading}
+use Rattle.partial.specs.Heading.{Part, heading}
 use Rattle.partial.specs.Meaning.{describedLength, isClosed, supplied, placeOfByte, servedRun, Reply, reply}
 use Rattle.partial.specs.Sources.{sourceCount, ofSource}
 use Rattle.partial.specs.Reading.{reading}

@@ -142,10 +142,7 @@ pub extern "C" fn vrazhupa_list(
         (now (chunks .entry)) (now (chunks .exit)) (now (had .entry)) (now (had .exit)) (now (missing .entry))
         (now (missing .exit)) (now (told .entry)) (now (told .exit)) r ⌝ }
 {
-    say_listed(
-        list(file, source, segments, chunks, had, missing),
-        told,
-    )
+    say_listed(list(file, source, segments, chunks, had, missing), told)
 }
 
 // Tells the boxes of a file's index in rows.

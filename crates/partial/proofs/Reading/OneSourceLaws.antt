@@ -23,6 +23,7 @@ use Rattle.partial.specs.Reading.{segment, segmentsFrom, reading}
 use Rattle.partial.specs.ReadingDemands.{Numbered, ListedBy}
 use Rattle.partial.proofs.Meaning.SequenceLaws.{Each, each-append, each-member}
 use Rattle.partial.proofs.Meaning.SourceLaws.{of-one}
+use Rattle.partial.proofs.Reading.HeadingAppendLaws.{headed}
 use Rattle.partial.proofs.Reading.KeptLaws.{stepped, segmented}
 use Rattle.partial.proofs.Reading.LimitLaws.{segments-many}
 use Rattle.partial.proofs.Reading.NumberedLaws.{reading-numbered}
@@ -41,18 +42,18 @@ pub urls-pfil : (f : List ℕ) (bs : List Box) (us : List (List ℕ)) → those 
 unfolding urlsIn urlsFor
 urls-pfil f bs us none = rw (urlsIn, none)
 
-module _ (limit : ℕ) (f : List ℕ) (h : Heading) where
-  pub segment-listed : (before : List Segment) (b : Box) {s : Segment} → segment limit f h before b ≡ given s → ListedBy f h s
+module _ (limit : ℕ) (f : List ℕ) (h : Heading) (told : h .urls ≡ urlsIn f (h .inner)) where
+  segment-listed : (before : List Segment) (b : Box) {s : Segment} → segment limit f h before b ≡ given s → ListedBy f h s
   segment-listed before b e =
       let (inner, l, cs, t, same) = stepped limit f h before b e in
       subst (ListedBy f h) same
       (record {
         own = urls-own f inner (h .urls);
-        inPfil = urls-pfil f inner (h .urls);
+        inPfil = λ none. urls-pfil f inner (h .urls) none ∙ told;
         some = ltb-true 0 (length (urlsFor (urlsIn f inner) (h .urls))) (t .listed);
       })
 
-  pub segments-listed : (bs : List Box) (before : List Segment) {ss : List Segment} → Each (ListedBy f h) before → segmentsFrom limit f h before bs ≡ given ss
+  segments-listed : (bs : List Box) (before : List Segment) {ss : List Segment} → Each (ListedBy f h) before → segmentsFrom limit f h before bs ≡ given ss
       → Each (ListedBy f h) ss
   unfolding segmentsFrom
   segments-listed [] before all e = subst (Each (ListedBy f h)) (given-same e) all
@@ -64,7 +65,7 @@ module _ (limit : ℕ) (f : List ℕ) {h : Heading} {ss : List Segment} (head : 
   pub listed : (s : Segment) → List·Memᴰ s ss → ListedBy f h s
   listed =
       let (is, r) = reading-known limit f head e in
-      each-member (ListedBy f h) ss (segments-listed limit f h (those pseg (h .boxes)) [] tt (segmented limit f h (r .segmented) .read))
+      each-member (ListedBy f h) ss (segments-listed limit f h (headed f h head .urls) (those pseg (h .boxes)) [] tt (segmented limit f h (r .segmented) .read))
 
   -- there are some segments
   some-read : 0 < length ss
@@ -97,5 +98,5 @@ pub one-source : (limit : ℕ) (f : List ℕ) {ss : List Segment} → reading li
     → (ofSource 0 ss ≡ ss) × (sourceCount ss ≡ 1)
 one-source limit f {ss} e none =
     let (h, is, r) = reading-read limit f e in
-    one-list (h .urls) ss (reading-numbered limit f e) (some-read limit f (r .headed) e)
+    one-list (urlsIn f (h .inner)) ss (reading-numbered limit f e) (some-read limit f (r .headed) e)
     (λ s there. listed limit f (r .headed) e s there .inPfil (none s there))

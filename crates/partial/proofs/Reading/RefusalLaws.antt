@@ -302,11 +302,23 @@ module _ (limit : ℕ) where
       only-then OfReading (indexed limit f h ss) _ (told-only OfReading known-read rest-read limit f h ss)
       (λ is. only-held OfReading 26 (fits (indexRows ss is) t) _ tt (only-given OfReading (ss, is)))))
 
-  source-text-only : (which : List ℕ → Box → Part) (f : List ℕ) (source : ℕ) → Only OfReading (sourceTextOf which limit f source)
-  unfolding sourceTextOf
+  -- a call that is lent no table has no 26
+  abbrev OfTexts : ℕ → Type 0
+  OfTexts n = T (ofStages n || eqb n 12)
+
+  known-text : (n : ℕ) → T (beforeAgreement n) → OfTexts n
+  known-text n before = beside (ofStages n) (eqb n 12) (known-file n before)
+
+  rest-text : (n : ℕ) → T (fromAgreement n) → OfTexts n
+  rest-text n other = beside (ofStages n) (eqb n 12) (rest-file n other)
+
+  source-text-only : (which : List ℕ → Box → Part) (f : List ℕ) (source : ℕ) → Only OfTexts (sourceTextOf which limit f source)
+  unfolding sourceTextOf reading within
   source-text-only which f source =
-      only-then OfReading (reading limit f) _ (reading-only f)
-      (λ ss. only-then OfReading (heading f) _ (heading-only OfReading known-read f) (λ h. only-given OfReading _))
+      only-then OfTexts (reading limit f) _
+      (only-then OfTexts (heading f) _ (heading-only OfTexts known-text f)
+      (λ h. only-held OfTexts 12 (right File pseg (h .boxes)) _ tt (later-only OfTexts known-text rest-text limit f h)))
+      (λ ss. only-then OfTexts (heading f) _ (heading-only OfTexts known-text f) (λ h. only-given OfTexts _))
 
   texts-tabled-only : (f texts lengths : List ℕ) (k : ℕ) → Only OfReading (textsTabled limit f k texts lengths)
   unfolding textsTabled within someOf
