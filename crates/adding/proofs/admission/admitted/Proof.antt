@@ -1,5 +1,5 @@
 -- `adding::admission::admitted` meets its contract: 13, 41, 22, 23, 25 and 40 in their order, and then the index.
-use Prim.Native.Nat.{ℕ, _+_}
+use Prim.Native.Nat.{ℕ, _+_, _≤_}
 use mathlib.Core.Bool.{true}
 use mathlib.Core.List.{List, [], _∷_, _++_}
 use mathlib.Core.Path.{_≡_, sym, ap, _∙_}
@@ -9,7 +9,7 @@ use borrow.Author.Tests.{leb-true, not-true, not-false}
 use Rattle.partial.specs.Heading.{Heading}
 use Rattle.partial.specs.Limits.{sourceLimit}
 use Rattle.partial.specs.Meaning.{agree}
-use Rattle.partial.specs.Segments.{Segment}
+use Rattle.partial.specs.Segments.{Segment, endOf}
 use Rattle.partial.specs.Sources.{sourceBeside, ofSource}
 use Rattle.ends.specs.Sizes.{sizesOf}
 use Rattle.gathering.specs.Gathered.{gatheredOf}
