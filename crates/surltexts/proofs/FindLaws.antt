@@ -53,15 +53,15 @@ module _ (f : List ℕ) where
       walk-boxes f {w = w} refl ∙ walk-steps f w ∙ rw (step-end f w (omega arith))
 
   -- the boxes inside are those whose texts are told of the segment
-  pub inner-known : (n : ℕ) (bs : List Box) (ss : List Segment) → SegmentsOf f bs ss
+  inner-known : (n : ℕ) (bs : List Box) (ss : List Segment) → SegmentsOf f bs ss
       → (inner : List Box) × (boxesIn Pseg f (boxAt n bs .body) (boxAt n bs .end) ≡ given inner) × (segmentSurls f ss n ≡ surlsIn f inner)
   unfolding segmentSurls surlsIn boxAt
-  inner-known n [] [] known = ([], empty-boxes, rw (those-nil))
+  inner-known n [] [] known = ([], empty-boxes, rw those-nil)
   inner-known zero (b ∷ bs) (s ∷ ss) (known, rest) = (s .inner, known .boxes, refl)
   inner-known (suc n) (b ∷ bs) (s ∷ ss) (known, rest) = inner-known n bs ss rest
 
   -- and it lies in the file
-  pub pseg-inside : (h : Heading) → heading f ≡ given h → (n : ℕ) → psegAt n (h .boxes) .end ≤ length f
+  pseg-inside : (h : Heading) → heading f ≡ given h → (n : ℕ) → psegAt n (h .boxes) .end ≤ length f
   pseg-inside h head n =
       let lie = boxes-lie File f 0 (length f) (h .boxes) (headed f h head .boxes) in
       lies-ends (length f) (psegAt n (h .boxes)) (number-lies (length f) n (those pseg (h .boxes)) (those-all pseg (lies (length f)) (h .boxes) lie))

@@ -20,8 +20,8 @@ pub record PutsSurls (told : List Surl) (before : Amount) (texts texts′ length
 abbrev pub nothing : Amount
 nothing = record { bytes = 0; lengths = 0 }
 
--- no more was put than there are places before that where a body starts, but for the eight at least of its box's header, so
--- that 64 bits hold what will be put
+-- no more was put than there are bytes before a place where the body of a box starts, less the eight of its header, so that
+-- 64 bits hold what will be put
 pub record Behind (place : ℕ) (before : Amount) : Type 0 where
   pub bytes : before .bytes + 8 ≤ place
   pub lengths : before .lengths + 8 ≤ place
