@@ -3,6 +3,7 @@ file may be or a little larger."""
 
 import corpus
 import corpus_index
+import corpus_sources
 import generate
 import lists
 import maps
@@ -154,10 +155,10 @@ def noise(rng):
 
 
 def of_corpora():
-    """Every file that the corpora of reading and listing have, once, with all that were worked out by hand on indexes,
-    and those on damage that the corpus of the maps has."""
-    records = [*corpus.records(), *corpus_index.claims(), *lists.records()]
-    return sorted({record.file for record in records} | {file.content for file in maps.of_damage()})
+    """Every file that the corpora of reading and listing have, once, with all that were worked out by hand on indexes and
+    sources, and those on damage and on sources that the corpus of the maps has."""
+    records = [*corpus.records(), *corpus_index.claims(), *corpus_sources.claims(), *lists.records()]
+    return sorted({record.file for record in records} | {file.content for file in [*maps.of_damage(), *maps.of_sources()]})
 
 
 def chooser(listed):
