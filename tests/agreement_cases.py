@@ -266,9 +266,9 @@ def addition_cases(rng, name, given):
     cases = [Case(name, "appendedOf " + term, written_numbers(answer, buffer), number_of(answer), source)]
     if answer[0] == "length":
         after = buffer[:answer[1]]
-        source = rng.choice([model.read(after)[1][-1][7], some_source(rng, after)])
-        points = positions(rng, after, source)
-        term = "demandsOf %s %d (%s)" % (term, source, listing(points))
+        number = rng.choice([model.read(after)[1][-1][7], some_source(rng, after)])
+        points = positions(rng, after, number)
+        term = "demandsOf %s %d (%s)" % (term, number, listing(points))
         cases.append(Case(name + "-demands", term, [1, 1, 1] + [1] * len(points), 0, source))
     return cases
 
