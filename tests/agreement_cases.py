@@ -15,6 +15,8 @@ Case = namedtuple("Case", "name term numbers refusal source")
 LISTED = 120
 # A file above this length is costly to compute on, so only its map is.
 SMALL = 1_000
+# The faults of append that need such a file.
+LARGE = (6, 13, 22)
 MARK = 7
 
 
@@ -318,13 +320,23 @@ def some_addition(rng, index):
     once."""
     file = generate.foreign_file(rng)
     if index < len(generate.FAULTS_OF_APPEND):
-        return generate.faulty_addition(rng, file, generate.FAULTS_OF_APPEND[index])
+        number = generate.FAULTS_OF_APPEND[index]
+        return large_addition(rng, number) if number in LARGE else generate.faulty_addition(rng, file, number)
     if index % 4 == 1:
         return outside_addition(rng)
     if index % 4 == 0:
-        small = [number for number in generate.FAULTS_OF_APPEND if number not in (6, 13, 22)]
+        small = [number for number in generate.FAULTS_OF_APPEND if number not in LARGE]
         return generate.faulty_addition(rng, file, small[index // 4 % len(small)])
     return addition_to(rng, file)
+
+
+def large_addition(rng, number):
+    """A fault that needs a large file, which has little else in it, since the checker computes a case only so far."""
+    answer, buffer = model.begin(bytes(SMALL), rng.choice([model.PAFF, model.PMFF]), b"u", b"")
+    while True:
+        given = generate.faulty_addition(rng, buffer[:answer[1]], number)
+        if number == 6 or len(given["lengths"]) <= 2:
+            return given
 
 
 def addition_to(rng, file):
