@@ -1,8 +1,9 @@
 // The calls of a run. A begin is four numbers of two bytes, 0, the brand (0 is `paff`, 1 `pmff`) and the lengths of the
 // URL and of the MIME text, and the two texts. An append is 1, whether its good chunks go outside (1 where they do),
-// how many numbers of its chunk list are given, and the length of its data; then five numbers of eight bytes, the
-// stated length of the file, source offset, repair time, flags, and the length of the list; then those numbers and the
-// data.
+// how many numbers of its chunk list are given, and the length of its data; then eight numbers of eight bytes, the
+// stated length of the file, source offset, repair time, flags, the length of the list, how many text lengths are given,
+// the length of that list, and how many text bytes there are; then the numbers of the chunk list, the data, the text
+// lengths and the text bytes.
 use crate::list;
 use crate::report;
 use additions::header::SegmentHeader;
@@ -75,17 +76,26 @@ fn appends(
     let stated = eight();
     let header = header();
     let count = eight() as usize;
-    if count > list.len() {
+    let some = eight() as usize;
+    let many = eight() as usize;
+    let rest = eight() as usize;
+    let mut lengths = [0u64; 1300];
+    if count > list.len() || size > bytes.len() || many > lengths.len() {
         return length;
     }
-    if size > bytes.len() {
+    if rest > bytes.len() - size {
         return length;
     }
+    let end = size + rest;
     let list = &mut list[0..count];
+    let lengths = &mut lengths[0..many];
     list::fill(list, given);
-    let data = &mut bytes[0..size];
-    io::read_full(STDIN_FILENO, data);
-    let answer = append(buffer, stated, header, outside, list, data);
+    io::read_full(STDIN_FILENO, &mut bytes[0..size]);
+    list::fill(lengths, some);
+    io::read_full(STDIN_FILENO, &mut bytes[size..end]);
+    let data = &bytes[0..size];
+    let texts = &bytes[size..end];
+    let answer = append(buffer, stated, header, outside, list, data, texts, lengths);
     report::written(b"append", buffer, stated, answer);
     after(answer, length)
 }
