@@ -1,6 +1,5 @@
 -- `adding::admission::admitted` meets its contract: 13, 41, 22, 23, 25 and 40 in their order, and then the index.
 use Prim.Native.Nat.{ℕ, _+_}
-use mathlib.Core.Bool.{true}
 use mathlib.Core.List.{List, [], _∷_, _++_}
 use mathlib.Core.Path.{_≡_, sym, ap, _∙_}
 use native.Mathlib.Omega.{arith}
