@@ -6,20 +6,20 @@ use mathlib.Core.List.{List, [], _∷_, _++_, map}
 use mathlib.Core.Path.{_≡_}
 use lib.ListN.{length, take, drop, replicate}
 use lib.IntN.{ℤ, pos}
-use Rattle.boxes.specs.Answer.{Answer, given, _>>=_}
+use Rattle.boxes.specs.Answer.{refused, given, _>>=_}
 use Rattle.boxes.specs.Framing.{Box}
-use Rattle.partial.specs.Limits.{programLimit, sourceLimit}
+use Rattle.partial.specs.Limits.{sourceLimit}
 use Rattle.partial.specs.Segments.{Segment}
-use Rattle.partial.specs.Heading.{Part, heading, url, mime, bytesIn}
+use Rattle.partial.specs.Heading.{Part, Heading, heading, url, mime, bytesIn}
 use Rattle.partial.specs.Meaning.{servedFor, missingFor, notBelow}
 use Rattle.partial.specs.Reading.{reading}
 use Rattle.partial.specs.Memory.{after}
-use Rattle.partial.specs.Tables.{segmentRows, chunkRows, hadRows, missingRows, tabled, listed, summary, totals, servedPart, asked, textOf}
+use Rattle.partial.specs.Tables.{segmentRows, chunkRows, hadRows, missingRows, listed, summary, totals, servedPart, asked, textOf}
 use Rattle.partial.specs.Texts.{sourceText, sourceTextOf, textsFor, lengthsFor, segmentSurls, textsTabled}
-use Rattle.partial.specs.Map.{ascii, mapText, missmapText}
+use Rattle.partial.specs.Map.{ascii, mapOf, missmapOf}
 use Rattle.partial.specs.Lesson.{begunBytes}
 use Rattle.partial.specs.Examples.{Example, says}
-use Rattle.partial.specs.IndexExamples.{mdat, indexedAs, index, wrongIndex, rowsOf}
+use Rattle.partial.specs.IndexExamples.{mdat, rowsOf}
 
 -- ---- the bytes of files, written out: no box has 256 bytes
 
@@ -76,6 +76,12 @@ wrongPloc = take 8 noChunks ++ (0x01 ∷ drop 9 noChunks)
 abbrev manyChunks : List ℕ
 manyChunks = take 15 noChunks ++ (0x04 ∷ 0x00 ∷ [])
 
+-- an index of one `mdat` of a size, written out
+abbrev indexOf : ℕ → List ℕ
+indexOf size =
+    0x00 ∷ 0x00 ∷ 0x00 ∷ 0x18 ∷ 0x66 ∷ 0x69 ∷ 0x64 ∷ 0x78 ∷ 0x00 ∷ 0x00 ∷ 0x00 ∷ 0x10 ∷ 0x62 ∷ 0x69 ∷ 0x64 ∷ 0x78 ∷
+    0x00 ∷ 0x00 ∷ 0x00 ∷ size ∷ 0x6d ∷ 0x64 ∷ 0x61 ∷ 0x74 ∷ []
+
 -- two URLs
 abbrev a : List ℕ
 a = 0x61 ∷ []
@@ -94,22 +100,6 @@ film =
     (goodOf 0 0 (11 ∷ 12 ∷ 13 ∷ 14 ∷ []) (surlOf b (ascii "m"))
     ++ (goodOf 1 2 (21 ∷ 22 ∷ 23 ∷ 24 ∷ 25 ∷ []) [] ++ lostOf 0 3 6 (surlOf b (ascii "n"))))
 
--- its rows, the last number of a segment's that of its source, given in order of first appearance
-abbrev layersInRows : Example
-layersInRows =
-    let answer = tabled sourceLimit film (replicate 24 9) (replicate 18 9) in
-    record {
-      defined = map pos (after segmentRows answer (replicate 24 9) ++ after chunkRows answer (replicate 18 9));
-      paper =
-          map pos
-          (68 ∷ 0 ∷ 0 ∷ 0 ∷ 1 ∷ 84 ∷ 16 ∷ 0
-          ∷ 149 ∷ 2 ∷ 1 ∷ 0 ∷ 1 ∷ 165 ∷ 16 ∷ 1
-          ∷ 201 ∷ 3 ∷ 0 ∷ 0 ∷ 1 ∷ 217 ∷ 16 ∷ 0
-          ∷ 0 ∷ 0 ∷ 0 ∷ 4 ∷ 2 ∷ 64
-          ∷ 1 ∷ 0 ∷ 2 ∷ 5 ∷ 2 ∷ 144
-          ∷ 2 ∷ 0 ∷ 3 ∷ 6 ∷ 0 ∷ 0 ∷ []);
-    }
-
 -- what is told of a file's segments
 abbrev toldOf : List ℕ → (List Segment → List ℕ) → List ℤ
 toldOf f of = says (reading sourceLimit f >>= λ ss. given (map pos (of ss)))
@@ -120,76 +110,85 @@ summaryOf source ss =
     let told = summary source ss in
     told .segments ∷ told .chunks ∷ told .sources ∷ told .described ∷ elim (told .closed) [ true ↦ 1 | false ↦ 0 ] ∷ []
 
--- of each source its own length, and of a number that is not in the file none
-abbrev layersCounted : Example
-layersCounted =
+-- its rows, the last number of a segment's that of its source, given in order of first appearance; of each source its
+-- own length, and of a number that is not in the file none
+abbrev layersInRows : Example
+layersInRows =
     record {
-      defined = toldOf film (λ ss. summaryOf 0 ss ++ (summaryOf 1 ss ++ summaryOf 2 ss));
-      paper = map pos (3 ∷ 3 ∷ 2 ∷ 9 ∷ 0 ∷ 3 ∷ 3 ∷ 2 ∷ 7 ∷ 1 ∷ 3 ∷ 3 ∷ 2 ∷ 0 ∷ 0 ∷ []);
+      defined = toldOf film (λ ss. segmentRows ss ++ (chunkRows ss ++ (summaryOf 0 ss ++ (summaryOf 1 ss ++ summaryOf 2 ss))));
+      paper =
+          map pos
+          (68 ∷ 0 ∷ 0 ∷ 0 ∷ 1 ∷ 84 ∷ 16 ∷ 0
+          ∷ 149 ∷ 2 ∷ 1 ∷ 0 ∷ 1 ∷ 165 ∷ 16 ∷ 1
+          ∷ 201 ∷ 3 ∷ 0 ∷ 0 ∷ 1 ∷ 217 ∷ 16 ∷ 0
+          ∷ 0 ∷ 0 ∷ 0 ∷ 4 ∷ 2 ∷ 64
+          ∷ 1 ∷ 0 ∷ 2 ∷ 5 ∷ 2 ∷ 144
+          ∷ 2 ∷ 0 ∷ 3 ∷ 6 ∷ 0 ∷ 0
+          ∷ 3 ∷ 3 ∷ 2 ∷ 9 ∷ 0
+          ∷ 3 ∷ 3 ∷ 2 ∷ 7 ∷ 1
+          ∷ 3 ∷ 3 ∷ 2 ∷ 0 ∷ 0 ∷ []);
     }
 
--- a position that both layers cover is served from its own source's chunk, as far as that goes; one that another layer
--- alone has is not, nor one of a number that is not in the file
-abbrev layersServed : Example
-layersServed =
-    let of : List Segment → ℕ → ℕ → List ℕ = λ ss source p. bytesIn film (servedPart (given ss) source p) in
-    record {
-      defined = toldOf film (λ ss. of ss 0 2 ++ (of ss 1 2 ++ (of ss 1 3 ++ (of ss 0 5 ++ (of ss 1 1 ++ of ss 2 2)))));
-      paper = map pos (13 ∷ 14 ∷ 21 ∷ 22 ∷ 23 ∷ 24 ∷ 25 ∷ 22 ∷ 23 ∷ 24 ∷ 25 ∷ []);
-    }
+-- serving: the bytes from a position on
+abbrev servedIn : List Segment → ℕ → ℕ → List ℕ
+servedIn ss source p = bytesIn film (servedPart (given ss) source p)
 
 -- asking: 1 and for how many positions where one is served, 0 and for how many where it is missing, 2 where it is not
--- below the described length. "Every position of a source number not in the file is above its length"
-abbrev layersAsked : Example
-layersAsked =
-    let of : List Segment → ℕ → ℕ → List ℤ = λ ss source p. says (asked (given ss) source p >>= λ r. given (map pos (elim r [
-      | servedFor n ↦ 1 ∷ n ∷ []
-      | missingFor n ↦ 0 ∷ n ∷ []
-      | notBelow ↦ 2 ∷ []
-    ]))) in
+-- below the described length
+abbrev replyIn : List Segment → ℕ → ℕ → List ℕ
+replyIn ss source p =
+    elim (asked (given ss) source p) [
+      | refused n ↦ n ∷ []
+      | given r ↦ elim r [ servedFor n ↦ 1 ∷ n ∷ [] | missingFor n ↦ 0 ∷ n ∷ [] | notBelow ↦ 2 ∷ [] ]
+    ]
+
+-- positions 2 and 3, which both layers cover, are served each from its own source's chunk, as far as that goes;
+-- position 1, which another layer alone has, is missing. "Every position of a source number not in the file is above
+-- its length"
+abbrev layersServed : Example
+layersServed =
+    let both : List Segment → ℕ → ℕ → List ℕ = λ ss source p. servedIn ss source p ++ replyIn ss source p in
     record {
-      defined = says (reading sourceLimit film >>= λ ss. given
-          (of ss 0 2 ++ (of ss 1 2 ++ (of ss 0 4 ++ (of ss 1 0 ++ (of ss 0 7 ++ (of ss 1 7 ++ (of ss 0 9 ++ of ss 2 0))))))));
-      paper = map pos (1 ∷ 2 ∷ 1 ∷ 5 ∷ 0 ∷ 5 ∷ 0 ∷ 2 ∷ 0 ∷ 2 ∷ 2 ∷ 2 ∷ 2 ∷ []);
+      defined =
+          toldOf film
+          (λ ss. both ss 0 2 ++ (both ss 1 2 ++ (both ss 1 1 ++ (replyIn ss 0 7 ++ (replyIn ss 1 7 ++ (replyIn ss 0 9 ++ both ss 2 0))))));
+      paper = map pos (13 ∷ 14 ∷ 1 ∷ 2 ∷ 21 ∷ 22 ∷ 23 ∷ 24 ∷ 25 ∷ 1 ∷ 5 ∷ 0 ∷ 1 ∷ 0 ∷ 2 ∷ 2 ∷ 2 ∷ 2 ∷ []);
     }
 
--- both lists of each source with their numbers of ranges and totals; none of a number that is not in the file. Listing
--- one fills two lists just long enough for it, of that number none, and is 26 where one is too short; so of a file that
--- has position 2 and lacks 0 and 1 and then 3 to 5
+-- how many ranges the two lists of a source have, the totals, and the ranges
+abbrev listsIn : List Segment → ℕ → List ℕ
+listsIn ss source =
+    let told = totals source ss in
+    told .hadRanges ∷ told .missingRanges ∷ told .receivedTotal ∷ told .missingTotal ∷ (hadRows source ss ++ missingRows source ss)
+
+-- both lists of each source, none of a number that is not in the file. "The map prints its lines per source, in number
+-- order", and so does the other program
 abbrev layersListed : Example
 layersListed =
-    let of : List Segment → ℕ → List ℕ = λ ss source.
-    let told = totals source ss in
-    told .hadRanges ∷ told .missingRanges ∷ told .receivedTotal ∷ told .missingTotal ∷ (hadRows source ss ++ missingRows source ss) in
-    let uneven = fileOf (surlOf a []) (goodOf 0 2 (1 ∷ []) [] ++ lostOf 0 5 1 []) in
-    let listing : List ℕ → ℕ → ℕ → ℕ → List ℤ = λ f source m n.
-    let answer = listed sourceLimit f source (replicate 24 9) (replicate 18 9) (replicate m 9) (replicate n 9) in
-    says (answer >>= λ _. given []) ++ map pos (after (hadRows source) answer (replicate m 9) ++ after (missingRows source) answer (replicate n 9)) in
     record {
-      defined = toldOf film (λ ss. of ss 0 ++ (of ss 1 ++ of ss 2)) ++ (listing film 1 2 2 ++ (listing film 2 0 0 ++ (listing film 0 2 1
-          ++ (listing uneven 0 2 4 ++ (listing uneven 0 1 4 ++ (listing uneven 0 2 3 ++ listing uneven 0 4 2))))));
+      defined = toldOf film (λ ss. listsIn ss 0 ++ (listsIn ss 1 ++ (listsIn ss 2 ++ (mapOf ss ++ missmapOf ss))));
       paper =
           map pos
           (1 ∷ 1 ∷ 4 ∷ 5 ∷ 0 ∷ 4 ∷ 4 ∷ 5
           ∷ 1 ∷ 1 ∷ 5 ∷ 2 ∷ 2 ∷ 5 ∷ 0 ∷ 2
           ∷ 0 ∷ 0 ∷ 0 ∷ 0
-          ∷ 2 ∷ 5 ∷ 0 ∷ 2
-          ∷ 26 ∷ 9 ∷ 9 ∷ 9
-          ∷ 2 ∷ 1 ∷ 0 ∷ 2 ∷ 3 ∷ 3
-          ∷ 26 ∷ 9 ∷ 9 ∷ 9 ∷ 9 ∷ 9 ∷ 26 ∷ 9 ∷ 9 ∷ 9 ∷ 9 ∷ 9 ∷ 26 ∷ 9 ∷ 9 ∷ 9 ∷ 9 ∷ 9 ∷ 9 ∷ []);
-    }
-
--- "The map prints its lines per source, in number order", and so does the other program
-abbrev layersMapped : Example
-layersMapped =
-    record {
-      defined = map pos (mapText sourceLimit programLimit film ++ missmapText sourceLimit programLimit film);
-      paper =
-          map pos
-          (ascii "source\t9\topen\nhave\t0\t4\nlost\t4\t5\ntotal\t4\t0\t5\n"
+          ∷ (ascii "source\t9\topen\nhave\t0\t4\nlost\t4\t5\ntotal\t4\t0\t5\n"
           ++ (ascii "source\t7\tclosed\nlost\t0\t2\nhave\t2\t5\ntotal\t5\t0\t2\n"
           ++ (ascii "source\t9\topen\nhave\t0\t4\nmiss\t4\t5\ntotal\t4\t5\n"
-          ++ ascii "source\t7\tclosed\nmiss\t0\t2\nhave\t2\t5\ntotal\t5\t2\n")));
+          ++ ascii "source\t7\tclosed\nmiss\t0\t2\nhave\t2\t5\ntotal\t5\t2\n"))));
+    }
+
+-- listing a source that has position 2 and lacks 0 and 1 and then 3 to 5: two lists just long enough, 26 where either
+-- is too short; and a number that is not in the file
+abbrev listsInMemory : Example
+listsInMemory =
+    let f = fileOf (surlOf a []) (goodOf 0 2 (1 ∷ []) [] ++ lostOf 0 5 1 []) in
+    let of : ℕ → ℕ → ℕ → List ℤ = λ source m n.
+    let answer = listed sourceLimit f source (replicate 16 9) (replicate 12 9) (replicate m 9) (replicate n 9) in
+    says (answer >>= λ _. given []) ++ map pos (after (hadRows source) answer (replicate m 9) ++ after (missingRows source) answer (replicate n 9)) in
+    record {
+      defined = of 0 2 4 ++ (of 0 1 4 ++ (of 0 4 2 ++ of 1 0 0));
+      paper = map pos (2 ∷ 1 ∷ 0 ∷ 2 ∷ 3 ∷ 3 ∷ 26 ∷ 9 ∷ 9 ∷ 9 ∷ 9 ∷ 9 ∷ 26 ∷ 9 ∷ 9 ∷ 9 ∷ 9 ∷ 9 ∷ 9 ∷ []);
     }
 
 -- ---- sources by their lists of URLs
@@ -209,53 +208,49 @@ gathered =
 abbrev numbersIn : List ℕ → List ℤ
 numbersIn f = toldOf f (map (λ s. s .source))
 
--- "Segments whose lists of URLs are byte-equal in the same order belong to one source; a segment without any uses the
--- list in `pfil`": the order tells lists apart, a MIME text does not. The list in `pfil` has no number before a segment
--- uses it
-abbrev sourcesByLists : Example
-sourcesByLists =
-    record {
-      defined = toldOf gathered (λ ss. map (λ s. s .source) ss ++ (summary 0 ss .sources ∷ []));
-      paper = map pos (0 ∷ 1 ∷ 1 ∷ 2 ∷ 0 ∷ 3 ∷ 4 ∷ []);
-    }
-
 -- a text as its length and its bytes
 abbrev textIn : List ℕ → Part → List ℕ
 textIn f t = t .size ∷ bytesIn f t
 
--- the first URL and the first MIME text of each source: those of its first segment's own first `surl`, else of that in
--- `pfil`; none of a number that is not in the file
-abbrev textsOfSources : Example
-textsOfSources =
+-- the first text of each of five sources, and the texts of a segment's own `surl` boxes with their lengths, URL and
+-- MIME by turns, as append takes them
+abbrev firstTexts : (List ℕ → Box → Part) → Heading → List Segment → List ℕ
+firstTexts which h ss =
+    let of : ℕ → List ℕ = λ source. textIn gathered (sourceText which gathered h ss source) in
+    of 0 ++ (of 1 ++ (of 2 ++ (of 3 ++ of 4)))
+
+abbrev ownTexts : List Segment → ℕ → List ℕ
+ownTexts ss n = textsFor (segmentSurls gathered ss n) ++ lengthsFor (segmentSurls gathered ss n)
+
+-- "Segments whose lists of URLs are byte-equal in the same order belong to one source; a segment without any uses the
+-- list in `pfil`": the order tells lists apart, a MIME text does not. The list in `pfil` has no number before a segment
+-- uses it. The texts of a source are those of its first segment's own first `surl`, else of that in `pfil`, and none of
+-- a number that is not in the file; those of a segment are none where it has no `surl`, or is not in the file
+abbrev sourcesByLists : Example
+sourcesByLists =
     record {
       defined =
           says
           (heading gathered
           >>= λ h. reading sourceLimit gathered
-          >>= λ ss. let of : (List ℕ → Box → Part) → ℕ → List ℕ = λ which source. textIn gathered (sourceText which gathered h ss source) in
-          given
+          >>= λ ss. given
           (map pos
-          (of url 0 ++ (of url 1 ++ (of url 2 ++ (of url 3 ++ (of url 4
-          ++ (of mime 0 ++ (of mime 1 ++ (of mime 2 ++ (of mime 3 ++ of mime 4)))))))))));
-      paper = map pos (1 ∷ 98 ∷ 1 ∷ 97 ∷ 1 ∷ 98 ∷ 2 ∷ 98 ∷ 97 ∷ 0 ∷ 0 ∷ 1 ∷ 112 ∷ 1 ∷ 113 ∷ 0 ∷ 0 ∷ []);
-    }
-
--- the texts of the own `surl` boxes of some segments, and their lengths, URL and MIME by turns, as append takes them;
--- none of a segment without one, and of one that is not in the file
-abbrev textsOfSegments : Example
-textsOfSegments =
-    let of : List Segment → ℕ → List ℕ = λ ss n. textsFor (segmentSurls gathered ss n) ++ lengthsFor (segmentSurls gathered ss n) in
-    record {
-      defined = toldOf gathered (λ ss. of ss 2 ++ (of ss 3 ++ (of ss 4 ++ (of ss 1 ++ of ss 6))));
+          (map (λ s. s .source) ss
+          ++ (summary 0 ss .sources
+          ∷ (firstTexts url h ss
+          ++ (firstTexts mime h ss ++ (ownTexts ss 2 ++ (ownTexts ss 3 ++ (ownTexts ss 4 ++ (ownTexts ss 1 ++ ownTexts ss 6))))))))));
       paper =
           map pos
-          (97 ∷ 120 ∷ 121 ∷ 98 ∷ 1 ∷ 2 ∷ 1 ∷ 0
+          (0 ∷ 1 ∷ 1 ∷ 2 ∷ 0 ∷ 3 ∷ 4
+          ∷ 1 ∷ 98 ∷ 1 ∷ 97 ∷ 1 ∷ 98 ∷ 2 ∷ 98 ∷ 97 ∷ 0
+          ∷ 0 ∷ 1 ∷ 112 ∷ 1 ∷ 113 ∷ 0 ∷ 0
+          ∷ 97 ∷ 120 ∷ 121 ∷ 98 ∷ 1 ∷ 2 ∷ 1 ∷ 0
           ∷ 98 ∷ 113 ∷ 97 ∷ 1 ∷ 1 ∷ 1 ∷ 0
           ∷ 98 ∷ 122 ∷ 1 ∷ 1 ∷ []);
     }
 
--- those of the second segment in lent memory of so many bytes and numbers: just enough, and one more; 26 where either
--- has one less, and both as they were
+-- the texts of the second segment in lent memory of so many bytes and numbers: just enough, and a number more; 26 where
+-- either has one less, and both as they were
 abbrev textsInMemory : Example
 textsInMemory =
     let f = fileOf [] (openOf 0 (surlOf b []) ++ openOf 0 (surlOf a (ascii "xyz") ++ surlOf b [])) in
@@ -263,11 +258,10 @@ textsInMemory =
     let answer = textsTabled sourceLimit f 1 (replicate m 9) (replicate n 9) in
     says (answer >>= λ _. given []) ++ map pos (after textsFor answer (replicate m 9) ++ after lengthsFor answer (replicate n 9)) in
     record {
-      defined = of 5 4 ++ (of 6 5 ++ (of 4 4 ++ of 5 3));
+      defined = of 5 5 ++ (of 4 4 ++ of 5 3);
       paper =
           map pos
-          (97 ∷ 120 ∷ 121 ∷ 122 ∷ 98 ∷ 1 ∷ 3 ∷ 1 ∷ 0
-          ∷ 97 ∷ 120 ∷ 121 ∷ 122 ∷ 98 ∷ 9 ∷ 1 ∷ 3 ∷ 1 ∷ 0 ∷ 9
+          (97 ∷ 120 ∷ 121 ∷ 122 ∷ 98 ∷ 1 ∷ 3 ∷ 1 ∷ 0 ∷ 9
           ∷ 26 ∷ (replicate 8 9 ++ (26 ∷ replicate 8 9)));
     }
 
@@ -377,7 +371,7 @@ ninthSource =
       defined =
           numbersOfEach
           (fileOf [] eight
-          ∷ fileOf (surlOf a [] ++ wrongIndex) (eight ++ openOf 0 [])
+          ∷ fileOf (surlOf a [] ++ indexOf 7) (eight ++ openOf 0 [])
           ∷ fileOf (surlOf a []) (eight ++ (lostOf 1 0 1 [] ++ openOf 2 []))
           ∷ []);
       paper = map pos (0 ∷ 1 ∷ 2 ∷ 3 ∷ 4 ∷ 5 ∷ 6 ∷ 7 ∷ 40 ∷ 25 ∷ []);
@@ -390,15 +384,14 @@ ninthSource =
 -- in `pfil` the bytes of its box are not served. In segments each is of its own source; 38 whatever the sources are
 abbrev indexesOfSources : Example
 indexesOfSources =
-    let toTheEnd = index (indexedAs 0 mdat []) in
     let first : List ℕ → List ℕ = λ boxes. goodOf 1 0 (1 ∷ 2 ∷ 3 ∷ 4 ∷ 5 ∷ 6 ∷ 7 ∷ 8 ∷ 9 ∷ []) (surlOf b [] ++ boxes) in
     record {
       defined =
-          rowsOf 5 (fileOf (surlOf a [] ++ toTheEnd) (first [] ++ lostOf 1 0 8 []))
-          ++ (rowsOf 5 (fileOf (surlOf a [] ++ toTheEnd) (first []))
-          ++ (rowsOf 5 (fileOf (index (indexedAs 8 mdat [])) (first []))
-          ++ (rowsOf 10 (fileOf (surlOf a []) (first toTheEnd ++ lostOf 1 0 8 toTheEnd))
-          ++ rowsOf 5 (fileOf (surlOf a [] ++ index []) (first (index []))))));
+          rowsOf 5 (fileOf (surlOf a [] ++ indexOf 0) (first [] ++ lostOf 1 0 8 []))
+          ++ (rowsOf 5 (fileOf (surlOf a [] ++ indexOf 0) (first []))
+          ++ (rowsOf 5 (fileOf (indexOf 8) (first []))
+          ++ (rowsOf 10 (fileOf (surlOf a []) (first (indexOf 0) ++ lostOf 1 0 8 (indexOf 0)))
+          ++ rowsOf 5 (fileOf (surlOf a [] ++ indexOf 8) (openOf 0 (surlOf b [] ++ indexOf 8))))));
       paper =
           map pos
           (1 ∷ 0 ∷ 8 ∷ mdat ∷ 0 ∷ 39 ∷ 1 ∷ 0 ∷ 8 ∷ mdat ∷ 0 ∷ 1 ∷ 0 ∷ 9 ∷ mdat ∷ 2 ∷ 1 ∷ 0 ∷ 8 ∷ mdat ∷ 0 ∷ 38 ∷ []);
@@ -406,8 +399,7 @@ indexesOfSources =
 
 abbrev pub sourceExamples : List Example
 sourceExamples =
-    layersInRows ∷ layersCounted ∷ layersServed ∷ layersAsked ∷ layersListed ∷ layersMapped ∷
-    sourcesByLists ∷ textsOfSources ∷ textsOfSegments ∷ textsInMemory ∷
+    layersInRows ∷ layersServed ∷ layersListed ∷ listsInMemory ∷ sourcesByLists ∷ textsInMemory ∷
     illFormedRefused ∷ wantOfList ∷ ownLists ∷ sizesOfSources ∷ chunksOfSources ∷ ninthSource ∷ indexesOfSources ∷ []
 
 -- the definitions say what the paper says
