@@ -158,8 +158,8 @@ layersAdded =
 
 -- "the agreement of sizes" is per source: beside the first two, another last segment of 5 is 25 in either and is taken
 -- in a third, of 66 bytes behind 121 and 66
-abbrev sizesPerSource : Example
-sizesPerSource =
+abbrev agreementPerSource : Example
+agreementPerSource =
     let f = begunBytes ++ (firstBytes ++ added (of 0x62 lostSix)) in
     let five = segmentAt 0 true (5 ∷ 0 ∷ []) [] in
     record {
@@ -201,7 +201,7 @@ ninthSource =
 
 abbrev pub surlExamples : List Example
 surlExamples =
-    textsWritten ∷ sourcesTold ∷ textsWrong ∷ zeroByte ∷ manyTexts ∷ layersAdded ∷ sizesPerSource ∷ noList ∷ ninthSource ∷ []
+    textsWritten ∷ sourcesTold ∷ textsWrong ∷ zeroByte ∷ manyTexts ∷ layersAdded ∷ agreementPerSource ∷ noList ∷ ninthSource ∷ []
 
 -- the definitions say what the paper says
 abbrev pub SurlAsThePaperSays : Type 0

@@ -1,4 +1,4 @@
--- `writing::append::append_with` meets its contract: 30, then what the file itself is refused for, then what is
+-- `writing::append::append` meets its contract: 30, then what the file itself is refused for, then what is
 -- appended to it, by the source that it goes to.
 use mathlib.Core.Path.{sym}
 use native.Mathlib.Omega.{arith}
@@ -9,17 +9,17 @@ use Rattle.partial.specs.Limits.{sourceLimit}
 use Rattle.additions.proofs.ReasonLaws.{length-over, file-refused}
 use Rattle.reading.proofs.JudgedLaws.{judgement-refused, judgement-given}
 use Rattle.writing.proofs.AppendLaws.{appends-refused, earlier-refused, earlier, going-of}
-use Rattle.writing.proofs.append.append_with.Statement.{statement}
-use Rattle.writing.proofs.append.append_with.Tie as tie
+use Rattle.writing.proofs.append.append.Statement.{statement}
+use Rattle.writing.proofs.append.append.Tie as tie
 
 returns : tie.Need-returns
 returns c = appends-refused _ _ _ (length-over sourceLimit _ _ _ (omega arith))
 
-slice-reshare-prefix-earlier-of : tie.Need-slice-reshare-prefix-earlier-of
-slice-reshare-prefix-earlier-of c = search needs
+slice-reshare-prefix-file : tie.Need-slice-reshare-prefix-file
+slice-reshare-prefix-file c = search needs
 
-slice-aggregate-earlier-of : tie.Need-slice-aggregate-earlier-of
-slice-aggregate-earlier-of c = sym (length-take-le _ _ (omega arith))
+slice-aggregate-file : tie.Need-slice-aggregate-file
+slice-aggregate-file c = sym (length-take-le _ _ (omega arith))
 
 earlier-of-requires : tie.Need-earlier-of-requires
 earlier-of-requires c κs = search needs
@@ -30,21 +30,15 @@ enum-known-n c = search needs
 enum-known-judged : tie.Need-enum-known-judged
 enum-known-judged c = search needs
 
-slice-reshare-prefix-target-of : tie.Need-slice-reshare-prefix-target-of
-slice-reshare-prefix-target-of c = search needs
-
-slice-aggregate-target-of : tie.Need-slice-aggregate-target-of
-slice-aggregate-target-of c = sym (length-take-le _ _ (omega arith))
-
 target-of-requires : tie.Need-target-of-requires
 target-of-requires c κs = search needs
 
 append-to-requires : tie.Need-append-to-requires
 unfolding asks
 append-to-requires c κs =
-    let (answer, sized, sourced) = c .before .before .before .before .before .before .before .before .earlier-of .ensures in
-    let told = judgement-given answer (c .before .before .before .before .before .before .judged .given .1) in
-    (omega arith, told, going-of _ _ _ (earlier _ _ told) sized sourced (c .before .before .target-of .ensures))
+    let (answer, sized, sourced) = c .before .before .before .before .before .before .before .earlier-of .ensures in
+    let told = judgement-given answer (c .before .before .before .before .before .judged .given .1) in
+    record { enough = c .before .before .before .before .before .before .before .before .before .before .before .before .if1 .left; told = told; going = going-of _ _ _ (earlier _ _ told) sized sourced (c .before .target-of .ensures) }
 
 same-length : tie.Need-same-length
 same-length c = search needs
@@ -60,18 +54,16 @@ same-length-2 c = search needs
 returns-3 : tie.Need-returns-3
 returns-3 c = search needs
 
-pub append-with-spec : {M : Type 1} → statement M
-append-with-spec =
+pub append-spec : {M : Type 1} → statement M
+append-spec =
     tie.close
     (tie.spec
     returns
-    slice-reshare-prefix-earlier-of
-    slice-aggregate-earlier-of
+    slice-reshare-prefix-file
+    slice-aggregate-file
     earlier-of-requires
     enum-known-n
     enum-known-judged
-    slice-reshare-prefix-target-of
-    slice-aggregate-target-of
     target-of-requires
     append-to-requires
     same-length
