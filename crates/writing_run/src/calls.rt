@@ -16,6 +16,11 @@ use printing::records::pair;
 use writing::append::append;
 use writing::begin::begin;
 
+// The longest list of text lengths, and the most text bytes.
+const MOST_LENGTHS: usize = 1_300;
+
+const MOST_TEXTS: usize = 65_536;
+
 // Makes so many calls on the buffer, in which a file of some length stands. The length of the file that they leave.
 pub fn all(buffer: &mut [u8], list: &mut [u64], bytes: &mut [u8], count: usize, file: u64) -> u64 {
     let mut length = file;
@@ -76,25 +81,25 @@ fn appends(
     let stated = eight();
     let header = header();
     let count = eight() as usize;
-    let some = eight() as usize;
-    let many = eight() as usize;
-    let rest = eight() as usize;
-    let mut lengths = [0u64; 1300];
-    if count > list.len() || size > bytes.len() || many > lengths.len() {
+    let lengths_given = eight() as usize;
+    let length_count = eight() as usize;
+    let text_size = eight() as usize;
+    let mut lengths = [0u64; MOST_LENGTHS];
+    let mut texts = [0u8; MOST_TEXTS];
+    if count > list.len() || size > bytes.len() {
         return length;
     }
-    if rest > bytes.len() - size {
+    if length_count > lengths.len() || text_size > texts.len() {
         return length;
     }
-    let end = size + rest;
     let list = &mut list[0..count];
-    let lengths = &mut lengths[0..many];
+    let data = &mut bytes[0..size];
+    let lengths = &mut lengths[0..length_count];
+    let texts = &mut texts[0..text_size];
     list::fill(list, given);
-    io::read_full(STDIN_FILENO, &mut bytes[0..size]);
-    list::fill(lengths, some);
-    io::read_full(STDIN_FILENO, &mut bytes[size..end]);
-    let data = &bytes[0..size];
-    let texts = &bytes[size..end];
+    io::read_full(STDIN_FILENO, data);
+    list::fill(lengths, lengths_given);
+    io::read_full(STDIN_FILENO, texts);
     let answer = append(buffer, stated, header, outside, list, data, texts, lengths);
     report::written(b"append", buffer, stated, answer);
     after(answer, length)
