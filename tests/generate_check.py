@@ -286,8 +286,10 @@ def check_sources(files):
     """Files of one source and of eight, in every way that lists can stand to each other; sources that differ in length
     and in whether it is known, on the same positions; and indexes beside several."""
     met = Counter(form for file in files for form in set(forms_of_sources(file)))
-    for form in ("1 sources", "2 sources", "3 sources", "8 sources", "no list in pfil", "the list in pfil is not used", "that of pfil comes later", "that of pfil by its own list", "by its own list and by none",
-                 "other MIME texts in one source", "segments by turns", "several URLs", "an empty URL", "a URL twice", "only an empty URL", "turned", "a part of another", "cut in another way"):
+    for form in ("1 sources", "2 sources", "3 sources", "8 sources", "no list in pfil", "the list in pfil is not used", "that of pfil comes later", "that of pfil by its own list",
+                 "by its own list and by none",
+                 "other MIME texts in one source", "segments by turns", "several URLs", "an empty URL", "a URL twice", "only an empty URL", "turned", "a part of another",
+                 "cut in another way"):
         expect(f"sources, {form}", met[form] >= 5)
     layered = [file for file in files if model.sources(file)[1] > 1]
     expect("a quarter of the files has several sources", 0.25 < len(layered) / len(files) < 0.5)
@@ -473,7 +475,8 @@ def check_faulty_sources(rng, runs):
             met[number, "nine or more" if len(lists) > 8 else "fewer"] += 1
             met[number, "just nine" if len(lists) == 9 else "another count"] += 1
             met[number, "pfil's behind the eighth"] += of_pfil is not None and of_pfil > 7
-    for how in [(11, "alone"), (11, "beside a right one"), (16, "alone"), (16, "beside a right one"), (16, "before ploc"), (16, "behind ploc"), (41, "alone"), (41, "beside others"), (25, "nine or more"), (25, "fewer"),
+    for how in [(11, "alone"), (11, "beside a right one"), (16, "alone"), (16, "beside a right one"), (16, "before ploc"), (16, "behind ploc"), (41, "alone"), (41, "beside others"),
+                (25, "nine or more"), (25, "fewer"),
                 (40, "just nine"), (40, "another count"), (40, "pfil's behind the eighth")]:
         expect(f"faults of sources, {how}", met[how] >= 3)
     expect("no fewer than nine for 40", met[40, "fewer"], 0)
