@@ -33,11 +33,13 @@ def good(size, *urls, offset=0, flags=0, parts=b""):
 
 # The list in pfil, and the list of each segment, None where it has none of its own.
 LISTS = [
-    ("own ones by turns", [b"u"], [[b"a"], [b"b"], [b"a"], [b"c"], [b"b"]]), ("that of pfil later", [b"u"], [[b"a"], None, [b"a"], None]), ("that of pfil by its own list", [b"u"], [[b"u"], None, [b"a"], [b"u"]]),
+    ("own ones by turns", [b"u"], [[b"a"], [b"b"], [b"a"], [b"c"], [b"b"]]), ("that of pfil later", [b"u"], [[b"a"], None, [b"a"], None]),
+    ("that of pfil by its own list", [b"u"], [[b"u"], None, [b"a"], [b"u"]]),
     ("that of pfil never", [b"u"], [[b"a"], [b"b"]]), ("none in pfil", [], [[b"a"], [b"b"], [b"a"]]), ("another order", [b"u"], [[b"a", b"b"], [b"b", b"a"], [b"a", b"b"]]),
     ("parts of a list", [b"a", b"b"], [[b"a"], None, [b"b"], [b"a", b"b"], [b"a", b"b", b"c"]]), ("a URL twice and thrice", [b"u"], [[b"u"], [b"u", b"u"], None, [b"u", b"u", b"u"]]),
     ("empty URLs", [b""], [[b""], [b"", b""], None, [b"", b"", b""], [b"a", b""], [b"", b"a"]]), ("cut in another way", [b"u"], [[b"ab", b"c"], [b"a", b"bc"], [b"abc"], [b"ab", b"c"]]),
-    ("one letter", [b"A"], [[b"a"], None, [b"A"], [b"a "]]), ("any bytes", [b"\xff"], [[b"\xff\x01"], None, [b"\xff\x01"], [b"\x01\xff"]]), ("one byte longer", [60 * b"u"], [[59 * b"u"], None, [60 * b"u"], [61 * b"u"]]),
+    ("one letter", [b"A"], [[b"a"], None, [b"A"], [b"a "]]), ("any bytes", [b"\xff"], [[b"\xff\x01"], None, [b"\xff\x01"], [b"\x01\xff"]]),
+    ("one byte longer", [60 * b"u"], [[59 * b"u"], None, [60 * b"u"], [61 * b"u"]]),
     ("their last byte", [b"http://a/1"], [[b"http://a/2"], None, [b"http://a/1"], [b"http://b/1"]]), ("the second URL", [b"a", b"b"], [[b"a", b"c"], None, [b"a", b"b"], [b"c", b"b"]]),
 ]
 
@@ -74,8 +76,10 @@ def layers():
 
 def texts():
     """Texts that just fit 64 bytes and eight numbers, and that do not."""
-    for name, urls, mime in [("64 bytes", [60 * b"u", b"v"], b"m"), ("64 bytes in one text", [64 * b"u"], b""), ("64 bytes of MIME text", [b""], 64 * b"m"), ("65 bytes", [60 * b"u", b"uv"], b"m"), ("65 bytes in one text", [65 * b"u"], b""),
-                             ("four surl", 4 * [b"u"], b"m"), ("four empty surl", 4 * [b""], b""), ("five surl", 5 * [b"u"], b"m"), ("five empty surl", 5 * [b""], b""), ("each byte", [bytes(range(1, 33)), bytes(range(225, 256))], b"")]:
+    for name, urls, mime in [("64 bytes", [60 * b"u", b"v"], b"m"), ("64 bytes in one text", [64 * b"u"], b""), ("64 bytes of MIME text", [b""], 64 * b"m"),
+                             ("65 bytes", [60 * b"u", b"uv"], b"m"), ("65 bytes in one text", [65 * b"u"], b""),
+                             ("four surl", 4 * [b"u"], b"m"), ("four empty surl", 4 * [b""], b""), ("five surl", 5 * [b"u"], b"m"), ("five empty surl", 5 * [b""], b""),
+                             ("each byte", [bytes(range(1, 33)), bytes(range(225, 256))], b"")]:
         yield taken(f"texts of {name}", head() + opened(*urls, mime=mime))
         yield taken(f"texts of {name}, in pfil", bare_head(surls(urls, mime)) + opened())
     yield taken("texts of 510 surl", head() + opened(*510 * [b""]))
@@ -97,9 +101,12 @@ def ill_formed():
 
 def none_at_all():
     bad = box(b"surl")
-    for name, file in [("alone", bare_head() + opened()), ("behind one that has", bare_head() + opened(b"a") + opened()), ("before one that has", bare_head() + opened() + opened(b"a")), ("with one in a free box", bare_head(box(b"free", surl())) + opened()),
-                       ("before 17", bare_head() + box(b"pseg", pshd(0), box(b"ploc"))), ("before 23", bare_head() + opened(offset=LIMIT + 1)), ("before a later 16", bare_head() + opened() + opened(parts=bad)),
-                       ("before a later 14", bare_head() + opened() + box(b"pseg")), ("before 25", bare_head() + lost(3, b"a", flags=1) + lost(4, b"a", flags=1) + opened()), ("with an index", bare_head(WRONG) + opened())]:
+    for name, file in [("alone", bare_head() + opened()), ("behind one that has", bare_head() + opened(b"a") + opened()), ("before one that has", bare_head() + opened() + opened(b"a")),
+                       ("with one in a free box", bare_head(box(b"free", surl())) + opened()),
+                       ("before 17", bare_head() + box(b"pseg", pshd(0), box(b"ploc"))), ("before 23", bare_head() + opened(offset=LIMIT + 1)),
+                       ("before a later 16", bare_head() + opened() + opened(parts=bad)),
+                       ("before a later 14", bare_head() + opened() + box(b"pseg")), ("before 25", bare_head() + lost(3, b"a", flags=1) + lost(4, b"a", flags=1) + opened()),
+                       ("with an index", bare_head(WRONG) + opened())]:
         yield refused(41, f"no surl at all, {name}", file)
     yield refused(12, "no surl at all, and no segment", bare_head())
     yield refused(16, "no surl at all, behind an earlier 16", bare_head() + opened(parts=bad) + opened())
@@ -114,16 +121,21 @@ def many(count, size=0, flags=0):
 
 
 def sizes():
-    for name, more in [("another size", lost(4, b"v", flags=1)), ("an end above", lost(9, b"v")), ("an open offset above", opened(b"v", offset=9)), ("an empty end above", lost(0, b"v", offset=9, flags=1))]:
+    for name, more in [("another size", lost(4, b"v", flags=1)), ("an end above", lost(9, b"v")), ("an open offset above", opened(b"v", offset=9)),
+                       ("an empty end above", lost(0, b"v", offset=9, flags=1))]:
         yield taken(f"closed at 3, in another source {name}", head() + lost(3, flags=1) + more, source=1)
         yield refused(25, f"closed at 3, in the same source {name}", head(b"v") + lost(3, flags=1) + opened(b"u") + more)
         yield refused(25, f"closed at 3 behind, in the same source {name}", head() + more + opened() + lost(3, b"v", flags=1))
     yield taken("eight sources of one size", bare_head() + many(8, 4, 1) + many(8))
-    for name, file in [("a ninth", bare_head() + many(9)), ("a ninth, that of pfil", head() + many(8) + opened()), ("a ninth, that of pfil first", head() + opened() + many(8)), ("a ninth, and the first again", bare_head() + many(9) + many(1)),
-                       ("a tenth", head() + many(9) + opened()), ("26 sources", bare_head() + many(26, 4, 1)), ("a ninth by its order", bare_head() + many(7) + opened(b"x", b"y") + opened(b"y", b"x")), ("a ninth before 36", head(parts=WRONG) + many(9)),
-                       ("a ninth before 37", head(parts=NINTH) + many(9)), ("a ninth before 38", head(parts=fidx()) + many(9) + opened(b"A", parts=fidx())), ("a ninth before 39", head(parts=TO_THE_END) + many(9))]:
+    for name, file in [("a ninth", bare_head() + many(9)), ("a ninth, that of pfil", head() + many(8) + opened()), ("a ninth, that of pfil first", head() + opened() + many(8)),
+                       ("a ninth, and the first again", bare_head() + many(9) + many(1)),
+                       ("a tenth", head() + many(9) + opened()), ("26 sources", bare_head() + many(26, 4, 1)),
+                       ("a ninth by its order", bare_head() + many(7) + opened(b"x", b"y") + opened(b"y", b"x")), ("a ninth before 36", head(parts=WRONG) + many(9)),
+                       ("a ninth before 37", head(parts=NINTH) + many(9)), ("a ninth before 38", head(parts=fidx()) + many(9) + opened(b"A", parts=fidx())),
+                       ("a ninth before 39", head(parts=TO_THE_END) + many(9))]:
         yield refused(40, f"sources, {name}", file)
-    for name, file in [("in a ninth source", bare_head() + many(9, 4, 1) + lost(5, b"I")), ("in the first of nine", bare_head() + many(9, 4, 1) + lost(5, b"A")), ("in a tenth", bare_head() + lost(5, b"x", flags=1) + many(9) + lost(6, b"x"))]:
+    for name, file in [("in a ninth source", bare_head() + many(9, 4, 1) + lost(5, b"I")), ("in the first of nine", bare_head() + many(9, 4, 1) + lost(5, b"A")),
+                       ("in a tenth", bare_head() + lost(5, b"x", flags=1) + many(9) + lost(6, b"x"))]:
         yield refused(25, f"25 before 40, {name}", file)
     yield refused(40, "40 before 26", bare_head() + many(9), 0, 0)
     yield refused(24, "24 before 40", bare_head() + many(9) + box(b"pseg", pshd(0), ploc(1, 1, [entry(GOOD, 1, 1, 1, 0)]), surl()))
@@ -133,19 +145,25 @@ def sizes():
 # Indexes.
 
 def indexes():
-    for name, file in [("of its source", head(parts=fidx(bidx(99))) + good(20, b"a") + good(15)), ("no segment of its source", head(parts=fidx(bidx(99))) + good(20, b"a", flags=1)), ("no list", bare_head(fidx(bidx(99))) + good(20, b"a", flags=1)),
-                       ("to the end of its source", head(parts=TO_THE_END) + good(30, b"a") + good(20, flags=1)), ("to the end of its source by its own list", head(parts=TO_THE_END) + good(30, b"a") + good(20, b"u", flags=1)),
+    for name, file in [("of its source", head(parts=fidx(bidx(99))) + good(20, b"a") + good(15)), ("no segment of its source", head(parts=fidx(bidx(99))) + good(20, b"a", flags=1)),
+                       ("no list", bare_head(fidx(bidx(99))) + good(20, b"a", flags=1)),
+                       ("to the end of its source", head(parts=TO_THE_END) + good(30, b"a") + good(20, flags=1)),
+                       ("to the end of its source by its own list", head(parts=TO_THE_END) + good(30, b"a") + good(20, b"u", flags=1)),
                        ("a size 0 inside, no segment of its source", head(parts=fidx(bidx(40, b"moov", bidx(0)))) + good(30, b"a"))]:
         yield taken(f"layers, index in pfil {name}", file, source=1, segment=1)
-    for number, name, file in [(39, "to the end that another source tells", head(parts=TO_THE_END) + good(30, b"a", flags=1) + good(20)), (39, "to the end, no segment of its source", head(parts=TO_THE_END) + good(30, b"a", flags=1)),
-                               (39, "to the end, no list", bare_head(TO_THE_END) + good(30, b"a", flags=1)), (36, "with seven bytes left of its source", head(parts=fidx(bidx(13), bidx(0))) + good(30, b"a", flags=1) + good(20, flags=1)),
-                               (37, "of nine levels, no segment of its source", head(parts=fidx(chain(9, 8))) + good(30, b"a")), (38, "and in a segment of another source", head(parts=fidx()) + opened() + opened(b"a", parts=fidx()))]:
+    for number, name, file in [(39, "to the end that another source tells", head(parts=TO_THE_END) + good(30, b"a", flags=1) + good(20)),
+                               (39, "to the end, no segment of its source", head(parts=TO_THE_END) + good(30, b"a", flags=1)),
+                               (39, "to the end, no list", bare_head(TO_THE_END) + good(30, b"a", flags=1)),
+                               (36, "with seven bytes left of its source", head(parts=fidx(bidx(13), bidx(0))) + good(30, b"a", flags=1) + good(20, flags=1)),
+                               (37, "of nine levels, no segment of its source", head(parts=fidx(chain(9, 8))) + good(30, b"a")),
+                               (38, "and in a segment of another source", head(parts=fidx()) + opened() + opened(b"a", parts=fidx()))]:
         yield refused(number, f"layers, index in pfil {name}", file)
     yield taken("layers, index in pfil with seven bytes left of another source", head(parts=fidx(bidx(13), bidx(0))) + good(20, b"a", flags=1) + good(30, flags=1))
     yield taken("layers, index in each of two sources", head() + good(20, flags=1, parts=TO_THE_END) + good(12, b"a", offset=4, flags=1, parts=TO_THE_END), source=1)
     yield taken("layers, index in a segment that another of its source ends", head() + opened(b"a", parts=TO_THE_END) + good(20) + good(12, b"a", flags=1))
     yield refused(39, "layers, index in a segment of an open source", head() + good(20, flags=1) + good(12, b"a", parts=TO_THE_END))
-    yield refused(36, "layers, index in a segment with too little left of its source", head() + good(20, flags=1) + good(12, b"a", offset=8, flags=1) + opened(b"a", offset=13, parts=TO_THE_END))
+    yield refused(36, "layers, index in a segment with too little left of its source",
+                  head() + good(20, flags=1) + good(12, b"a", offset=8, flags=1) + opened(b"a", offset=13, parts=TO_THE_END))
 
 
 def claims():

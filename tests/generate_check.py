@@ -286,8 +286,10 @@ def check_sources(files):
     """Files of one source and of eight, in every way that lists can stand to each other; sources that differ in length
     and in whether it is known, on the same positions; and indexes beside several."""
     met = Counter(form for file in files for form in set(forms_of_sources(file)))
-    for form in ("1 sources", "2 sources", "3 sources", "8 sources", "no list in pfil", "the list in pfil is not used", "that of pfil comes later", "that of pfil by its own list", "by its own list and by none",
-                 "other MIME texts in one source", "segments by turns", "several URLs", "an empty URL", "a URL twice", "only an empty URL", "turned", "a part of another", "cut in another way"):
+    for form in ("1 sources", "2 sources", "3 sources", "8 sources", "no list in pfil", "the list in pfil is not used", "that of pfil comes later", "that of pfil by its own list",
+                 "by its own list and by none",
+                 "other MIME texts in one source", "segments by turns", "several URLs", "an empty URL", "a URL twice", "only an empty URL", "turned", "a part of another",
+                 "cut in another way"):
         expect(f"sources, {form}", met[form] >= 5)
     layered = [file for file in files if model.sources(file)[1] > 1]
     expect("a quarter of the files has several sources", 0.25 < len(layered) / len(files) < 0.5)
@@ -437,6 +439,49 @@ def check_faulty_vendors(rng, runs):
         expect(f"uuid for {number}", any(number == other for name, other, size, plain, left in met))
 
 
+def lists_unjudged(file):
+    """The lists of URLs of the sources of a file whose segments are right, whether or not it is refused for them; and the
+    number of that of pfil, None where it is none of them."""
+    head = model.read_head(file)
+    segments = model.read_segments(file, head)[0]
+    lists = model.lists_by_number([model.list_of(file, head, segment) for segment in segments])
+    of_pfil = model.urls_of(file, head.surls)
+    return lists, lists.index(of_pfil) if of_pfil in lists else None
+
+
+def surls_in(file):
+    """Of each pfil and pseg the types of its boxes, surl boxes as right or wrong."""
+    for name, place, end in containers(file):
+        words = []
+        for part in model.frame(file, place, end) if name != "file" else []:
+            wrong = part.kind == b"surl" and model.attempt(model.read_surls, file, [part], 1)[0]
+            words.append("wrong" if wrong else part.kind.decode("latin-1"))
+        yield name, words
+
+
+def check_faulty_sources(rng, runs):
+    """Wrong surl boxes alone and beside right ones, on both sides of ploc; none in one segment of several; a ninth source
+    with sizes that agree and that do not, that of pfil or another."""
+    met = Counter()
+    for _ in range(runs):
+        for number, name in [(11, "pfil"), (16, "pseg")]:
+            for words in [words for found, words in surls_in(generate.faulty_file(rng, number)) if found == name and "wrong" in words]:
+                met[number, "beside a right one" if "surl" in words else "alone"] += 1
+                met[number, "before ploc" if "ploc" in words[words.index("wrong"):] else "behind ploc"] += 1
+        bare = [words for name, words in surls_in(generate.faulty_file(rng, 41)) if name == "pseg"]
+        met[41, "alone" if not any("surl" in words for words in bare) else "beside others"] += 1
+        for number in (25, 40):
+            lists, of_pfil = lists_unjudged(generate.faulty_file(rng, number))
+            met[number, "nine or more" if len(lists) > 8 else "fewer"] += 1
+            met[number, "just nine" if len(lists) == 9 else "another count"] += 1
+            met[number, "pfil's behind the eighth"] += of_pfil is not None and of_pfil > 7
+    for how in [(11, "alone"), (11, "beside a right one"), (16, "alone"), (16, "beside a right one"), (16, "before ploc"), (16, "behind ploc"), (41, "alone"), (41, "beside others"),
+                (25, "nine or more"), (25, "fewer"),
+                (40, "just nine"), (40, "another count"), (40, "pfil's behind the eighth")]:
+        expect(f"faults of sources, {how}", met[how] >= 3)
+    expect("no fewer than nine for 40", met[40, "fewer"], 0)
+
+
 def check_spoiled(rng, files):
     """Every spoiled file gets some answer, and no part outside of itself."""
     numbers, too_short = set(), 0
@@ -576,6 +621,7 @@ def main(seed):
     check_faulty(rng, 30)
     check_reserved(rng, 150)
     check_faulty_vendors(rng, 1500)
+    check_faulty_sources(rng, 120)
     check_spoiled(rng, files)
     check_additions(rng, good[:40] + 10 * [head()] + 10 * [head(brand=b"pmff")])
     check_all_additions(rng, good[:1200])

@@ -5,7 +5,8 @@ from boxes import box, full, surl
 
 SOURCES = 8
 # Lists that a reader may take for each other, or for one that it has not.
-NEAR = [[b"a"], [b"b"], [b"a", b"b"], [b"b", b"a"], [b""], [b"", b""], [b"ab"], [b"a", b""], [b"", b"a"], [b"a", b"a"], [b"A"], [b"a", b"b", b"c"], [b"a", b"bc"], [b"ab", b"c"], [b"\x01"], [b"a/"]]
+NEAR = [[b"a"], [b"b"], [b"a", b"b"], [b"b", b"a"], [b""], [b"", b""], [b"ab"], [b"a", b""], [b"", b"a"], [b"a", b"a"], [b"A"], [b"a", b"b", b"c"], [b"a", b"bc"], [b"ab", b"c"], [b"\x01"],
+        [b"a/"]]
 
 
 def seldom(rng):
@@ -139,5 +140,6 @@ def spread(rng, plan, groups):
 def ill_formed(rng):
     """A surl with one fault."""
     url, front = some_bytes(rng), rng.choice([full(rng.randint(1, 255)), full(0, rng.choice([1, 0x800000, rng.randint(1, 2 ** 24 - 1)]))])
-    body = rng.choice([front + url + b"\0\0", bytes(rng.randint(0, 3)), full(), full() + url, full() + url + b"\0", full() + url + b"\0m", full() + url + b"\0m\0" + rng.choice([b"\0", b"x", some_bytes(rng)])])
+    body = rng.choice([front + url + b"\0\0", bytes(rng.randint(0, 3)), full(), full() + url, full() + url + b"\0", full() + url + b"\0m",
+                       full() + url + b"\0m\0" + rng.choice([b"\0", b"x", some_bytes(rng)])])
     return box(b"surl", body, large=seldom(rng))

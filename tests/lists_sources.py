@@ -24,7 +24,8 @@ def layers():
     for number, order in enumerate(permutations(parts)):
         of_pfil = 0 if order[0] in parts[:2] else 1
         yield listed("sources", f"two layers, order {number}, the first", file_of(*order), *[([(0, 7)], [(7, 3)]), ([(3, 2)], [(0, 3), (5, 4)])][of_pfil], positions=[0, 2, 3, 5, 9])
-        yield listed("sources", f"two layers, order {number}, the second", file_of(*order), *[([(3, 2)], [(0, 3), (5, 4)]), ([(0, 7)], [(7, 3)])][of_pfil], positions=[0, 2, 3, 5, 9], source=1)
+        yield listed("sources", f"two layers, order {number}, the second", file_of(*order), *[([(3, 2)], [(0, 3), (5, 4)]), ([(0, 7)], [(7, 3)])][of_pfil], positions=[0, 2, 3, 5, 9],
+                     source=1)
 
 
 def same_positions():
@@ -40,8 +41,10 @@ def same_positions():
 
 def lists_of_urls():
     """Segments that are of one source by their lists of URLs, and that are not."""
-    for name, first, second, one in [("by none and the list in pfil", [], [b"u"], True), ("by a list and its order", [b"a", b"b"], [b"b", b"a"], False), ("by a list and the same", [b"a", b"b"], [b"a", b"b"], True),
-                                     ("by a list and its front", [b"a", b"b"], [b"a"], False), ("by one empty URL and two", [b""], [b"", b""], False), ("by an empty URL and none", [b""], [], False)]:
+    for name, first, second, one in [("by none and the list in pfil", [], [b"u"], True), ("by a list and its order", [b"a", b"b"], [b"b", b"a"], False),
+                                     ("by a list and the same", [b"a", b"b"], [b"a", b"b"], True),
+                                     ("by a list and its front", [b"a", b"b"], [b"a"], False), ("by one empty URL and two", [b""], [b"", b""], False),
+                                     ("by an empty URL and none", [b""], [], False)]:
         file = file_of((0, "good 2", 0, first), (4, "good 2, lost 1", 0, second))
         if one:
             yield from of_each(name, file, ([(0, 2), (4, 2)], [(2, 2), (6, 1)]))
@@ -59,8 +62,10 @@ def many():
     yield refused("sources", 41, "no list at all", bare_head() + open_segment(4))
     yield refused("sources", 25, "25 before 40", file_of(*eight, (0, "good 1"), (0, "lost 1", LAST, [b"b"])))
     turns = [(2 * at, "good 1", 0, A if at % 2 else B) for at in range(60)]
-    yield listed("sources", "60 segments by turns, the first", file_of(*turns), [(4 * at, 1) for at in range(30)], [(4 * at + 1, 3) for at in range(29)], positions=[0, 1, 2, 4, 116, 117, 118])
-    yield listed("sources", "60 segments by turns, the second", file_of(*turns), [(4 * at + 2, 1) for at in range(30)], [(0, 2)] + [(4 * at + 3, 3) for at in range(29)], positions=[0, 1, 2, 4, 118, 119], source=1)
+    yield listed("sources", "60 segments by turns, the first", file_of(*turns), [(4 * at, 1) for at in range(30)], [(4 * at + 1, 3) for at in range(29)],
+                 positions=[0, 1, 2, 4, 116, 117, 118])
+    yield listed("sources", "60 segments by turns, the second", file_of(*turns), [(4 * at + 2, 1) for at in range(30)], [(0, 2)] + [(4 * at + 3, 3) for at in range(29)],
+                 positions=[0, 1, 2, 4, 118, 119], source=1)
 
 
 def rooms():

@@ -137,7 +137,7 @@ from collections import namedtuple
 
 from model_boxes import *
 from model_index import indexed_boxes
-from model_sources import Text, bytes_of, first_texts, lists_by_number, read_surls, urls_of
+from model_sources import bytes_of, first_texts, lists_by_number, read_surls, urls_of
 
 # The kinds of box the base knows: container, and how many of each.
 
