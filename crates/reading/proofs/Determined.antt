@@ -176,10 +176,10 @@ read-source-sources κs args ss read x y after after′ p q = p .1 ss read .numb
 read-result : OneResult read.Post
 read-result κs args x y after after′ p q = read-told x y (p .answer ∙ sym (q .answer))
 
-read-segments : OneLeft read.Post (λ κs after. now (after .1 .0))
+read-segments : OneLeft read.Post (λ κs after. now (after .1 .1 .0))
 read-segments κs args x y after after′ p q = p .tables .segmentTable ∙ sym (q .tables .segmentTable)
 
-read-chunks : OneLeft read.Post (λ κs after. now (after .1 .1 .0))
+read-chunks : OneLeft read.Post (λ κs after. now (after .1 .1 .1 .0))
 read-chunks κs args x y after after′ p q = p .tables .chunkTable ∙ sym (q .tables .chunkTable)
 
 part-of-part : OneOf part-of.Post {X = (ℕ × ℕ) × List ℕ} (λ κs r. (ptr r, now r))

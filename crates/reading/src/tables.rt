@@ -69,7 +69,7 @@ pub fn read_source(
 }
 
 // The same where the sources of the segments are wanted in their rows alone.
-pub fn read(file: &[u8], segments: &mut [u64], chunks: &mut [u64], source: u64) -> Read
+pub fn read(file: &[u8], source: u64, segments: &mut [u64], chunks: &mut [u64]) -> Read
     ensures { λ r. ⌜ Reads (now (file .entry)) source (now (segments .entry)) (now (segments .exit)) (now (chunks .entry)) (now (chunks .exit)) r ⌝ }
 {
     let mut sources = [0; ALL_SOURCES];

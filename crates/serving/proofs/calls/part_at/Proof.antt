@@ -1,4 +1,4 @@
--- `serving::calls::source_part_at` meets its contract: reading, then the run of the position, then the place in its
+-- `serving::calls::part_at` meets its contract: reading, then the run of the position, then the place in its
 -- supplier.
 use mathlib.Core.Path.{sym}
 use native.Mathlib.Omega.{arith}
@@ -7,8 +7,8 @@ use Rattle.partial.specs.Tables.{nowhere}
 use Rattle.reading.specs.Parts.{locatedAnswer}
 use Rattle.serving.proofs.CallsLaws.{told-refused, told-given, part-refused, part-none, part-there}
 use borrow.Author.Needs.{needs}
-use Rattle.serving.proofs.calls.source_part_at.Statement.{statement}
-use Rattle.serving.proofs.calls.source_part_at.Tie as tie
+use Rattle.serving.proofs.calls.part_at.Statement.{statement}
+use Rattle.serving.proofs.calls.part_at.Tie as tie
 
 read-source-requires : tie.Need-read-source-requires
 read-source-requires c κs = search needs
@@ -65,8 +65,8 @@ returns-3 c =
     let there = part-there t _ (c .before .before .before .before .run-at .ensures) (not-false _ (c .before .before .if1 .left)) (omega (arith, short)) (c .place-of .ensures) in
     record { answer = sym there; tables = reads .tables }
 
-pub source-part-at-spec : {M : Type 1} → statement M
-source-part-at-spec =
+pub part-at-spec : {M : Type 1} → statement M
+part-at-spec =
     tie.close
     (tie.spec
     read-source-requires

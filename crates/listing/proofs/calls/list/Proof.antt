@@ -1,4 +1,4 @@
--- `listing::calls::list_source` meets its contract: the judgement, then 26 of the tables, then the lists by what is
+-- `listing::calls::list` meets its contract: the judgement, then 26 of the tables, then the lists by what is
 -- kept.
 use Prim.Native.Nat.{_*_, _≤_}
 use mathlib.Core.Path.{_∙_}
@@ -14,8 +14,8 @@ use Rattle.reading.proofs.TableLaws.{tabled-refused, segments-short, chunks-sho
 use Rattle.listing.proofs.CallsLaws.{listed-refused, leaves-refused, listing-roomy}
 use Rattle.listing.proofs.ToldLaws.{accepted-told}
 use borrow.Author.Needs.{needs}
-use Rattle.listing.proofs.calls.list_source.Statement.{statement}
-use Rattle.listing.proofs.calls.list_source.Tie as tie
+use Rattle.listing.proofs.calls.list.Statement.{statement}
+use Rattle.listing.proofs.calls.list.Tie as tie
 
 slice-aggregate-judge-into : tie.Need-slice-aggregate-judge-into
 slice-aggregate-judge-into c = search needs
@@ -87,8 +87,8 @@ returns-4 c =
     listing-roomy _ _ _ _ _ _ (tabled-given _ _ _ (a .ss) (read-given _ a) segments chunks)
     (c .before .before .before .before .before .before .before .before .list-kept .ensures (a .ss) (accepted-told a kept sourced (omega arith) (omega arith) long) (omega (arith, segment-rows-long (a .ss))) (omega (arith, all-rows-long 0 (a .ss))))
 
-pub list-source-spec : {M : Type 1} → statement M
-list-source-spec =
+pub list-spec : {M : Type 1} → statement M
+list-spec =
     tie.close
     (tie.spec
     slice-aggregate-judge-into

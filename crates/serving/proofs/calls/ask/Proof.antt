@@ -1,10 +1,10 @@
--- `serving::calls::ask_source` meets its contract.
+-- `serving::calls::ask` meets its contract.
 use native.Mathlib.Omega.{arith}
 use Rattle.partial.specs.Answers.{askedAnswer}
 use Rattle.serving.proofs.CallsLaws.{told-refused, told-given, asked-refused, asked-beyond, asked-served, asked-missing}
 use borrow.Author.Needs.{needs}
-use Rattle.serving.proofs.calls.ask_source.Statement.{statement}
-use Rattle.serving.proofs.calls.ask_source.Tie as tie
+use Rattle.serving.proofs.calls.ask.Statement.{statement}
+use Rattle.serving.proofs.calls.ask.Tie as tie
 
 read-source-requires : tie.Need-read-source-requires
 read-source-requires c κs = search needs
@@ -69,8 +69,8 @@ returns-4 c =
     let t = told-given reads held (c .before .before .before .before .before .before .before .before .count .given .1) in
     record { answer = asked-missing t _ (c .before .run-at .ensures) (omega arith) (c .if2 .left); tables = reads .tables }
 
-pub ask-source-spec : {M : Type 1} → statement M
-ask-source-spec =
+pub ask-spec : {M : Type 1} → statement M
+ask-spec =
     tie.close
     (tie.spec
     read-source-requires
