@@ -36,26 +36,26 @@ static uint64_t indexed[INDEXED * VRAZHUPA_INDEX_ROW];
 
 static void read_film(const struct calls *program, const struct asking *a)
 {
-    uint64_t told[4];
-    program->read(a->film, a->length, ALL(segments), ALL(chunks), told);
+    uint64_t told[5];
+    program->read(a->film, a->length, ALL(segments), ALL(chunks), 0, told);
 }
 
 static void serve_position(const struct calls *program, const struct asking *a)
 {
     uint64_t told[2];
-    program->serve(a->film, a->length, ALL(segments), ALL(chunks), a->position, told);
+    program->serve(a->film, a->length, ALL(segments), ALL(chunks), 0, a->position, told);
 }
 
 static void ask_position(const struct calls *program, const struct asking *a)
 {
     uint64_t told[2];
-    program->ask(a->film, a->length, ALL(segments), ALL(chunks), a->position, told);
+    program->ask(a->film, a->length, ALL(segments), ALL(chunks), 0, a->position, told);
 }
 
 static void list_film(const struct calls *program, const struct asking *a)
 {
     uint64_t told[4];
-    program->list(a->film, a->length, ALL(segments), ALL(chunks), ALL(had), ALL(missing), told);
+    program->list(a->film, a->length, ALL(segments), ALL(chunks), 0, ALL(had), ALL(missing), told);
 }
 
 static void index_film(const struct calls *program, const struct asking *a)
@@ -143,7 +143,7 @@ static void append_once(int program, void *given)
         return;
     }
     uint64_t list[2] = {a->size, 2}, told[1];
-    if (a->program->append(a->buffer, HEAD + a->length + a->size, a->length, 0, 0, true, false, list, 2, a->data, a->size, told) != 0) {
+    if (a->program->append(a->buffer, HEAD + a->length + a->size, a->length, 0, 0, true, false, list, 2, a->data, a->size, NULL, 0, NULL, 0, told) != 0) {
         fprintf(stderr, "append refused\n");
         exit(2);
     }
@@ -182,6 +182,9 @@ static void compare_calls(const char *folder)
     compare_on(folder, "indexed", "read", 0);
     compare_on(folder, "indexed", "index", 0);
     compare_on(folder, "damaged", "map", 0);
+    compare_on(folder, "layered", "read", 0);
+    compare_on(folder, "layered", "list", 0);
+    compare_on(folder, "layered", "map", 0);
 }
 
 static void compare_growth(const char *folder)

@@ -5,15 +5,16 @@ import sys
 
 sys.path.insert(0, os.path.join(os.path.dirname(os.path.abspath(__file__)), os.pardir, "tests"))
 
-from boxes import bidx, box, entry, fidx, head, ploc, pshd  # noqa: E402
+from boxes import bidx, box, entry, fidx, head, ploc, pshd, surl  # noqa: E402
 
 GOOD, DAMAGED, LOST = 0x40, 0xC0, 0x80
 
 
-def pseg(place, offset, chunks, widths, last=False):
-    """A segment at a place of the file; a chunk is its flag byte, its size and its place, None where it has none."""
+def pseg(place, offset, chunks, widths, last=False, parts=b""):
+    """A segment at a place of the file; a chunk is its flag byte, its size and its place, None where it has none. Other
+    boxes of it stand at its end."""
     entries = [entry(flags, widths[0], size, *[] if at is None else [widths[1], at - place]) for flags, size, at in chunks]
-    return box(b"pseg", pshd(offset, 1 if last else 0), ploc(*widths, entries))
+    return box(b"pseg", pshd(offset, 1 if last else 0), ploc(*widths, entries), parts)
 
 
 def as_written(segments, size):
@@ -49,6 +50,19 @@ def sixteens(bodies, body_of, size=64, damaged=(), index=b""):
     return data_first(bodies, size, [(16 * s * size, among) for s, among in enumerate(numbers)], damaged=damaged, index=index)
 
 
+def layers(count, size):
+    """So many layers, each of 64 / count segments of 16 chunks that take turns in the file, every other chunk lost."""
+    file = head(b"http://films.example/lesson", b"video/mp4")
+    first = len(file) + 8
+    file += box(b"pdat", bytes(size))
+    for number in range(64):
+        turn, layer = divmod(number, count)
+        chunks = [(LOST, size, None) if i % 2 else (GOOD, size, first) for i in range(16)]
+        urls = surl(b"http://films.example/lesson/layer%d" % layer, b"video/mp4") + surl(b"http://mirror.example/lesson/layer%d" % layer)
+        file += pseg(len(file), 16 * turn * size, chunks, (8, 8), turn == 64 // count - 1, urls)
+    return file
+
+
 def three_levels(size):
     """The index of a source of that size: 8 boxes of 4 boxes of 8 boxes, 296 in all, the last of each list up to the
     end."""
@@ -69,6 +83,7 @@ def films():
     yield "in_order", sixteens(1, lambda i: None if i % 2 else 0)
     yield "indexed", sixteens(1, lambda i: None if i // 8 % 2 else 0, index=three_levels(64 * 1024))
     yield "damaged", sixteens(2, lambda i: (0, 1, None, 1)[i % 4], damaged={1})
+    yield "layered", layers(8, 64)
     for chunks in (16, 64, 256, 1024):
         yield "chunks_%d" % chunks, data_first(1, 64, [(0, [None if i % 2 else 0 for i in range(chunks)])])
     for boxes in (8, 64, 512):

@@ -20,7 +20,8 @@ CASES = [("read", "ordinary", 0), ("read", "largest", 0), ("read", "far", 0), ("
          ("serve", "ordinary", 1048575), ("ask", "ordinary", 1048575), ("ask", "in_order", 65535),
          ("list", "ordinary", 0), ("list", "overlapping", 0), ("list", "in_order", 0), ("list", "largest", 0), ("list", "chunks_16", 0),
          ("map", "ordinary", 0), ("map", "in_order", 0), ("map", "damaged", 0), ("map", "chunks_16", 0), ("missmap", "in_order", 0),
-         ("index", "in_order", 0), ("read", "indexed", 0), ("index", "indexed", 0)]
+         ("index", "in_order", 0), ("read", "indexed", 0), ("index", "indexed", 0),
+         ("read", "layered", 0), ("list", "layered", 0), ("map", "layered", 0)]
 
 
 def emulator():

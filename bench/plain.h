@@ -22,7 +22,7 @@ enum refusal {
     TOO_MANY_SEGMENTS = 13,
     BAD_PSHD = 14,
     NOT_ONE_PLOC = 15,
-    SURL_IN_PSEG = 16,
+    BAD_SEGMENT_SURL = 16,
     BAD_PLOC = 17,
     WIDTH_OVER_EIGHT = 18,
     DATA_REFERENCE = 19,
@@ -42,7 +42,9 @@ enum refusal {
     BAD_INDEX = 36,
     NINTH_LEVEL = 37,
     INDEXES_IN_BOTH = 38,
-    END_UNKNOWN = 39
+    END_UNKNOWN = 39,
+    TOO_MANY_SOURCES = 40,
+    NO_URL = 41
 };
 
 enum { MOST_BOXES = 512 };
@@ -90,95 +92,6 @@ struct part {
     uint32_t length;
 };
 
-/* The `fidx` boxes of a `pfil` or a `pseg`: how many, and the body of the last one. */
-struct index {
-    uint32_t count;
-    struct part body;
-};
-
-struct segment {
-    file_place place, body, end; /* of the `pseg` box: its first byte, its body, the byte after it */
-    struct index index;
-    struct part header;          /* the body of its `pshd` */
-    uint32_t flags;
-    uint32_t chunk_count;
-    uint64_t offset; /* source_byte_offset, not over the limit once the file is accepted */
-    uint64_t repair_time;
-};
-
-struct chunk {
-    source_position start;
-    uint64_t size;
-    file_place place; /* 0 if not present or empty */
-    uint16_t index;
-    uint8_t segment;
-    uint8_t state;
-};
-
-/* A file as read. After NO_PSEG everything but the segments and chunks stands, and there are none. */
-struct partial {
-    const uint8_t *file;
-    uint32_t length;
-    uint32_t boxes; /* in the file itself */
-    bool mixed;
-    uint32_t pdat_count, segment_count, chunk_count;
-    uint32_t nearest;   /* the `pdat` that held the last chunk */
-    uint64_t size;      /* the least size known of the source, or SIZE_UNKNOWN */
-    uint64_t described; /* the largest segment end or open offset: the described length once the file is accepted */
-    struct part url, mime;
-    struct index index;  /* of `pfil` */
-    uint32_t indexes;    /* in `pfil` and in the segments */
-    uint64_t index_rows; /* of an accepted file */
-    struct part pdat[MOST_BOXES]; /* bodies, ascending */
-    file_place end[MOST_BOXES];   /* of each box of the file, the byte after it */
-    uint16_t barred[MOST_BOXES];  /* how many boxes up to it, itself counted, no chunk may be made of */
-    struct segment segment[VRAZHUPA_SEGMENTS];
-    struct chunk chunk[VRAZHUPA_CHUNKS];
-};
-
-/* Positions from `first` up to, not including, `end`. */
-struct range {
-    source_position first, end;
-};
-
-/* Ranges, maximal and ascending, and behind the last one a range beyond every position. */
-struct ranges {
-    uint32_t count;
-    struct range range[VRAZHUPA_CHUNKS + 1];
-};
-
-static inline void close_ranges(struct ranges *ranges, uint32_t count)
-{
-    ranges->count = count;
-    ranges->range[count] = (struct range){(source_position)-1, (source_position)-1};
-}
-
-/* Reads a file up to its segments, which are counted; ACCEPTED or its refusal, 1 to 11. */
-enum refusal plain_heading(const uint8_t *file, size_t file_length, struct partial *partial);
-
-/* Reads a file; ACCEPTED or its refusal, 1 to 25 and 36 to 39. */
-enum refusal plain_read(const uint8_t *file, size_t file_length, struct partial *partial);
-
-/* Judges the indexes of a file, where the source has this size, and counts their rows; ACCEPTED or 36 to 39. */
-enum refusal plain_judge_indexes(const struct partial *partial, uint64_t size, uint64_t *rows);
-
-/* Whether the lent tables hold the rows of an accepted file, and the filling of them. */
-bool plain_tables_hold(const struct partial *partial, size_t segments_length, size_t chunks_length);
-void plain_fill_tables(const struct partial *partial, uint64_t *segments, uint64_t *chunks);
-
-/* Finds what the chunks of a state cover. */
-void plain_find_covered(const struct partial *partial, uint8_t state, struct ranges *ranges);
-
-static inline uint32_t load32(const uint8_t *at)
-{
-    return (uint32_t)at[0] << 24 | (uint32_t)at[1] << 16 | (uint32_t)at[2] << 8 | (uint32_t)at[3];
-}
-
-static inline uint64_t load64(const uint8_t *at)
-{
-    return (uint64_t)load32(at) << 32 | load32(at + 4);
-}
-
 struct container {
     file_place place, end; /* of the next box, and of the byte after the last one */
     uint32_t boxes;        /* framed so far */
@@ -194,6 +107,148 @@ struct header {
     uint32_t type, header_size;
     uint64_t size;
 };
+
+/* The `fidx` boxes of a `pfil` or a `pseg`: how many, and the body of the last one. */
+struct index {
+    uint32_t count;
+    struct part body;
+};
+
+/* The `surl` boxes of a `pfil` or a `pseg`: how many, whether each is well-formed, the part of the file from the first
+   one on to behind the last one, and a digest of their URLs, so that lists that differ seldom have to be compared. */
+struct surls {
+    uint32_t count;
+    bool formed;
+    file_place first, end;
+    uint64_t digest;
+};
+
+struct segment {
+    file_place place, body, end; /* of the `pseg` box: its first byte, its body, the byte after it */
+    struct index index;
+    struct surls surls;          /* its own */
+    struct part header;          /* the body of its `pshd` */
+    uint32_t flags;
+    uint32_t source;             /* the number of its source */
+    uint32_t first, chunk_count; /* its first chunk among those of the file, and how many it has */
+    uint64_t offset;             /* source_byte_offset, not over the limit once the file is accepted */
+    uint64_t repair_time;
+};
+
+struct chunk {
+    source_position start;
+    uint64_t size;
+    file_place place; /* 0 if not present or empty */
+    uint16_t index;
+    uint8_t segment;
+    uint8_t state;
+};
+
+/* A source: its first segment, the least size known of it, or SIZE_UNKNOWN, and the largest segment end or open offset,
+   which is its described length once the file is accepted. */
+struct source {
+    uint32_t segment;
+    uint64_t size, described;
+};
+
+/* A file as read. After NO_PSEG everything but the segments and chunks stands, and there are none. */
+struct partial {
+    const uint8_t *file;
+    uint32_t length;
+    uint32_t boxes; /* in the file itself */
+    bool mixed;
+    uint32_t pdat_count, segment_count, chunk_count, source_count;
+    uint32_t nearest;    /* the `pdat` that held the last chunk */
+    struct surls surls;  /* of `pfil` */
+    struct index index;  /* of `pfil` */
+    uint32_t indexes;    /* in `pfil` and in the segments */
+    uint64_t index_rows; /* of an accepted file */
+    struct part pdat[MOST_BOXES]; /* bodies, ascending */
+    file_place end[MOST_BOXES];   /* of each box of the file, the byte after it */
+    uint16_t barred[MOST_BOXES];  /* how many boxes up to it, itself counted, no chunk may be made of */
+    struct segment segment[VRAZHUPA_SEGMENTS];
+    struct chunk chunk[VRAZHUPA_CHUNKS];
+    struct source source[VRAZHUPA_SEGMENTS]; /* as many as are met before they are judged to be too many */
+};
+
+/* The texts of the `surl` boxes of a segment to be: the bytes of each URL and its MIME text, one behind the other, the
+   lengths of these by turns, and how many pairs of them there are. */
+struct texts {
+    const uint8_t *bytes;
+    const uint64_t *lengths;
+    uint64_t length, count;
+};
+
+/* Positions from `first` up to, not including, `end`. */
+struct range {
+    source_position first, end;
+};
+
+/* Ranges, maximal and ascending, and behind the last one a range beyond every position. */
+struct ranges {
+    uint32_t count;
+    const struct range *range;
+};
+
+/* The ranges of each source of an accepted file, and behind the last source none. */
+struct covered {
+    struct ranges of[VRAZHUPA_SOURCES + 1];
+    struct range room[VRAZHUPA_CHUNKS + VRAZHUPA_SOURCES + 1];
+};
+
+/* Reads a file up to its segments, which are counted; ACCEPTED or its refusal, 1 to 11. */
+enum refusal plain_heading(const uint8_t *file, size_t file_length, struct partial *partial);
+
+/* Reads a file; ACCEPTED or its refusal, 1 to 25 and 36 to 41. */
+enum refusal plain_read(const uint8_t *file, size_t file_length, struct partial *partial);
+
+/* Notes a `surl` among the boxes of its container. */
+void plain_note_surl(const uint8_t *file, struct surls *surls, const struct box *surl);
+
+/* The `surl` boxes as a container, in which others may stand between them; and a step over the next one, where all are
+   well-formed: its URL, which a zero byte closes as it does the MIME text behind it, or NULL where there is none. */
+struct container plain_walk_over(const struct surls *surls);
+const char *plain_next_url(const uint8_t *file, struct container *in);
+
+/* The `surl` boxes that hold for a segment: its own, or where it has none those of `pfil`; and those of a source, which
+   are those of its first segment. */
+const struct surls *plain_surls_of(const struct partial *partial, const struct segment *segment);
+const struct surls *plain_list_of(const struct partial *partial, uint32_t number);
+
+/* The number of the source with these `surl` boxes, of the one with these texts and of that of `pfil`; where there is
+   none as yet, the number that it would get. */
+uint32_t plain_number_of(const struct partial *partial, const struct surls *surls);
+uint32_t plain_number_by_texts(const struct partial *partial, const struct texts *texts);
+uint32_t plain_number_of_pfil(const struct partial *partial);
+
+/* Whether a segment with these texts would be of the source of `pfil`. */
+bool plain_are_of_pfil(const struct partial *partial, const struct texts *texts);
+
+/* A source by its number; where there is none, one that nothing is known of. */
+struct source plain_source(const struct partial *partial, uint64_t number);
+
+/* Judges the indexes of a file, where the source of `pfil` has this size, and counts their rows; ACCEPTED or 36 to
+   39. */
+enum refusal plain_judge_indexes(const struct partial *partial, uint64_t pfil_size, uint64_t *rows);
+
+/* Whether the lent tables hold the rows of an accepted file, and the filling of them. */
+bool plain_tables_hold(const struct partial *partial, size_t segments_length, size_t chunks_length);
+void plain_fill_tables(const struct partial *partial, uint64_t *segments, uint64_t *chunks);
+
+/* Finds what the chunks of a state cover of a source, in room for a range more than it has chunks; and of every
+   source. */
+struct ranges plain_find_covered(const struct partial *partial, uint64_t source, uint8_t state, struct range *room);
+void plain_find_all_covered(const struct partial *partial, uint8_t state, struct covered *covered);
+
+static inline uint32_t load32(const uint8_t *at)
+{
+    return (uint32_t)at[0] << 24 | (uint32_t)at[1] << 16 | (uint32_t)at[2] << 8 | (uint32_t)at[3];
+}
+
+static inline uint64_t load64(const uint8_t *at)
+{
+    return (uint64_t)load32(at) << 32 | load32(at + 4);
+}
 
 /* Reads the header of a box in a container that has so many bytes left. */
 static inline enum refusal read_header(const uint8_t *at, uint64_t left, struct header *header)

@@ -4,14 +4,15 @@
 
 enum { LEVELS = 8 };
 
-/* A walk over the indexes of a file: what it has met, and where the next row goes and which ranges the file has, where
-   rows are wanted. */
+/* A walk over the indexes of a file: what it has met, and where rows are wanted, where the next one goes and which
+   ranges the file has of each source. */
 struct walk {
     const uint8_t *file;
     uint64_t rows;
     bool ninth, unknown; /* a box of a ninth level, and one whose end is not known */
     uint64_t *row;
-    const struct ranges *had;
+    const struct covered *had;
+    uint32_t source; /* of the index that it is in */
 };
 
 /* A list of boxes, the level of those that it indexes, and their source positions: from the first one on and up to
@@ -115,7 +116,7 @@ static void meet(struct walk *walk, const struct indexed *indexed, const struct 
     walk->row[1] = list->position;
     walk->row[2] = end - list->position;
     walk->row[3] = indexed->type;
-    walk->row[4] = how_many_served(walk->had, list->position, end);
+    walk->row[4] = how_many_served(&walk->had->of[walk->source], list->position, end);
     walk->row += VRAZHUPA_INDEX_ROW;
 }
 
@@ -176,21 +177,26 @@ static bool walk_index(struct walk *walk, const struct index *index, source_posi
     return index->count == 1 && walk_list(walk, (struct list){in, 1, start, size});
 }
 
-static bool walk_indexes(struct walk *walk, const struct partial *partial, uint64_t size)
+/* Walks over the indexes, that of `pfil` first, each with the size of its own source. */
+static bool walk_indexes(struct walk *walk, const struct partial *partial, uint64_t pfil_size)
 {
-    if (!walk_index(walk, &partial->index, 0, size))
+    walk->source = plain_number_of_pfil(partial);
+    if (!walk_index(walk, &partial->index, 0, pfil_size))
         return false;
-    for (uint32_t i = 0; i < partial->segment_count; i++)
-        if (!walk_index(walk, &partial->segment[i].index, partial->segment[i].offset, size))
+    for (uint32_t i = 0; i < partial->segment_count; i++) {
+        const struct segment *segment = &partial->segment[i];
+        walk->source = segment->source;
+        if (!walk_index(walk, &segment->index, segment->offset, partial->source[segment->source].size))
             return false;
+    }
     return true;
 }
 
-enum refusal plain_judge_indexes(const struct partial *partial, uint64_t size, uint64_t *rows)
+enum refusal plain_judge_indexes(const struct partial *partial, uint64_t pfil_size, uint64_t *rows)
 {
     struct walk walk = {.file = partial->file};
 
-    if (!walk_indexes(&walk, partial, size))
+    if (!walk_indexes(&walk, partial, pfil_size))
         return BAD_INDEX;
     if (walk.ninth)
         return NINTH_LEVEL;
@@ -212,10 +218,10 @@ uint64_t vrazhupa_index(const uint8_t *file, size_t file_length, uint64_t *table
     if (table_length / VRAZHUPA_INDEX_ROW < partial.index_rows)
         return TABLE_TOO_SHORT;
     if (partial.index_rows > 0) {
-        struct ranges had;
+        struct covered had;
         struct walk walk = {.file = file, .row = table, .had = &had};
-        plain_find_covered(&partial, GOOD, &had);
-        walk_indexes(&walk, &partial, partial.size);
+        plain_find_all_covered(&partial, GOOD, &had);
+        walk_indexes(&walk, &partial, plain_source(&partial, plain_number_of_pfil(&partial)).size);
     }
     told[0] = partial.index_rows;
     return ACCEPTED;

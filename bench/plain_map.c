@@ -1,5 +1,5 @@
-/* Writes both maps of a file, the one that names damage and the one that does not, or the line of its refusal, as text
-   into a lent buffer. */
+/* Writes both maps of a file, the one that names damage and the one that does not, source after source, or the line of
+   its refusal, as text into a lent buffer. */
 #include "plain.h"
 #include "plain_text.h"
 
@@ -7,11 +7,18 @@
    position is held. */
 enum name { HAD, HELD, OTHERWISE, NAMES };
 
-/* What a map says; the damaged ranges are none where damage is not named. */
+/* What a map says of a source; the damaged ranges are none where damage is not named. */
 struct map {
     bool named, closed;
     uint64_t described;
     struct ranges good, damaged;
+};
+
+/* The maps of the sources of a file, in their order, and the ranges in them. */
+struct maps {
+    uint32_t count;
+    struct map of[VRAZHUPA_SOURCES];
+    struct covered good, damaged;
 };
 
 /* A walk over the ranges of a map: the position where the next one begins, and the first good and the first damaged
@@ -53,7 +60,7 @@ static enum name next_range(struct walk *walk, struct range *range)
     return name;
 }
 
-/* A bound on the length of the text: its lines are no longer than these, and a number has thirteen digits at most.
+/* A bound on the length of the text of a source: its lines are no longer than these, and a number has thirteen digits at most.
    Every range of good or damaged chunks makes two more at most. */
 static size_t map_bound(const struct map *map)
 {
@@ -111,6 +118,20 @@ static uint8_t *put_map(uint8_t *at, const struct map *map)
     return put_total(at, map, totals);
 }
 
+/* Whether a buffer holds the maps; the bound spares counting most of them out. */
+static bool holds_maps(size_t buffer_length, const struct maps *maps)
+{
+    size_t bound = 0, length = 0;
+
+    for (uint32_t i = 0; i < maps->count; i++)
+        bound += map_bound(&maps->of[i]);
+    if (buffer_length >= bound)
+        return true;
+    for (uint32_t i = 0; i < maps->count; i++)
+        length += map_length(&maps->of[i]);
+    return buffer_length >= length;
+}
+
 static enum refusal write_refusal(enum refusal refusal, uint8_t *buffer, size_t buffer_length, uint64_t told[1])
 {
     if (buffer_length < refusal_length(refusal))
@@ -119,31 +140,37 @@ static enum refusal write_refusal(enum refusal refusal, uint8_t *buffer, size_t 
     return ACCEPTED;
 }
 
-/* The map of an accepted file. */
-static void find_map(const struct partial *partial, bool named, struct map *map)
+/* The maps of an accepted file. */
+static void find_maps(const struct partial *partial, bool named, struct maps *maps)
 {
-    map->named = named;
-    map->closed = partial->size != SIZE_UNKNOWN;
-    map->described = partial->described;
-    plain_find_covered(partial, GOOD, &map->good);
+    static const struct range beyond = {(source_position)-1, (source_position)-1};
+
+    maps->count = partial->source_count;
+    plain_find_all_covered(partial, GOOD, &maps->good);
     if (named)
-        plain_find_covered(partial, DAMAGED, &map->damaged);
-    else
-        close_ranges(&map->damaged, 0);
+        plain_find_all_covered(partial, DAMAGED, &maps->damaged);
+    for (uint32_t i = 0; i < maps->count; i++) {
+        const struct source *source = &partial->source[i];
+        struct ranges damaged = named ? maps->damaged.of[i] : (struct ranges){0, &beyond};
+        maps->of[i] = (struct map){named, source->size != SIZE_UNKNOWN, source->described, maps->good.of[i], damaged};
+    }
 }
 
 static uint64_t write_map(const uint8_t *file, size_t file_length, uint64_t most, bool named, uint8_t *buffer, size_t buffer_length, uint64_t told[1])
 {
     struct partial partial;
-    struct map map;
+    struct maps maps;
+    uint8_t *at = buffer;
     enum refusal refusal = file_length > most ? INPUT_OVER_LIMIT : plain_read(file, file_length, &partial);
 
     if (refusal != ACCEPTED)
         return write_refusal(refusal, buffer, buffer_length, told);
-    find_map(&partial, named, &map);
-    if (buffer_length < map_bound(&map) && buffer_length < map_length(&map))
+    find_maps(&partial, named, &maps);
+    if (!holds_maps(buffer_length, &maps))
         return BUFFER_TOO_SHORT;
-    told[0] = (uint64_t)(put_map(buffer, &map) - buffer);
+    for (uint32_t i = 0; i < maps.count; i++)
+        at = put_map(at, &maps.of[i]);
+    told[0] = (uint64_t)(at - buffer);
     return ACCEPTED;
 }
 

@@ -1,5 +1,5 @@
-/* Reads a partial file in one pass over its boxes: framing, refusals 1 to 25, segments, chunks and the described
-   length, and where its indexes stand. */
+/* Reads a partial file in one pass over its boxes: framing, refusals 1 to 25, 40 and 41, segments, chunks and the
+   lengths of the sources, and where its indexes stand. */
 #include "plain.h"
 
 #include <string.h>
@@ -91,27 +91,6 @@ static enum refusal check_opening(struct partial *partial, const struct opening 
     return ACCEPTED;
 }
 
-/* Reads a `surl`: version and flags 0, then two texts, each closed by a zero byte, and nothing after. */
-static bool read_surl(const uint8_t *file, const struct box *surl, struct part *url, struct part *mime)
-{
-    const uint8_t *body = file + surl->body, *end = file + surl->end;
-    const uint8_t *text, *url_end, *mime_end;
-
-    if (end - body < 6 || load32(body) != 0)
-        return false;
-    text = body + 4;
-    url_end = memchr(text, 0, (size_t)(end - text));
-    if (url_end == NULL || url_end + 1 == end)
-        return false;
-    mime_end = memchr(url_end + 1, 0, (size_t)(end - url_end - 1));
-    if (mime_end == NULL || mime_end + 1 != end)
-        return false;
-
-    *url = (struct part){(file_place)(text - file), (uint32_t)(url_end - text)};
-    *mime = (struct part){(file_place)(url_end + 1 - file), (uint32_t)(mime_end - url_end - 1)};
-    return true;
-}
-
 /* Notes a `fidx` among the boxes of its container. */
 static void note_index(struct partial *partial, struct index *index, const struct box *fidx)
 {
@@ -124,8 +103,8 @@ static enum refusal read_pfil(struct partial *partial, const struct box *pfil)
 {
     const uint8_t *file = partial->file;
     struct container in = {pfil->body, pfil->end, 0};
-    uint32_t pfhds = 0, surls = 0;
-    bool pfhd_formed = true, surls_formed = true;
+    uint32_t pfhds = 0;
+    bool pfhd_formed = true;
 
     while (in.place < in.end) {
         struct box box;
@@ -136,23 +115,14 @@ static enum refusal read_pfil(struct partial *partial, const struct box *pfil)
             pfhds++;
             pfhd_formed = box.end - box.body == 4 && file[box.body] == 0;
         } else if (box.type == SURL) {
-            struct part url, mime;
-            surls++;
-            if (!read_surl(file, &box, &url, &mime)) {
-                surls_formed = false;
-            } else if (surls == 1) {
-                partial->url = url;
-                partial->mime = mime;
-            }
+            plain_note_surl(file, &partial->surls, &box);
         } else if (box.type == FIDX) {
             note_index(partial, &partial->index, &box);
         }
     }
     if (pfhds != 1 || !pfhd_formed)
         return BAD_PFHD;
-    if (surls == 0 || !surls_formed)
-        return BAD_SURL;
-    return ACCEPTED;
+    return partial->surls.formed ? ACCEPTED : BAD_SURL;
 }
 
 /* Reads a `pshd`: version and flags, an offset of 32 bits in version 0 and else of 64, the repair time, and nothing
@@ -174,15 +144,16 @@ static bool read_pshd(const uint8_t *file, const struct box *pshd, struct segmen
     return true;
 }
 
-/* Frames the boxes of a `pseg`, reads its `pshd` and finds its `ploc` and its index. */
+/* Frames the boxes of a `pseg`, reads its `pshd` and finds its `ploc`, its `surl` boxes and its index. */
 static enum refusal read_pseg_boxes(struct partial *partial, struct segment *segment, struct box *ploc)
 {
     const uint8_t *file = partial->file;
     struct container in = {segment->body, segment->end, 0};
     struct box first = {0, 0, 0, 0};
-    uint32_t pshds = 0, plocs = 0, surls = 0;
+    uint32_t pshds = 0, plocs = 0;
 
     segment->index.count = 0;
+    segment->surls = (struct surls){.formed = true};
     while (in.place < in.end) {
         struct box box;
         enum refusal refusal = next_box(file, &in, &box);
@@ -196,7 +167,7 @@ static enum refusal read_pseg_boxes(struct partial *partial, struct segment *seg
             plocs++;
             *ploc = box;
         } else if (box.type == SURL) {
-            surls++;
+            plain_note_surl(file, &segment->surls, &box);
         } else if (box.type == FIDX) {
             note_index(partial, &segment->index, &box);
         }
@@ -205,9 +176,9 @@ static enum refusal read_pseg_boxes(struct partial *partial, struct segment *seg
         return BAD_PSHD;
     if (plocs != 1)
         return NOT_ONE_PLOC;
-    if (surls != 0)
-        return SURL_IN_PSEG;
-    return ACCEPTED;
+    if (!segment->surls.formed)
+        return BAD_SEGMENT_SURL;
+    return plain_surls_of(partial, segment)->count == 0 ? NO_URL : ACCEPTED;
 }
 
 /* Reads an unsigned field of 0 to 8 bytes, by one load where the file goes on for eight bytes. */
@@ -318,7 +289,7 @@ static enum refusal read_entries(struct partial *partial, uint32_t number, struc
 {
     const uint8_t *at = entries.at, *file_end = partial->file + partial->length;
     const struct segment *segment = &partial->segment[number];
-    struct chunk *chunk = &partial->chunk[partial->chunk_count];
+    struct chunk *chunk = &partial->chunk[segment->first];
     uint64_t start = *position;
 
     for (uint32_t index = 0; index < segment->chunk_count; index++) {
@@ -347,13 +318,12 @@ static enum refusal read_entries(struct partial *partial, uint32_t number, struc
     return at == entries.end ? ACCEPTED : BAD_PLOC;
 }
 
-static enum refusal read_ploc(struct partial *partial, uint32_t number, const struct box *ploc)
+/* Reads the `ploc` of a segment, and finds the segment's end. */
+static enum refusal read_ploc(struct partial *partial, uint32_t number, const struct box *ploc, uint64_t *end)
 {
     const uint8_t *body = partial->file + ploc->body;
     struct segment *segment = &partial->segment[number];
     struct entries entries;
-    uint64_t position = segment->offset;
-    enum refusal refusal;
 
     if (ploc->end - ploc->body < 9 || load32(body) != 0)
         return BAD_PLOC;
@@ -365,33 +335,55 @@ static enum refusal read_ploc(struct partial *partial, uint32_t number, const st
     segment->chunk_count = (uint32_t)body[7] << 8 | body[8];
     if (segment->chunk_count > VRAZHUPA_CHUNKS - partial->chunk_count)
         return TOO_MANY_CHUNKS;
-    if (position > MOST_POSITION)
+    if (segment->offset > MOST_POSITION)
         return POSITION_OVER_LIMIT;
-    refusal = read_entries(partial, number, entries, &position);
-    if (refusal != ACCEPTED)
-        return refusal;
-
+    segment->first = partial->chunk_count;
     partial->chunk_count += segment->chunk_count;
-    if (position > partial->described)
-        partial->described = position;
-    if (segment->flags & LAST_SEGMENT && segment->chunk_count > 0 && position < partial->size)
-        partial->size = position;
-    return ACCEPTED;
+    *end = segment->offset;
+    return read_entries(partial, number, entries, end);
+}
+
+/* Counts a segment to its source, which is a new one where none has its URLs. */
+static void join_source(struct partial *partial, uint32_t number, uint64_t end)
+{
+    struct segment *segment = &partial->segment[number];
+    struct source *source;
+
+    segment->source = plain_number_of(partial, plain_surls_of(partial, segment));
+    source = &partial->source[segment->source];
+    if (segment->source == partial->source_count) {
+        *source = (struct source){number, SIZE_UNKNOWN, 0};
+        partial->source_count++;
+    }
+    if (end > source->described)
+        source->described = end;
+    if (segment->flags & LAST_SEGMENT && segment->chunk_count > 0 && end < source->size)
+        source->size = end;
 }
 
 static enum refusal read_segments(struct partial *partial)
 {
     for (uint32_t number = 0; number < partial->segment_count; number++) {
         struct box ploc = {0, 0, 0, 0};
+        uint64_t end = 0;
         enum refusal refusal = read_pseg_boxes(partial, &partial->segment[number], &ploc);
+        if (refusal == ACCEPTED)
+            refusal = read_ploc(partial, number, &ploc, &end);
         if (refusal != ACCEPTED)
             return refusal;
-        refusal = read_ploc(partial, number, &ploc);
-        if (refusal != ACCEPTED)
-            return refusal;
+        join_source(partial, number, end);
     }
-    /* Of two sizes that differ, the larger is a segment end above the least. */
-    return partial->described > partial->size ? SIZES_DISAGREE : ACCEPTED;
+    return ACCEPTED;
+}
+
+/* Judges the sizes of each source, and how many sources there are. Of two sizes that differ, the larger is a segment end
+   above the least. */
+static enum refusal check_sources(const struct partial *partial)
+{
+    for (uint32_t i = 0; i < partial->source_count; i++)
+        if (partial->source[i].described > partial->source[i].size)
+            return SIZES_DISAGREE;
+    return partial->source_count > VRAZHUPA_SOURCES ? TOO_MANY_SOURCES : ACCEPTED;
 }
 
 enum refusal plain_heading(const uint8_t *file, size_t file_length, struct partial *partial)
@@ -403,12 +395,11 @@ enum refusal plain_heading(const uint8_t *file, size_t file_length, struct parti
         return FILE_OVER_LIMIT;
     partial->file = file;
     partial->length = (uint32_t)file_length;
-    partial->pdat_count = partial->segment_count = partial->chunk_count = 0;
+    partial->pdat_count = partial->segment_count = partial->chunk_count = partial->source_count = 0;
+    partial->surls = (struct surls){.formed = true};
     partial->index.count = partial->indexes = 0;
     partial->index_rows = 0;
     partial->nearest = 0;
-    partial->size = SIZE_UNKNOWN;
-    partial->described = 0;
 
     refusal = read_file_boxes(partial, &opening);
     if (refusal == ACCEPTED)
@@ -429,7 +420,9 @@ enum refusal plain_read(const uint8_t *file, size_t file_length, struct partial 
     if (partial->segment_count > VRAZHUPA_SEGMENTS)
         return TOO_MANY_SEGMENTS;
     refusal = read_segments(partial);
+    if (refusal == ACCEPTED)
+        refusal = check_sources(partial);
     if (refusal != ACCEPTED || partial->indexes == 0)
         return refusal;
-    return plain_judge_indexes(partial, partial->size, &partial->index_rows);
+    return plain_judge_indexes(partial, plain_source(partial, plain_number_of_pfil(partial)).size, &partial->index_rows);
 }

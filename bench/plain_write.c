@@ -29,8 +29,8 @@ static bool has_zero(const uint8_t *text, size_t length)
     return length > 0 && memchr(text, 0, length) != NULL;
 }
 
-/* Sizes of the boxes of a beginning; those of `pfil` and `surl` follow from the texts. */
-enum { FTYP_SIZE = 20, PFHD_SIZE = 12 };
+/* Sizes of the boxes of a beginning, and what a `surl` has beside its texts; those of `pfil` and `surl` follow. */
+enum { FTYP_SIZE = 20, PFHD_SIZE = 12, SURL_SIZE = 14 };
 
 static uint8_t *put_ftyp(uint8_t *at, uint32_t brand)
 {
@@ -40,18 +40,28 @@ static uint8_t *put_ftyp(uint8_t *at, uint32_t brand)
     return put(at, brand, 4); /* the one compatible brand */
 }
 
+static uint8_t *put_surl(uint8_t *at, const uint8_t *url, size_t url_length, const uint8_t *mime, size_t mime_length)
+{
+    at = put_header(at, SURL_SIZE + url_length + mime_length, SURL);
+    at = put(at, 0, 4); /* version and flags */
+    at = put_bytes(at, url, url_length);
+    *at++ = 0;
+    at = put_bytes(at, mime, mime_length);
+    *at++ = 0;
+    return at;
+}
+
 uint64_t vrazhupa_begin(uint8_t *buffer, size_t buffer_length, bool mixed, const uint8_t *url, size_t url_length, const uint8_t *mime, size_t mime_length,
                         uint64_t told[1])
 {
-    uint64_t surl, pfil;
+    uint64_t pfil;
     uint8_t *at;
 
     if (has_zero(url, url_length) || has_zero(mime, mime_length))
         return ZERO_BYTE_IN_TEXT;
     if (url_length > VRAZHUPA_FILE || mime_length > VRAZHUPA_FILE)
         return FILE_OVER_LIMIT;
-    surl = 12 + (uint64_t)url_length + 1 + mime_length + 1;
-    pfil = 8 + PFHD_SIZE + surl;
+    pfil = 8 + PFHD_SIZE + SURL_SIZE + (uint64_t)url_length + mime_length;
     if (FTYP_SIZE + pfil > VRAZHUPA_FILE)
         return FILE_OVER_LIMIT;
     if (FTYP_SIZE + pfil > buffer_length)
@@ -61,12 +71,7 @@ uint64_t vrazhupa_begin(uint8_t *buffer, size_t buffer_length, bool mixed, const
     at = put_header(at, pfil, PFIL);
     at = put_header(at, PFHD_SIZE, PFHD);
     at = put(at, 0, 4); /* version and flags */
-    at = put_header(at, surl, SURL);
-    at = put(at, 0, 4); /* version and flags */
-    at = put_bytes(at, url, url_length);
-    *at++ = 0;
-    at = put_bytes(at, mime, mime_length);
-    *at++ = 0;
+    at = put_surl(at, url, url_length, mime, mime_length);
     told[0] = (uint64_t)(at - buffer);
     return ACCEPTED;
 }
@@ -78,6 +83,7 @@ struct addition {
     const uint64_t *list;
     const uint8_t *data;
     uint64_t data_length;
+    struct texts texts;
     uint64_t count, present;           /* chunks, and those whose bytes are kept */
     uint64_t size;                     /* of all chunks together, UINT64_MAX if more */
     uint64_t out, out_boxes;           /* bytes and boxes that go outside the `pdat` */
@@ -100,14 +106,28 @@ static bool is_present(uint64_t state)
     return state == DAMAGED || state == GOOD;
 }
 
-/* Checks the chunk list and the number of data bytes, and sums the list up. */
-static enum refusal check_list(struct addition *add, size_t list_length)
+/* Whether there are as many text bytes as the lengths of the texts say. */
+static bool are_all_texts(const struct texts *texts)
+{
+    uint64_t left = texts->length;
+
+    for (uint64_t i = 0; i < 2 * texts->count; i++) {
+        if (texts->lengths[i] > left)
+            return false;
+        left -= texts->lengths[i];
+    }
+    return left == 0;
+}
+
+/* Checks both lists and the numbers of data and of text bytes, and sums the chunks up. */
+static enum refusal check_lists(struct addition *add, size_t list_length, size_t lengths_length)
 {
     uint64_t left = add->data_length, bits = 0;
     bool over = false;
 
-    if (list_length % 2 != 0)
+    if (list_length % 2 != 0 || lengths_length % 2 != 0)
         return BAD_CHUNK_LIST;
+    add->texts.count = lengths_length / 2;
     add->count = list_length / 2;
     add->present = 0;
     add->size = 0;
@@ -126,7 +146,7 @@ static enum refusal check_list(struct addition *add, size_t list_length)
         }
     }
     add->length_size = width_of(bits);
-    return over || left != 0 ? DATA_NOT_EQUAL : ACCEPTED;
+    return over || left != 0 || !are_all_texts(&add->texts) ? DATA_NOT_EQUAL : ACCEPTED;
 }
 
 static bool goes_outside(const struct addition *add, uint64_t state)
@@ -172,46 +192,62 @@ static enum refusal check_outside(const struct partial *partial, struct addition
    the first outside, stands furthest before the `pseg`, at -data_length. */
 static bool measure(struct addition *add, uint64_t file_length)
 {
-    if (add->data_length > VRAZHUPA_FILE || add->count > VRAZHUPA_FILE)
+    if (add->data_length > VRAZHUPA_FILE || add->count > VRAZHUPA_FILE || add->texts.length > VRAZHUPA_FILE || add->texts.count > VRAZHUPA_FILE)
         return false;
     add->offset_size = add->data_length == 0 ? 0 : width_of(2 * (add->data_length - 1) + 1);
     add->pdat = add->data_length == add->out ? 0 : 8 + add->data_length - add->out;
     add->pshd = add->offset <= UINT32_MAX ? 24 : 28;
     add->ploc = 17 + add->count * (1 + add->length_size) + add->present * add->offset_size;
-    add->pseg = 8 + add->pshd + add->ploc;
+    add->pseg = 8 + add->pshd + add->ploc + SURL_SIZE * add->texts.count + add->texts.length;
     return file_length + add->pdat + add->out + add->pseg <= VRAZHUPA_FILE;
 }
 
-/* Judges the index that the file would have with the segment, where the source would have this size. One that was
-   accepted stays as it was. */
-static enum refusal check_index(const struct partial *partial, uint64_t size)
+/* Judges the index that the file would have with the segment, whose source would have this size. One that was accepted
+   stays as it was, and else the segment is the only one. */
+static enum refusal check_index(const struct partial *partial, const struct addition *add, uint64_t size)
 {
     uint64_t rows;
 
-    return partial->segment_count > 0 || partial->indexes == 0 ? ACCEPTED : plain_judge_indexes(partial, size, &rows);
+    if (partial->segment_count > 0 || partial->indexes == 0)
+        return ACCEPTED;
+    return plain_judge_indexes(partial, plain_are_of_pfil(partial, &add->texts) ? size : SIZE_UNKNOWN, &rows);
 }
 
-/* Checks what the file would be with the segment: 1, 6, 13, 22, 23, 25, 36, 37 and 39. */
+/* Checks what the source of the segment would be with it, and how many sources there would be: 25, 40, 36, 37 and 39. */
+static enum refusal check_source(const struct partial *partial, const struct addition *add)
+{
+    uint32_t number = plain_number_by_texts(partial, &add->texts);
+    struct source source = plain_source(partial, number);
+    uint64_t end = add->offset + add->size;
+
+    if (end > source.described)
+        source.described = end;
+    if (add->last && add->count > 0 && end < source.size)
+        source.size = end;
+    if (source.described > source.size)
+        return SIZES_DISAGREE;
+    if (number == VRAZHUPA_SOURCES)
+        return TOO_MANY_SOURCES;
+    return check_index(partial, add, source.size);
+}
+
+/* Checks what the file would be with the segment: 1, 6, 13, 41, 22, 23 and those of its source. */
 static enum refusal check_result(const struct partial *partial, struct addition *add)
 {
-    uint64_t end, described = partial->described, size = partial->size;
-
     if (!measure(add, partial->length))
         return FILE_OVER_LIMIT;
-    if (partial->boxes + (add->pdat != 0) + add->out_boxes + 1 > MOST_BOXES)
+    /* The `pseg` has a `pshd` and a `ploc` beside its `surl` boxes. */
+    if (partial->boxes + (add->pdat != 0) + add->out_boxes + 1 > MOST_BOXES || 2 + add->texts.count > MOST_BOXES)
         return TOO_MANY_BOXES;
     if (partial->segment_count + 1 > VRAZHUPA_SEGMENTS)
         return TOO_MANY_SEGMENTS;
+    if (add->texts.count == 0 && partial->surls.count == 0)
+        return NO_URL;
     if (add->count > VRAZHUPA_CHUNKS - partial->chunk_count)
         return TOO_MANY_CHUNKS;
     if (add->offset > MOST_POSITION || add->size > MOST_POSITION - add->offset)
         return POSITION_OVER_LIMIT;
-    end = add->offset + add->size;
-    if (end > described)
-        described = end;
-    if (add->last && add->count > 0 && end < size)
-        size = end;
-    return described > size ? SIZES_DISAGREE : check_index(partial, size);
+    return check_source(partial, add);
 }
 
 static uint8_t *put_ploc(uint8_t *at, const struct addition *add)
@@ -253,6 +289,19 @@ static uint8_t *put_data(uint8_t *at, const struct addition *add, bool outside)
     return at;
 }
 
+/* Writes the `surl` boxes. */
+static uint8_t *put_surls(uint8_t *at, const struct texts *texts)
+{
+    const uint8_t *bytes = texts->bytes;
+
+    for (uint64_t i = 0; i < texts->count; i++) {
+        size_t url = (size_t)texts->lengths[2 * i], mime = (size_t)texts->lengths[2 * i + 1];
+        at = put_surl(at, bytes, url, bytes + url, mime);
+        bytes += url + mime;
+    }
+    return at;
+}
+
 static uint8_t *put_segment(uint8_t *at, const struct addition *add)
 {
     if (add->pdat != 0) {
@@ -266,15 +315,16 @@ static uint8_t *put_segment(uint8_t *at, const struct addition *add)
     at = put(at, add->last ? LAST_SEGMENT : 0, 3);
     at = put(at, add->offset, add->pshd == 24 ? 4 : 8);
     at = put(at, add->repair_time, 8);
-    return put_ploc(at, add);
+    return put_surls(put_ploc(at, add), &add->texts);
 }
 
 uint64_t vrazhupa_append(uint8_t *buffer, size_t buffer_length, uint64_t length, uint64_t offset, uint64_t repair_time, bool last, bool outside,
-                         const uint64_t *list, size_t list_length, const uint8_t *data, size_t data_length, uint64_t told[1])
+                         const uint64_t *list, size_t list_length, const uint8_t *data, size_t data_length, const uint8_t *texts, size_t texts_length,
+                         const uint64_t *lengths, size_t lengths_length, uint64_t told[1])
 {
     struct partial partial;
-    struct addition add = {
-        .offset = offset, .repair_time = repair_time, .last = last, .outside = outside, .list = list, .data = data, .data_length = data_length};
+    struct addition add = {.offset = offset, .repair_time = repair_time, .last = last, .outside = outside, .list = list, .data = data,
+                           .data_length = data_length, .texts = {.bytes = texts, .lengths = lengths, .length = texts_length}};
     enum refusal refusal;
 
     if (length > buffer_length)
@@ -282,9 +332,11 @@ uint64_t vrazhupa_append(uint8_t *buffer, size_t buffer_length, uint64_t length,
     refusal = plain_read(buffer, (size_t)length, &partial);
     if (refusal != ACCEPTED && refusal != NO_PSEG)
         return refusal;
-    refusal = check_list(&add, list_length);
+    refusal = check_lists(&add, list_length, lengths_length);
     if (refusal == ACCEPTED)
         refusal = check_outside(&partial, &add);
+    if (refusal == ACCEPTED && has_zero(texts, texts_length))
+        refusal = ZERO_BYTE_IN_TEXT;
     if (refusal == ACCEPTED)
         refusal = check_result(&partial, &add);
     if (refusal != ACCEPTED)

@@ -56,6 +56,23 @@ static bool take_ahead(struct ahead *ahead, const char *option, struct words *wo
     return true;
 }
 
+/* An option that says what source the segment is of; false where it is none. */
+static bool take_surl(struct addition *addition, const char *option, struct words *words)
+{
+    if (is(option, "--url")) {
+        addition->surls[addition->surl_count++] = (struct surl){value_of(words), "", false};
+    } else if (is(option, "--mime") && addition->surl_count == 0) {
+        misused("no --url is before it", option);
+    } else if (is(option, "--mime")) {
+        struct surl *surl = &addition->surls[addition->surl_count - 1];
+        once(&surl->typed, option);
+        surl->mime = value_of(words);
+    } else {
+        return take_source(&addition->meant, option, words);
+    }
+    return true;
+}
+
 /* An option of the segment; one that there is not is a wrong use. */
 static void take_option(struct addition *addition, bool *offset, bool *time, const char *option, struct words *words)
 {
@@ -84,6 +101,9 @@ static void settle(struct addition *addition, const struct ahead *ahead, bool of
     if (ahead->placed || ahead->sized) {
         misused("no chunk follows", ahead->placed ? "--at" : "--size");
     }
+    if (addition->meant.named && addition->surl_count > 0) {
+        misused("--source and --url are at odds", NULL);
+    }
     if (addition->open == (addition->count > 0)) {
         misused(addition->open ? "--open is for a segment without chunks" : "no chunk is given", NULL);
     }
@@ -98,11 +118,11 @@ static void settle(struct addition *addition, const struct ahead *ahead, bool of
 struct addition addition_in(struct words *words)
 {
     size_t most = (size_t)(words->end - words->next);
-    struct addition addition = {.chunks = lend(most * sizeof(struct chunk))};
+    struct addition addition = {.chunks = lend(most * sizeof(struct chunk)), .surls = lend(most * sizeof(struct surl))};
     struct ahead ahead = {.placed = false};
     bool offset = false, time = false;
     for (const char *option; (option = next_option(words)) != NULL;) {
-        if (!take_chunk(&addition, &ahead, option, words) && !take_ahead(&ahead, option, words)) {
+        if (!take_chunk(&addition, &ahead, option, words) && !take_ahead(&ahead, option, words) && !take_surl(&addition, option, words)) {
             take_option(&addition, &offset, &time, option, words);
         }
     }

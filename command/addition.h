@@ -3,6 +3,7 @@
 #define ADDITION_H
 
 #include "files.h"
+#include "meant.h"
 #include "words.h"
 
 /* A chunk by its words: its state, and the name of what has its bytes or, where that is NULL, a size of which no
@@ -17,8 +18,18 @@ struct chunk {
     uint64_t wanted;
 };
 
+/* The texts of a `surl` box to be written. */
+struct surl {
+    const char *url;
+    const char *mime;
+    bool typed; /* by --mime */
+};
+
 struct addition {
     const char *file;
+    struct meant meant; /* the source that it goes to, where no `surl` says so */
+    struct surl *surls;
+    size_t surl_count;
     uint64_t offset;
     uint64_t time;
     bool last;

@@ -2,6 +2,7 @@
 #include "append.h"
 
 #include "say.h"
+#include "surls.h"
 #include "tables.h"
 #include "writes.h"
 
@@ -27,8 +28,8 @@ static uint64_t answer_by_chunk(struct bytes file, const struct pieces *pieces)
         const uint64_t *item = pieces->list + 2 * i;
         const struct bytes *part = &pieces->parts[i];
         uint64_t told[1];
-        if (item[1] == VRAZHUPA_GOOD && vrazhupa_append(file.at, file.length, file.length, 0, 0, false, true, item, 2, part->at, part->length, told) ==
-                                            VRAZHUPA_NOT_TO_GO_OUTSIDE) {
+        if (item[1] == VRAZHUPA_GOOD && vrazhupa_append(file.at, file.length, file.length, 0, 0, false, true, item, 2, part->at, part->length, NULL, 0, NULL,
+                                                        0, told) == VRAZHUPA_NOT_TO_GO_OUTSIDE) {
             return VRAZHUPA_NOT_TO_GO_OUTSIDE;
         }
     }
@@ -36,11 +37,12 @@ static uint64_t answer_by_chunk(struct bytes file, const struct pieces *pieces)
 }
 
 /* The file in memory with the segment behind it; where that is refused the command ends. Answers the new length. */
-static size_t add_segment(struct bytes file, size_t room, const struct addition *addition, const struct pieces *pieces)
+static size_t add_segment(struct bytes file, size_t room, const struct addition *addition, const struct pieces *pieces, const struct surls *surls)
 {
     uint64_t told[1];
     uint64_t number = vrazhupa_append(file.at, file.length + room, file.length, addition->offset, addition->time, addition->last, addition->outside,
-                                      pieces->list, 2 * pieces->count, pieces->data, pieces->total, told);
+                                      pieces->list, 2 * pieces->count, pieces->data, pieces->total, surls->texts, surls->texts_length, surls->lengths,
+                                      surls->lengths_length, told);
     if (number == VRAZHUPA_NOT_TO_GO_OUTSIDE && pieces->total > VRAZHUPA_FILE) {
         number = answer_by_chunk(file, pieces);
     }
@@ -53,7 +55,7 @@ static size_t add_segment(struct bytes file, size_t room, const struct addition 
 /* The place of the last segment's box in a file that is accepted, whose tables are read. */
 static size_t last_segment_place(const char *name, struct bytes file)
 {
-    uint64_t number = read_tables(file);
+    uint64_t number = read_tables(file, 0);
     if (number != 0) {
         refused(name, number);
     }
@@ -86,10 +88,27 @@ static _Noreturn void take_back(int fd, const char *name, size_t old_end)
     failed_for(name, why);
 }
 
+/* How many sources a file has, none where it was only begun. */
+static uint64_t sources_of(struct bytes file)
+{
+    return read_tables(file, 0) == 0 ? tables.source_count : 0;
+}
+
 static void say_left(const char *name, uint64_t used, uint64_t most, const char *what)
 {
     if (most - used <= most / FEW) {
         note(name, "%" PRIu64 " of %" PRIu64 " %s are left", most - used, most, what);
+    }
+}
+
+/* Says of what few are left in the file whose tables are read; of sources only where there is a new one. */
+static void say_all_left(const char *name, struct bytes file, uint64_t sources_before)
+{
+    say_left(name, tables.segment_count, VRAZHUPA_SEGMENTS, "segments");
+    say_left(name, tables.chunk_count, VRAZHUPA_CHUNKS, "chunks");
+    say_left(name, boxes_of(file), VRAZHUPA_BOXES, "boxes");
+    if (tables.source_count > sources_before) {
+        say_left(name, tables.source_count, VRAZHUPA_SOURCES, "sources");
     }
 }
 
@@ -101,17 +120,18 @@ void append_segment(const struct addition *addition)
     if (fd < 0) {
         failed_for(name, why);
     }
-    size_t room = pieces.total + VRAZHUPA_ADDED;
+    /* How much room the file needs behind it depends on what it says of its sources. */
+    struct surls surls = surls_of(addition, map_with_room(fd, name, 0));
+    size_t room = pieces.total + VRAZHUPA_ADDED + room_of(&surls);
     struct bytes old = map_with_room(fd, name, room);
-    struct bytes new = {old.at, add_segment(old, room, addition, &pieces)};
+    uint64_t sources = sources_of(old);
+    struct bytes new = {old.at, add_segment(old, room, addition, &pieces, &surls)};
     size_t box = last_segment_place(name, new);
     end_writes_by_signal();
     if (write_behind(fd, new.at, old.length, box, new.length) != 0) {
         take_back(fd, name, old.length);
     }
-    say_left(name, tables.segment_count, VRAZHUPA_SEGMENTS, "segments");
-    say_left(name, tables.chunk_count, VRAZHUPA_CHUNKS, "chunks");
-    say_left(name, boxes_of(new), VRAZHUPA_BOXES, "boxes");
+    say_all_left(name, new, sources);
     end_if_signalled(name, "after the segment was appended");
     end(DONE);
 }

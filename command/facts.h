@@ -2,12 +2,8 @@
 #ifndef FACTS_H
 #define FACTS_H
 
-#include "bar.h"
 #include "heading.h"
-#include "tables.h"
-
-/* A range of a map begins at 0, where a segment begins, or where a chunk ends. */
-enum { RANGES = 1 + VRAZHUPA_SEGMENTS + VRAZHUPA_CHUNKS };
+#include "sources.h"
 
 struct facts {
     const char *name;
@@ -18,15 +14,15 @@ struct facts {
     bool headed;      /* the heading is told, of a file that is accepted or only begun */
     struct heading heading;
     struct held held;
-    uint64_t segments, chunks, described;
-    bool closed;
-    uint64_t received, kept, lost;
+    uint64_t segments, chunks;
     uint64_t indexed, whole; /* boxes of the film in its index, and those of them that are served whole */
-    struct range ranges[RANGES];
-    size_t count;
+    struct sources sources;
 };
 
 /* The facts of a file, which is held until they are let go. */
 void gather(struct facts *facts, const char *name);
+
+/* Whether it is refused; one that was only begun is not. */
+bool is_refused(const struct facts *facts);
 
 #endif

@@ -7,6 +7,7 @@
 #include "refusals.h"
 #include "say.h"
 #include "show.h"
+#include "sources.h"
 #include "vrazhupa.h"
 
 #include <inttypes.h>
@@ -38,7 +39,21 @@ static bool flag_in(struct words *words, const char *name, size_t most)
 
 static void run_map(struct words *words)
 {
-    (flag_in(words, "--missing", 1) ? show_missing_map : show_map)(words->operands[0]);
+    struct meant meant = {.named = false};
+    bool missing = false;
+    for (const char *option; (option = next_option(words)) != NULL;) {
+        if (!take_source(&meant, option, words)) {
+            take_flag(option, "--missing", &missing);
+        }
+    }
+    operands_are(words, 1, 1);
+    show_map(words->operands[0], &meant, missing);
+}
+
+static void run_sources(struct words *words)
+{
+    bool percent = flag_in(words, "--percent", 1);
+    show_sources(words->operands[0], percent);
 }
 
 static void run_boxes(struct words *words)
@@ -73,7 +88,7 @@ static void run_get(struct words *words)
         if (is(option, "--output")) {
             once(&output, option);
             wanted.output = value_of(words);
-        } else {
+        } else if (!take_source(&wanted.meant, option, words)) {
             take_flag(option, NULL, NULL);
         }
     }
@@ -138,17 +153,18 @@ static const struct subcommand {
     void (*run)(struct words *words);
     const char *usage;
 } subcommands[] = {
-    {"map", run_map, "paff map [--missing] [--no-wait] FILE\n"},
+    {"map", run_map, "paff map [--missing] [--source N] [--no-wait] FILE\n"},
+    {"sources", run_sources, "paff sources [--percent] [--no-wait] FILE\n"},
     {"info", run_info, "paff info [--json] [--no-wait] FILE...\n"},
     {"boxes", run_boxes, "paff boxes [--no-wait] FILE\n"},
     {"rows", run_rows, "paff rows [--percent] [--no-wait] FILE\n"},
     {"index", run_index, "paff index [--tree] [--no-wait] FILE\n"},
-    {"get", run_get, "paff get [--output NEW] [--no-wait] FILE [FIRST LENGTH]\n"},
+    {"get", run_get, "paff get [--source N] [--output NEW] [--no-wait] FILE [FIRST LENGTH]\n"},
     {"begin", run_begin, "paff begin [--brand paff|pmff] FILE URL [MIME]\n"},
     {"append", run_append,
-     "paff append FILE --offset N [--last] [--time T] [--outside] [--no-wait]\n"
+     "paff append FILE [--source N | (--url U [--mime M])...] --offset N [--last] [--time T] [--outside] [--no-wait]\n"
      "                   [--at N] [--size N] (--good DATA | --damaged DATA | --lost SIZE | --elsewhere SIZE)...\n"
-     "       paff append FILE --offset N --open [--last] [--time T] [--no-wait]\n"},
+     "       paff append FILE [--source N | (--url U [--mime M])...] --offset N --open [--last] [--time T] [--no-wait]\n"},
     {"why", run_why, "paff why NUMBER\n"},
 };
 

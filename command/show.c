@@ -11,10 +11,9 @@
 #include <inttypes.h>
 #include <stdio.h>
 
-/* Prints the text that a call writes of a file. */
-static _Noreturn void show_text(const char *name, text_call call)
+/* Prints a text of a file, and of a fault that it tells of, why. */
+static _Noreturn void show_text(const char *name, struct text text)
 {
-    struct text text = text_of(map_locked(name), call);
     if (fwrite(text.at, 1, text.length, stdout) != text.length) {
         failed("standard output");
     }
@@ -24,19 +23,32 @@ static _Noreturn void show_text(const char *name, text_call call)
     end(text.fault == 0 ? DONE : REFUSED);
 }
 
-void show_map(const char *name)
+/* Where the lines of a source begin in a map, or where the map ends. */
+static size_t lines_of(struct text map, uint64_t source)
 {
-    show_text(name, vrazhupa_map);
+    for (size_t at = 0; at < map.length; at++) {
+        if (map.at[at] == 's' && (at == 0 || map.at[at - 1] == '\n') && source-- == 0) {
+            return at;
+        }
+    }
+    return map.length;
 }
 
-void show_missing_map(const char *name)
+void show_map(const char *name, const struct meant *meant, bool missing)
 {
-    show_text(name, vrazhupa_missmap);
+    struct bytes file = map_locked(name);
+    struct text map = text_of(file, missing ? vrazhupa_missmap : vrazhupa_map);
+    if (meant->named && map.fault == 0 && read_tables(file, 0) == 0) {
+        uint64_t source = source_meant(meant, name);
+        size_t first = lines_of(map, source);
+        map = (struct text){map.at + first, lines_of(map, source + 1) - first, 0};
+    }
+    show_text(name, map);
 }
 
 void show_boxes(const char *name)
 {
-    show_text(name, vrazhupa_boxes);
+    show_text(name, text_of(map_locked(name), vrazhupa_boxes));
 }
 
 static void put_segment(uint64_t number, const uint64_t *row)
@@ -44,10 +56,10 @@ static void put_segment(uint64_t number, const uint64_t *row)
     char time[TIME_TEXT];
     put_time(time, row[SEGMENT_TIME]);
     printf("%" PRIu64, number);
-    for (int i = 0; i < VRAZHUPA_SEGMENT_ROW; i++) {
+    for (int i = 0; i < SEGMENT_SOURCE; i++) {
         printf("\t%" PRIu64, row[i]);
     }
-    printf("\t%s\n", time);
+    printf("\t%s\t%" PRIu64 "\n", time, row[SEGMENT_SOURCE]);
 }
 
 /* A chunk, with the word for its state that append takes as an option. */
@@ -62,7 +74,7 @@ void show_rows(const char *name, bool percent)
 {
     uint64_t url[2], mime[2];
     struct bytes file = map_locked(name);
-    uint64_t number = read_tables(file);
+    uint64_t number = read_tables(file, 0);
     if (number != 0 || (number = vrazhupa_url(file.at, file.length, url)) != 0 || (number = vrazhupa_mime(file.at, file.length, mime)) != 0) {
         refused(name, number);
     }
@@ -70,7 +82,7 @@ void show_rows(const char *name, bool percent)
     (percent ? put_percent : put_printing)(file.at + url[0], url[1]);
     printf("\nmime\t");
     put_printing(file.at + mime[0], mime[1]);
-    printf("\nsegment\tplace\toffset\tflags\ttime\tchunks\theader\tlength\trepaired\n");
+    printf("\nsegment\tplace\toffset\tflags\ttime\tchunks\theader\tlength\trepaired\tsource\n");
     for (uint64_t i = 0; i < tables.segment_count; i++) {
         put_segment(i, &tables.segments[i * VRAZHUPA_SEGMENT_ROW]);
     }

@@ -3,10 +3,10 @@
 #ifndef SHOW_H
 #define SHOW_H
 
-#include <stdbool.h>
+#include "meant.h"
 
-_Noreturn void show_map(const char *name);
-_Noreturn void show_missing_map(const char *name);
+/* The map of all sources, or of the one that is named. */
+_Noreturn void show_map(const char *name, const struct meant *meant, bool missing);
 _Noreturn void show_boxes(const char *name);
 
 /* Texts with each byte that does not print as \xNN, or, of the URL, as it is handed to a program that fetches, in

@@ -11,16 +11,17 @@ struct indexed indexed;
 /* How many rows a table for an index has at first, and how many times as many where they are too few. */
 enum { FIRST_ROWS = 1024, MORE_ROWS = 4 };
 
-uint64_t read_tables(struct bytes file)
+uint64_t read_tables(struct bytes file, uint64_t source)
 {
-    uint64_t told[4];
+    uint64_t told[5];
     uint64_t number = vrazhupa_read(file.at, file.length, tables.segments, sizeof tables.segments / sizeof tables.segments[0], tables.chunks,
-                                    sizeof tables.chunks / sizeof tables.chunks[0], told);
+                                    sizeof tables.chunks / sizeof tables.chunks[0], source, told);
     if (number == 0) {
         tables.segment_count = told[0];
         tables.chunk_count = told[1];
-        tables.described = told[2];
-        tables.closed = told[3] == 1;
+        tables.source_count = told[2];
+        tables.described = told[3];
+        tables.closed = told[4] == 1;
     }
     return number;
 }

@@ -8,20 +8,20 @@
 
 #include <stdbool.h>
 
-/* The place of a segment's box and its repair time in its row. */
-enum { SEGMENT_PLACE = 0, SEGMENT_TIME = 3 };
+/* The place of a segment's box, its repair time and the number of its source in its row. */
+enum { SEGMENT_PLACE = 0, SEGMENT_TIME = 3, SEGMENT_SOURCE = 7 };
 
-/* Both tables of the file that was read last, and what was told of it. */
+/* Both tables of the file that was read last, and what was told of it and of the source that was asked for. */
 struct tables {
     uint64_t segments[VRAZHUPA_SEGMENTS * VRAZHUPA_SEGMENT_ROW];
     uint64_t chunks[VRAZHUPA_CHUNKS * VRAZHUPA_CHUNK_ROW];
-    uint64_t segment_count, chunk_count, described;
+    uint64_t segment_count, chunk_count, source_count, described;
     bool closed;
 };
 extern struct tables tables;
 
-/* Reads a file into the tables; 0, or the number of its refusal. */
-uint64_t read_tables(struct bytes file);
+/* Reads a file into the tables, and of a source how long it is; 0, or the number of its refusal. */
+uint64_t read_tables(struct bytes file, uint64_t source);
 
 /* The numbers of a row of an index. */
 enum { INDEX_LEVEL, INDEX_PLACE, INDEX_SIZE, INDEX_TYPE, INDEX_SERVED };

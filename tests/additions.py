@@ -1,11 +1,14 @@
 """Makes arguments of begin and append, acceptable ones and faulty ones."""
 
+import additions_texts
 import model
+from additions_texts import surls_of, texts_of_urls
 from boxes import box, entry, ftyp, open_segment, pfhd, ploc, pshd, surl
 from faults import FAULTS, faulty_file
-from faults_index import to_the_end
-from foreign import LIMIT, WIDE
+from faults_index import to_the_end, without_index
+from foreign import LIMIT, WIDE, foreign_plan
 from indexes import Index, Indexed, add_indexes, put_index
+from layers import make_bare, own_urls
 from plan import Plan
 from spoiling import spoil
 
@@ -16,7 +19,7 @@ CHUNKS = 1_024
 LOST, DAMAGED, GOOD, ELSEWHERE = 0, 1, 2, 3
 OUTSIDE = [b"moof", b"mdat", b"free", b"surl", b"ploc", b"moov"]
 NEVER_OUTSIDE = [b"ftyp", b"pfil", b"pseg", b"pdat"]
-FAULTS_OF_APPEND = [30, "own", 31, 32, 35, 6, 13, 22, 23, 25, 36, 37, 39, 33]
+FAULTS_OF_APPEND = [30, "own", 31, 32, 35, 34, 6, 13, 41, 22, 23, 25, 40, 36, 37, 39, 33]
 FAULTS_OF_BEGIN = [33, 34]
 BRANDS = [b"paff", b"pmff"]
 
@@ -40,7 +43,7 @@ def any_inside(chunk_list, outside):
     return any(state == DAMAGED or state == GOOD and not outside for state in chunk_list[1::2])
 
 
-def added_length(source_offset, chunk_list, data, outside=False):
+def added_length(source_offset, chunk_list, data, outside=False, texts=b"", lengths=()):
     """How many bytes the paper lets append write for these arguments."""
     chunk_sizes, states = chunk_list[0::2], chunk_list[1::2]
     present = len([state for state in states if is_present(state)])
@@ -51,12 +54,13 @@ def added_length(source_offset, chunk_list, data, outside=False):
     stored = len(data) + (8 if any_inside(chunk_list, outside) else 0)
     pshd_length = 24 if source_offset < WIDE else 28
     ploc_length = 17 + len(chunk_sizes) * (1 + length_size) + present * offset_size
-    return stored + 8 + pshd_length + ploc_length
+    surl_length = len(texts) + 14 * (len(lengths) // 2)
+    return stored + 8 + pshd_length + ploc_length + surl_length
 
 
 def end_of(given):
     return given["stated_length"] + added_length(
-        given["source_offset"], given["chunk_list"], given["data"], given["outside"])
+        given["source_offset"], given["chunk_list"], given["data"], given["outside"], given["texts"], given["lengths"])
 
 
 def is_mixed(file):
@@ -88,12 +92,6 @@ def data_for(rng, chunk_list, outside):
     return b"".join(parts)
 
 
-def described(file):
-    """The described length and whether it is the known size; 0 where refused."""
-    answer = model.length(file)
-    return answer[1:] if answer[0] == "length" else (0, False)
-
-
 def random_chunk_list(rng, room, outside):
     """A chunk list of at most `room` positions; open once in a while. A good chunk that goes outside has room for a
     box."""
@@ -113,9 +111,9 @@ def random_chunk_list(rng, room, outside):
     return chunk_list
 
 
-def last_flag(rng, file, source_offset, chunk_list):
+def last_flag(rng, said, source_offset, chunk_list):
     """A last_segment flag that no known size or earlier end contradicts."""
-    end, closed = described(file)
+    end, closed = said
     new_end = source_offset + sizes(chunk_list)
     fits = not chunk_list or (new_end == end if closed else new_end >= end)
     return fits and rng.random() < 0.3
@@ -129,7 +127,8 @@ def far(rng):
 
 def acceptable(rng, file):
     """Arguments that append takes, where it takes the file; the buffer is set later."""
-    end, closed = described(file)
+    texts, lengths = additions_texts.some_texts(rng, file)
+    end, closed = additions_texts.said_of(file, texts, lengths)
     limit = end if closed else LIMIT
     reach = min(limit, far(rng) if rng.random() < 0.15 else 60)
     outside = rng.random() < (0.6 if is_mixed(file) else 0.1)
@@ -143,10 +142,12 @@ def acceptable(rng, file):
         "stated_length": len(file),
         "source_offset": source_offset,
         "repair_time": rng.choice([0, rng.getrandbits(64)]),
-        "last": last_flag(rng, file, source_offset, chunk_list),
+        "last": last_flag(rng, (end, closed), source_offset, chunk_list),
         "outside": outside,
         "chunk_list": chunk_list,
         "data": data_for(rng, chunk_list, outside),
+        "texts": texts,
+        "lengths": lengths,
     }
 
 
@@ -169,6 +170,15 @@ def set_file(given, file):
     given["buffer"], given["stated_length"] = file, len(file)
 
 
+def set_texts(given, texts, lengths):
+    given["texts"], given["lengths"] = texts, lengths
+
+
+def more_segments(given, content):
+    """Puts segments behind the file that are of the source which is added to."""
+    set_file(given, given["buffer"] + content(surls_of(given["texts"], given["lengths"])))
+
+
 def top_level_count(file):
     """How many boxes an acceptable file holds."""
     count = place = 0
@@ -189,7 +199,10 @@ def rows(file):
 
 # Faults of append, each on arguments that are acceptable otherwise.
 
-def spoil_chunk_list(rng, given):
+def spoil_lists(rng, given):
+    if rng.random() < 0.35:
+        additions_texts.spoil_lengths(rng, given)
+        return
     chunk_list = given["chunk_list"]
     given["chunk_list"] = rng.choice([
         chunk_list + [1], chunk_list + [0, rng.randint(0, 3)], [0, 0] + chunk_list,
@@ -197,7 +210,9 @@ def spoil_chunk_list(rng, given):
 
 
 def spoil_data(rng, given):
-    if given["data"] and rng.random() < 0.5:
+    if rng.random() < 0.4:
+        additions_texts.spoil_texts(rng, given)
+    elif given["data"] and rng.random() < 0.5:
         given["data"] = given["data"][1:]
     else:
         given["data"] += rng.randbytes(rng.randint(1, 3))
@@ -214,7 +229,11 @@ def outside_parts(given):
 
 
 def fill_with_boxes(rng, given):
-    """Leaves room for fewer boxes than the pseg, the pdat and those that go outside."""
+    """Leaves room for fewer boxes than the pseg, the pdat and those that go outside, or gives more texts than a pseg has
+    room for."""
+    if rng.random() < 0.25:
+        set_texts(given, *additions_texts.too_many_texts(rng))
+        return
     added = 1 + any_inside(given["chunk_list"], given["outside"]) + sum(map(top_level_count, outside_parts(given)))
     left = rng.choice([0, added - 1, rng.randrange(added)])
     file = given["buffer"]
@@ -245,19 +264,18 @@ def spoil_outside(rng, given):
 
 
 def fill_with_segments(rng, given):
-    file = given["buffer"]
-    set_file(given, file + (SEGMENTS - len(rows(file)[0])) * open_segment(0))
+    missing = SEGMENTS - len(rows(given["buffer"])[0])
+    more_segments(given, lambda surls: missing * open_segment(0, parts=surls))
 
 
 def fill_with_chunks(rng, given):
     """Chunks of one byte each in the file: not present, of width 0 and size 0."""
     if not given["chunk_list"]:
         set_chunks(rng, given, [1, absent(rng)])
-    file = given["buffer"]
     left = rng.randrange(len(given["chunk_list"]) // 2)
-    count = CHUNKS - left - len(rows(file)[1])
+    count = CHUNKS - left - len(rows(given["buffer"])[1])
     located = ploc(0, 0, count * [entry(rng.choice([0x80, 0x00]), 0, 0)])
-    set_file(given, file + box(b"pseg", pshd(0), located))
+    more_segments(given, lambda surls: box(b"pseg", pshd(0), located, surls))
 
 
 def overstep_limit(rng, given):
@@ -273,11 +291,11 @@ def overstep_limit(rng, given):
 
 
 def overstep_size(rng, given):
-    """A known size, in the file or in the new segment, that is contradicted."""
-    end, closed = described(given["buffer"])
+    """A known size, of the source in the file or in the new segment, that is contradicted."""
+    end, closed = additions_texts.said_of(given["buffer"], given["texts"], given["lengths"])
     if not closed:
         if end < 10:
-            set_file(given, given["buffer"] + open_segment(10))
+            more_segments(given, lambda surls: open_segment(10, parts=surls))
         set_chunks(rng, given, [rng.randint(1, 5), absent(rng)])
         given["source_offset"], given["last"] = rng.randint(0, 4), True
     elif rng.random() < 0.5 and end < LIMIT - 9:
@@ -291,11 +309,27 @@ def overstep_size(rng, given):
         given["source_offset"] = 0
 
 
+def without_any_list(rng, given):
+    """A file whose pfil has no list, begun or with segments that have their own, and no text."""
+    plan = foreign_plan(rng, mixed=is_mixed(given["buffer"]))
+    without_index(plan)
+    make_bare(rng, plan)
+    if rng.random() < 0.3:
+        plan.items = [item for item in plan.items if item not in plan.segments()]
+    set_file(given, plan.assemble())
+    set_texts(given, b"", [])
+
+
 # A file without a segment, whose index is judged with the first.
 
 def begun_plan(rng, mixed):
     brand = BRANDS[1 if mixed else 0]
     return Plan(ftyp([brand], brand), [pfhd(), surl(*texts(rng))], [], mixed=mixed)
+
+
+def to_source_of_pfil(rng, given, plan):
+    """Makes an addition one to the source of the list in pfil, by no text or by that list."""
+    set_texts(given, *rng.choice([(b"", []), texts_of_urls(rng, own_urls(plan))]))
 
 
 def begun_with_index(rng, number=None, mixed=None):
@@ -312,7 +346,8 @@ def begun_with_index(rng, number=None, mixed=None):
 def spoil_index(number):
     def step(rng, given):
         set_file(given, begun_with_index(rng, number, is_mixed(given["buffer"])))
-        given["last"] = given["last"] and number != 39
+        of_another = additions_texts.urls_used(given["buffer"], given["texts"], given["lengths"]) != additions_texts.lists_in(given["buffer"])[0]
+        given["last"] = given["last"] and (number != 39 or of_another)
         if number == 36 and given["last"] and given["chunk_list"]:
             set_file(given, too_near_the_end(rng, given))
     return step
@@ -330,6 +365,7 @@ def too_near_the_end(rng, given):
         put_index(rng, plan, Index([*before, to_the_end(b"mdat", [])]))
     else:
         FAULTS[36](rng, plan)
+    to_source_of_pfil(rng, given, plan)
     return plan.assemble()
 
 
@@ -342,8 +378,8 @@ def faulty_addition(rng, file, number):
     if number == "own":
         faulty = faulty_file(rng, rng.choice([2, 5, 8, 14, 24]))
         set_file(given, rng.choice([spoil(rng, file), faulty]))
-    steps = {31: spoil_chunk_list, 32: spoil_data, 35: spoil_outside, 6: fill_with_boxes, 13: fill_with_segments,
-             22: fill_with_chunks, 23: overstep_limit, 25: overstep_size, 36: spoil_index(36), 37: spoil_index(37), 39: spoil_index(39)}
+    steps = {31: spoil_lists, 32: spoil_data, 35: spoil_outside, 34: additions_texts.put_zero, 6: fill_with_boxes, 13: fill_with_segments, 41: without_any_list,
+             22: fill_with_chunks, 23: overstep_limit, 25: overstep_size, 40: additions_texts.fill_with_sources, 36: spoil_index(36), 37: spoil_index(37), 39: spoil_index(39)}
     if number in steps:
         steps[number](rng, given)
     lend_buffer(rng, given)
@@ -364,7 +400,7 @@ def addition(rng, file):
         return lend_buffer(rng, acceptable(rng, file))
     weights = [1 if number in (6, 13, 22) else 4 for number in FAULTS_OF_APPEND]
     number = rng.choices(FAULTS_OF_APPEND, weights)[0]
-    if model.append(file, len(file), 0, 0, False, False, [], b"")[0] != ("refused", 33):
+    if model.attempt(model.read_earlier, file)[0]:
         number = "own"
     return faulty_addition(rng, file, number)
 

@@ -15,6 +15,8 @@ Case = namedtuple("Case", "name term numbers refusal source")
 LISTED = 120
 # A file above this length is costly to compute on, so only its map is.
 SMALL = 1_000
+# The faults of append that need such a file.
+LARGE = (6, 13, 22)
 MARK = 7
 
 
@@ -45,26 +47,27 @@ def counted(data):
     return [len(data)] + list(data)
 
 
-def read_numbers(file):
+def read_numbers(file, source):
     def values(answer):
         segments, chunks = answer[1:]
-        described, closed = model.length(file)[1:]
+        described, closed = model.length(file, source)[1:]
         rows = [number for row in segments + chunks for number in row]
-        return [len(segments), len(chunks), described, flag(closed)] + rows
+        return [len(segments), len(chunks), model.sources(file)[1], described, flag(closed)] + rows
     return answer_numbers(model.read(file), values)
 
 
-def text_numbers(file):
+def text_numbers(file, source):
+    """The texts of pfil and those of a source."""
     numbers = []
-    for place, length in [model.url(file), model.mime(file)]:
+    for place, length in [model.url(file), model.mime(file), model.source_url(file, source), model.source_mime(file, source)]:
         numbers += counted(file[place:place + length])
     return numbers
 
 
-def asked_numbers(file, p):
+def asked_numbers(file, source, p):
     replies = {"served": 1, "missing": 0, "beyond": 2}
-    reply = answer_numbers(model.ask(file, p), lambda answer: [replies[answer[0]]] + list(answer[1:]))
-    return list(model.serve(file, p)) + reply
+    reply = answer_numbers(model.ask(file, p, source=source), lambda answer: [replies[answer[0]]] + list(answer[1:]))
+    return list(model.serve(file, p, source=source)) + reply
 
 
 def table_after(rows, table):
@@ -80,9 +83,9 @@ def tables_numbers(file, segment_table, chunk_table):
     return [1] + table_after(flat[0], segment_table) + table_after(flat[1], chunk_table)
 
 
-def lists_numbers(file, had_list, missing_list):
-    """The answer, both totals and both lists at exit."""
-    answer = model.lists(file, had_room=len(had_list), missing_room=len(missing_list))
+def lists_numbers(file, source, had_list, missing_list):
+    """The answer, both totals and both lists of a source at exit."""
+    answer = model.lists(file, had_room=len(had_list), missing_room=len(missing_list), source=source)
     if answer[0] == "refused":
         return [0, answer[1]] + had_list + missing_list
     had, missing, received, lacking = answer[1:]
@@ -99,22 +102,38 @@ def index_numbers(file, table):
     return [1, len(answer[1])] + table_after([number for row in answer[1] for number in row], table)
 
 
+def texts_numbers(file, segment, text_buffer, length_list):
+    """The answer, and the texts of a segment and their lengths at exit."""
+    answer = model.texts(file, segment, len(text_buffer), len(length_list))
+    if answer[0] == "refused":
+        return [0, answer[1]] + text_buffer + length_list
+    texts, lengths = list(answer[1]), answer[2]
+    return [1, len(texts), len(lengths)] + table_after(texts, text_buffer) + table_after(lengths, length_list)
+
+
 def written_numbers(answer, buffer):
     return answer_numbers(answer, lambda value: [value[1]]) + list(buffer)
 
 
-def positions(rng, file):
-    """Positions at the edges of chunks, each with a short run before the next change."""
+def some_source(rng, file):
+    """A source of the file, or sometimes one that it has not."""
+    answer = model.sources(file)
+    count = 0 if answer[0] == "refused" else answer[1]
+    return rng.choice([*range(count), *range(count), count, 9])
+
+
+def positions(rng, file, source):
+    """Positions at the edges of chunks of any source, each with a short run before the next change of this one."""
     answer = model.read(file)
     if answer[0] == "refused":
         return [0]
-    described = model.length(file)[1]
+    described = model.length(file, source)[1]
     edges = {0, described, described + 1}
     for segment, index, start, size, state, place in answer[2]:
         edges |= {start - 1, start, start + size - 1, start + size}
     found = []
     for p in sorted(edge for edge in edges if edge >= 0):
-        reply = model.ask(file, p)
+        reply = model.ask(file, p, source=source)
         if len(reply) < 2 or reply[1] <= LISTED:
             found.append(p)
     return sorted(rng.sample(found, min(4, len(found))))
@@ -129,31 +148,43 @@ def number_of(answer):
     return answer[1] if answer[0] == "refused" else 0
 
 
-def read_case(rng, name, file, source):
-    """Every row, the texts, and serving and asking at some positions."""
-    points = positions(rng, file)
-    numbers = read_numbers(file) + text_numbers(file)
+def read_case(rng, name, file, made_from):
+    """Every row, the texts, and of a source serving and asking at some positions."""
+    source = some_source(rng, file)
+    points = positions(rng, file, source)
+    numbers = read_numbers(file, source) + text_numbers(file, source)
     for p in points:
-        numbers += asked_numbers(file, p)
-    term = "readOf %s (%s)" % (octets(file), listing(points))
-    return Case(name, term, numbers, number_of(model.read(file)), source)
+        numbers += asked_numbers(file, source, p)
+    term = "readOf %s %d (%s)" % (octets(file), source, listing(points))
+    return Case(name, term, numbers, number_of(model.read(file)), made_from)
+
+
+def texts_case(rng, name, file, made_from):
+    """The texts of a segment, or of one that the file has not."""
+    answer = model.read(file)
+    segment = rng.randint(0, 2 if answer[0] == "refused" else len(answer[1]))
+    texts, lengths = (b"", []) if answer[0] == "refused" else model.texts(file, segment)[1:]
+    a, b = room(rng, len(texts)), room(rng, len(lengths))
+    term = "textsOf %s %d %s (%s)" % (octets(file), segment, octets(bytes(a)), listing(b))
+    return Case(name, term, texts_numbers(file, segment, a, b), number_of(model.texts(file, segment, len(a), len(b))), made_from)
 
 
 def tables_case(rng, name, file, source):
     answer = model.read(file)
     segments, chunks = ([], []) if answer[0] == "refused" else answer[1:]
-    a, b = room(rng, 7 * len(segments)), room(rng, 6 * len(chunks))
+    a, b = room(rng, 8 * len(segments)), room(rng, 6 * len(chunks))
     term = "tablesOf %s (%s) (%s)" % (octets(file), listing(a), listing(b))
     return Case(name, term, tables_numbers(file, a, b), number_of(model.read(file, len(a), len(b))), source)
 
 
-def lists_case(rng, name, file, source):
-    answer = model.lists(file)
+def lists_case(rng, name, file, made_from):
+    source = some_source(rng, file)
+    answer = model.lists(file, source=source)
     had, missing = ([], []) if answer[0] == "refused" else answer[1:3]
     a, b = room(rng, 2 * len(had)), room(rng, 2 * len(missing))
-    term = "listsOf %s (%s) (%s)" % (octets(file), listing(a), listing(b))
-    refusal = number_of(model.lists(file, had_room=len(a), missing_room=len(b)))
-    return Case(name, term, lists_numbers(file, a, b), refusal, source)
+    term = "listsOf %s %d (%s) (%s)" % (octets(file), source, listing(a), listing(b))
+    refusal = number_of(model.lists(file, had_room=len(a), missing_room=len(b), source=source))
+    return Case(name, term, lists_numbers(file, source, a, b), refusal, made_from)
 
 
 def index_case(rng, name, file, source):
@@ -181,35 +212,43 @@ def boxes_case(name, file, source):
     return Case(name, "boxesOfInput %s" % octets(file), list(model.boxes_text(file)), 0, source)
 
 
+def longest(file):
+    """The described length of the longest source, 0 where the file is refused."""
+    number, reading = model.attempt(model.accept, file)
+    return 0 if number else max(source.described for source in reading.sources)
+
+
 def file_cases(rng, name, file):
     """What the definitions are asked of one file."""
     source = "file " + file.hex()
-    answer = model.length(file)
     if len(file) > SMALL:
         return [map_case(name + "-map", file, source)]
     cases = [read_case(rng, name, file, source), boxes_case(name + "-boxes", file, source)]
     if rng.random() < 0.3:
         cases.append(tables_case(rng, name + "-tables", file, source))
+    if rng.random() < 0.5:
+        cases.append(texts_case(rng, name + "-texts", file, source))
     if short_boxes(file):
         cases.append(index_case(rng, name + "-index", file, source))
-    if answer[0] == "refused" or answer[1] <= LISTED:
+    if longest(file) <= LISTED:
         cases.append(map_case(name + "-map", file, source))
         cases.append(missmap_case(name + "-missmap", file, source))
         cases.append(lists_case(rng, name + "-lists", file, source))
-    if answer[0] == "length" and answer[1] <= LISTED:
-        cases.append(mapped_case(rng, name + "-mapped", file, source))
+        if model.read(file)[0] == "read":
+            cases.append(mapped_case(rng, name + "-mapped", file, source))
     return cases
 
 
-def mapped_case(rng, name, file, source):
-    """Demand 2 in an accepted file: eight facts, then five for each position."""
-    reading, numbers = model.accept(file), 8 * [1]
-    points = [p for p in positions(rng, file) if p < reading.described]
+def mapped_case(rng, name, file, made_from):
+    """Demand 2 in a source of an accepted file: eight facts, then five for each position."""
+    number, numbers = rng.randrange(model.sources(file)[1]), 8 * [1]
+    source = model.accept(file).sources[number]
+    points = [p for p in positions(rng, file, number) if p < source.described]
     for p in points:
-        supplied = flag(model.ask(file, p)[0] == "served")
-        word = model.name_of(reading, p)
+        supplied = flag(model.ask(file, p, source=number)[0] == "served")
+        word = model.name_of(source, p)
         numbers += [supplied, supplied, 1 - supplied, flag(word == "held"), flag(word == "lost")]
-    return Case(name, "mappedOf %s (%s)" % (octets(file), listing(points)), numbers, 0, source)
+    return Case(name, "mappedOf %s %d (%s)" % (octets(file), number, listing(points)), numbers, 0, made_from)
 
 
 def truth(value):
@@ -217,9 +256,9 @@ def truth(value):
 
 
 def addition_term(given):
-    return "%s %d %d %d %s %s (%s) %s" % (
+    return "%s %d %d %d %s %s (%s) %s %s (%s)" % (
         octets(given["buffer"]), given["stated_length"], given["source_offset"], given["repair_time"], truth(given["last"]), truth(given["outside"]),
-        listing(given["chunk_list"]), octets(given["data"]))
+        listing(given["chunk_list"]), octets(given["data"]), octets(given["texts"]), listing(given["lengths"]))
 
 
 def addition_cases(rng, name, given):
@@ -228,8 +267,10 @@ def addition_cases(rng, name, given):
     source, term = "addition %r" % given, addition_term(given)
     cases = [Case(name, "appendedOf " + term, written_numbers(answer, buffer), number_of(answer), source)]
     if answer[0] == "length":
-        points = positions(rng, buffer[:answer[1]])
-        term = "demandsOf %s (%s)" % (term, listing(points))
+        after = buffer[:answer[1]]
+        number = rng.choice([model.read(after)[1][-1][7], some_source(rng, after)])
+        points = positions(rng, after, number)
+        term = "demandsOf %s %d (%s)" % (term, number, listing(points))
         cases.append(Case(name + "-demands", term, [1, 1, 1] + [1] * len(points), 0, source))
     return cases
 
@@ -279,13 +320,23 @@ def some_addition(rng, index):
     once."""
     file = generate.foreign_file(rng)
     if index < len(generate.FAULTS_OF_APPEND):
-        return generate.faulty_addition(rng, file, generate.FAULTS_OF_APPEND[index])
+        number = generate.FAULTS_OF_APPEND[index]
+        return large_addition(rng, number) if number in LARGE else generate.faulty_addition(rng, file, number)
     if index % 4 == 1:
         return outside_addition(rng)
     if index % 4 == 0:
-        small = [number for number in generate.FAULTS_OF_APPEND if number not in (6, 13, 22)]
+        small = [number for number in generate.FAULTS_OF_APPEND if number not in LARGE]
         return generate.faulty_addition(rng, file, small[index // 4 % len(small)])
     return addition_to(rng, file)
+
+
+def large_addition(rng, number):
+    """A fault that needs a large file, which has little else in it, since the checker computes a case only so far."""
+    answer, buffer = model.begin(bytes(SMALL), rng.choice([model.PAFF, model.PMFF]), b"u", b"")
+    while True:
+        given = generate.faulty_addition(rng, buffer[:answer[1]], number)
+        if number == 6 or len(given["lengths"]) <= 2:
+            return given
 
 
 def addition_to(rng, file):

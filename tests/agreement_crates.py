@@ -25,21 +25,23 @@ use Rattle.numerals.specs.Numbers.{bytesOf}
 use Rattle.partial.specs.Limits.{programLimit, sourceLimit}
 use Rattle.partial.specs.Sequences.{orElse}
 use Rattle.partial.specs.Segments.{Segment}
-use Rattle.partial.specs.Heading.{bytesIn, url, mime, heading}
+use Rattle.partial.specs.Heading.{Part, bytesIn, url, mime, heading}
 use Rattle.partial.specs.Reading.{reading, earlierSegments}
 use Rattle.partial.specs.Meaning.{Reply, servedFor, missingFor, notBelow, describedLength, supplied, served}
+use Rattle.partial.specs.Sources.{sameList, sameUrls, ofSource, ofUrls}
 use Rattle.partial.specs.Ranges.{hadList, missingList, total}
 use Rattle.partial.specs.Ranges.{among, apart, inRow, rangesOf}
 use Rattle.partial.specs.Naming.{namedRanges, heldList, lostList}
 use Rattle.partial.specs.Memory.{after, written}
 use Rattle.partial.specs.Tables.{segmentRows, chunkRows, hadRows, missingRows, tabled, listed, summary, totals, servedPart, asked, textOf}
 use Rattle.partial.specs.Tables.{indexTabled, indexTable, indexCount}
+use Rattle.partial.specs.Texts.{Surl, sourceTextOf, textsFor, lengthsFor, textsTabled}
 use Rattle.partial.specs.Map.{mapText, missmapText}
 use Rattle.partial.specs.BoxList.{boxesText}
 use Rattle.partial.specs.declared.brand.Brand.{Brand}
 use Rattle.additions.specs.Begin.{beginning, begun}
 use Rattle.additions.specs.Addition.{Addition}
-use Rattle.additions.specs.Append.{appended, psegPlace, newSegment, result}
+use Rattle.additions.specs.Append.{appended, psegPlace, newUrls, newSegment, result}
 use Rattle.additions.specs.Runs.{lent, fileIn, append}
 use Rattle.additions.specs.Again.{again, settled, writeAgain}
 use Rattle.additions.specs.Carried.{carried}
@@ -56,26 +58,47 @@ flag false = 0
 counted : List ℕ → List ℕ
 counted xs = length xs ∷ xs
 
-rowsOf : List Segment → List ℕ
-rowsOf ss =
-    let s = summary 0 ss in
-    s .segments ∷ s .chunks ∷ s .described ∷ flag (s .closed) ∷ (segmentRows ss ++ chunkRows ss)
+rowsOf : ℕ → List Segment → List ℕ
+rowsOf source ss =
+    let s = summary source ss in
+    s .segments ∷ s .chunks ∷ s .sources ∷ s .described ∷ flag (s .closed) ∷ (segmentRows ss ++ chunkRows ss)
+
+-- the bytes of a part, none after a refusal
+partIn : List ℕ → Answer Part → List ℕ
+partIn f (refused n) = []
+partIn f (given part) = bytesIn f part
+
+textsRead : List ℕ → ℕ → List ℕ
+textsRead f source =
+    counted (bytesIn f (textOf url sourceLimit f))
+    ++ (counted (bytesIn f (textOf mime sourceLimit f))
+    ++ (counted (partIn f (sourceTextOf url sourceLimit f source)) ++ counted (partIn f (sourceTextOf mime sourceLimit f source))))
 
 replyOf : Reply → List ℕ
 replyOf (servedFor n) = 1 ∷ n ∷ []
 replyOf (missingFor n) = 0 ∷ n ∷ []
 replyOf notBelow = 2 ∷ []
 
-askedOf : Answer (List Segment) → List ℕ → List ℕ
-askedOf r [] = []
-askedOf r (p ∷ ps) = servedPart r 0 p .place ∷ servedPart r 0 p .size ∷ (answered replyOf (asked r 0 p) ++ askedOf r ps)
+askedOf : Answer (List Segment) → ℕ → List ℕ → List ℕ
+askedOf r source [] = []
+askedOf r source (p ∷ ps) =
+    servedPart r source p .place ∷ servedPart r source p .size ∷ (answered replyOf (asked r source p) ++ askedOf r source ps)
 
-unfoldable pub readOf : List ℕ → List ℕ → List ℕ
-unfolding answered flag counted rowsOf replyOf askedOf computing
-readOf f ps =
+unfoldable pub readOf : List ℕ → ℕ → List ℕ → List ℕ
+unfolding answered flag counted rowsOf partIn textsRead replyOf askedOf computing
+readOf f source ps =
     let r = reading sourceLimit f in
-    answered rowsOf r
-    ++ (counted (bytesIn f (textOf url sourceLimit f)) ++ (counted (bytesIn f (textOf mime sourceLimit f)) ++ askedOf r ps))
+    answered (rowsOf source) r ++ (textsRead f source ++ askedOf r source ps)
+
+-- how many bytes the texts of a segment have, and how many lengths
+textCounts : List Surl → List ℕ
+textCounts told = length (textsFor told) ∷ length (lengthsFor told) ∷ []
+
+unfoldable pub textsOf : List ℕ → ℕ → List ℕ → List ℕ → List ℕ
+unfolding answered textCounts computing
+textsOf f n texts lengths =
+    let r = textsTabled sourceLimit f n texts lengths in
+    answered textCounts r ++ (after textsFor r texts ++ after lengthsFor r lengths)
 
 unfoldable pub tablesOf : List ℕ → List ℕ → List ℕ → List ℕ
 unfolding answered computing
@@ -83,19 +106,19 @@ tablesOf f a b =
     let r = tabled sourceLimit f a b in
     answered (λ ss. []) r ++ (after segmentRows r a ++ after chunkRows r b)
 
-totalsOf : List Segment → List ℕ
-totalsOf ss =
-    let t = totals 0 ss in
+totalsOf : ℕ → List Segment → List ℕ
+totalsOf source ss =
+    let t = totals source ss in
     t .hadRanges ∷ t .missingRanges ∷ t .receivedTotal ∷ t .missingTotal ∷ []
 
 ample : List ℕ
 ample = bytesOf 512 0
 
-unfoldable pub listsOf : List ℕ → List ℕ → List ℕ → List ℕ
+unfoldable pub listsOf : List ℕ → ℕ → List ℕ → List ℕ → List ℕ
 unfolding answered totalsOf ample computing
-listsOf f h m =
-    let r = listed sourceLimit f 0 ample ample h m in
-    answered totalsOf r ++ (after (hadRows 0) r h ++ after (missingRows 0) r m)
+listsOf f source h m =
+    let r = listed sourceLimit f source ample ample h m in
+    answered (totalsOf source) r ++ (after (hadRows source) r h ++ after (missingRows source) r m)
 
 unfoldable pub indexRowsOf : List ℕ → List ℕ → List ℕ
 unfolding answered computing
@@ -107,10 +130,10 @@ unfoldable pub begunOf : List ℕ → Brand → List ℕ → List ℕ → List �
 unfolding answered computing
 begunOf buffer brand u m = answered (λ n. n ∷ []) (begun buffer brand u m) ++ written (beginning brand u m) (begun buffer brand u m) buffer
 
-unfoldable pub appendedOf : List ℕ → ℕ → ℕ → ℕ → Bool → Bool → List ℕ → List ℕ → List ℕ
+unfoldable pub appendedOf : List ℕ → ℕ → ℕ → ℕ → Bool → Bool → List ℕ → List ℕ → List ℕ → List ℕ → List ℕ
 unfolding answered computing
-appendedOf buffer n offset repair last outside list bytes =
-    let a : Addition = record { sourceOffset = offset; repairTime = repair; last = last; outside = outside; list = list; bytes = bytes; texts = []; lengths = [] } in
+appendedOf buffer n offset repair last outside list bytes texts lengths =
+    let a : Addition = record { sourceOffset = offset; repairTime = repair; last = last; outside = outside; list = list; bytes = bytes; texts = texts; lengths = lengths } in
     let r = appended sourceLimit buffer n a in
     answered (λ m. m ∷ []) r ++ written (result buffer n a) r buffer
 
@@ -122,7 +145,8 @@ same (x ∷ xs) [] = false
 same (x ∷ xs) (y ∷ ys) = eqb x y && same xs ys
 
 sameSegments : List Segment → List Segment → Bool
-sameSegments ss ts = same (segmentRows ss ++ chunkRows ss) (segmentRows ts ++ chunkRows ts)
+sameSegments ss ts =
+    same (segmentRows ss ++ chunkRows ss) (segmentRows ts ++ chunkRows ts) && sameList (λ s t. sameUrls (s .urls) (t .urls)) ss ts
 
 sameByte : Option ℕ → Option ℕ → Bool
 sameByte none none = true
@@ -136,15 +160,24 @@ sameAddition a b =
     && eqb (flag (a .outside)) (flag (b .outside)) && same (a .list) (b .list) && same (a .bytes) (b .bytes)
     && same (a .texts) (b .texts) && same (a .lengths) (b .lengths)
 
-keptAt : List ℕ → List ℕ → List Segment → List Segment → Addition → List ℕ → List ℕ
-keptAt f g ss ts a [] = []
-keptAt f g ss ts a (p ∷ ps) = flag (sameByte (served g ts p) (orElse (served f ss p) (carried a p))) ∷ keptAt f g ss ts a ps
+keptAt : List ℕ → List ℕ → List Segment → List Segment → (ℕ → Option ℕ) → List ℕ → List ℕ
+keptAt f g ss ts carries [] = []
+keptAt f g ss ts carries (p ∷ ps) = flag (sameByte (served g ts p) (orElse (served f ss p) (carries p))) ∷ keptAt f g ss ts carries ps
 
--- demands 2 and 3 at an accepted addition, each 1 where it holds: read back, the same again, no shorter, and each position kept
-unfoldable pub demandsOf : List ℕ → ℕ → ℕ → ℕ → Bool → Bool → List ℕ → List ℕ → List ℕ → List ℕ
-unfolding flag same sameSegments sameByte sameAddition keptAt computing
-demandsOf buffer n offset repair last outside list bytes ps =
-    let a : Addition = record { sourceOffset = offset; repairTime = repair; last = last; outside = outside; list = list; bytes = bytes; texts = []; lengths = [] } in
+-- the URLs of a source, told by its number; none where it is not there
+urlsOf : ℕ → List Segment → List (List ℕ)
+urlsOf source ss = elim (ofSource source ss) [ [] ↦ [] | s ∷ _ ↦ s .urls ]
+
+-- a source, by its segments before and after an addition and whether that goes to it: no shorter, or as it was; and each position kept
+sourceKept : List ℕ → List ℕ → List Segment → List Segment → Addition → Bool → List ℕ → List ℕ
+sourceKept f g ss ts a true ps = flag (leb (describedLength ss) (describedLength ts)) ∷ keptAt f g ss ts (carried a) ps
+sourceKept f g ss ts a false ps = flag (sameSegments ss ts) ∷ keptAt f g ss ts (λ p. none) ps
+
+-- demands 2 and 3 at an accepted addition, each 1 where it holds: read back, the same again, and of a source, told by its number after and by its URLs before
+unfoldable pub demandsOf : List ℕ → ℕ → ℕ → ℕ → Bool → Bool → List ℕ → List ℕ → List ℕ → List ℕ → ℕ → List ℕ → List ℕ
+unfolding flag same sameSegments sameByte sameAddition keptAt urlsOf sourceKept computing
+demandsOf buffer n offset repair last outside list bytes texts lengths source ps =
+    let a : Addition = record { sourceOffset = offset; repairTime = repair; last = last; outside = outside; list = list; bytes = bytes; texts = texts; lengths = lengths } in
     let f = fileIn (lent buffer n) in
     let g = fileIn (append sourceLimit (lent buffer n) a) in
     elim (heading f)
@@ -157,10 +190,10 @@ demandsOf buffer n offset repair last outside list bytes ps =
             [ refused k ↦ 0 ∷ k ∷ []
             | given ts ↦
                 let new = newSegment h ss (psegPlace n a) a in
+                let us = urlsOf source ts in
                 flag (sameSegments ts (ss ++ (new ∷ [])))
                 ∷ flag (elim (heading g) [ refused k ↦ false | given grown ↦ sameAddition (again g grown new) (settled a) ])
-                ∷ flag (leb (describedLength ss) (describedLength ts))
-                ∷ keptAt f g ss ts a ps
+                ∷ sourceKept f g (ofUrls us ss) (ofSource source ts) a (sameUrls us (newUrls h a)) ps
             ]
         ]
     ]
@@ -175,13 +208,14 @@ inLists ss (p ∷ ps) =
     ∷ flag (among p (lostList ss))
     ∷ inLists ss ps
 
--- demand 2 in an accepted file: the lists are apart and merge, the totals make up the length, held and lost those of what is missing, and positions are in their lists
-unfoldable pub mappedOf : List ℕ → List ℕ → List ℕ
+-- demand 2 in a source of an accepted file: the lists are apart and merge, the totals make up the length, held and lost those of what is missing, and positions are in their lists
+unfoldable pub mappedOf : List ℕ → ℕ → List ℕ → List ℕ
 unfolding flag inLists computing
-mappedOf f ps =
+mappedOf f source ps =
     elim (reading sourceLimit f)
     [ refused k ↦ 0 ∷ k ∷ []
-    | given ss ↦
+    | given all ↦
+        let ss = ofSource source all in
         flag (apart 0 (hadList ss))
         ∷ flag (apart 0 (missingList ss))
         ∷ flag (apart 0 (heldList ss))
@@ -217,7 +251,7 @@ boxesOfInput input = boxesText programLimit input
 
 BATCH_USES = """use Rattle.numerals.specs.Numbers.{bytesOf}
 use Rattle.partial.specs.declared.brand.Brand.the-variants.{Paff, Pmff}
-use Rattle.computed.specs.Computed.{readOf, tablesOf, listsOf, indexRowsOf, begunOf, appendedOf, demandsOf, mappedOf, againOf, mapOfInput, missmapOfInput, boxesOfInput}
+use Rattle.computed.specs.Computed.{readOf, textsOf, tablesOf, listsOf, indexRowsOf, begunOf, appendedOf, demandsOf, mappedOf, againOf, mapOfInput, missmapOfInput, boxesOfInput}
 """
 
 # A file of more than 1,073,741,824 bytes and an input of more than 65,536 are not written out: only their length is

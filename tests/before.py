@@ -10,6 +10,7 @@ import vendors
 # The model's own reading, without what it may remember of a file.
 READ = model.read_earlier
 STATE_OF = model.state_of
+READ_SURLS = model.read_surls
 # What a chunk neither corrupted nor present was refused with before request 4.
 NEITHER_BIT = 21
 # The highest source position or end before request 5.
@@ -62,7 +63,7 @@ def by_elsewhere(call, old):
     with 31."""
     with patch.object(model, "state_of", state_or_neither):
         before = number_of(call.file)
-    if call.name == "append" and before == 0 and old == model.CHUNK_LIST_FAULT:
+    if call.name == "append" and before == 0 and old == model.LIST_FAULT:
         return wants_elsewhere(numbers_in(call.packed_list))
     return refused_with(call, old, before, {NEITHER_BIT})
 
@@ -87,8 +88,8 @@ def by_names(call, old):
     return call.name == "map" and old == 0 and len(call.file) <= call.numbers[0] and model.attempt(model.accept, call.file)[0] == 0
 
 
-def no_index(file, boxes, offsets, size):
-    return []
+def no_index(file, boxes, starts, sizes):
+    return [[] for start in starts]
 
 
 def by_index(call, old):
@@ -104,7 +105,21 @@ def by_index(call, old):
     return call.answer in OF_AN_INDEX
 
 
+def surls_of_one_source(file, parts, number):
+    """Some surl in pfil, and none in a segment."""
+    found = model.of_kind(parts, b"surl")
+    model.refuse_if(bool(found) != (number == model.SURL_FAULT), number)
+    return READ_SURLS(file, parts, number)
+
+
+def by_sources(call, old):
+    """Request 8: a file without a surl in pfil, refused with 11, or with one in a segment, refused with 16."""
+    with patch.object(model, "read_surls", surls_of_one_source):
+        before = number_of(call.file)
+    return refused_with(call, old, before, {model.SURL_FAULT, model.SURL_FAULT_IN_PSEG})
+
+
 # Of each request that changes answers, whether it may change that of a call from the old one; and those that change it
 # exactly then.
-CHANGES = {1: by_vendors, 2: by_mixed_files, 4: by_elsewhere, 5: by_longer_recordings, 6: by_names, 7: by_index}
+CHANGES = {1: by_vendors, 2: by_mixed_files, 4: by_elsewhere, 5: by_longer_recordings, 6: by_names, 7: by_index, 8: by_sources}
 EXACT = {6, 7}

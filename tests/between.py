@@ -12,7 +12,8 @@ the model can tell that (tests/before.py), and the new answer is the model's; wi
 one is not expected, or where the model says exactly when answers change and one that is expected does not come;
 `tests/scale.py --seed S --show CASE` shows a case.
 
-A driver for an implementation from before request 2 is built with that one's header and -DBEFORE_MIXED.
+A driver for an implementation from before request 2 is built with that one's header and -DBEFORE_MIXED, and for one from
+before request 8 with -DBEFORE_SOURCES, so that its rows have the number of its only source too.
 """
 
 import argparse
@@ -27,11 +28,13 @@ from collections import Counter, defaultdict, namedtuple
 import remembering
 from before import CHANGES, EXACT
 from scale import AT_ONCE, send
-from scale_stream import BEFORE, END, FILE, FORMS, LIST, TOO_LARGE, Stream
+from scale_stream import BEFORE, END, FILE, FORMS, LENGTHS, LIST, TEXTS, TOO_LARGE, Stream
 
-# What begin and append were not asked before request 2, and what was the map before request 6.
+# What begin and append were not asked before request 2, and what was the map before request 6. The calls that name a
+# source, which has the number 0 before request 8.
 SINCE_MIXED = {"begin": "begin-mixed", "append": "append-outside"}
 FORMERLY = {"missmap": "map"}
+OF_A_SOURCE = ("read", "serve", "ask", "list")
 SHOWN = 10
 # How two answers stand to what is expected of them.
 EXPECTED, NOT_EXPECTED, MISSED = "expected", "NOT EXPECTED", "EXPECTED TO DIFFER"
@@ -79,15 +82,24 @@ class Both(Stream):
         for driver in self.drivers:
             driver.process.stdin.write(content)
 
+    def asks_for(self, name, numbers):
+        """What a call asks for that not every implementation has, the call itself not counted."""
+        asked = {SINCE_MIXED[name]} if name in SINCE_MIXED and numbers[-1] else set()
+        if name in OF_A_SOURCE and numbers[0] > 0:
+            asked.add("sources")
+        if name == "append" and (self.held[TEXTS] or self.held[LENGTHS]):
+            asked.add("append-texts")
+        return asked
+
     def send(self, name, refusal, numbers, record):
-        asked = SINCE_MIXED[name] if name in SINCE_MIXED and numbers[-1] else name
-        known = [driver.name_of(asked) for driver in self.drivers]
-        if None in known or asked == "map" and not self.named:
-            self.left_out[asked] += 1
+        asked = self.asks_for(name, numbers)
+        known = [driver.name_of(name) if asked <= driver.calls else None for driver in self.drivers]
+        if None in known or name == "map" and not self.named:
+            self.left_out[" with ".join([name, *sorted(asked)])] += 1
             return
         self.made.append(Made(self.cases, name, refusal, self.file_of(name, numbers), self.held.get(LIST), numbers))
         for driver, called in zip(self.drivers, known):
-            kind = record[:1] if called == asked else bytes([FORMS[called].kind])
+            kind = record[:1] if called == name else bytes([FORMS[called].kind])
             driver.process.stdin.write(kind + record[1:])
 
     def file_of(self, name, numbers):

@@ -36,9 +36,14 @@ def surl(url=b"u", mime=b"", large=False):
     return box(b"surl", full(), url, b"\0", mime, b"\0", large=large)
 
 
+def bare_head(*parts, brand=b"paff"):
+    """The ftyp and pfil that every file begins with, in their plainest form; these boxes of pfil stand at its end."""
+    return ftyp([brand], brand) + box(b"pfil", pfhd(), *parts)
+
+
 def head(url=b"u", mime=b"", brand=b"paff", parts=b""):
-    """The ftyp and pfil that every file begins with, in their plainest form; other boxes of pfil stand at its end."""
-    return ftyp([brand], brand) + box(b"pfil", pfhd(), surl(url, mime), parts)
+    """The same with the surl that begin writes, and other boxes behind it."""
+    return bare_head(surl(url, mime), parts, brand=brand)
 
 
 def version_for(offset):
@@ -78,15 +83,15 @@ def fidx(*parts):
     return box(b"fidx", *parts)
 
 
-def lost_segment(offset, sizes, flags=0, version=None, width=None, flag_byte=0x80):
+def lost_segment(offset, sizes, flags=0, version=None, width=None, flag_byte=0x80, parts=b""):
     """A pseg of chunks that are not present: lost, or by another flag byte held elsewhere. Their sizes have four bytes,
-    or more where they need them."""
+    or more where they need them. Other boxes stand at its end."""
     if width is None:
         width = max([4] + [(size.bit_length() + 7) // 8 for size in sizes])
     entries = [entry(flag_byte, width, size) for size in sizes]
-    return box(b"pseg", pshd(offset, flags, version=version), ploc(width, 0, entries))
+    return box(b"pseg", pshd(offset, flags, version=version), ploc(width, 0, entries), parts)
 
 
-def open_segment(offset, flags=0, version=None):
-    """The shortest pseg there is: one chunk of unknown size."""
-    return box(b"pseg", pshd(offset, flags, version=version), ploc(0, 0, []))
+def open_segment(offset, flags=0, version=None, parts=b""):
+    """The shortest pseg there is: one chunk of unknown size. Other boxes stand at its end."""
+    return box(b"pseg", pshd(offset, flags, version=version), ploc(0, 0, []), parts)

@@ -18,6 +18,7 @@ import command_info
 import command_killed
 import command_large
 import command_show
+import command_sources
 import command_together
 import command_traced
 import command_usage
@@ -26,7 +27,7 @@ import expecting
 from command_run import Command
 
 GROUPS = {
-    "usage": command_usage, "help": command_help, "index": command_index, "info": command_info, "write": command_write, "failing": command_failing, "traced": command_traced, "killed": command_killed,
+    "usage": command_usage, "help": command_help, "index": command_index, "info": command_info, "sources": command_sources, "write": command_write, "failing": command_failing, "traced": command_traced, "killed": command_killed,
     "together": command_together, "large": command_large, "show": command_show}
 
 

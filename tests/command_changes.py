@@ -26,8 +26,8 @@ LONGEST = 600
 
 # The groups of tests/command.py that see most changes of a file, which are tried first.
 NEAREST = {
-    "addition.c": "usage,write", "append.c": "traced,large,write,killed", "bar.c": "info", "begin.c": "write", "facts.c": "info", "files.c": "usage,together,write", "get.c": "show,failing",
-    "heading.c": "info", "index.c": "index", "info.c": "info", "paff.c": "usage,help", "pieces.c": "usage,write", "refusals.c": "help", "say.c": "usage,failing", "show.c": "show", "tables.c": "info,index,write",
+    "addition.c": "usage,write,sources", "append.c": "traced,large,write,killed", "bar.c": "info", "begin.c": "write", "facts.c": "info", "files.c": "usage,together,write", "get.c": "show,failing,sources",
+    "heading.c": "info", "index.c": "index", "info.c": "info", "line.c": "info", "meant.c": "sources,usage", "paff.c": "usage,help,sources", "pieces.c": "usage,write", "refusals.c": "help", "say.c": "usage,failing", "screen.c": "info,sources", "show.c": "show,sources", "sources.c": "info,sources", "surls.c": "sources,write", "tables.c": "info,index,write",
     "text.c": "info,index,show", "times.c": "write", "words.c": "usage", "writes.c": "traced,killed,failing"}
 
 Change = namedtuple("Change", "file line old new text")

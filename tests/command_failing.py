@@ -13,8 +13,8 @@ from model import PMFF
 
 DATA = bytes(at % 251 for at in range(300_000))
 FILM = film_of((0, [good(DATA), lost(6)], True))
-PRINTING = [("map", "film"), ("map", "--missing", "film"), ("boxes", "film"), ("rows", "film"), ("index", "indexed"), ("index", "--tree", "indexed"), ("get", "film", "0", "1"), ("get", "film", "0", "300000"), ("get", "film", "5", "70000")]
-REFUSED = [("map", "spoiled"), ("map", "--missing", "spoiled"), ("boxes", "spoiled"), ("rows", "spoiled"), ("index", "spoiled"), ("index", "--tree", "spoiled"), ("append", "spoiled", "--offset", "0", "--lost", "1"),
+PRINTING = [("map", "film"), ("map", "--missing", "film"), ("map", "--source", "0", "film"), ("sources", "film"), ("boxes", "film"), ("rows", "film"), ("index", "indexed"), ("index", "--tree", "indexed"), ("get", "film", "0", "1"), ("get", "film", "0", "300000"), ("get", "film", "5", "70000")]
+REFUSED = [("map", "spoiled"), ("map", "--missing", "spoiled"), ("map", "--source", "0", "spoiled"), ("sources", "spoiled"), ("boxes", "spoiled"), ("rows", "spoiled"), ("index", "spoiled"), ("index", "--tree", "spoiled"), ("append", "spoiled", "--offset", "0", "--lost", "1"),
            ("append", "film", "--offset", "0", "--lost", "0")]
 SILENT = [("get", "film", "9", "0"), ("index", "film")]
 ASIDE = [("get", "spoiled", "0", "1"), ("get", "spoiled"), ("get", "film"), ("get", "film", "0", "300001")]

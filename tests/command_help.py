@@ -9,8 +9,8 @@ from command_wanted import begun
 from corpus import ROOT
 from expecting import expect
 
-SUBCOMMANDS = ["map", "info", "boxes", "rows", "index", "get", "begin", "append", "why"]
-NUMBERS = [*range(1, 21), *range(22, 28), *range(30, 40)]
+SUBCOMMANDS = ["map", "sources", "info", "boxes", "rows", "index", "get", "begin", "append", "why"]
+NUMBERS = [*range(1, 21), *range(22, 28), *range(30, 42)]
 LAST = b"The manual page, `man paff`, says all of it.\n"
 
 
@@ -22,7 +22,7 @@ def text_of(*path):
 def helping(command):
     """On standard output with status 0: of all subcommands, or of one, whatever else stands there."""
     every = command.run("--help").out
-    expect("the help names each subcommand", re.findall(rb"(?:usage:|      ) paff (\w+)", every.replace(b"       paff append FILE --offset N --open", b"")),
+    expect("the help names each subcommand", re.findall(rb"(?:usage:|      ) paff (\w+)", re.sub(rb"       paff append [^\n]*--open", b"", every)),
            [name.encode() for name in SUBCOMMANDS])
     expect("the help ends so", every.endswith(LAST))
     claim("help", command.run("help"), 0, every)
@@ -60,12 +60,14 @@ def limits(command):
     stated = dict(re.findall(r"VRAZHUPA_(\w+) = (\d+)", text_of("include", "vrazhupa.h")))
     expect("what a new file has beside its texts", int(stated["BEGUN"]), len(begun(b"")))
     long, far = command.put("long", bytes(8_400_000)), str(2 ** 33)
-    command.put("film", begun(b"u"))
-    answer = command.run("append", "film", "--offset", far, "--lost", far, "--good", long, *["--good", command.put("piece", b"x")] * 1_022)
-    claim("the largest addition", answer, 0, err=b"paff: film: 0 of 1024 chunks are left\n")
-    expect("what it adds beside its data", os.path.getsize(command.path("film")) - len(begun(b"u")) - 8_400_000 - 1_022, int(stated["ADDED"]))
+    largest = ["--offset", far, "--lost", far, "--good", long, *["--good", command.put("piece", b"x")] * 1_022]
+    for count in (0, 510):
+        command.put("film", begun(b"u"))
+        claim(f"the largest addition, with {count} URLs", command.run("append", "film", *largest, *["--url", "url", "--mime", "mime"] * count), 0, err=b"paff: film: 0 of 1024 chunks are left\n")
+        added = os.path.getsize(command.path("film")) - len(begun(b"u")) - 8_400_000 - 1_022 - len("urlmime") * count
+        expect(f"what it adds beside its data and its texts, {count}", added, int(stated["ADDED"]) + count * int(stated["ADDED_SURL"]))
     expect("the longest texts", (int(stated["MAP_TEXT"]), int(stated["BOXES_TEXT"])),
-           ((1 + 64 + 1_024) * len("held\t1099511627775\t1099511627775\n") + len("source\t1099511627775\tclosed\n") + len("total" + 3 * "\t1099511627775" + "\n"),
+           ((8 + 64 + 1_024) * len("held\t1099511627775\t1099511627775\n") + 8 * (len("source\t1099511627775\tclosed\n") + len("total" + 3 * "\t1099511627775" + "\n")),
             512 * len("1073741824\t1073741824\tuuid\t" + 32 * "f" + "\n") + len("1073741824\t5\n")))
 
 

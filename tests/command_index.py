@@ -10,7 +10,7 @@ import sample_index
 from boxes import bidx, box, fidx
 from command_large import SEGMENT, SIZE, claim_measure, make_film, measured
 from command_run import claim, claim_each_refused, claim_held, claim_refused, damaged, elsewhere, ended, good, lost
-from command_wanted import appended, begun, claim_get, claim_index, claim_map, claim_rows, film_of, number_of
+from command_wanted import appended, begun, claim_get, claim_index, claim_map, claim_rows, film_of, number_of, source_count
 from corpus import ROOT
 from expecting import expect
 from film_boxes import with_index
@@ -146,7 +146,7 @@ def refusals(command):
             ("a ninth level", 37, in_pfil(film, nested(9))), ("indexes in both", 38, with_index(in_pfil(film, fidx()), b"pseg", fidx())), ("an end that is not known", 39, in_pfil(film, fidx(bidx(0, b"mdat"))))]:
         assert number_of(file) == number, name
         command.put("film", file)
-        for words in [("index", "film"), ("index", "--tree", "film"), ("map", "film"), ("map", "--missing", "film"), ("rows", "film"), ("get", "film", "0", "1"),
+        for words in [("index", "film"), ("index", "--tree", "film"), ("map", "film"), ("map", "--missing", "film"), ("sources", "film"), ("rows", "film"), ("get", "film", "0", "1"),
                       ("append", "film", "--offset", "0", "--lost", "1")]:
             claim_each_refused(f"{name}, {words[0]}", command, words, number)
         expect(f"{name}, boxes", command.run("boxes", "film").status, 0)
@@ -199,10 +199,12 @@ def unindexed(file):
 
 
 def told_of(command, file):
-    """What is told of a file: its rows, both maps, and the bytes of its first ranges."""
+    """What is told of a file: its rows, both maps, its sources, and the bytes of the first ranges of the last one."""
     command.put("film", file)
-    ranges = [tuple(map(str, first_and_length)) for first_and_length in model.lists(file)[1][:3]]
-    return [command.run(*words) for words in [("rows", "film"), ("map", "film"), ("map", "--missing", "film"), *[("get", "film", *one) for one in ranges]]]
+    last = source_count(file) - 1
+    ranges = [tuple(map(str, first_and_length)) for first_and_length in model.lists(file, source=last)[1][:3]]
+    got = [("get", "film", "--source", str(last), *one) for one in ranges]
+    return [command.run(*words) for words in [("rows", "film"), ("map", "film"), ("map", "--missing", "film"), ("sources", "film"), *got]]
 
 
 def served_alike(command):

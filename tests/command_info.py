@@ -11,11 +11,12 @@ import termios
 
 import generate
 import model
-from boxes import box, head, lost_segment, open_segment
+from boxes import bidx, box, fidx, head, lost_segment, open_segment
 from command_run import SENTENCES, claim, damaged, ended, good, lost, why
 from command_show import put_sample
-from command_wanted import begun, boxes_text, fault_in, film_of, number_of, part
+from command_wanted import begun, boxes_text, fault_in, film_of, lines_of, map_text, number_of, part, source_count
 from expecting import expect
+from film_boxes import with_index
 from model import PMFF
 
 SEED = 23_001_143
@@ -32,9 +33,9 @@ def samples(command):
     """By hand: both samples, on one screen each."""
     put_sample(command, "lesson.paff")
     put_sample(command, "damaged.paff")
-    lesson = (b"file      lesson.paff\nbrand     paff\nURL       a\nMIME      \nbytes     186 of 1,073,741,824\nboxes     6 of 512\nsegments  2 of 64\nchunks    3 of 1,024\n"
+    lesson = (b"file      lesson.paff\nbrand     paff\nURL       a\nMIME      \nbytes     186 of 1,073,741,824\nboxes     6 of 512\nsegments  2 of 64\nchunks    3 of 1,024\nsources   1 of 8\n"
               b"film      10 bytes, closed\nreceived  7 bytes, 70.0 %\nheld      0 bytes, 0.0 %\nlost      3 bytes, 30.0 %\n##############......\n" + LEGEND)
-    mixed = (b"file      damaged.paff\nbrand     paff\nURL       a\nMIME      \nbytes     328 of 1,073,741,824\nboxes     10 of 512\nsegments  4 of 64\nchunks    8 of 1,024\n"
+    mixed = (b"file      damaged.paff\nbrand     paff\nURL       a\nMIME      \nbytes     328 of 1,073,741,824\nboxes     10 of 512\nsegments  4 of 64\nchunks    8 of 1,024\nsources   1 of 8\n"
              b"film      20 bytes, closed\nreceived  12 bytes, 60.0 %\nheld      5 bytes, 25.0 %\nlost      3 bytes, 15.0 %\n######~~~###.~~..###\n" + LEGEND)
     claim("info of the first sample", run(command, "lesson.paff"), 0, lesson)
     claim("info of both", run(command, "lesson.paff", "damaged.paff"), 0, lesson + b"\n" + mixed)
@@ -45,9 +46,11 @@ def indexes(command):
     """By hand: the sample with an index, in a line of its own, and one without."""
     put_sample(command, "index.paff")
     out = run(command, "index.paff").out
-    expect("info of an index", b"film      668 bytes, closed\nindex     15 boxes, 11 whole\nreceived  400 bytes, 59.8 %\n" in out or out)
+    expect("info of an index", b"sources   1 of 8\nindex     15 boxes, 11 whole\nfilm      668 bytes, closed\nreceived  400 bytes, 59.8 %\n" in out or out)
     found = json.loads(run(command, "--json", "index.paff").out)
     expect("JSON of an index", (found["indexed"], found["whole"]), (15, 11))
+    command.put("film", with_index(film_of((0, [good(b"abcdefgh")])), b"pfil", fidx(bidx(8, b"free"))))
+    expect("info of an index of one box", b"\nindex     1 boxes, 1 whole\n" in run(command, "film").out)
     put_sample(command, "lesson.paff")
     answer = run(command, "--json", "index.paff", "lesson.paff", "index.paff")
     expect("JSON of a file without one between two", [json.loads(line)["indexed"] for line in answer.out.splitlines()], [15, 0, 15])
@@ -59,12 +62,12 @@ def begun_only(command):
     for brand, shown in [(b"paff", b"paff"), (b"pmff", b"pmff (mixed)")]:
         command.put("new", begun("http://films.example/f\u00fcr".encode(), b"video/mp4", brand))
         wanted = (b"file      new\nbrand     " + shown + b"\nURL       http://films.example/f%C3%BCr\nMIME      video/mp4\nbytes     88 of 1,073,741,824\n"
-                  b"boxes     2 of 512\nsegments  0 of 64\nchunks    0 of 1,024\nfilm      nothing was appended yet\n")
+                  b"boxes     2 of 512\nsegments  0 of 64\nchunks    0 of 1,024\nsources   0 of 8\nfilm      nothing was appended yet\n")
         claim(f"info of a {brand} begun", run(command, "new"), 0, wanted)
     command.put("new", head() + 510 * box(b"free"))
     claim("info of a file begun, with no box left", run(command, "new"), 0,
           b"file      new\nbrand     paff\nURL       u\nMIME      \nbytes     4,135 of 1,073,741,824\nboxes     512 of 512\n"
-          b"segments  0 of 64\nchunks    0 of 1,024\nfilm      nothing was appended yet\n")
+          b"segments  0 of 64\nchunks    0 of 1,024\nsources   0 of 8\nfilm      nothing was appended yet\n")
 
 
 def refusals(command):
@@ -134,21 +137,29 @@ def decoded(text):
 
 # By the model.
 
+def source_facts(file, source):
+    """What it says of a source."""
+    described, known = model.length(file, source)[1:3]
+    ranges = [line.split(b"\t") for line in lines_of(map_text(file), source).splitlines()]
+    sums = {word: sum(int(fields[2]) for fields in ranges if fields[0] == word) for word in SIGNS}
+    url, mime = part(file, model.source_url(file, source)), part(file, model.source_mime(file, source))
+    return {"source": source, "state": "closed" if known else "open", "url": decoded(url), "mime": decoded(mime), "described": described, "received": sums[b"have"],
+            "held": sums[b"held"], "lost": sums[b"lost"]}
+
+
 def facts(name, file):
     """What the line of JSON says, but for the reasons of refusals."""
     found = {"file": name, "bytes": len(file), "boxes": boxes_text(file).count(b"\n") - (fault_in(boxes_text(file)) > 0)}
     number = number_of(file)
     if number:
         return found | {"state": "refused", "refused": number, "why": SENTENCES[number]}
-    described, known = model.length(file)[1:3]
-    ranges = [line.split(b"\t") for line in model.map_text(file, most=len(file)).splitlines()]
-    sums = {word: sum(int(fields[2]) for fields in ranges if fields[0] == word) for word in SIGNS}
     segments, chunks = model.read(file)[1:3]
     served = [row[4] for row in model.index(file)[1]]
-    brand = "pmff" if model.read_head(file).mixed else "paff"
-    return found | {"state": "closed" if known else "open", "brand": brand, "url": decoded(part(file, model.url(file))), "mime": decoded(part(file, model.mime(file))), "described": described,
-                    "received": sums[b"have"], "held": sums[b"held"], "lost": sums[b"lost"], "segments": len(segments), "chunks": len(chunks),
-                    "indexed": len(served), "whole": served.count(model.ALL)}
+    sources = [source_facts(file, source) for source in range(source_count(file))]
+    found |= {key: sum(source[key] for source in sources) for key in ("described", "received", "held", "lost")}
+    found |= {key: sources[0][key] for key in ("url", "mime") if len(sources) == 1}
+    return found | {"state": "closed" if all(source["state"] == "closed" for source in sources) else "open", "brand": "pmff" if model.read_head(file).mixed else "paff",
+                    "segments": len(segments), "chunks": len(chunks), "indexed": len(served), "whole": served.count(model.ALL), "sources": sources}
 
 
 def generated(command):

@@ -6,7 +6,7 @@ import signal
 import time
 
 from command_run import SOON, claim, claim_held, difference, ended, good
-from command_traced import HEADER, INSIDE, MOST_CALLS, OUTSIDE, SYNCING, traceable, traced, words_of
+from command_traced import HEADER, INSIDE, LAYERED, MOST_CALLS, OUTSIDE, SYNCING, to, traceable, traced, words_of
 from command_wanted import appended, claim_map, map_text
 from expecting import expect
 
@@ -33,9 +33,9 @@ def claim_whole(name, command, case):
     os.truncate(command.path("film"), len(case.film))
     claim_map(f"the film cut after {name}", command, "film", case.film)
     start = time.monotonic()
-    claim(f"append after {name}", command.append("film", 4, [good(b"xyz")]), 0)
+    claim(f"append after {name}", command.append("film", 4, [good(b"xyz")], to=to(case)), 0)
     expect(f"no waiting after {name}", time.monotonic() - start < SOON)
-    claim_held(f"the film appended to after {name}", command, "film", appended(case.film, 4, [good(b"xyz")])[1])
+    claim_held(f"the film appended to after {name}", command, "film", appended(case.film, 4, [good(b"xyz")], source=case.source)[1])
 
 
 def killed_at(command, case, call):
@@ -115,7 +115,7 @@ def killed_at_any_time(command, case):
 
 
 def check(command):
-    for case in (INSIDE, OUTSIDE):
+    for case in (INSIDE, OUTSIDE, LAYERED):
         if traceable(command):
             killed(command, case)
         killed_at_any_time(command, case)

@@ -78,9 +78,11 @@ def reading(command):
     boxes = b"0\t20\tftyp\n20\t35\tpfil\n55\t%d\tpdat\n%d\t%d\tpseg\n" % (8 + SIZE, 63 + SIZE, SEGMENT)
     claim("boxes of 1 GiB", ended(measured(command, "boxes", "film")), 0, boxes)
     claim_measure("boxes of 1 GiB", command)
-    rows = b"url\tu\nmime\t\nsegment\tplace\toffset\tflags\ttime\tchunks\theader\tlength\trepaired\n0\t%d\t0\t0\t0\t1\t%d\t16\tunknown\n"
+    rows = b"url\tu\nmime\t\nsegment\tplace\toffset\tflags\ttime\tchunks\theader\tlength\trepaired\tsource\n0\t%d\t0\t0\t0\t1\t%d\t16\tunknown\t0\n"
     rows += b"segment\tindex\tstart\tsize\tstate\tplace\n0\t0\t0\t%d\tgood\t%d\n"
     place = len(FRONT) + 8
+    claim("sources of 1 GiB", ended(measured(command, "sources", "film")), 0, b"0\t%d\topen\t%d\t0\tu\t\n" % (SIZE, SIZE))
+    claim_measure("sources of 1 GiB", command)
     claim("rows of 1 GiB", command.run("rows", "film"), 0, rows % (place + SIZE, place + SIZE + 16, SIZE, place))
     for first, length in [(SIZE - 5, 5), (SIZE - 1, 1), (0, 3), (BLOCK - 2, 4), (536_870_910, 5), (SIZE - 2, 1)]:
         claim(f"get {first} {length} of 1 GiB", command.run("get", "film", str(first), str(length)), 0, content_of(first, length))
@@ -125,12 +127,12 @@ def adding(command):
 
 def over_the_limit(command):
     os.truncate(command.path("film"), LIMIT + 1)
-    for words in [("map", "film"), ("map", "--missing", "film"), ("boxes", "film"), ("rows", "film"), ("index", "film"), ("index", "--tree", "film"), ("get", "film", "0", "1"), ("append", "film", "--offset", "0", "--lost", "1")]:
+    for words in [("map", "film"), ("map", "--missing", "film"), ("map", "--source=0", "film"), ("sources", "film"), ("boxes", "film"), ("rows", "film"), ("index", "film"), ("index", "--tree", "film"), ("get", "film", "0", "1"), ("append", "film", "--offset", "0", "--lost", "1")]:
         claim_each_refused(f"{words[0]} of a file over the limit", command, words, 1)
     expect("the length of that file", os.path.getsize(command.path("film")), LIMIT + 1)
     command.put("far", b"")
     os.truncate(command.path("far"), 2 ** 40)
-    for words in [("map", "far"), ("boxes", "far"), ("rows", "far"), ("index", "far"), ("get", "far", "0", "0"), ("append", "far", "--offset", "0", "--lost", "1")]:
+    for words in [("map", "far"), ("sources", "far"), ("boxes", "far"), ("rows", "far"), ("index", "far"), ("get", "far", "0", "0"), ("append", "far", "--offset", "0", "--lost", "1")]:
         claim_each_refused(f"{words[0]} of a file of 1 TiB", command, words, 1)
     command.remove("far")
 

@@ -56,17 +56,17 @@ class Command:
     def run(self, *arguments, before=(), **how):
         return ended(self.start(*arguments, before=before, **how))
 
-    def append_words(self, film, offset, chunks, last=False, time=None, outside=False):
-        """The words of an append, whose data is put into files first."""
-        words = ["append", film, "--offset", str(offset)] + ["--last"] * last + ["--outside"] * outside
+    def append_words(self, film, offset, chunks, last=False, time=None, outside=False, to=()):
+        """The words of an append, whose data is put into files first; `to` are those that say to which source."""
+        words = ["append", film, *to, "--offset", str(offset)] + ["--last"] * last + ["--outside"] * outside
         words += [] if time is None else ["--time", str(time)]
         for number, chunk in enumerate(chunks):
             value = chunk.value
             words += ["--" + chunk.kind, self.put(f"piece{number}", value) if chunk.kind in KEPT else str(value)]
         return words
 
-    def append(self, film, offset, chunks, last=False, time=None, outside=False, **how):
-        return self.run(*self.append_words(film, offset, chunks, last, time, outside), **how)
+    def append(self, film, offset, chunks, last=False, time=None, outside=False, to=(), **how):
+        return self.run(*self.append_words(film, offset, chunks, last, time, outside, to), **how)
 
 
 def ended(process):

@@ -1,4 +1,4 @@
-"""Claims every byte that map, boxes, rows, index and get print, of files made by hand and generated, spoiled and cut, against
+"""Claims every byte that map, sources, boxes, rows, index and get print, of files made by hand and generated, spoiled and cut, against
 the manual page and the model."""
 
 import os
@@ -8,7 +8,7 @@ import generate
 import model
 from boxes import box, head, lost_segment, open_segment, sized, sized_large
 from command_run import claim, claim_held, claim_missing, claim_not_got, damaged, elsewhere, ended, good, lost
-from command_wanted import appended, claim_boxes, claim_get, claim_index, claim_map, claim_rows, film_of, number_of
+from command_wanted import appended, claim_boxes, claim_get, claim_index, claim_map, claim_rows, claim_sources, film_of, number_of, source_count
 from corpus import ROOT
 from expecting import expect
 from foreign import LIMIT, WIDE
@@ -22,9 +22,9 @@ TOP = 2 ** 64 - 1
 SAMPLE_MAP = b"source\t10\tclosed\nhave\t0\t7\nlost\t7\t3\ntotal\t7\t0\t3\n"
 SAMPLE_MISSMAP = b"source\t10\tclosed\nhave\t0\t7\nmiss\t7\t3\ntotal\t7\t3\n"
 SAMPLE_BOXES = b"0\t20\tftyp\n20\t35\tpfil\n55\t12\tpdat\n67\t54\tpseg\n121\t13\tpdat\n134\t52\tpseg\n"
-SEGMENT_HEADING = b"segment\tplace\toffset\tflags\ttime\tchunks\theader\tlength\trepaired\n"
+SEGMENT_HEADING = b"segment\tplace\toffset\tflags\ttime\tchunks\theader\tlength\trepaired\tsource\n"
 CHUNK_HEADING = b"segment\tindex\tstart\tsize\tstate\tplace\n"
-SAMPLE_ROWS = (b"url\ta\nmime\t\n" + SEGMENT_HEADING + b"0\t67\t0\t1\t0\t2\t83\t16\tunknown\n1\t134\t2\t0\t0\t1\t150\t16\tunknown\n"
+SAMPLE_ROWS = (b"url\ta\nmime\t\n" + SEGMENT_HEADING + b"0\t67\t0\t1\t0\t2\t83\t16\tunknown\t0\n1\t134\t2\t0\t0\t1\t150\t16\tunknown\t0\n"
                + CHUNK_HEADING + b"0\t0\t0\t4\tgood\t63\n0\t1\t4\t6\tlost\t0\n1\t0\t2\t5\tgood\t129\n")
 SAMPLE_BYTES = bytes([11, 12, 13, 14, 23, 24, 25])
 
@@ -160,7 +160,7 @@ def texts(command):
             ("f\u00fcr".encode(), b"\xc3", rb"f\xc3\xbcr", rb"\xc3"), (b"%s%n'\"", b"!}", b"%s%n'\"", b"!}")]:
         command.put("film", film_of((0, [lost(1)]), url=url, mime=mime))
         place = 54 + len(url) + len(mime)
-        wanted = b"url\t" + shown_url + b"\nmime\t" + shown_mime + b"\n" + SEGMENT_HEADING + b"0\t%d\t0\t0\t0\t1\t%d\t16\tunknown\n" % (place, place + 16)
+        wanted = b"url\t" + shown_url + b"\nmime\t" + shown_mime + b"\n" + SEGMENT_HEADING + b"0\t%d\t0\t0\t0\t1\t%d\t16\tunknown\t0\n" % (place, place + 16)
         wanted += CHUNK_HEADING + b"0\t0\t0\t1\tlost\t0\n"
         claim(f"the texts {url} and {mime}", command.run("rows", "film"), 0, wanted)
     for url, wanted in [(b"http://films.example/a b?c=%20&d=~[1]#e", b"http://films.example/a%20b?c=%20&d=~[1]#e"), ("f\u00fcr".encode(), b"f%C3%BCr"),
@@ -177,7 +177,7 @@ def states(command):
     film = film_of((3, [good(b"ab"), elsewhere(5), damaged(b"hijk"), lost(1)], True))
     command.put("film", film)
     rows = CHUNK_HEADING + b"0\t0\t3\t2\tgood\t63\n0\t1\t5\t5\telsewhere\t0\n0\t2\t10\t4\tdamaged\t65\n0\t3\t14\t1\tlost\t0\n"
-    claim("rows of each state", command.run("rows", "film"), 0, b"url\tu\nmime\t\n" + SEGMENT_HEADING + b"0\t69\t3\t1\t0\t4\t85\t16\tunknown\n" + rows)
+    claim("rows of each state", command.run("rows", "film"), 0, b"url\tu\nmime\t\n" + SEGMENT_HEADING + b"0\t69\t3\t1\t0\t4\t85\t16\tunknown\t0\n" + rows)
     claim("the map of each state", command.run("map", "film"), 0,
           b"source\t15\tclosed\nlost\t0\t3\nhave\t3\t2\nlost\t5\t5\nheld\t10\t4\nlost\t14\t1\ntotal\t2\t4\t9\n")
     claim("the map of each state without names", command.run("map", "--missing", "film"), 0, b"source\t15\tclosed\nmiss\t0\t3\nhave\t3\t2\nmiss\t5\t10\ntotal\t2\t13\n")
@@ -226,26 +226,27 @@ def names(command):
 
 # By the model.
 
-def asked(rng, file):
+def asked(rng, file, source):
     """Ranges of positions to get: all, those had and missing, across their edges, and some that lie anywhere."""
     if number_of(file):
         return [(0, 0), (rng.randint(0, 60), rng.randint(0, 9))]
-    described = model.length(file)[1]
+    described = model.length(file, source)[1]
     ranges = [(0, min(described, 2_000)), (described, 0), (rng.randint(0, described), rng.randint(0, 9)), (rng.choice([0, TOP]), TOP)]
-    listed = model.lists(file)
+    listed = model.lists(file, source=source)
     for first, length in rng.sample(listed[1], min(2, len(listed[1]))):
         ranges += [(first, length), (first + rng.randrange(length), 1), (first, length + 1)]
     return ranges + [(first, 1) for first, length in rng.sample(listed[2], min(1, len(listed[2])))]
 
 
-def claim_all(name, command, file, ranges=()):
+def claim_all(name, command, file, ranges=(), source=0):
     command.put("film", file)
     claim_map(name, command, "film", file)
+    claim_sources(name, command, "film", file)
     claim_boxes(name, command, "film", file)
     claim_rows(name, command, "film", file)
     claim_index(name, command, "film", file)
     for first, length in ranges:
-        claim_get(name, command, "film", file, first, length)
+        claim_get(name, command, "film", file, first, length, source)
 
 
 def refusals(command):
@@ -299,7 +300,8 @@ def some_files():
 def generated(command):
     rng = random.Random(SEED + 3)
     for name, file in some_files():
-        claim_all(name, command, file, asked(rng, file))
+        source = 0 if number_of(file) else rng.randrange(source_count(file))
+        claim_all(name, command, file, asked(rng, file, source), source)
 
 
 def check(command):

@@ -7,7 +7,7 @@ import signal
 import time
 
 from command_run import claim, claim_held, ended, good, lost, wait_until, why
-from command_wanted import appended, begun, boxes_text, film_of, map_text, missmap_text
+from command_wanted import appended, begun, boxes_text, film_of, map_text, missmap_text, sources_text
 from expecting import expect
 
 ROUNDS = 6
@@ -94,7 +94,7 @@ def refused_append_waits(command):
 def readers_wait(command):
     grown = appended(FILM, 4, [good(b"xyz")])[1]
     for words, wanted in [
-            (("map", "film"), map_text(grown)), (("map", "--missing", "film"), missmap_text(grown)), (("boxes", "film"), boxes_text(grown)), (("get", "film", "0", "7"), b"abcdxyz"),
+            (("map", "film"), map_text(grown)), (("map", "--missing", "film"), missmap_text(grown)), (("sources", "film"), sources_text(grown)), (("boxes", "film"), boxes_text(grown)), (("get", "film", "0", "7"), b"abcdxyz"),
             (("rows", "film"), None), (("index", "film"), b"")]:
         command.put("film", FILM)
         lock = Locked(command, fcntl.LOCK_EX)
@@ -108,7 +108,7 @@ def readers_go_on(command):
     """Readers do not wait for readers."""
     command.put("film", FILM)
     lock = Locked(command, fcntl.LOCK_SH)
-    for words in [("map", "film"), ("map", "--missing", "film"), ("boxes", "film"), ("rows", "film"), ("index", "film"), ("get", "film", "0", "4")]:
+    for words in [("map", "film"), ("map", "--missing", "film"), ("sources", "film"), ("boxes", "film"), ("rows", "film"), ("index", "film"), ("get", "film", "0", "4")]:
         process = command.start(*words)
         expect(f"{words} beside a reader", wait_until(lambda: process.poll() is not None))
         process.kill()
@@ -138,7 +138,7 @@ def no_waiting(command):
     held = b"paff: film: Another command holds its lock\n"
     for kind, readers_go_on in [(fcntl.LOCK_EX, False), (fcntl.LOCK_SH, True)]:
         lock = Locked(command, kind)
-        for words in [("map", "film"), ("map", "--missing", "film"), ("boxes", "film"), ("rows", "film"), ("index", "film"), ("get", "film", "0", "4"), ("info", "film"), ("info", "--json", "film")]:
+        for words in [("map", "film"), ("map", "--missing", "film"), ("map", "--source", "0", "film"), ("sources", "film"), ("boxes", "film"), ("rows", "film"), ("index", "film"), ("get", "film", "0", "4"), ("info", "film"), ("info", "--json", "film")]:
             answer = command.run(*words, "--no-wait")
             expect(f"{words} --no-wait", (answer.status, answer.err), (0, b"") if readers_go_on else (2, held))
         claim("append --no-wait", command.run("append", "film", "--no-wait", "--offset", "4", "--good", "piece"), 2, err=held)

@@ -21,22 +21,23 @@ SEED = 23_001_142
 
 DATA = random.Random(SEED).randbytes(3_500_000)
 
-# An append whose calls are traced: to which film, with which chunks, whether outside, what it leaves, and the place of
-# the new segment's box there. The header of that box is written last, so that the segment is read when all of it is
-# there.
-Case = namedtuple("Case", "name film chunks outside new box")
+# An append whose calls are traced: to which film and which source of it, with which chunks, whether outside, what it
+# leaves, and the place of the new segment's box there. The header of that box is written last, so that the segment is
+# read when all of it is there.
+Case = namedtuple("Case", "name film source chunks outside new box")
 HEADER = 8
 
 
-def case_of(name, brand, first, outside):
-    film = film_of((0, [good(b"abcd"), lost(6)]), brand=brand)
+def case_of(name, film, first, outside=False, source=0):
     chunks = [good(first), lost(77), damaged(DATA[2_500_000:])]
-    new = appended(film, 4, chunks, True, 9, outside)[1]
-    return Case(name, film, chunks, outside, new, model.read(new)[1][-1][0])
+    new = appended(film, 4, chunks, True, 9, outside, source)[1]
+    return Case(name, film, source, chunks, outside, new, model.read(new)[1][-1][0])
 
 
-INSIDE = case_of("append", model.PAFF, DATA[:2_500_000], False)
-OUTSIDE = case_of("append outside", model.PMFF, box(b"moof", DATA[:1_200_000]) + box(b"mdat", DATA[:1_300_000], large=True), True)
+FILM = (0, [good(b"abcd"), lost(6)])
+INSIDE = case_of("append", film_of(FILM), DATA[:2_500_000])
+OUTSIDE = case_of("append outside", film_of(FILM, brand=model.PMFF), box(b"moof", DATA[:1_200_000]) + box(b"mdat", DATA[:1_300_000], large=True), True)
+LAYERED = case_of("append to a layer", film_of(FILM, (0, [good(b"efg")], False, None, False, 0, [(b"v", b"m"), (b"w", b"")])), DATA[:2_500_000], source=1)
 
 # A call on a file: `file` is its path, and for a write, `first` and `end` bound the places that it changed.
 Call = namedtuple("Call", "name words file first end")
@@ -49,8 +50,13 @@ def traceable(command):
     return len(command.words) == 1
 
 
+def to(case):
+    """The words that say to which source."""
+    return ["--source", str(case.source)]
+
+
 def words_of(command, case):
-    return command.append_words("film", 4, case.chunks, True, 9, case.outside)
+    return command.append_words("film", 4, case.chunks, True, 9, case.outside, to(case))
 
 
 def traced(command, case, *options, **how):
@@ -134,10 +140,10 @@ def order(command, case):
     claim_order(f"an {case.name} of data", calls, case.new)
     command.put("film", case.film)
     before = ["strace", "-f", "-y", "-o", "log", "-e", "trace=" + TRACED]
-    claim(f"{case.name} of what was lost", command.append("film", 4, [lost(3)], outside=case.outside, before=before), 0)
+    claim(f"{case.name} of what was lost", command.append("film", 4, [lost(3)], outside=case.outside, to=to(case), before=before), 0)
     calls = on_film(command, calls_in(command.held("log").decode("ascii", "replace")))
     claim_places(calls, case.film, command.held("film"))
-    claim_order(f"an {case.name} of what was lost", calls, appended(case.film, 4, [lost(3)])[1])
+    claim_order(f"an {case.name} of what was lost", calls, appended(case.film, 4, [lost(3)], source=case.source)[1])
 
 
 # Failing.
@@ -214,7 +220,7 @@ def reading_only(command):
     """A film that is read is mapped to be read alone, and a line on standard error is written at once."""
     command.put("film", INSIDE.film)
     command.put("spoiled", INSIDE.film[:-1])
-    for words in [("map", "film"), ("boxes", "film"), ("rows", "film"), ("index", "film"), ("get", "film", "0", "4"), ("map", "spoiled")]:
+    for words in [("map", "film"), ("map", "film", "--source=0"), ("sources", "film"), ("boxes", "film"), ("rows", "film"), ("index", "film"), ("get", "film", "0", "4"), ("map", "spoiled")]:
         answer = command.run(*words, before=["strace", "-f", "-y", "-o", "log", "-e", "trace=mmap,write"])
         lines = command.held("log").decode("ascii", "replace").splitlines()
         mapped = [line for line in lines if "mmap(" in line and os.path.realpath(command.path(words[1])) + ">" in line]
@@ -224,7 +230,7 @@ def reading_only(command):
 
 def check(command):
     if traceable(command):
-        for case in (INSIDE, OUTSIDE):
+        for case in (INSIDE, OUTSIDE, LAYERED):
             for part in (order, failing, failing_to_cut):
                 part(command, case)
         failing_new_file(command)

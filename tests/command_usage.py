@@ -11,10 +11,10 @@ from model import PMFF
 FILM = film_of((0, [good(b"abcd"), lost(6)], True))
 NO_NUMBERS = ["", "-1", "+1", " 1", "1 ", "1\n", "0x1", "1e3", "1.0", "1,000", "one", "--last", "\u0661", "18446744073709551616",
               "18446744073709551617", "36893488147419103232", "99999999999999999999", "184467440737095516150", "1" + 60 * "0"]
-FEW_OR_MANY_WORDS = ["", "map", "map film other", "map --missing film other", "map --missing --missing film", "map --miss film", "boxes", "boxes film other",
+FEW_OR_MANY_WORDS = ["", "map", "map film other", "map --missing film other", "map --missing --missing film", "map --miss film", "sources", "sources film other", "sources --missing film", "sources --source 0 film", "sources --percent", "sources --percent --percent film", "boxes", "boxes film other",
                      "boxes --missing film", "rows", "rows film other", "rows --missing film", "index", "index --tree", "index film other",
                      "index --tree film other", "index --tree --tree film", "index --missing film", "index --tre film", "get", "get film 0", "get film 0 1 2", "begin", "begin new", "begin new u m x", "begin --brand", "begin --brand pmff", "begin --brand pmff new", "begin --brand pmff new u m x", "append", "append film"]
-NO_COMMANDS = ["show film", "Map film", "maps film", "ma film", "box film", "boxlist film", "film", "film map", "-map film", "--map film", "append-film"]
+NO_COMMANDS = ["show film", "Map film", "maps film", "ma film", "box film", "boxlist film", "film", "film map", "-map film", "--map film", "append-film", "source film", "Sources film"]
 OPTIONS = [
     "--offset", "--offset 0", "--lost 1", "--good piece", "--last --lost 1", "--offset 0 --last", "--offset 0 --time 4", "--time 4 --lost 1",
     "--offset 0 --lost", "--offset 0 --elsewhere", "--elsewhere 1", "--offset 0 --elsewhere piece", "--offset 0 --elsewhere 1 2",
@@ -50,14 +50,14 @@ def words(command):
     for text in FEW_OR_MANY_WORDS + NO_COMMANDS:
         claim_usage(command, *text.split())
     claim_usage(command, "")
-    for name in ("map", "info", "boxes", "rows", "index", "get", "begin", "append", "why"):
+    for name in ("map", "sources", "info", "boxes", "rows", "index", "get", "begin", "append", "why"):
         answer = command.run(name)
         lines = [line for line in answer.err.splitlines() if b"paff " in line]
         expect(f"the usage of {name} alone", all(b"paff " + name.encode() + b" " in line for line in lines) and len(lines) > 0 or answer.err)
     answer = command.run()
-    named = all(word in answer.err for word in (b"usage: ", b"map", b"--missing", b"boxes", b"rows", b"index", b"--tree", b"get", b"begin", b"append"))
+    named = all(word in answer.err for word in (b"usage: ", b"map", b"--missing", b"--source N", b"sources", b"boxes", b"rows", b"index", b"--tree", b"get", b"begin", b"append"))
     expect("usage names each subcommand", named and in_form(answer.err) or answer.err)
-    named = all(word in answer.err for word in (b"--good DATA", b"--damaged DATA", b"--lost SIZE", b"--elsewhere SIZE"))
+    named = all(word in answer.err for word in (b"--good DATA", b"--damaged DATA", b"--lost SIZE", b"--elsewhere SIZE", b"--url U", b"--mime M"))
     expect("usage names each chunk", named or answer.err)
 
 
@@ -65,7 +65,7 @@ def words(command):
 DASHED = ["begin --brand=isom new u", "begin --brand= new u", "begin -- new", "begin --unknown=pmff new u", "begin --help= new u", "begin -new u", "begin - u", "begin new -u",
           "begin new u -", "begin --no-wait new u", "begin -- --brand=pmff", "map -", "map --missing=1 film", "map --missing= film", "map --json film", "boxes --percent film", "info -film",
           "info --json=1 film", "rows --raw film", "index -", "index -film", "index --tree=1 film", "index --tree= film", "index --json film", "get --output film", "get film --output", "get film --output=new --output=other", "get film --output -- 0 1", "get --percent film",
-          "why", "why 1 2", "why --help=1", "why -1", "why 0", "why 21", "why 28", "why 29", "why 40", "why 18446744073709551615", "why one", "help map film", "help film", "--version map",
+          "why", "why 1 2", "why --help=1", "why -1", "why 0", "why 21", "why 28", "why 29", "why 42", "why 43", "why 18446744073709551615", "why one", "help map film", "help film", "--version map",
           "append film --offset=4 --last=1 --lost 1", "append film --offset=4 --good -piece", "append film --offset=4 --good --lost 1", "append film --offset=4 --open=1",
           "append film --offset= --lost 1", "append film --offset 4 --lost=", "append film --offset 4 --no-wait=1 --lost 1", "append --offset 4 --lost 1 -- film other",
           "append --offset 4 --lost 1 -film"]
@@ -142,7 +142,8 @@ def claim_failed(name, command, *given):
 
 
 def reading_words(film):
-    return [("map", film), ("map", "--missing", film), ("boxes", film), ("rows", film), ("index", film), ("index", "--tree", film), ("get", film, "0", "1"), ("get", film, "0", "0"), ("append", film, "--offset", "0", "--lost", "1")]
+    return [("map", film), ("map", "--missing", film), ("map", "--source=0", film), ("sources", film), ("sources", "--percent", film), ("boxes", film), ("rows", film), ("index", film), ("index", "--tree", film), ("get", film, "0", "1"), ("get", film, "0", "0"), ("get", film, "--source=0", "0", "1"), ("append", film, "--offset", "0", "--lost", "1"),
+            ("append", film, "--source=0", "--offset", "0", "--lost", "1"), ("append", film, "--url", "v", "--offset", "0", "--lost", "1")]
 
 
 def absent(command):

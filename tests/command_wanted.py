@@ -3,12 +3,13 @@
 import time as clock
 
 import model
-from command_run import KEPT, claim, claim_missing, claim_not_got, claim_refused, why
+from command_run import KEPT, claim, claim_missing, claim_not_got, claim_refused, in_form, why
+from expecting import expect
 from film_boxes import shown_type
 
 STATES = {"lost": model.LOST, "damaged": model.DAMAGED, "good": model.GOOD, "elsewhere": model.ELSEWHERE}
 WORDS = {state: word for word, state in STATES.items()}
-SEGMENT_HEADING = ("segment", "place", "offset", "flags", "time", "chunks", "header", "length", "repaired")
+SEGMENT_HEADING = ("segment", "place", "offset", "flags", "time", "chunks", "header", "length", "repaired", "source")
 CHUNK_HEADING = ("segment", "index", "start", "size", "state", "place")
 SERVED = {model.NONE: "none", model.SOME: "some", model.ALL: "all"}
 SIGNS = {model.NONE: "-", model.SOME: "%", model.ALL: " "}
@@ -66,7 +67,7 @@ def rows_text(file):
     text = b"url\t" + shown(part(file, model.url(file))) + b"\nmime\t" + shown(part(file, model.mime(file))) + b"\n"
     text += model.line(*SEGMENT_HEADING)
     for number, row in enumerate(answer[1]):
-        text += model.line(number, *row, repaired(row[3]))
+        text += model.line(number, *row[:7], repaired(row[3]), row[7])
     text += model.line(*CHUNK_HEADING)
     return text + b"".join(model.line(*row[:4], WORDS[row[4]], row[5]) for row in answer[2])
 
@@ -93,33 +94,73 @@ def tree_text(file):
     return "".join(line + "\n" for line in lines).encode("ascii") if rows else b""
 
 
-def got(file, first, length):
-    """The bytes of an accepted file's positions and the first missing one, None where none is."""
-    reading, content = model.accept(file), bytearray()
+def source_count(file):
+    """How many sources an accepted file has."""
+    return model.sources(file)[1]
+
+
+def sources_text(file, percent=None):
+    """A line for each source; the URLs by a function in the place of how a text is shown."""
+    text = b""
+    for number in range(source_count(file)):
+        described, closed = model.length(file, number)[1:3]
+        url, mime = part(file, model.source_url(file, number)), part(file, model.source_mime(file, number))
+        text += model.line(number, described, "closed" if closed else "open", *model.lists(file, source=number)[3:5])[:-1]
+        text += b"\t" + (percent or shown)(url) + b"\t" + shown(mime) + b"\n"
+    return text
+
+
+def lines_of(text, source):
+    """The lines of one source in a map."""
+    return b"source" + text.split(b"source")[source + 1]
+
+
+def got(file, first, length, source=0):
+    """The bytes of positions of a source and the first missing one, None where none is; the file is accepted."""
+    asked, content = model.source_of(model.accept(file), source), bytearray()
     for p in range(first, first + length):
-        chunk = model.supplier(reading, p)
+        chunk = model.supplier(asked, p)
         if chunk is None:
             return b"", p
         content.append(file[chunk.place + p - chunk.start])
     return bytes(content), None
 
 
-def left(film, file):
-    """What append says on standard error once it left this file: of what an eighth or less is left."""
+def left(film, before, file):
+    """What append says on standard error once it left this file: of what an eighth or less is left, of sources where
+    there is a new one."""
     segments, chunks = model.read(file)[1:3]
     counts = [(len(segments), 64, "segments"), (len(chunks), 1_024, "chunks"), (boxes_text(file).count(b"\n"), 512, "boxes")]
+    if source_count(file) > (0 if number_of(before) else source_count(before)):
+        counts.append((source_count(file), 8, "sources"))
     return "".join(f"paff: {film}: {most - used} of {most} {what} are left\n" for used, most, what in counts if 8 * (most - used) <= most).encode("ascii")
 
 
-def appended(file, offset, chunks, last=False, time=None, outside=False):
-    """The number of the refusal, 0 where it is taken, and the file after an append."""
+def texts_to(file, source):
+    """The texts that an addition to a source has, those of its first segment; none where the file was only begun."""
+    if number_of(file):
+        return b"", []
+    first = next(number for number, row in enumerate(model.read(file)[1]) if row[7] == source)
+    return model.texts(file, first)[1:3]
+
+
+def texts_of(surls):
+    """The texts of `surl` boxes, each a pair, as the library takes them."""
+    texts = [text for surl in surls for text in surl]
+    return b"".join(texts), [len(text) for text in texts]
+
+
+def appended(file, offset, chunks, last=False, time=None, outside=False, source=0, surls=()):
+    """The number of the refusal, 0 where it is taken, and the file after an append to a source, or with these `surl`
+    boxes."""
     chunk_list, data = [], b""
     for chunk in chunks:
         size = len(chunk.value) if chunk.kind in KEPT else chunk.value
         chunk_list += [size, STATES[chunk.kind]]
         data += chunk.value if chunk.kind in KEPT else b""
-    buffer = file + bytes(len(data) + 100 + 17 * len(chunks))
-    answer, buffer = model.append(buffer, len(file), offset, time or 0, last, outside, chunk_list, data)
+    texts, lengths = texts_of(surls) if surls else texts_to(file, source)
+    buffer = file + bytes(len(data) + 100 + 17 * len(chunks) + len(texts) + 7 * len(lengths))
+    answer, buffer = model.append(buffer, len(file), offset, time or 0, last, outside, chunk_list, data, texts, lengths)
     return (answer[1], file) if answer[0] == "refused" else (0, buffer[:answer[1]])
 
 
@@ -130,8 +171,8 @@ def begun(url, mime=b"", brand=model.PAFF):
 
 
 def film_of(*additions, url=b"u", mime=b"", brand=model.PAFF):
-    """A file begun, and the taken additions, each an offset and its chunks and where it says so, last, its time and
-    outside."""
+    """A file begun, and the taken additions, each an offset and its chunks and where it says so, last, its time,
+    outside, the source and the `surl` boxes."""
     file = begun(url, mime, brand)
     for addition in additions:
         number, file = appended(file, *addition)
@@ -147,11 +188,22 @@ def said_of(film, number):
 
 
 def claim_map(name, command, film, file):
-    """Both maps."""
+    """Both maps, and that of the last source alone."""
     number = number_of(file)
     status, err = (1 if number else 0), said_of(film, number)
     claim(f"map of {name}", command.run("map", film), status, map_text(file), err)
     claim(f"map --missing of {name}", command.run("map", "--missing", film), status, missmap_text(file), err)
+    last = 0 if number else source_count(file) - 1
+    wanted = map_text(file) if number else lines_of(map_text(file), last)
+    claim(f"map --source {last} of {name}", command.run("map", "--source", str(last), film), status, wanted, err)
+
+
+def claim_sources(name, command, film, file):
+    number, answer = number_of(file), command.run("sources", film)
+    if number:
+        claim_refused(f"sources of {name}", answer, number, film)
+    else:
+        claim(f"sources of {name}", answer, 0, sources_text(file))
 
 
 def claim_boxes(name, command, film, file):
@@ -180,14 +232,27 @@ def claim_index(name, command, film, file):
     claim(f"index --tree of {name}", tree, 0, text, b"" if text else b"paff: %s: no box is indexed\n" % film.encode())
 
 
-def claim_get(name, command, film, file, first, length):
-    name = f"get {first} {length} of {name}"
-    answer, number = command.run("get", film, str(first), str(length)), number_of(file)
+def claim_not_named(name, answer, film, last, named=None):
+    """A wrong use, as the file has other sources than the one that is named, or several and none is."""
+    what = "no --source is given" if named is None else f"there is no source {named}"
+    line = f"paff: {what}; " + ("the only source is 0" if last == 0 else f"the sources are 0 to {last}") + f": {film}"
+    expect(name, (answer.status, answer.out, answer.err.split(b"\n")[0], in_form(answer.err)), (2, b"", line.encode(), True))
+
+
+def claim_get(name, command, film, file, first, length, source=0):
+    """Of a source that is named, and where there is but one, of that without its number too."""
+    name, number = f"get {first} {length} of source {source} of {name}", number_of(file)
+    words = ["get", film, str(first), str(length)]
+    answers = [command.run(*words), command.run(*words, "--source", str(source))]
     if number:
-        claim_not_got(name, answer, number, film)
+        for answer in answers:
+            claim_not_got(name, answer, number, film)
         return
-    content, missing = got(file, first, length)
-    if missing is None:
-        claim(name, answer, 0, content)
-    else:
-        claim_missing(name, answer, missing, model.length(file)[1])
+    if source_count(file) > 1:
+        claim_not_named(f"{name}, not named", answers.pop(0), film, source_count(file) - 1)
+    content, missing = got(file, first, length, source)
+    for answer in answers:
+        if missing is None:
+            claim(name, answer, 0, content)
+        else:
+            claim_missing(name, answer, missing, model.length(file, source)[1])

@@ -9,9 +9,10 @@ import time as clock
 import additions
 import generate
 import model
+from additions_texts import pairs_of
 from boxes import box, head, lost_segment, open_segment
 from command_run import KEPT, Chunk, claim, claim_held, claim_missing, claim_refused, damaged, elsewhere, ended, good, lost
-from command_wanted import appended, begun, claim_boxes, claim_map, claim_rows, film_of, left
+from command_wanted import appended, begun, claim_boxes, claim_map, claim_rows, film_of, left, number_of, source_count
 from expecting import expect
 from foreign import LIMIT, WIDE
 from model import PMFF
@@ -23,15 +24,18 @@ KINDS = ["lost", "damaged", "good", "elsewhere"]
 MOOF, MDAT = box(b"moof", b"0123456789"), box(b"mdat", b"abcd", large=True)
 
 
-def claim_append(name, command, file, offset, chunks, last=False, time=None, outside=False):
-    """The model's answer and the model's file; the file after it."""
+def claim_append(name, command, file, offset, chunks, last=False, time=None, outside=False, source=None, surls=()):
+    """The model's answer and the model's file; the file after it. The source is named where there is a number, and else
+    it is the only one."""
     command.put("film", file)
-    number, wanted = appended(file, offset, chunks, last, time, outside)
-    answer = command.append("film", offset, chunks, last, time, outside)
+    number, wanted = appended(file, offset, chunks, last, time, outside, source or 0, surls)
+    to = [] if source is None else ["--source", str(source)]
+    to += [word for url, mime in surls for word in (b"--url=" + url, b"--mime=" + mime)]
+    answer = command.append("film", offset, chunks, last, time, outside, to)
     if number:
         claim_refused(name, answer, number)
     else:
-        claim(name, answer, 0, err=left("film", wanted))
+        claim(name, answer, 0, err=left("film", file, wanted))
     claim_held(f"the file after {name}", command, "film", wanted)
     return wanted
 
@@ -242,7 +246,7 @@ def times(command):
         command.put("film", begun(b"u"))
         claim(f"append --time {text}", command.run("append", "film", "--offset", "0", "--lost", "1", "--time", text), 0)
         claim_held(f"the file after --time {text}", command, "film", appended(begun(b"u"), 0, [lost(1)], False, timestamp)[1])
-        expect(f"the row of {text}", b"\t%d\t1\t71\t16\t%s\n" % (timestamp, text.encode("ascii")) in command.run("rows", "film").out)
+        expect(f"the row of {text}", b"\t%d\t1\t71\t16\t%s\t0\n" % (timestamp, text.encode("ascii")) in command.run("rows", "film").out)
     command.put("film", begun(b"u"))
     before = clock.time()
     claim("append --time now", command.run("append", "film", "--offset", "0", "--lost", "1", "--time=now"), 0)
@@ -378,7 +382,8 @@ def sizes_refused(command):
 # Seeded runs.
 
 def some_addition(rng, file):
-    """What append is asked; one in four with a fault, which may need another file."""
+    """What append is asked; one in four with a fault, which may need another file. Where several sources are there, and
+    no URL is given, one of them is named."""
     given = additions.acceptable(rng, file)
     if rng.random() < 0.25:
         rng.choice([additions.overstep_limit, additions.overstep_size, additions.spoil_outside])(rng, given)
@@ -388,7 +393,10 @@ def some_addition(rng, file):
         chunks.append(Chunk(kind, given["data"][at:at + size] if kind in KEPT else size))
         at += size if kind in KEPT else 0
     time = given["repair_time"] if rng.random() < 0.8 else None
-    return given["buffer"], given["source_offset"], chunks or [lost(1)], given["last"], time, given["outside"]
+    surls = pairs_of(given["texts"], given["lengths"])
+    count = 1 if number_of(given["buffer"]) else source_count(given["buffer"])
+    source = rng.randrange(count) if count > 1 and not surls else None
+    return given["buffer"], given["source_offset"], chunks or [lost(1)], given["last"], time, given["outside"], source, surls
 
 
 def random_runs(command):

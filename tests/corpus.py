@@ -2,9 +2,10 @@
 
 usage: python3 tests/corpus.py [--check]
 
-A record of `stdin` is four numbers of two bytes, most significant first: the length of its name, the numbers lent for
-segment rows and for chunk rows, the length of its file. Then the name and the file. `stdout` is made of the model's
-answers alone.
+A record of `stdin` is six numbers of two bytes, most significant first: the length of its name, the numbers lent for
+segment rows and for chunk rows, the length of its file, the number of a source and that of a segment. Then the name and
+the file. The texts of the segment are asked for in a buffer of 64 bytes and a list of 8 numbers. `stdout` is made of the
+model's answers alone.
 """
 
 import os
@@ -19,6 +20,7 @@ import corpus_mixed
 import corpus_orders
 import corpus_random
 import corpus_segments
+import corpus_sources
 import corpus_tables
 import model
 from faults import FAULTS
@@ -27,8 +29,9 @@ from record import taken
 ROOT = os.path.join(os.path.dirname(os.path.abspath(__file__)), "..")
 CRATE = os.path.join(ROOT, "crates", "reading_run")
 LARGEST_FILE = 65_535
-MOST_BYTES = 600_000
-FULL_TABLES = (448, 6144)
+MOST_BYTES = 630_000
+FULL_TABLES = (512, 6144)
+TEXT_ROOMS = (64, 8)
 TO_SPARE = 3
 
 
@@ -41,7 +44,7 @@ def sample():
 
 def records():
     made = [sample()]
-    for part in (corpus_boxes, corpus_segments, corpus_chunks, corpus_mixed, corpus_elsewhere, corpus_index, corpus_orders, corpus_tables, corpus_random):
+    for part in (corpus_boxes, corpus_segments, corpus_chunks, corpus_mixed, corpus_elsewhere, corpus_index, corpus_sources, corpus_orders, corpus_tables, corpus_random):
         made += part.records()
     return made
 
@@ -54,7 +57,7 @@ def rooms(record):
     answer = model.read(record.file)
     ample = FULL_TABLES
     if answer[0] == "read":
-        needed = (7 * len(answer[1]), 6 * len(answer[2]))
+        needed = (8 * len(answer[1]), 6 * len(answer[2]))
         ample = [min(most, numbers + TO_SPARE) for most, numbers in zip(FULL_TABLES, needed)]
     stated = (record.segment_room, record.chunk_room)
     return [spare if room is None else room for spare, room in zip(ample, stated)]
@@ -63,7 +66,7 @@ def rooms(record):
 def encoded(record):
     name = record.name.encode("ascii")
     assert len(record.file) <= LARGEST_FILE
-    numbers = [len(name), *rooms(record), len(record.file)]
+    numbers = [len(name), *rooms(record), len(record.file), record.source, record.segment]
     return b"".join(number.to_bytes(2, "big") for number in numbers) + name + record.file
 
 
@@ -83,9 +86,30 @@ def table(word, rows, room, width):
     return "".join(line(word, *row) for row in rows) + kept(room, rows, width)
 
 
+def hexes(content):
+    return ["%02x" % byte for byte in content]
+
+
 def text(word, file, part):
     place, length = part
-    return line(word, *["%02x" % byte for byte in file[place:place + length]])
+    return line(word, *hexes(file[place:place + length]))
+
+
+def texts_of_segment(file, segment):
+    """The texts of a segment and their lengths, and how many bytes and numbers of what is lent for them are kept."""
+    answer = model.texts(file, segment, *TEXT_ROOMS)
+    if answer[0] == "refused":
+        return line("texts", *answer) + "".join(line("kept", room, "of", room) for room in TEXT_ROOMS)
+    texts, lengths = answer[1:]
+    rest = [room - len(part) for room, part in zip(TEXT_ROOMS, (texts, lengths))]
+    front = line("texts", len(texts), len(lengths)) + line("bytes", *hexes(texts)) + line("lengths", *lengths)
+    return front + "".join(line("kept", room, "of", room) for room in rest)
+
+
+def read_line(file, segments, chunks, source):
+    """What is told of a file that is read, and of one of its sources."""
+    described, closed = model.length(file, source)[1:]
+    return line("read", segments, chunks, model.sources(file)[1], described, "closed" if closed else "open")
 
 
 def answers(record):
@@ -96,11 +120,11 @@ def answers(record):
         front, rows = line("refused", answer[1]), ([], [])
     else:
         rows = answer[1:]
-        described, closed = model.length(file)[1:]
-        front = line("read", len(rows[0]), len(rows[1]), described, "closed" if closed else "open")
-    tables = table("segment", rows[0], lent[0], 7) + table("chunk", rows[1], lent[1], 6)
+        front = read_line(file, *map(len, rows), record.source)
+    tables = table("segment", rows[0], lent[0], 8) + table("chunk", rows[1], lent[1], 6)
     texts = text("url", file, model.url(file)) + text("mime", file, model.mime(file))
-    return line("=", record.name) + front + tables + texts
+    texts += text("source_url", file, model.source_url(file, record.source)) + text("source_mime", file, model.source_mime(file, record.source))
+    return line("=", record.name) + front + tables + texts + texts_of_segment(file, record.segment)
 
 
 # The command.

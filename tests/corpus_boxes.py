@@ -144,8 +144,8 @@ SURLS = [
 
 
 def files_of_surl():
-    yield refused(11, "no surl", of_parts(pfhd()))
-    yield refused(11, "a surl in the file only", ftyp() + box(b"pfil", pfhd()) + surl() + SEGMENT)
+    yield refused(41, "no surl", of_parts(pfhd()))
+    yield refused(41, "a surl in the file only", ftyp() + box(b"pfil", pfhd()) + surl() + SEGMENT)
     for name, body in SURLS:
         yield refused(11, f"surl {name}", of_parts(pfhd(), box(b"surl", body)))
         yield refused(11, f"second surl {name}", of_parts(surl(), pfhd(), box(b"surl", body)))

@@ -63,9 +63,8 @@ def offsets_at_the_edge():
     yield taken("16 back in 1 byte, data on both sides", behind(around, 5, -16) + around)
     yield taken("129 back in 2 bytes", behind(around, 129, -129, 1, 2))
     yield taken("128 ahead of a segment in 2 bytes", ahead(around, 100, 128, 2))
-    far = box(b"pdat", 33_000 * b"x")
-    yield taken("32769 back in 3 bytes and 32768 in 2", behind(far, 1, -32769, 1, 3) + segment([entry(GOOD, 1, 1, 2, -32768)], 1, 2))
-    yield taken("32767 ahead in 2 bytes and 32768 in 3", ahead(segment([entry(GOOD, 1, 1, 3, 32768)], 1, 3) + far, 1, 32767, 2))
+    far, back = box(b"pdat", 33_000 * b"x"), segment([entry(GOOD, 1, 1, 3, -32769)], 1, 3) + segment([entry(GOOD, 1, 1, 2, -32768)], 1, 2)
+    yield taken("32767 ahead and 32768 back in 2 bytes, 32768 ahead and 32769 back in 3", ahead(segment([entry(GOOD, 1, 1, 3, 32768)], 1, 3) + far + back, 1, 32767, 2))
 
 
 # Places.

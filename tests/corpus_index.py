@@ -261,7 +261,7 @@ def orders():
     yield refused(38, "38 before 39", in_pfil(UNKNOWN, flags=0, more=segment(fidx(), flags=0)))
     for number, file in [(36, in_pfil(WRONG)), (37, in_pfil(NINTH)), (38, in_pfil(fidx(), more=segment(fidx()))), (39, in_pfil(UNKNOWN, flags=0))]:
         yield refused(number, f"{number} before 26", file, 0, 0)
-    yield refused(26, "26 behind a right index", in_pfil(fidx(bidx(0))), 6, 6)
+    yield refused(26, "26 behind a right index", in_pfil(fidx(bidx(0))), 7, 6)
 
 
 def claims():

@@ -18,7 +18,8 @@ FAULTS = [
     (4, "size 7 in the pseg"),
     (14, "pshd not first"),
     (15, "two ploc"),
-    (16, "surl in the pseg"),
+    (16, "surl in the pseg not closed"),
+    (41, "no surl"),
     (17, "ploc of version 1"),
     (18, "width 9"),
     (19, "data reference 1"),
@@ -30,6 +31,7 @@ FAULTS = [
     (24, "chunk in no pdat"),
     (17, "a byte left over"),
     (25, "sizes that differ"),
+    (40, "nine sources"),
 ]
 NUMBERS = {name: number for number, name in FAULTS}
 OF_THE_FILE = list(NUMBERS)[:7]
@@ -39,7 +41,13 @@ def together(one, two):
     """Whether two faults can stand in one file."""
     if "no pseg" in (one, two):
         return one in OF_THE_FILE
-    return {one, two} != {"offset cut short", "a byte left over"}
+    return {one, two} not in ({"offset cut short", "a byte left over"}, {"surl not closed", "no surl"})
+
+
+def worth_it(one, two):
+    """Whether a pair tells something: the sources of a file are far behind the faults of its first boxes, and make it
+    long."""
+    return two != "nine sources" or one not in OF_THE_FILE
 
 
 def ftyp_with(faults):
@@ -49,7 +57,9 @@ def ftyp_with(faults):
 
 def pfil_with(faults):
     header = box(b"pfhd", full(1)) if "pfhd of version 1" in faults else pfhd()
-    texts = box(b"surl", full(), b"u\0m") if "surl not closed" in faults else surl(b"u", b"m")
+    texts = b"" if "no surl" in faults else surl(b"u", b"m")
+    if "surl not closed" in faults:
+        texts = box(b"surl", full(), b"u\0m")
     return box(b"pfil", header, texts, bytes(8) if "size 0 in pfil" in faults else b"")
 
 
@@ -75,7 +85,7 @@ def pseg_with(faults):
     first = box(b"free") if "pshd not first" in faults else b""
     offset = LIMIT + 1 if "offset over its limit" in faults else 0
     located = ploc_with(faults) * (2 if "two ploc" in faults else 1)
-    texts = surl() if "surl in the pseg" in faults else b""
+    texts = box(b"surl", full(), b"u\0m") if "surl in the pseg not closed" in faults else b""
     end = bytes([0, 0, 0, 7]) + b"free" if "size 7 in the pseg" in faults else b""
     return box(b"pseg", first, pshd(offset, version=1), located, texts, end)
 
@@ -85,7 +95,8 @@ def psegs_with(faults):
         return b""
     more = 64 * box(b"pseg") if "65 pseg" in faults else b""
     differing = lost_segment(0, [3], flags=1) + open_segment(4) if "sizes that differ" in faults else b""
-    return pseg_with(faults) + more + differing
+    sources = b"".join(open_segment(0, parts=surl(bytes([url]))) for url in b"12345678") if "nine sources" in faults else b""
+    return pseg_with(faults) + more + differing + sources
 
 
 def file_with(faults):
@@ -104,18 +115,20 @@ def single_faults():
 def pairs():
     for at, (number, name) in enumerate(FAULTS):
         for _, other in FAULTS[at + 1:]:
-            if together(name, other):
+            if together(name, other) and worth_it(name, other):
                 yield refused(number, f"{name}; {other}", file_with([name, other]))
 
 
 # The first segment's fault counts, and in one segment the first entry's.
 
-IN_A_SEGMENT = [name for number, name in FAULTS[9:23]]
+IN_A_SEGMENT = [name for number, name in FAULTS[9:24]]
 
 
 def two_segments():
     for at, name in enumerate(IN_A_SEGMENT):
         other = IN_A_SEGMENT[at - 7]
+        if "no surl" in (name, other):
+            continue
         file = ftyp_with([]) + pfil_with([]) + box(b"pdat", b"abcdefgh") + pseg_with([name]) + pseg_with([other])
         yield refused(NUMBERS[name], f"{name}; in the second, {other}", file)
         good = lost_segment(0, [1])

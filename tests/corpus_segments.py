@@ -37,7 +37,7 @@ def files_of_parts():
     yield refused(15, "no ploc", of_parts(pshd(7)))
     yield refused(15, "a ploc in the file only", of_parts(pshd(7)) + OPEN)
     yield refused(15, "two ploc", of_parts(pshd(7), OPEN, FREE, OPEN))
-    yield refused(16, "surl before ploc", of_parts(pshd(7), surl(), OPEN))
+    yield taken("surl before ploc", of_parts(pshd(7), surl(), OPEN))
     yield refused(16, "an empty surl behind ploc", of_parts(pshd(7), OPEN, box(b"surl")))
     yield taken("boxes of every kind that a pseg skips", of_parts(
         pshd(7), *[box(kind, b"\0\0") for kind in (b"ftyp", b"pfil", b"pfhd")], box(b"uuid", bytes(18)), OPEN,

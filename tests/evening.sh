@@ -1,13 +1,14 @@
 #!/bin/sh
 # The clerk's evening, from end to end: nginx serves a film on loopback, a partial file of it has gaps, and what the map
-# calls missing is fetched with curl and appended until the film is whole. `sh tests/evening.sh WORDS...`, where the
-# words are how paff is run, for instance target/command/paff.
+# calls missing is fetched with curl and appended until the film is whole; then the same of a film in two layers, each
+# from a URL of its own. `sh tests/evening.sh WORDS...`, where the words are how paff is run, for instance
+# target/command/paff.
 set -eu
 [ $# -gt 0 ] || { echo "usage: sh tests/evening.sh WORDS..." >&2; exit 2; }
 export LC_ALL=C PATH="$PATH:/usr/sbin"
-program=$* size=3145741 server=
+program=$* size=3145741 base_size=100003 sharp_size=400009 server=
 folder=$(mktemp -d "${TMPDIR:-/tmp}/evening.XXXXXX")
-film=$folder/served/film file=$folder/film.paff
+file=$folder/film.paff
 
 # Stops nginx and removes the folder.
 leave() {
@@ -38,16 +39,22 @@ ask() { timeout 20 curl -q --silent --noproxy '*' --output "$folder/piece" --wri
 
 sum() { sha256sum <"$1" | cut -d ' ' -f 1; }
 
-make_film() {
+# NAME: the film, or the layer of one, that is served under this name.
+take() { film=$folder/served/$1 url=http://127.0.0.1:${port:-}/$1; }
+
+# NAME SIZE: makes it.
+make_film() { take "$1"; python3 -c "import random, sys; sys.stdout.buffer.write(random.Random('$1').randbytes($2))" >"$film"; }
+
+make_films() {
     mkdir "$folder/served"
-    python3 -c "import random, sys; sys.stdout.buffer.write(random.Random(14).randbytes($size))" >"$film"
+    make_film film $size; make_film base $base_size; make_film sharp $sharp_size
     chmod -R a+rX "$folder" # The worker of nginx may be another user.
 }
 
 # Starts nginx at a free port, with all its paths in the folder, and waits until it answers.
 serve() {
     port=$(python3 -c 'import socket; s = socket.socket(); s.bind(("127.0.0.1", 0)); print(s.getsockname()[1])')
-    url=http://127.0.0.1:$port/film
+    take film
     cat >"$folder/nginx.conf" <<END
 daemon off; worker_processes 1; pid $folder/nginx.pid; lock_file $folder/nginx.lock; error_log $folder/error.log;
 events { worker_connections 16; }
@@ -93,22 +100,56 @@ night_missing() {
     total_of 2144739 1001002
 }
 
-# One round of the evening: fetches and appends each missing range, held and lost together, as each range that is
-# ordered has its price.
+# The night of two layers in one file: the first has the URL that the file was begun with.
+receive_layers() {
+    file=$folder/layers.paff
+    take base
+    paff begin "$file" "$url" video/mp4
+    append 0 --good "$(right 0 60000)"
+    take sharp
+    append 300000 --url "$url" --mime video/mp4 --last --good "$(right 300000 100009)"
+    append 0 --source 1 --lost 5000 --good "$(right 5000 195000)"
+    take base
+    append 80000 --source 0 --last --damaged "$(wrong 80000 10000)" --good "$(right 90000 10003)"
+}
+
+layers_map() {
+    map_of source $base_size closed have 0 60000 lost 60000 20000 held 80000 10000 have 90000 10003; total_of 70003 10000 20000
+    map_of source $sharp_size closed lost 0 5000 have 5000 195000 lost 200000 100000 have 300000 100009; total_of 295009 0 105000
+}
+layers_whole() {
+    map_of source $base_size closed have 0 $base_size; total_of $base_size 0 0
+    map_of source $sharp_size closed have 0 $sharp_size; total_of $sharp_size 0 0
+}
+
+# [--source NUMBER]: one round of the evening: fetches and appends each missing range, held and lost together, as each
+# range that is ordered has its price.
 order() {
-    paff map --missing "$file"; mv "$folder/said" "$folder/map"
+    paff map --missing "$@" "$file"; mv "$folder/said" "$folder/map"
     while read -r word first length; do
         [ "$word" = miss ] || continue
         rm -f "$folder/piece"
         same "the status for $length bytes at $first" 206 "$(ask --range "$first-$((first + length - 1))")"
-        append "$first" --time now --size "$length" --good "$folder/piece"
+        append "$first" "$@" --time now --size "$length" --good "$folder/piece"
         ranges=$((ranges + 1)) bytes=$((bytes + length))
     done <"$folder/map"
 }
 
+# Each layer is ordered from the URL that its source has, until both are whole.
+order_layers() {
+    paff sources --percent "$file"; cut -f 1,6 "$folder/said" >"$folder/sources"
+    same "the URLs to order from" "$(printf '0\thttp://127.0.0.1:%s/base\n1\thttp://127.0.0.1:%s/sharp' "$port" "$port")" "$(cat "$folder/sources")"
+    while read -r number url <&3; do
+        for _ in 1 2; do order --source "$number"; done
+        same "the status for the whole of source $number" 200 "$(ask)"
+        paff get --source "$number" "$file" --output "$folder/whole.$number"
+        same "the checksum of source $number as paff serves it" "$(sum "$folder/piece")" "$(sum "$folder/whole.$number")"
+    done 3<"$folder/sources"
+}
+
 trap leave EXIT
 trap 'exit 1' HUP INT TERM
-make_film
+make_films
 serve
 receive
 paff map "$file"; same "the map before the evening" "$(night_map)" "$(cat "$folder/said")"
@@ -123,3 +164,10 @@ same "the status for the whole film" 200 "$(ask)"
 same "the checksum of the film as nginx serves it" "$(sum "$film")" "$(sum "$folder/piece")"
 paff get "$file" --output "$folder/whole"; same "the checksum of the film as paff serves it" "$(sum "$folder/piece")" "$(sum "$folder/whole")"
 echo "the clerk's evening: $ranges ranges fetched, $bytes bytes, the film is whole"
+receive_layers
+paff map "$file"; same "the map of two layers before the evening" "$(layers_map)" "$(cat "$folder/said")"
+ranges=0 bytes=0
+order_layers
+same "ranges and bytes fetched of two layers, each once" "3 135000" "$ranges $bytes"
+paff map "$file"; same "the map of two layers after the evening" "$(layers_whole)" "$(cat "$folder/said")"
+echo "the clerk's evening: $ranges ranges fetched of two layers, $bytes bytes, both are whole"

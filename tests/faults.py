@@ -1,9 +1,10 @@
-"""Makes files that reading must refuse with one given number, 2 to 25 but 21, which no file meets, or 36 to 39."""
+"""Makes files that reading must refuse with one given number, 2 to 25 but 21, which no file meets, or 36 to 41."""
 
 import broken
 import faults_index
-from boxes import box, full, lost_segment, open_segment, pfhd, sized, surl
-from foreign import DAMAGED, ELSEWHERE, GOOD, LIMIT, LOST, foreign_plan, skipped_box, text
+from boxes import box, full, lost_segment, open_segment, pfhd, sized
+from foreign import DAMAGED, ELSEWHERE, GOOD, LIMIT, LOST, foreign_plan, skipped_box
+from layers import SOURCES, boxes_for, fresh_list, fresh_lists, ill_formed, lists_of, make_bare, own_urls, take_urls
 from plan import Entry, Other, Segment, Whole
 
 FREE = box(b"free")
@@ -113,20 +114,10 @@ def pfhd_fault(rng, plan):
 
 
 def surl_fault(rng, plan):
-    cause = rng.choice(["none", "version or flags", "cut in the front", "one string",
-                        "not closed", "bytes after"])
-    if cause == "none":
-        plan.pfil_parts = parts_without(plan, b"surl")
-        return
-    front = rng.choice([full(nonzero(rng, 8)), full(0, nonzero(rng, 24))])
-    after = rng.randbytes(rng.randint(1, 3))
-    insert_part(rng, plan, box(b"surl", {
-        "version or flags": front + b"u\0\0",
-        "cut in the front": bytes(rng.randint(0, 3)),
-        "one string": full() + text(rng) + b"\0",
-        "not closed": full() + text(rng) + b"\0" + text(rng) + b"m",
-        "bytes after": full() + text(rng) + b"\0" + text(rng) + b"\0" + after,
-    }[cause]))
+    """An ill-formed surl in pfil, alone there or beside others."""
+    if rng.random() < 0.3:
+        take_urls(plan)
+    insert_part(rng, plan, ill_formed(rng))
 
 
 def no_pseg(rng, plan):
@@ -164,10 +155,18 @@ def not_one_ploc(rng, plan):
     rng.choice(plan.segments()).ploc_count = rng.choice([0, 2, 2, 3])
 
 
-def surl_inside_pseg(rng, plan):
+def surl_fault_in_pseg(rng, plan):
+    """An ill-formed surl in a segment, alone there or beside others."""
     segment = rng.choice(plan.segments())
-    content = rng.choice([surl(text(rng), text(rng)), box(b"surl"), box(b"surl", rng.randbytes(5))])
-    rng.choice([segment.between, segment.after]).append(content)
+    parts = rng.choice([segment.between, segment.after])
+    parts.insert(rng.randint(0, len(parts)), ill_formed(rng))
+
+
+def no_surl(rng, plan):
+    """A segment without a surl in a file whose pfil has none either."""
+    make_bare(rng, plan)
+    for segment in rng.sample(plan.segments(), rng.randint(1, min(2, len(plan.segments())))):
+        take_urls(segment)
 
 
 def ploc_fault(rng, plan):
@@ -271,16 +270,40 @@ def may_not_lie_there(rng, plan):
     segment.entries.append(added)
 
 
-def sizes_disagree(rng, plan):
-    """A known size, and a known size, an end or an open offset that disagrees."""
-    size = rng.randint(0, 30)
-    above = size + rng.randint(1, 9)
-    closing = lost_segment(0, [size], flags=1)
-    other = rng.choice([
-        lost_segment(0, [above], flags=1), lost_segment(above, [0], flags=1),
-        lost_segment(size, [1]), open_segment(above), open_segment(above, flags=1)])
-    for content in rng.sample([closing, other], 2):
+def some_list(rng, plan):
+    """The list of a source of the file, that in pfil, or a new one; None stands for that in pfil without boxes of its
+    own."""
+    known = lists_of(plan)
+    return rng.choice([rng.choice(known), fresh_list(rng, known), None if own_urls(plan) else rng.choice(known)])
+
+
+def put_segments(rng, plan, contents):
+    for content in rng.sample(contents, len(contents)):
         plan.items.insert(rng.randint(0, len(plan.items)), Other(content))
+
+
+def sizes_disagree(rng, plan):
+    """A known size, and a known size, an end or an open offset of the same source that disagrees; there may be a ninth
+    source beside."""
+    size, urls = rng.randint(0, 30), some_list(rng, plan)
+    above = size + rng.randint(1, 9)
+    parts = [b"".join(boxes_for(rng, urls or [])) for _ in range(2)]
+    closing = lost_segment(0, [size], flags=1, parts=parts[0])
+    other = rng.choice([
+        lost_segment(0, [above], flags=1, parts=parts[1]), lost_segment(above, [0], flags=1, parts=parts[1]),
+        lost_segment(size, [1], parts=parts[1]), open_segment(above, parts=parts[1]), open_segment(above, flags=1, parts=parts[1])])
+    put_segments(rng, plan, [closing, other])
+    if rng.random() < 0.2:
+        too_many_sources(rng, plan)
+
+
+def too_many_sources(rng, plan):
+    """So many more sources that there is a ninth, most of them closed at sizes of their own."""
+    known = lists_of(plan)
+    lists = fresh_lists(rng, known, SOURCES + rng.choice([1, 1, 2, 9]) - len(known))
+    for urls in lists:
+        parts = b"".join(boxes_for(rng, urls))
+        put_segments(rng, plan, [lost_segment(0, [rng.randint(0, 99)], flags=rng.choice([0, 1, 1]), parts=parts)])
 
 
 FAULTS = {
@@ -298,7 +321,7 @@ FAULTS = {
     13: too_many_segments,
     14: pshd_fault,
     15: not_one_ploc,
-    16: surl_inside_pseg,
+    16: surl_fault_in_pseg,
     17: ploc_fault,
     18: width_over_8,
     19: data_reference,
@@ -308,6 +331,8 @@ FAULTS = {
     24: may_not_lie_there,
     25: sizes_disagree,
     **faults_index.FAULTS,
+    40: too_many_sources,
+    41: no_surl,
 }
 
 

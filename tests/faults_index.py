@@ -3,6 +3,7 @@
 import broken
 from boxes import box
 from indexes import LEVELS, LIMIT, Index, Indexed, index_for, known_size, put_anywhere, put_index, start_of
+from layers import is_segment, segments_for
 
 FREE = box(b"free")
 BOXES = 512
@@ -13,13 +14,13 @@ def containers(plan):
 
 
 def has_index(container):
-    parts = container.between + container.after if hasattr(container, "entries") else container.pfil_parts
+    parts = container.between + container.after if is_segment(container) else container.pfil_parts
     return any(part[4:8] == b"fidx" for part in parts)
 
 
 def without_index(container):
     """Takes the index out of pfil or of a segment."""
-    if hasattr(container, "entries"):
+    if is_segment(container):
         container.between = [part for part in container.between if part[4:8] != b"fidx"]
         container.after = [part for part in container.after if part[4:8] != b"fidx"]
     else:
@@ -50,26 +51,26 @@ def to_the_end(kind, parts):
     return made
 
 
-# 36: each puts one fault into an index that starts at a source position.
+# 36: each puts one fault into an index of pfil or of a segment.
 
-def framing_fault(rng, plan, index, start):
+def framing_fault(rng, plan, index, container):
     maker = rng.choice([broken.cut_header, broken.size_0, broken.below_header, broken.past_container])
     some_list(rng, index).parts.append(maker(rng))
 
 
-def too_many_boxes(rng, plan, index, start):
+def too_many_boxes(rng, plan, index, container):
     filled = some_list(rng, index)
     filled.parts += (BOXES + 1 - len(filled.parts)) * [FREE]
 
 
-def cut_fields(rng, plan, index, start):
+def cut_fields(rng, plan, index, container):
     cut = rng.choice([rng.randbytes(rng.randint(0, 7)), (1).to_bytes(4, "big") + b"moov" + bytes(rng.randint(0, 7)),
                       (1).to_bytes(4, "big") + b"uuid" + (99).to_bytes(8, "big") + bytes(rng.randint(0, 15)),
                       (40).to_bytes(4, "big") + b"uuid" + bytes(rng.randint(0, 15)), bytes(4) + b"uuid" + bytes(rng.randint(0, 15))])
     put_anywhere(rng, some_list(rng, index, LEVELS - 1).parts, box(b"bidx", cut))
 
 
-def under_header(rng, plan, index, start):
+def under_header(rng, plan, index, container):
     size, kind, large = rng.choice([
         (rng.randint(2, 7), b"moov", False), (rng.randint(2, 23), b"uuid", False), (rng.randint(0, 15), b"moov", True), (rng.randint(0, 31), b"uuid", True)])
     under = Indexed(size, kind)
@@ -77,9 +78,9 @@ def under_header(rng, plan, index, start):
     put_anywhere(rng, some_list(rng, index, LEVELS - 1).parts, under)
 
 
-def under_header_at_the_end(rng, plan, index, start):
+def under_header_at_the_end(rng, plan, index, container):
     """A size 0 where nothing, or too little, is left of the box around it or of the source."""
-    size = known_size(plan)
+    size, start = known_size(plan, container), start_of(container)
     left = rng.choice([0, 0, 1, 7, -1, -9])
     last = to_the_end(rng.choice([b"mdat", b"uuid"]), [])
     last.user_type = bytes(16) if last.kind == b"uuid" else b""
@@ -91,14 +92,14 @@ def under_header_at_the_end(rng, plan, index, start):
     index.parts.insert(0, around)
 
 
-def not_last(rng, plan, index, start):
+def not_last(rng, plan, index, container):
     """A size 0 before another box, which may run to the end too."""
     last = nested(rng, index)
     listed = [part for part, level in lists_in(index) if last in part.parts][0]
     listed.parts.insert(listed.parts.index(last), to_the_end(b"free", []))
 
 
-def not_filling(rng, plan, index, start):
+def not_filling(rng, plan, index, container):
     """Boxes inside one that are too long or too short together, or that its front part moves."""
     around = Indexed(60, b"moov")
     around.parts = [Indexed(20, b"trak"), Indexed(32, b"mdia")]
@@ -123,20 +124,20 @@ def deepen(rng, made, index):
     index.parts.insert(0, made)
 
 
-def second_front_part(rng, plan, index, start):
+def second_front_part(rng, plan, index, container):
     around = nested(rng, index)
     fronts = [part for part in around.parts if isinstance(part, bytes) and part[4:8] == b"frpa"]
     for _ in range(2 - len(fronts)):
         put_anywhere(rng, around.parts, box(b"frpa"))
 
 
-def over_the_limit(rng, plan, index, start):
+def over_the_limit(rng, plan, index, container):
     """An end just over the limit, or far, of a box by itself or inside one whose end is not known."""
-    over = Indexed(LIMIT + 1 - start, b"mdat")
+    over = Indexed(LIMIT + 1 - start_of(container), b"mdat")
     over.size = rng.choice([over.size, over.size, over.size + 1, 2 ** 63, 2 ** 64 - 1])
     over.large = over.size >= 2 ** 32
     index.parts = [over]
-    if known_size(plan) is None and over.size < 2 ** 63 and over.large and rng.random() < 0.4:
+    if known_size(plan, container) is None and over.size < 2 ** 63 and over.large and rng.random() < 0.4:
         over.size -= 8
         index.parts = [to_the_end(b"moov", [over])]
 
@@ -150,13 +151,12 @@ def index_fault(rng, plan):
     container = rng.choice(containers(plan))
     if rng.random() < 0.12:
         for _ in range(1 if has_index(container) else 2):
-            put_index(rng, container, rng.choice([Index([]), index_for(rng, plan, start_of(container))]))
+            put_index(rng, container, rng.choice([Index([]), index_for(rng, plan, container)]))
         return
     without_index(container)
-    start = start_of(container)
-    index = index_for(rng, plan, start)
+    index = index_for(rng, plan, container)
     cause = too_many_boxes if rng.random() < 0.03 else rng.choice(CAUSES)
-    cause(rng, plan, index, start)
+    cause(rng, plan, index, container)
     put_index(rng, container, index)
 
 
@@ -166,7 +166,7 @@ def ninth_level(rng, plan):
     """A right index of eight levels, and a box of a ninth, of which nothing is looked into."""
     container = rng.choice(containers(plan))
     without_index(container)
-    index = index_for(rng, plan, start_of(container), deep=True)
+    index = index_for(rng, plan, container, deep=True)
     if not index.inner():
         index = eight_levels()
     deepest = [part for part, level in lists_in(index) if level == LEVELS]
@@ -197,18 +197,18 @@ def indexes_in_both(rng, plan):
     """A right index in pfil and in some segments, empty ones among them."""
     for container in [plan, *rng.sample(plan.segments(), rng.randint(1, min(2, len(plan.segments()))))]:
         if not has_index(container):
-            index = Index([]) if rng.random() < 0.2 else index_for(rng, plan, start_of(container))
+            index = Index([]) if rng.random() < 0.2 else index_for(rng, plan, container)
             put_index(rng, container, index)
 
 
 def end_not_known(rng, plan):
     """A size 0 at the end of an index of a source whose size is not known, with other boxes inside where they stay below
     the limit."""
-    for segment in plan.segments():
-        segment.flags &= 0xFFFFFE
     container = rng.choice([one for one in containers(plan) if has_index(one)] or containers(plan))
+    for segment in segments_for(plan, container):
+        segment.flags &= 0xFFFFFE
     without_index(container)
-    index = index_for(rng, plan, start_of(container))
+    index = index_for(rng, plan, container)
     far = start_of(container) + sum(part.size for part in index.inner()) > LIMIT - 1_000
     last = to_the_end(b"mdat", [])
     for _ in range(rng.choice([0, 0, 1, 3, LEVELS - 1])):

@@ -2,6 +2,7 @@
 
 from boxes import box, ftyp, pfhd, surl
 from indexes import add_indexes
+from layers import SOURCES, spread
 from plan import Data, Entry, Other, Plan, Segment, Whole
 
 LIMIT = 1_099_511_627_775
@@ -170,30 +171,48 @@ def huge_span(rng):
     return rng.choice([*near, rng.randint(1000, WIDE), rng.randint(1000, LIMIT)])
 
 
-def foreign_plan(rng, huge=False, mixed=None):
-    """The plan of an acceptable file; one in three is mixed where nothing is said."""
-    mixed = rng.random() < 0.33 if mixed is None else mixed
+def foreign_source(rng, datas, wholes, count, huge=False):
+    """So many segments of one source, its size known or not."""
     span = huge_span(rng) if huge else rng.randint(0, 60)
-    datas = [foreign_data(rng) for _ in range(rng.choice([0, 1, 1, 1, 2, 2, 3]))]
-    wholes = [foreign_whole(rng) for _ in range(rng.choice([0, 1, 1, 2]))] if mixed else []
-    segments = [foreign_segment(rng, datas, span, wholes) for _ in range(rng.choice([1, 2, 2, 2, 3, 4]))]
+    segments = [foreign_segment(rng, datas, span, wholes) for _ in range(count)]
     if huge and rng.random() < 0.5:
         stretch(rng, segments, span)
     if rng.random() < 0.5:
         close(rng, segments, span)
-    items = datas + wholes + segments
+    return segments
+
+
+def layer_counts(rng):
+    """How many segments each source of a file has that is given its lists of URLs: mostly a few, now and then as many
+    sources as may be."""
+    if rng.random() < 0.03:
+        return SOURCES * [1]
+    return rng.choice([[1], [2], [1, 1], [1, 1], [1, 1], [1, 2], [2, 1], [1, 1, 1]])
+
+
+def foreign_plan(rng, huge=False, mixed=None):
+    """The plan of an acceptable file; one in three is mixed where nothing is said."""
+    mixed = rng.random() < 0.33 if mixed is None else mixed
+    datas = [foreign_data(rng) for _ in range(rng.choice([0, 1, 1, 1, 2, 2, 3]))]
+    wholes = [foreign_whole(rng) for _ in range(rng.choice([0, 1, 1, 2]))] if mixed else []
+    layered = rng.random() < 0.4
+    counts = layer_counts(rng) if layered else [rng.choice([1, 2, 2, 2, 3, 4])]
+    groups = [foreign_source(rng, datas, wholes, count, huge) for count in counts]
+    items = datas + wholes + [segment for group in groups for segment in group]
     while rng.random() < 0.2:
         items.append(Other(skipped_box(rng, "file")))
     rng.shuffle(items)
     plan = Plan(foreign_ftyp(rng, mixed), foreign_pfil_parts(rng), items, seldom(rng), mixed)
+    if layered:
+        spread(rng, plan, groups)
     if rng.random() < 0.4:
         add_indexes(rng, plan)
     return plan
 
 
-def indexed_plan(rng):
-    """The plan of a file that has most of its source, of which an index tells the boxes."""
-    data, at, segments = Data(rng.randbytes(rng.randint(40, 150)), seldom(rng)), 0, []
+def indexed_source(rng, data):
+    """Segments of a source that has most of its bytes, all in order in a pdat."""
+    at, segments = 0, []
     sizes = rng.choice([[8], [8, 16], [8, 16, rng.randint(1, 60), 60]])
     while at < len(data.body):
         segment = Segment(at, [])
@@ -206,9 +225,20 @@ def indexed_plan(rng):
         at = segment.end()
     if rng.random() < 0.6:
         segments[-1].flags |= 1
-    items = [data, *segments]
+    return segments
+
+
+def indexed_plan(rng):
+    """The plan of a file that has most of its source, of which an index tells the boxes; in some there is another one
+    beside it."""
+    layered = rng.random() < 0.3
+    datas = [Data(rng.randbytes(rng.randint(40, 150)), seldom(rng)) for _ in range(2 if layered else 1)]
+    groups = [indexed_source(rng, data) for data in datas]
+    items = datas + [segment for group in groups for segment in group]
     rng.shuffle(items)
     plan = Plan(foreign_ftyp(rng, False), foreign_pfil_parts(rng), items, seldom(rng))
+    if layered:
+        spread(rng, plan, groups)
     add_indexes(rng, plan)
     return plan
 

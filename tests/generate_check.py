@@ -6,9 +6,11 @@ import sys
 from collections import Counter
 from itertools import groupby
 
+import additions_texts
 import generate
 import model
 import model_index
+import remembering
 from additions import top_level_count
 from boxes import head
 from expecting import close, expect
@@ -40,8 +42,8 @@ def check_foreign(files):
     print(f"foreign files accepted: {100 * share:.1f} %, "
           f"median length {statistics.median(map(len, files)):.0f}, longest {max(map(len, files))}")
     expect("nine in ten accepted", share >= 0.9)
-    expect("median under 300", statistics.median(map(len, files)) < 300)
-    expect("nearly all under 700", sum(len(file) < 700 for file in files) > 0.98 * len(files))
+    expect("median under 320", statistics.median(map(len, files)) < 320)
+    expect("nearly all under 800", sum(len(file) < 800 for file in files) > 0.96 * len(files))
     files = [file for file in files if accepted(file)]
     short = sum(model.length(file)[1] < 80 for file in files) / len(files)
     expect("mostly a described length under 80", 0.8 < short < 0.97)
@@ -53,12 +55,14 @@ def check_foreign(files):
     expect("pshd of version 0, 1 and above", {0, 1} < versions)
     check_size_forms(files)
     check_skipped(files)
-    check_states(files)
-    check_damage(files)
-    check_far(files)
-    check_elsewhere(files)
+    single = [file for file in files if model.sources(file)[1] == 1]
+    check_states(single)
+    check_damage(single)
+    check_far(single)
+    check_elsewhere(single)
     check_mixed(files)
     check_indexes(files)
+    check_sources(files)
 
 
 def check_size_forms(files):
@@ -247,6 +251,65 @@ def check_indexes(files):
     expect("a row to the limit", any(row[1] + row[2] == LIMIT for file, row in found))
 
 
+# Sources.
+
+def lists_of(file):
+    """Of each segment of an accepted file its own list of URLs, that which it uses, its source, and its MIME texts."""
+    of_pfil = additions_texts.lists_in(file)[0]
+    for number, row in enumerate(model.read(file)[1]):
+        pairs = additions_texts.pairs_of(*model.texts(file, number)[1:])
+        own = [url for url, mime in pairs]
+        yield own, own or of_pfil, row[7], [mime for url, mime in pairs]
+
+
+def forms_of_sources(file):
+    """How the sources of an accepted file stand to each other and to pfil."""
+    of_pfil, known = additions_texts.lists_in(file)
+    segments = list(lists_of(file))
+    yield f"{len(known)} sources"
+    yield from ["no list in pfil"] * (not of_pfil) + ["the list in pfil is not used"] * (of_pfil != [] and of_pfil not in known)
+    yield from ["that of pfil comes later"] * (of_pfil in known[1:]) + ["that of pfil by its own list"] * any(own == of_pfil for own, used, source, mimes in segments)
+    yield from ["by its own list and by none"] * (len({own == [] for own, used, source, mimes in segments if used == of_pfil}) == 2)
+    mimes_of = {}
+    for own, used, source, mimes in segments:
+        mimes_of.setdefault(source, set()).add(tuple(mimes))
+    yield from ["other MIME texts in one source"] * any(len(found - {()}) > 1 for found in mimes_of.values())
+    yield from ["segments by turns"] * ([source for own, used, source, mimes in segments] != sorted(source for own, used, source, mimes in segments))
+    for urls in known:
+        yield from ["several URLs"] * (len(urls) > 1) + ["an empty URL"] * (b"" in urls) + ["a URL twice"] * (len(set(urls)) < len(urls)) + ["only an empty URL"] * (urls == [b""])
+    for one in known:
+        for two in known:
+            yield from ["turned"] * (one != two and one == two[::-1]) + ["a part of another"] * (one != two and one == two[:len(one)]) + ["cut in another way"] * (one != two and b"".join(one) == b"".join(two))
+
+
+def check_sources(files):
+    """Files of one source and of eight, in every way that lists can stand to each other; sources that differ in length
+    and in whether it is known, on the same positions; and indexes beside several."""
+    met = Counter(form for file in files for form in set(forms_of_sources(file)))
+    for form in ("1 sources", "2 sources", "3 sources", "8 sources", "no list in pfil", "the list in pfil is not used", "that of pfil comes later", "that of pfil by its own list",
+                 "by its own list and by none",
+                 "other MIME texts in one source", "segments by turns", "several URLs", "an empty URL", "a URL twice", "only an empty URL", "turned", "a part of another",
+                 "cut in another way"):
+        expect(f"sources, {form}", met[form] >= 5)
+    layered = [file for file in files if model.sources(file)[1] > 1]
+    expect("a quarter of the files has several sources", 0.25 < len(layered) / len(files) < 0.5)
+    found = Counter()
+    for file in layered:
+        said = [model.length(file, source) for source in range(model.sources(file)[1])]
+        had = [set(p for first, run in model.lists(file, source=source)[1] for p in range(first, first + min(run, 99))) for source in range(len(said))]
+        found["several sizes"] += len({answer[1] for answer in said if answer[2]}) > 1
+        found["closed and open"] += len({answer[2] for answer in said}) == 2
+        found["the same position had"] += any(one & two for one in had for two in had if one is not two)
+        found["had by one alone"] += any(one - two for one in had for two in had if one is not two)
+        forms, reading = set(forms_of_index(file)), model.accept(file)
+        found["an index in pfil of no source"] += "in pfil" in forms and reading.of_pfil is None
+        found["an index in pfil of a later source"] += "in pfil" in forms and bool(reading.of_pfil)
+        found["an index in a segment of a later source"] += any(rows and segment.source for rows, segment in zip(reading.indexed[1:], reading.segments))
+        found["to the end of a later source"] += bool(reading.of_pfil) and "to the end, of the source" in forms and "in pfil" in forms
+    for name, count in found.items():
+        expect(f"several sources, {name}", count > 0)
+
+
 # The meaning, position by position.
 
 def position_by_position(chunks, described):
@@ -268,9 +331,21 @@ def run_from(suppliers, p):
 
 
 def check_meaning(file):
-    """Lists, serving, asking and map against a table of all positions."""
-    chunks, described = model.read(file)[2], model.length(file)[1]
-    suppliers = position_by_position(chunks, described)
+    """Lists, serving, asking, rows and maps of each source against a table of all its positions."""
+    texts, had = [], []
+    for source in range(model.sources(file)[1]):
+        numbers = [number for number, row in enumerate(model.read(file)[1]) if row[7] == source]
+        chunks = [chunk for chunk in model.read(file)[2] if chunk[0] in numbers]
+        suppliers = position_by_position(chunks, model.length(file, source)[1])
+        check_source(file, source, chunks, suppliers)
+        texts.append(texts_by_position(file, source, chunks, suppliers))
+        had.append({p for p, number in enumerate(suppliers) if number is not None})
+    expect("map", model.map_text(file), b"".join(named for named, without_names in texts))
+    expect("map without names", model.missmap_text(file), b"".join(without_names for named, without_names in texts))
+    check_rows(file, had)
+
+
+def check_source(file, source, chunks, suppliers):
     answers, parts, had, missing = [], [], [], []
     for p, number in enumerate(suppliers):
         run = run_from(suppliers, p)
@@ -278,24 +353,22 @@ def check_meaning(file):
         answers.append((word, run))
         parts.append((0, 0) if number is None else (chunks[number][5] + p - chunks[number][2], run))
         (missing if number is None else had).append(p)
-    asked = [model.ask(file, p) for p in range(described + 2)]
+    described = len(suppliers)
+    asked = [model.ask(file, p, source=source) for p in range(described + 2)]
     expect("asked", asked, answers + [("beyond",), ("beyond",)])
-    expect("served", [model.serve(file, p) for p in range(described + 2)], parts + [(0, 0), (0, 0)])
-    answer = model.lists(file)
+    expect("served", [model.serve(file, p, source=source) for p in range(described + 2)], parts + [(0, 0), (0, 0)])
+    answer = model.lists(file, source=source)
     for found, wanted in [(answer[1], had), (answer[2], missing)]:
         expect("list", [p for first, run in found for p in range(first, first + run)], wanted)
         apart = [one[0] + one[1] < two[0] for one, two in zip(found, found[1:])]
         expect("list not touching", all(apart))
         expect("list never empty", all(run > 0 for first, run in found))
     expect("totals", answer[3:], (len(had), len(missing)))
-    check_maps(file, chunks, suppliers)
-    check_rows(file, set(had))
 
 
-def text_by_position(file, names, totals):
-    """A map of which the name of each position is known."""
-    closed = "closed" if model.length(file)[2] else "open"
-    text, first = f"source\t{len(names)}\t{closed}\n", 0
+def text_by_position(closed, names, totals):
+    """The map of a source of which the name of each position is known."""
+    text, first = f"source\t{len(names)}\t{'closed' if closed else 'open'}\n", 0
     for name, run in groupby(names):
         length = len(list(run))
         text += f"{name}\t{first}\t{length}\n"
@@ -303,19 +376,22 @@ def text_by_position(file, names, totals):
     return (text + "\t".join(["total", *[str(names.count(name)) for name in totals]]) + "\n").encode("ascii")
 
 
-def check_maps(file, chunks, suppliers):
-    """Both maps against the name of each position."""
+def texts_by_position(file, source, chunks, suppliers):
+    """Both maps of a source by the name of each position."""
     covered = {p for segment, index, start, size, state, place in chunks if state == 1 for p in range(start, start + size)}
     names = ["have" if number is not None else "held" if p in covered else "lost" for p, number in enumerate(suppliers)]
-    expect("map", model.map_text(file), text_by_position(file, names, ["have", "held", "lost"]))
-    names = ["have" if name == "have" else "miss" for name in names]
-    expect("map without names", model.missmap_text(file), text_by_position(file, names, ["have", "miss"]))
+    closed = model.length(file, source)[2]
+    without_names = ["have" if name == "have" else "miss" for name in names]
+    return text_by_position(closed, names, ["have", "held", "lost"]), text_by_position(closed, without_names, ["have", "miss"])
 
 
 def check_rows(file, had):
-    """Of each indexed box whether none, some or all of its positions are had."""
-    for level, place, size, kind, served in model.index(file)[1]:
-        inside = len([p for p in had if place <= p < place + size])
+    """Of each indexed box whether none, some or all of its positions are had, of the source of its index."""
+    reading, numbers = model.accept(file), []
+    for number, boxes in zip([reading.of_pfil, *[segment.source for segment in reading.segments]], reading.indexed):
+        numbers += len(boxes) * [number]
+    for source, (level, place, size, kind, served) in zip(numbers, model.index(file)[1], strict=True):
+        inside = len([p for p in (had[source] if source is not None else []) if place <= p < place + size])
         expect("how many of a box are served", served, 0 if inside == 0 else 2 if inside == size else 1)
 
 
@@ -363,6 +439,49 @@ def check_faulty_vendors(rng, runs):
         expect(f"uuid for {number}", any(number == other for name, other, size, plain, left in met))
 
 
+def lists_unjudged(file):
+    """The lists of URLs of the sources of a file whose segments are right, whether or not it is refused for them; and the
+    number of that of pfil, None where it is none of them."""
+    head = model.read_head(file)
+    segments = model.read_segments(file, head)[0]
+    lists = model.lists_by_number([model.list_of(file, head, segment) for segment in segments])
+    of_pfil = model.urls_of(file, head.surls)
+    return lists, lists.index(of_pfil) if of_pfil in lists else None
+
+
+def surls_in(file):
+    """Of each pfil and pseg the types of its boxes, surl boxes as right or wrong."""
+    for name, place, end in containers(file):
+        words = []
+        for part in model.frame(file, place, end) if name != "file" else []:
+            wrong = part.kind == b"surl" and model.attempt(model.read_surls, file, [part], 1)[0]
+            words.append("wrong" if wrong else part.kind.decode("latin-1"))
+        yield name, words
+
+
+def check_faulty_sources(rng, runs):
+    """Wrong surl boxes alone and beside right ones, on both sides of ploc; none in one segment of several; a ninth source
+    with sizes that agree and that do not, that of pfil or another."""
+    met = Counter()
+    for _ in range(runs):
+        for number, name in [(11, "pfil"), (16, "pseg")]:
+            for words in [words for found, words in surls_in(generate.faulty_file(rng, number)) if found == name and "wrong" in words]:
+                met[number, "beside a right one" if "surl" in words else "alone"] += 1
+                met[number, "before ploc" if "ploc" in words[words.index("wrong"):] else "behind ploc"] += 1
+        bare = [words for name, words in surls_in(generate.faulty_file(rng, 41)) if name == "pseg"]
+        met[41, "alone" if not any("surl" in words for words in bare) else "beside others"] += 1
+        for number in (25, 40):
+            lists, of_pfil = lists_unjudged(generate.faulty_file(rng, number))
+            met[number, "nine or more" if len(lists) > 8 else "fewer"] += 1
+            met[number, "just nine" if len(lists) == 9 else "another count"] += 1
+            met[number, "pfil's behind the eighth"] += of_pfil is not None and of_pfil > 7
+    for how in [(11, "alone"), (11, "beside a right one"), (16, "alone"), (16, "beside a right one"), (16, "before ploc"), (16, "behind ploc"), (41, "alone"), (41, "beside others"),
+                (25, "nine or more"), (25, "fewer"),
+                (40, "just nine"), (40, "another count"), (40, "pfil's behind the eighth")]:
+        expect(f"faults of sources, {how}", met[how] >= 3)
+    expect("no fewer than nine for 40", met[40, "fewer"], 0)
+
+
 def check_spoiled(rng, files):
     """Every spoiled file gets some answer, and no part outside of itself."""
     numbers, too_short = set(), 0
@@ -376,6 +495,7 @@ def check_spoiled(rng, files):
             expect("places in the spoiled file", all(end <= len(spoiled) for end in ends))
     expect("spoiled files meet many numbers", len(numbers) >= 15)
     expect("spoiled files meet that of a wrong index", 36 in numbers)
+    expect("spoiled files meet those of surl boxes", {11, 16, 41} < numbers)
     expect("spoiled files have a uuid that is too short", too_short >= 20)
 
 
@@ -385,7 +505,7 @@ def check_additions(rng, files):
     for number in generate.FAULTS_OF_APPEND:
         for file in files:
             given = generate.faulty_addition(rng, file, number)
-            fields = [given["source_offset"], given["repair_time"]] + given["chunk_list"]
+            fields = [given["source_offset"], given["repair_time"]] + given["chunk_list"] + given["lengths"]
             expect("arguments of 64 bits", all(0 <= field < 2 ** 64 for field in fields))
             answer, buffer = model.append(**given)
             own = model.read(given["buffer"][:given["stated_length"]])
@@ -393,7 +513,7 @@ def check_additions(rng, files):
                 expect(f"append refuses with {number}", answer, ("refused", number))
             elif own[0] == "read" or own == ("refused", 12):
                 expect("append takes a file that the spoiling left acceptable",
-                       answer[0] == "length" or answer[1] in (35, 6, 13, 22, 23, 25, 36, 37, 39))
+                       answer[0] == "length" or answer[1] in (35, 6, 13, 41, 22, 23, 25, 40, 36, 37, 39))
             else:
                 expect("append refuses the file", answer, own)
             if answer[0] == "refused":
@@ -404,7 +524,7 @@ def check_all_additions(rng, files):
     answers = [model.append(**generate.addition(rng, file))[0] for file in files]
     taken = sum(answer[0] == "length" for answer in answers) / len(answers)
     expect("more than half of the additions taken", 0.5 < taken < 0.9)
-    for number in [30, 31, 32, 35, 6, 13, 22, 23, 25, 36, 37, 39, 33]:
+    for number in [30, 31, 32, 35, 34, 6, 13, 41, 22, 23, 25, 40, 36, 37, 39, 33]:
         expect(f"append meets {number}", ("refused", number) in answers)
     print(f"additions taken: {100 * taken:.1f} %")
 
@@ -449,6 +569,30 @@ def check_additions_outside(rng, files):
     expect("additions outside", met, wanted | {(False, False, False), (False, False, True)})
 
 
+def check_additions_to_sources(rng, files):
+    """Additions are taken without texts and with those of a source that is there, with its MIME texts and with others,
+    and of a new one, in files of one source and of several; and texts are wrong in each way."""
+    met, wrong = Counter(), Counter()
+    for file in files:
+        given = generate.addition(rng, file)
+        of_pfil, known = additions_texts.lists_in(file)
+        if model.append(**given)[0][0] == "length" and given["buffer"].startswith(file):
+            urls = additions_texts.urls_used(file, given["texts"], given["lengths"])
+            how = "no text" if not given["lengths"] else "the list in pfil" if urls == of_pfil else "a list"
+            met[how, "new" if urls not in known else "first" if urls == known[0] else "later"] += 1
+            met["several surl"] += len(given["lengths"]) > 2
+        for number in (31, 32, 6):
+            bad = generate.faulty_addition(rng, file, number) if number != 6 or rng.random() < 0.05 else given
+            wrong[number, "odd"] += len(bad["lengths"]) % 2
+            wrong[number, "sum"] += len(bad["lengths"]) % 2 == 0 and sum(bad["lengths"]) != len(bad["texts"])
+            wrong[number, "wraps"] += sum(bad["lengths"]) >= 2 ** 64
+            wrong[number, "many"] += len(bad["lengths"]) > 1020
+    for how in [*[(word, when) for word in ("no text", "the list in pfil") for when in ("first", "later", "new")], *[("a list", when) for when in ("first", "later", "new")], "several surl"]:
+        expect(f"additions to sources, {how}", met[how] >= 3)
+    for how in [(31, "odd"), (32, "sum"), (32, "wraps"), (6, "many")]:
+        expect(f"wrong texts, {how}", wrong[how] >= 3)
+
+
 def check_beginnings(rng, runs):
     for number in generate.FAULTS_OF_BEGIN:
         for _ in range(runs):
@@ -464,6 +608,7 @@ def check_beginnings(rng, runs):
 
 
 def main(seed):
+    remembering.remember()
     rng = random.Random(seed)
     files = [generate.foreign_file(rng) for _ in range(2000)]
     again = random.Random(seed)
@@ -471,17 +616,19 @@ def main(seed):
     check_foreign(files)
     good = [file for file in files if accepted(file)]
     for file in good[:400]:
-        if model.length(file)[1] < 80:
+        if all(model.length(file, source)[1] < 80 for source in range(8)):
             check_meaning(file)
     check_faulty(rng, 30)
     check_reserved(rng, 150)
     check_faulty_vendors(rng, 1500)
+    check_faulty_sources(rng, 120)
     check_spoiled(rng, files)
     check_additions(rng, good[:40] + 10 * [head()] + 10 * [head(brand=b"pmff")])
     check_all_additions(rng, good[:1200])
     check_additions_far(rng, good)
     check_additions_elsewhere(rng, good[:1200])
     check_additions_outside(rng, good[:1200])
+    check_additions_to_sources(rng, good[:900])
     check_beginnings(rng, 100)
     return close()
 

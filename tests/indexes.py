@@ -1,6 +1,7 @@
 """Makes box indexes as another writer would, down to eight levels, and puts them into the plan of a file."""
 
 from boxes import box
+from layers import is_segment, segments_for
 
 LIMIT = 1_099_511_627_775
 LEVELS = 8
@@ -129,23 +130,23 @@ def new_index(rng, start, size, described, deep=None):
 
 # The plan of a file.
 
-def known_size(plan):
-    """The size of the source, None where it is not known."""
-    return min([segment.end() for segment in plan.segments() if segment.flags & 1 and not segment.is_open()], default=None)
+def known_size(plan, container):
+    """The size of the source of pfil or of a segment, None where it is not known."""
+    return min([segment.end() for segment in segments_for(plan, container) if segment.flags & 1 and not segment.is_open()], default=None)
 
 
-def index_for(rng, plan, start, deep=None):
-    described = max([segment.end() for segment in plan.segments()], default=0)
-    return new_index(rng, start, known_size(plan), described, deep)
+def index_for(rng, plan, container, deep=None):
+    described = max([segment.end() for segment in segments_for(plan, container)], default=0)
+    return new_index(rng, start_of(container), known_size(plan, container), described, deep)
 
 
 def parts_of(rng, container):
     """The list of parts of pfil or of a segment into which an index is put."""
-    return rng.choice([container.between, container.after]) if hasattr(container, "entries") else container.pfil_parts
+    return rng.choice([container.between, container.after]) if is_segment(container) else container.pfil_parts
 
 
 def start_of(container):
-    return container.offset if hasattr(container, "entries") else 0
+    return container.offset if is_segment(container) else 0
 
 
 def put_index(rng, container, index):
@@ -158,4 +159,4 @@ def add_indexes(rng, plan):
     if rng.random() < 0.5 and plan.segments():
         containers = rng.sample(plan.segments(), rng.randint(1, min(2, len(plan.segments()))))
     for container in containers:
-        put_index(rng, container, index_for(rng, plan, start_of(container)))
+        put_index(rng, container, index_for(rng, plan, container))

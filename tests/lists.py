@@ -2,10 +2,10 @@
 
 usage: python3 tests/lists.py [--check]
 
-A record of `stdin` is seven numbers of two bytes, most significant first: the length of its name, the length of its
-file, the numbers lent for segment rows, for chunk rows, for the list of what is had and for that of what is missing,
-and how many positions are asked. Then the name, the file and the positions, eight bytes each. `stdout` is made of the
-model's answers alone.
+A record of `stdin` is eight numbers of two bytes, most significant first: the length of its name, the length of its
+file, the numbers lent for segment rows, for chunk rows, for the list of what is had and for that of what is missing, how
+many positions are asked, and the number of the source. Then the name, the file and the positions, eight bytes each.
+`stdout` is made of the model's answers alone.
 """
 
 import os
@@ -14,6 +14,7 @@ from collections import Counter
 import lists_files
 import lists_lent
 import lists_overlaps
+import lists_sources
 import model
 from corpus import LARGEST_FILE, ROOT, TO_SPARE, command, line
 from faults import FAULTS
@@ -22,7 +23,7 @@ from sums import sum_of
 
 CRATE = os.path.join(ROOT, "crates", "listing_run")
 MOST_BYTES = 300_000
-LONGEST = (448, 6144, 2050, 2050)
+LONGEST = (512, 6144, 2050, 2050)
 SMALL = 24
 SHORT = 12
 OF_A_REFUSED_FILE = (0, 1, 2 ** 64 - 1)
@@ -38,23 +39,23 @@ def sample():
 
 def records():
     made = [sample()]
-    for part in (lists_files, lists_overlaps, lists_lent):
+    for part in (lists_files, lists_overlaps, lists_sources, lists_lent):
         made += part.records()
     return made
 
 
 # What is lent and asked where a record does not state it.
 
-def needed(file):
+def needed(file, source):
     """How many numbers an accepted file fills of each table and list; none for a refused one."""
-    rows, found = model.read(file), model.lists(file)
+    rows, found = model.read(file), model.lists(file, source=source)
     if rows[0] == "refused":
         return 0, 0, 0, 0
-    return 7 * len(rows[1]), 6 * len(rows[2]), 2 * len(found[1]), 2 * len(found[2])
+    return 8 * len(rows[1]), 6 * len(rows[2]), 2 * len(found[1]), 2 * len(found[2])
 
 
 def rooms(record):
-    ample = [min(most, numbers + TO_SPARE) for most, numbers in zip(LONGEST, needed(record.file))]
+    ample = [min(most, numbers + TO_SPARE) for most, numbers in zip(LONGEST, needed(record.file, record.source))]
     return [spare if room is None else room for spare, room in zip(ample, record.rooms)]
 
 
@@ -63,12 +64,12 @@ def positions(record):
     away."""
     if record.positions is not None:
         return record.positions
-    described = model.length(record.file)
-    if described[0] == "refused":
+    described = model.length(record.file, record.source)
+    if described[0] == "refused" or record.source >= model.sources(record.file)[1]:
         return OF_A_REFUSED_FILE
     if described[1] <= SMALL:
         return [*range(described[1] + 3), *FAR]
-    chunks = model.read(record.file)[2]
+    chunks = model.accept(record.file).sources[record.source].chunks
     edges = {0, described[1]} | {chunk[2] for chunk in chunks} | {chunk[2] + chunk[3] for chunk in chunks}
     return sorted({edge + step for edge in edges for step in (-1, 0, 1, 2) if edge + step >= 0} | set(FAR))
 
@@ -76,7 +77,7 @@ def positions(record):
 def encoded(record):
     name, asked = record.name.encode("ascii"), positions(record)
     assert len(record.file) <= LARGEST_FILE
-    numbers = [len(name), len(record.file), *rooms(record), len(asked)]
+    numbers = [len(name), len(record.file), *rooms(record), len(asked), record.source]
     front = b"".join(number.to_bytes(2, "big") for number in numbers)
     return front + name + record.file + b"".join(p.to_bytes(8, "big") for p in asked)
 
@@ -110,9 +111,9 @@ def table_line(word, table):
     return line(word, "kept", kept(table), "of", len(table), "sum", sum_of_tables(table))
 
 
-def listing(file, lent):
+def listing(file, lent, source):
     """The answer of list, both lists, and how the tables were left."""
-    answer = model.lists(file, *lent)
+    answer = model.lists(file, *lent, source=source)
     rows = model.read(file, *lent[:2])
     if answer[0] == "refused":
         front, found, rows = line("refused", answer[1]), ([], []), ("", [], [])
@@ -137,25 +138,25 @@ def part_of(part):
     return ["sum", sum_of(part)]
 
 
-def asking(file, lent, p, tables):
-    place, length = model.serve(file, p, *lent[:2])
+def asking(file, lent, source, p, tables):
+    place, length = model.serve(file, p, *lent[:2], source=source)
     part = file[place:place + length]
     assert len(part) == length
-    asked = line("ask", p, *model.ask(file, p, *lent[:2]), "tables", tables)
+    asked = line("ask", p, *model.ask(file, p, *lent[:2], source=source), "tables", tables)
     return asked + line("serve", p, length, *part_of(part), "tables", tables)
 
 
 def answers(record):
     lent = rooms(record)
     tables = tables_read(record.file, lent)
-    lines = [asking(record.file, lent, p, tables) for p in positions(record)]
-    return line("=", record.name) + listing(record.file, lent) + "".join(lines)
+    lines = [asking(record.file, lent, record.source, p, tables) for p in positions(record)]
+    return line("=", record.name) + listing(record.file, lent, record.source) + "".join(lines)
 
 
 # The command.
 
 def found_of(record):
-    answer = model.lists(record.file, *rooms(record))
+    answer = model.lists(record.file, *rooms(record), source=record.source)
     return answer[1] if answer[0] == "refused" else (answer[1], answer[2])
 
 

@@ -95,7 +95,7 @@ def many_pairs():
         some = None if pairs == 5 else [0, 1, 2, 3, 2 * pairs - 2, 2 * pairs - 1, 2 * pairs]
         yield listed("many", f"{pairs} pairs, good first", alternating(pairs, "good", "lost"), even, odd, positions=some)
         yield listed("many", f"{pairs} pairs, lost first", alternating(pairs, "lost", "good"), odd, even, positions=some)
-    yield listed("many", "512 pairs, all exact", alternating(512, "good", "lost"), *singles(512), (7, 6144, 1024, 1024), [1023])
+    yield listed("many", "512 pairs, all exact", alternating(512, "good", "lost"), *singles(512), (8, 6144, 1024, 1024), [1023])
     yield listed("many", "512 pairs, good alone", alternating(512, "good", "good"), [(0, 1024)], [], positions=[0, 511, 1023, 1024])
 
 

@@ -9,10 +9,10 @@ from lists_record import Record, file_of, listed, refused
 LAST = 1
 SEED = 230014
 
-# Two segments and three chunks, 14 and 18 numbers; one range each, 2 and 2.
+# Two segments and three chunks, 16 and 18 numbers; one range each, 2 and 2.
 TENTH = file_of((0, "good 4, lost 6", LAST), (2, "good 5"))
 TENTH_LISTS = [(0, 7)], [(7, 3)]
-# Four segments and nine chunks, 28 and 54 numbers; three ranges and two, 6 and 4.
+# Four segments and nine chunks, 32 and 54 numbers; three ranges and two, 6 and 4.
 FOUR = file_of((0, "good 2, elsewhere 3, good 2"), (7, "damaged 2, good 1, lost 0, lost 1", LAST), (9, "good 2"), (4, "good 1"))
 FOUR_LISTS = [(0, 2), (4, 3), (9, 2)], [(2, 2), (7, 2)]
 
@@ -27,31 +27,31 @@ def of_rooms(name, file, found, rooms, needed, positions):
 
 
 def lists_of_small_files():
-    needed = (14, 18, 2, 2)
+    needed = (16, 18, 2, 2)
     for had in (0, 1, 2, 3, 2050):
         for missing in (0, 1, 2, 3, 2050):
-            yield of_rooms("10", TENTH, TENTH_LISTS, (14, 18, had, missing), needed, [2, 7, 10])
-    needed = (28, 54, 6, 4)
+            yield of_rooms("10", TENTH, TENTH_LISTS, (16, 18, had, missing), needed, [2, 7, 10])
+    needed = (32, 54, 6, 4)
     for had in (0, 4, 5, 6, 7):
         for missing in (0, 2, 3, 4, 5):
-            yield of_rooms("11 positions", FOUR, FOUR_LISTS, (29, 56, had, missing), needed, [4])
+            yield of_rooms("11 positions", FOUR, FOUR_LISTS, (33, 56, had, missing), needed, [4])
 
 
 def lists_of_one_class():
     whole = file_of((0, "good 3, good 4", LAST))
-    for rooms in ((7, 12, 2, 0), (7, 12, 2, 1), (7, 12, 1, 0), (7, 12, 0, 0), (7, 12, 3, 3)):
-        yield of_rooms("nothing missing", whole, ([(0, 7)], []), rooms, (7, 12, 2, 0), [0, 6, 7])
+    for rooms in ((8, 12, 2, 0), (8, 12, 2, 1), (8, 12, 1, 0), (8, 12, 0, 0), (8, 12, 3, 3)):
+        yield of_rooms("nothing missing", whole, ([(0, 7)], []), rooms, (8, 12, 2, 0), [0, 6, 7])
     none = file_of((0, "lost 3, damaged 4", LAST))
-    for rooms in ((7, 12, 0, 2), (7, 12, 1, 2), (7, 12, 0, 1), (7, 12, 0, 0), (7, 12, 3, 3)):
-        yield of_rooms("nothing had", none, ([], [(0, 7)]), rooms, (7, 12, 0, 2), [0, 6, 7])
+    for rooms in ((8, 12, 0, 2), (8, 12, 1, 2), (8, 12, 0, 1), (8, 12, 0, 0), (8, 12, 3, 3)):
+        yield of_rooms("nothing had", none, ([], [(0, 7)]), rooms, (8, 12, 0, 2), [0, 6, 7])
     empty = head() + open_segment(0)
-    for rooms in ((7, 0, 0, 0), (6, 0, 0, 0), (8, 1, 1, 1), (0, 9, 9, 9)):
-        yield of_rooms("nothing described", empty, ([], []), rooms, (7, 0, 0, 0), [0, 1])
+    for rooms in ((8, 0, 0, 0), (7, 0, 0, 0), (9, 1, 1, 1), (0, 9, 9, 9)):
+        yield of_rooms("nothing described", empty, ([], []), rooms, (8, 0, 0, 0), [0, 1])
 
 
 def tables():
-    needed = (28, 54, 6, 4)
-    for segments in (0, 21, 27, 28, 448):
+    needed = (32, 54, 6, 4)
+    for segments in (0, 24, 31, 32, 512):
         for chunks in (0, 48, 53, 54, 6144):
             yield of_rooms("11 positions", FOUR, FOUR_LISTS, (segments, chunks, 6, 4), needed, [0, 3, 11])
 
@@ -65,15 +65,15 @@ def with_refusals():
             yield refused("refused", number, f"fault {number}, nothing lent", file, (0, 0, 0, 0))
     yield refused("refused", 7, "an empty file", b"")
     yield refused("refused", 12, "only begun", head())
-    yield refused("refused", 25, "25 before 26", head() + lost_segment(0, [3], flags=LAST) + open_segment(4), (13, 5, 0, 0))
+    yield refused("refused", 25, "25 before 26", head() + lost_segment(0, [3], flags=LAST) + open_segment(4), (15, 5, 0, 0))
 
 
 def generated():
     rng = random.Random(SEED + 1)
     for index in range(90):
-        yield Record("generated", f"foreign {index}", None, generate.foreign_file(rng))
+        yield Record("generated", f"foreign {index}", None, generate.foreign_file(rng), source=rng.choice([0, 0, 0, 1, 1, 2]))
     for index in range(20):
-        yield Record("generated", f"spoiled {index}", None, generate.spoil(rng, generate.foreign_file(rng)))
+        yield Record("generated", f"spoiled {index}", None, generate.spoil(rng, generate.foreign_file(rng)), source=rng.choice([0, 0, 1]))
 
 
 def records():

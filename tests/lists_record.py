@@ -1,5 +1,5 @@
-"""Holds one record of the corpus of lists: a file with its name, what is wanted of it, the room of what is lent, and
-the positions to ask."""
+"""Holds one record of the corpus of lists: a file with its name, what is wanted of it, the room of what is lent, the
+positions to ask, and the source that is asked of."""
 
 from collections import namedtuple
 
@@ -9,14 +9,14 @@ from plan import Data, Entry, Plan, Segment
 
 # `wanted` is the number of the refusal, the pair of lists, or None where only the model says. A room of None is one to
 # spare, and positions of None are those that `lists.py` chooses.
-Record = namedtuple("Record", "kind name wanted file rooms positions", defaults=((None, None, None, None), None))
+Record = namedtuple("Record", "kind name wanted file rooms positions source", defaults=((None, None, None, None), None, 0))
 
 STATES = {"good": GOOD, "damaged": DAMAGED, "lost": LOST, "elsewhere": ELSEWHERE}
 PRESENT = ("good", "damaged")
 
 
-def listed(kind, name, file, had, missing, rooms=(None, None, None, None), positions=None):
-    return Record(kind, name, (had, missing), file, rooms, positions)
+def listed(kind, name, file, had, missing, rooms=(None, None, None, None), positions=None, source=0):
+    return Record(kind, name, (had, missing), file, rooms, positions, source)
 
 
 def refused(kind, number, name, file, rooms=(None, None, None, None), positions=None):
@@ -28,8 +28,8 @@ def chunks(words):
     return [(word.split()[0], int(word.split()[1])) for word in words.split(",") if word.strip()]
 
 
-def segment(number, offset, words, flags):
-    """A pdat that holds all that is present, each byte its own, and the segment."""
+def segment(number, offset, words, flags=0, urls=()):
+    """A pdat that holds all that is present, each byte its own, and the segment, with these URLs behind its ploc."""
     given = chunks(words)
     kept = sum(size for state, size in given if state in PRESENT)
     data = Data(bytes((61 * number + 7 * at + 1) % 256 for at in range(kept)))
@@ -38,6 +38,7 @@ def segment(number, offset, words, flags):
         entries.append(Entry(STATES[state], size, data if state in PRESENT else None, at))
         at += size if state in PRESENT else 0
     made = Segment(offset, entries, flags)
+    made.after = [surl(url) for url in urls]
     return [data, made] if any(state in PRESENT for state, size in given) else [made]
 
 
@@ -46,8 +47,8 @@ def assembled(items, brand=b"paff"):
 
 
 def file_of(*segments):
-    """A file of segments, each an offset, its chunks in words (none: open), and its flags where it has any."""
+    """A file of segments, each an offset, its chunks in words (none: open), and its flags and URLs where it has any."""
     items = []
     for number, given in enumerate(segments):
-        items += segment(number, given[0], given[1], given[2] if len(given) == 3 else 0)
+        items += segment(number, *given)
     return assembled(items)

@@ -13,6 +13,7 @@ from collections import Counter, namedtuple
 import corpus
 import lists
 import maps_damage
+import maps_sources
 import model
 from boxes import box
 from corpus import ROOT, TO_SPARE, command, line
@@ -22,15 +23,15 @@ from lists_record import assembled
 from plan import Data, Entry, Other, Segment
 
 CRATE = os.path.join(ROOT, "crates", "mapping_run")
-MOST_BYTES = 560_000
+MOST_BYTES = 590_000
 LARGEST_FILE = 65_537
 LARGEST_BUFFER = 65_600
 LAST = 1
 BUFFER_TOO_SHORT = 33
 TEXTS = (model.map_text, model.missmap_text)
 
-# A file with the lists and the ranges of its map that are stated of it, None where only the model says, and a file with
-# a buffer of so many bytes.
+# A file with the lists of its source and the lines of its map but the first and the last that are stated of it, None
+# where only the model says, and a file with a buffer of so many bytes.
 File = namedtuple("File", "kind name content stated named", defaults=(None, None))
 Record = namedtuple("Record", "name file room")
 
@@ -38,11 +39,11 @@ Record = namedtuple("Record", "name file room")
 # The files.
 
 def of_lists():
-    """The files of the corpus of lists, without what is lent there."""
+    """The files of the corpus of lists, without what is lent there and the source that is asked of."""
     for record in lists.records():
-        lent = record.kind == "lent"
-        name = record.name.partition(" in ")[0] if lent else record.name
-        yield File(record.kind, name, record.file, None if lent else record.wanted)
+        name = record.name.partition(" in ")[0] if record.kind == "lent" else record.name.partition(", source")[0]
+        several = model.sources(record.file)[0] == "sources" and model.sources(record.file)[1] > 1
+        yield File(record.kind, name, record.file, None if record.kind == "lent" or several else record.wanted)
 
 
 def of_damage():
@@ -51,6 +52,11 @@ def of_damage():
         yield File("damage", name, content, named=words)
     with open(os.path.join(ROOT, "samples", "damaged.paff"), "rb") as file:
         yield File("paper", "samples/damaged.paff", file.read(), named="have 0 6, held 6 3, have 9 3, lost 12 1, held 13 2, lost 15 2, have 17 3")
+
+
+def of_sources():
+    for name, content, words in maps_sources.files():
+        yield File("sources", name, content, named=words)
 
 
 def refused_shortest():
@@ -86,7 +92,7 @@ def largest():
 def files():
     """All of them, each once."""
     made = {}
-    for file in [*of_damage(), *of_lists(), *refused_shortest(), *largest()]:
+    for file in [*of_damage(), *of_sources(), *of_lists(), *refused_shortest(), *largest()]:
         made.setdefault(file.content, file)
     return list(made.values())
 
@@ -153,7 +159,7 @@ def stated_in(text):
 
 
 def named_in(text):
-    """The ranges of a map in words."""
+    """The lines of a map in words, but the first and the last."""
     return ", ".join(one.replace("\t", " ") for one in text.decode("ascii").splitlines()[1:-1])
 
 

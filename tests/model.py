@@ -110,12 +110,34 @@ Of request 7, the box index; tests/model_index.py has those on the index itself:
     past the described length are not served.
 44. When does append judge an index?  In its result: a file that is accepted
     before has a right one, and after 12 none is judged until then.
+
+Of request 8, layered films; tests/model_sources.py has those on which segments
+are of one source:
+
+45. What is said of a source that the file has not?  Its length is 0, so every
+    position is "above its length", both lists are empty and its size is not
+    known.
+46. Whose are the texts of the first `surl`?  Those of `pfil`, as before, and
+    empty parts at place 0 where it has none; those of a source are asked for
+    by its number.
+47. Which source disagrees for 25?  Any; and 40 comes after that, wherever the
+    ninth source stands in the file.
+48. Whose known size ends an index?  That of the source of the list in `pfil`
+    for the index there, so that it is not known while no segment is of it;
+    that of its own source for the index of a segment.  38 looks at all
+    segments.
+49. Do 13 and 22 count per source?  No, both are said of the file.
+50. When does append answer 6 for its texts?  Where the `pseg` itself would have
+    more than 512 boxes, at the place of 6.
+51. Which of both lists is 31, and of both bytes 32?  Either one; both reasons
+    for 31 come before both for 32.
 """
 
 from collections import namedtuple
 
 from model_boxes import *
 from model_index import indexed_boxes
+from model_sources import bytes_of, first_texts, lists_by_number, read_surls, urls_of
 
 # The kinds of box the base knows: container, and how many of each.
 
@@ -123,7 +145,7 @@ KINDS = {
     b"ftyp": ("file", "one"),
     b"pfil": ("file", "one"),
     b"pfhd": ("pfil", "one"),
-    b"surl": ("pfil", "one or more"),
+    b"surl": ("pfil or pseg", "any number"),
     b"pseg": ("file", "one or more"),
     b"pshd": ("pseg", "one"),
     b"ploc": ("pseg", "one"),
@@ -139,19 +161,24 @@ RESERVED = 0x3F
 LOST, DAMAGED, GOOD, ELSEWHERE = 0, 1, 2, 3
 NONE, SOME, ALL = 0, 1, 2
 FLAG_BYTES = {LOST: CORRUPTED, DAMAGED: CORRUPTED | PRESENT, GOOD: PRESENT, ELSEWHERE: 0}
-SEGMENT_ROW_LENGTH = 7
+SEGMENT_ROW_LENGTH = 8
 CHUNK_ROW_LENGTH = 6
 INDEX_ROW_LENGTH = 5
 RANGE_LENGTH = 2
 PAFF, PMFF = b"paff", b"pmff"
 NEVER_A_CHUNK = (b"ftyp", b"pfil", b"pseg", b"pdat")
 
+# A segment is its row, its end in the source and the texts of its own surl boxes; its source is None until all segments
+# are read.
 Segment = namedtuple(
-    "Segment", "place offset flags repair_time chunk_count pshd_body pshd_length end")
+    "Segment", "place offset flags repair_time chunk_count pshd_body pshd_length source end surls")
 Chunk = namedtuple("Chunk", "segment index start size state place")
-Text = namedtuple("Text", "place length")
-Head = namedtuple("Head", "boxes mixed url mime")
-Reading = namedtuple("Reading", "segments chunks described closed url mime indexed")
+Head = namedtuple("Head", "boxes mixed surls")
+# What one source says, and a file as a whole: the number of the source that pfil has the list of, or None, and the
+# indexed boxes of pfil and of each segment.
+Source = namedtuple("Source", "chunks described closed surls")
+Reading = namedtuple("Reading", "segments chunks sources surls of_pfil indexed")
+NOT_IN_THE_FILE = Source([], 0, False, [])
 
 
 # Framing.
@@ -209,33 +236,15 @@ def check_pfhd(file, parts):
     refuse_if(len(body) != 4 or body[0] != 0, PFHD_FAULT)
 
 
-def read_surl(file, surl):
-    """The URL and the MIME text of one surl, as parts of the file."""
-    body = body_of(file, surl)
-    refuse_if(len(body) < 4 or body[:4] != bytes(4), SURL_FAULT)
-    texts = body[4:].split(b"\0")
-    refuse_if(len(texts) != 3 or texts[2] != b"", SURL_FAULT)
-    url = Text(surl.body + 4, len(texts[0]))
-    mime = Text(url.place + url.length + 1, len(texts[1]))
-    return url, mime
-
-
-def read_surls(file, parts):
-    """The texts of the first surl, all of them being well-formed."""
-    refuse_if(not count_kept(parts, b"surl"), SURL_FAULT)
-    return [read_surl(file, surl) for surl in of_kind(parts, b"surl")][0]
-
-
 def read_head(file):
-    """Stages 1 to 11: the boxes of the file, whether it is mixed, the URL and the MIME text."""
+    """Stages 1 to 11: the boxes of the file, whether it is mixed, and the texts in pfil."""
     refuse_if(len(file) > LIMITS["file"], FILE_OVER_LIMIT)
     boxes = frame(file, 0, len(file))
     brands = brands_of(file, boxes)
     check_pfil(boxes)
     parts = frame(file, boxes[1].body, boxes[1].end)
     check_pfhd(file, parts)
-    url, mime = read_surls(file, parts)
-    return Head(boxes, PMFF in brands, url, mime)
+    return Head(boxes, PMFF in brands, read_surls(file, parts, SURL_FAULT))
 
 
 # Segments and their chunks.
@@ -311,7 +320,8 @@ def read_segment(file, head, pseg, segment_number, chunks_so_far):
     parts = frame(file, pseg.body, pseg.end)
     pshd, source_offset, flags, repair_time = read_pshd(file, parts)
     refuse_if(not count_kept(parts, b"ploc"), NOT_ONE_PLOC)
-    refuse_if(of_kind(parts, b"surl"), SURL_INSIDE_PSEG)
+    surls = read_surls(file, parts, SURL_FAULT_IN_PSEG)
+    refuse_if(not surls and not head.surls, NO_SURL)
     ploc = of_kind(parts, b"ploc")[0]
     length_size, offset_size, chunk_count = read_ploc_head(file, ploc)
     refuse_if(chunks_so_far + chunk_count > LIMITS["chunks"], TOO_MANY_CHUNKS)
@@ -329,12 +339,12 @@ def read_segment(file, head, pseg, segment_number, chunks_so_far):
         start += size
     refuse_if(cursor != ploc.end, PLOC_FAULT)
     segment = Segment(pseg.place, source_offset, flags, repair_time, chunk_count,
-                      pshd.body, pshd.end - pshd.body, start)
+                      pshd.body, pshd.end - pshd.body, None, start, surls)
     return segment, chunks
 
 
 def read_segments(file, head):
-    """Stages 12 to 24: all segments and all chunks, in file order."""
+    """Stages 12 to 24 and 41: all segments and all chunks, in file order."""
     psegs = of_kind(head.boxes, b"pseg")
     refuse_if(not count_kept(head.boxes, b"pseg"), NO_PSEG)
     refuse_if(len(psegs) > LIMITS["segments"], TOO_MANY_SEGMENTS)
@@ -346,8 +356,20 @@ def read_segments(file, head):
     return segments, chunks
 
 
+def list_of(file, head, segment):
+    """The list of URLs of a segment: its own, or that in pfil."""
+    return urls_of(file, segment.surls or head.surls)
+
+
+def numbered(file, head, segments):
+    """The segments with the numbers of their sources."""
+    lists = [list_of(file, head, segment) for segment in segments]
+    by_number = lists_by_number(lists)
+    return [segment._replace(source=by_number.index(urls)) for segment, urls in zip(segments, lists)]
+
+
 def known_size(segments):
-    """The size of the source, None if it is not known; stage 25.
+    """The size of the source of these segments, None if it is not known; stage 25.
 
     The end of an open segment is its source offset.
     """
@@ -361,19 +383,51 @@ def known_size(segments):
     return size
 
 
+def read_source(head, segments, chunks, number):
+    """What the source of a number says, by its own segments and chunks alone."""
+    own = [segment for segment in segments if segment.source == number]
+    size = known_size(own)
+    closed = size is not None
+    described = size if closed else max(segment.end for segment in own)
+    supplying = [chunk for chunk in chunks if segments[chunk.segment].source == number]
+    return Source(supplying, described, closed, own[0].surls or head.surls)
+
+
+def read_sources(head, segments, chunks):
+    """Stages 25 and 40: all sources, by their numbers."""
+    count = 1 + max(segment.source for segment in segments)
+    sources = [read_source(head, segments, chunks, number) for number in range(count)]
+    refuse_if(count > LIMITS["sources"], TOO_MANY_SOURCES)
+    return sources
+
+
+def source_of_pfil(file, head, segments):
+    """The number of the source of the list in pfil, None where no segment is of it."""
+    urls = urls_of(file, head.surls)
+    return next((segment.source for segment in segments if list_of(file, head, segment) == urls), None)
+
+
 def accept(file):
-    """Stages 1 to 25 and 36 to 39: what an acceptable file says."""
+    """Stages 1 to 25 and 36 to 41: what an acceptable file says."""
     return accept_behind(file, read_head(file))
 
 
 def accept_behind(file, head):
     """The stages from 12 on."""
     segments, chunks = read_segments(file, head)
-    size = known_size(segments)
-    indexed = indexed_boxes(file, head.boxes, [segment.offset for segment in segments], size)
-    closed = size is not None
-    described = size if closed else max(segment.end for segment in segments)
-    return Reading(segments, chunks, described, closed, head.url, head.mime, indexed)
+    segments = numbered(file, head, segments)
+    sources = read_sources(head, segments, chunks)
+    sizes = {number: source.described for number, source in enumerate(sources) if source.closed}
+    of_pfil = source_of_pfil(file, head, segments)
+    numbers = [of_pfil, *[segment.source for segment in segments]]
+    starts = [0, *[segment.offset for segment in segments]]
+    indexed = indexed_boxes(file, head.boxes, starts, [sizes.get(number) for number in numbers])
+    return Reading(segments, chunks, sources, head.surls, of_pfil, indexed)
+
+
+def source_of(reading, number):
+    """What the file says of the source of a number, which it may not have."""
+    return reading.sources[number] if number is not None and number < len(reading.sources) else NOT_IN_THE_FILE
 
 
 def accept_into(file, segment_room, chunk_room):
@@ -390,70 +444,72 @@ def check_room(needed, room):
 
 # Meaning.
 
-def first_covering(reading, state, p):
+def first_covering(source, state, p):
     """The first chunk of a state that covers a position, or None."""
-    for chunk in reading.chunks:
+    for chunk in source.chunks:
         if chunk.state == state and chunk.start <= p < chunk.start + chunk.size:
             return chunk
     return None
 
 
-def supplier(reading, p):
+def supplier(source, p):
     """The first good chunk that covers a position, or None."""
-    return first_covering(reading, GOOD, p)
+    return first_covering(source, GOOD, p)
 
 
-def edges(reading, states=(GOOD,)):
+def edges(source, states=(GOOD,)):
     """The positions where chunks of these states begin and end, ascending, and both ends of what is described."""
-    found = {0, reading.described}
-    for chunk in reading.chunks:
+    found = {0, source.described}
+    for chunk in source.chunks:
         if chunk.state in states:
             found.add(chunk.start)
             found.add(chunk.start + chunk.size)
     return sorted(found)
 
 
-def run_length(reading, p):
+def run_length(source, p):
     """For how many positions from p on the supplier stays the same."""
-    for edge in edges(reading):
-        if edge > p and supplier(reading, edge) != supplier(reading, p):
+    for edge in edges(source):
+        if edge > p and supplier(source, edge) != supplier(source, p):
             return edge - p
-    return reading.described - p
+    return source.described - p
 
 
 # Serving.
 
-def serve(file, p, segment_room=None, chunk_room=None):
+def serve(file, p, segment_room=None, chunk_room=None, source=0):
     """Place and length of the part of the file that holds p and what follows."""
     number, reading = attempt(accept_into, file, segment_room, chunk_room)
     if number:
         return (0, 0)
-    chunk = supplier(reading, p)
+    asked = source_of(reading, source)
+    chunk = supplier(asked, p)
     if chunk is None:
         return (0, 0)
-    return (chunk.place + (p - chunk.start), run_length(reading, p))
+    return (chunk.place + (p - chunk.start), run_length(asked, p))
 
 
-def ask(file, p, segment_room=None, chunk_room=None):
+def ask(file, p, segment_room=None, chunk_room=None, source=0):
     """Why serving hands back what it does."""
     number, reading = attempt(accept_into, file, segment_room, chunk_room)
     if number:
         return ("refused", number)
-    if p >= reading.described:
+    asked = source_of(reading, source)
+    if p >= asked.described:
         return ("beyond",)
-    if supplier(reading, p) is None:
-        return ("missing", run_length(reading, p))
-    return ("served", run_length(reading, p))
+    if supplier(asked, p) is None:
+        return ("missing", run_length(asked, p))
+    return ("served", run_length(asked, p))
 
 
 # Lists.
 
-def ranges(reading, supplied):
+def ranges(source, supplied):
     """The maximal ranges of the positions that are supplied, or are not."""
     found = []
-    marks = edges(reading)
+    marks = edges(source)
     for first, end in zip(marks, marks[1:]):
-        if (supplier(reading, first) is not None) != supplied:
+        if (supplier(source, first) is not None) != supplied:
             continue
         if found and found[-1][0] + found[-1][1] == first:
             first = found.pop()[0]
@@ -465,18 +521,18 @@ def total(found):
     return sum(length for first, length in found)
 
 
-def accept_lists(file, segment_room, chunk_room, had_room, missing_room):
-    reading = accept_into(file, segment_room, chunk_room)
-    had, missing = ranges(reading, True), ranges(reading, False)
+def accept_lists(file, segment_room, chunk_room, had_room, missing_room, source):
+    asked = source_of(accept_into(file, segment_room, chunk_room), source)
+    had, missing = ranges(asked, True), ranges(asked, False)
     check_room(len(had) * RANGE_LENGTH, had_room)
     check_room(len(missing) * RANGE_LENGTH, missing_room)
     return had, missing
 
 
-def lists(file, segment_room=None, chunk_room=None, had_room=None, missing_room=None):
+def lists(file, segment_room=None, chunk_room=None, had_room=None, missing_room=None, source=0):
     """Both lists and both totals."""
     number, found = attempt(
-        accept_lists, file, segment_room, chunk_room, had_room, missing_room)
+        accept_lists, file, segment_room, chunk_room, had_room, missing_room, source)
     if number:
         return ("refused", number)
     had, missing = found
@@ -485,10 +541,10 @@ def lists(file, segment_room=None, chunk_room=None, had_room=None, missing_room=
 
 # The index.
 
-def how_many_served(reading, first, length):
+def how_many_served(source, first, length):
     """Whether none, some or all of these positions are served."""
     served = 0
-    for had, run in ranges(reading, True):
+    for had, run in ranges(source, True):
         served += max(0, min(had + run, first + length) - max(had, first))
     if served == 0:
         return NONE
@@ -496,10 +552,13 @@ def how_many_served(reading, first, length):
 
 
 def accept_index(file, room):
-    reading = accept(file)
-    check_room(len(reading.indexed) * INDEX_ROW_LENGTH, room)
-    return [(box.level, box.place, box.size, unsigned(box.kind, 0, 4), how_many_served(reading, box.place, box.size))
-            for box in reading.indexed]
+    reading, rows = accept(file), []
+    numbers = [reading.of_pfil, *[segment.source for segment in reading.segments]]
+    for number, boxes in zip(numbers, reading.indexed):
+        source = source_of(reading, number)
+        rows += [(box.level, box.place, box.size, unsigned(box.kind, 0, 4), how_many_served(source, box.place, box.size)) for box in boxes]
+    check_room(len(rows) * INDEX_ROW_LENGTH, room)
+    return rows
 
 
 def index(file, room=None):
@@ -511,14 +570,15 @@ def index(file, room=None):
 # The heading.
 
 def heading(file):
-    """Whether the file is mixed, how many boxes and how many segments it has, and where both texts stand."""
+    """Whether the file is mixed, how many boxes and how many segments it has, and where both texts in pfil stand."""
     number, head = attempt(read_head, file)
     if number:
         return ("refused", number)
-    return ("heading", int(head.mixed), len(head.boxes), len(of_kind(head.boxes, b"pseg")), *head.url, *head.mime)
+    url, mime = first_texts(head.surls)
+    return ("heading", int(head.mixed), len(head.boxes), len(of_kind(head.boxes, b"pseg")), *url, *mime)
 
 
-# Rows.
+# Rows and texts.
 
 def read(file, segment_room=None, chunk_room=None):
     """The segment rows and the chunk rows."""
@@ -529,24 +589,58 @@ def read(file, segment_room=None, chunk_room=None):
     return ("read", segment_rows, [tuple(chunk) for chunk in reading.chunks])
 
 
-def length(file):
-    """The described length, and whether the size of the source is known."""
+def sources(file):
+    """How many sources there are."""
+    number, reading = attempt(accept, file)
+    return ("refused", number) if number else ("sources", len(reading.sources))
+
+
+def length(file, source=0):
+    """The described length of a source, and whether its size is known."""
     number, reading = attempt(accept, file)
     if number:
         return ("refused", number)
-    return ("length", reading.described, reading.closed)
+    asked = source_of(reading, source)
+    return ("length", asked.described, asked.closed)
 
 
 def url(file):
-    """The URL of the first surl."""
+    """The URL of the first surl in pfil."""
     number, reading = attempt(accept, file)
-    return (0, 0) if number else tuple(reading.url)
+    return (0, 0) if number else tuple(first_texts(reading.surls).url)
 
 
 def mime(file):
-    """The MIME text of the first surl."""
+    """The MIME text of the first surl in pfil."""
     number, reading = attempt(accept, file)
-    return (0, 0) if number else tuple(reading.mime)
+    return (0, 0) if number else tuple(first_texts(reading.surls).mime)
+
+
+def source_url(file, source):
+    """The first URL of a source."""
+    number, reading = attempt(accept, file)
+    return (0, 0) if number else tuple(first_texts(source_of(reading, source).surls).url)
+
+
+def source_mime(file, source):
+    """The first MIME text of a source."""
+    number, reading = attempt(accept, file)
+    return (0, 0) if number else tuple(first_texts(source_of(reading, source).surls).mime)
+
+
+def accept_texts(file, segment, text_room, length_room):
+    segments = accept(file).segments
+    surls = segments[segment].surls if segment < len(segments) else []
+    found = [bytes_of(file, text) for surl in surls for text in surl]
+    check_room(len(b"".join(found)), text_room)
+    check_room(len(found), length_room)
+    return found
+
+
+def texts(file, segment, text_room=None, length_room=None):
+    """The texts of the surl boxes that a segment has itself, as append takes them: all bytes, and their lengths."""
+    number, found = attempt(accept_texts, file, segment, text_room, length_room)
+    return ("refused", number) if number else ("texts", b"".join(found), [len(text) for text in found])
 
 
 # Begin.
@@ -557,6 +651,10 @@ def write_box(kind, *parts):
     return (8 + len(body)).to_bytes(4, "big") + kind + body
 
 
+def write_surl(url, mime):
+    return write_box(b"surl", bytes(4), url, b"\0", mime, b"\0")
+
+
 def begin(buffer, brand, url, mime):
     """Writes ftyp with one of the two brands, then pfil holding pfhd and one surl."""
     number, end = attempt(check_begin, buffer, url, mime)
@@ -564,8 +662,7 @@ def begin(buffer, brand, url, mime):
         return ("refused", number), buffer
     ftyp = write_box(b"ftyp", brand, bytes(4), brand)
     pfhd = write_box(b"pfhd", bytes(4))
-    surl = write_box(b"surl", bytes(4), url, b"\0", mime, b"\0")
-    file = ftyp + write_box(b"pfil", pfhd, surl)
+    file = ftyp + write_box(b"pfil", pfhd, write_surl(url, mime))
     assert len(file) == end
     return ("length", end), file + buffer[end:]
 
@@ -581,6 +678,12 @@ def check_begin(buffer, url, mime):
 
 
 # Append.
+
+# What append is given, and the addition that is made of it: its chunks as pairs of size and state, and for each surl its
+# URL and its MIME text.
+Given = namedtuple("Given", "buffer stated_length source_offset repair_time last outside chunk_list data texts lengths")
+Addition = namedtuple("Addition", "source_offset repair_time last outside pairs data surls")
+
 
 def least_unsigned_width(value):
     width = 0
@@ -598,11 +701,20 @@ def least_signed_width(value):
 
 def pairs_of(chunk_list):
     """The chunk list as pairs of size and state."""
-    refuse_if(len(chunk_list) % 2 != 0, CHUNK_LIST_FAULT)
+    refuse_if(len(chunk_list) % 2 != 0, LIST_FAULT)
     pairs = list(zip(chunk_list[0::2], chunk_list[1::2]))
     for size, state in pairs:
-        refuse_if(size == 0 or state not in FLAG_BYTES, CHUNK_LIST_FAULT)
+        refuse_if(size == 0 or state not in FLAG_BYTES, LIST_FAULT)
     return pairs
+
+
+def surls_of(texts, lengths):
+    """The URL and the MIME text of each surl that is given, of text bytes as many as their lengths say."""
+    parts, at = [], 0
+    for length in lengths:
+        parts.append(texts[at:at + length])
+        at += length
+    return list(zip(parts[0::2], parts[1::2]))
 
 
 def goes_outside(state, outside):
@@ -672,16 +784,17 @@ def form_of(source_offset):
     return (0, 4) if source_offset < 2 ** 32 else (1, 8)
 
 
-def added_length(source_offset, pairs, data_length, outside):
+def added_length(new):
     """How many bytes an addition writes."""
-    offsets = offsets_of(pairs, outside)
-    length_size, offset_size = widths_of(pairs, offsets)
-    stored = data_length + (8 if any_inside(pairs, outside) else 0)
-    pshd = 8 + 4 + form_of(source_offset)[1] + 8
+    offsets = offsets_of(new.pairs, new.outside)
+    length_size, offset_size = widths_of(new.pairs, offsets)
+    stored = len(new.data) + (8 if any_inside(new.pairs, new.outside) else 0)
+    pshd = 8 + 4 + form_of(new.source_offset)[1] + 8
     ploc = 8 + 9
     for offset in offsets:
         ploc += 1 + length_size + (0 if offset is None else offset_size)
-    return stored + 8 + pshd + ploc
+    surls = sum(8 + 4 + len(url) + 1 + len(mime) + 1 for url, mime in new.surls)
+    return stored + 8 + pshd + ploc + surls
 
 
 def read_earlier(file):
@@ -693,29 +806,58 @@ def read_earlier(file):
     return head, reading.segments, reading.chunks
 
 
-def check_append(buffer, stated_length, source_offset, last, outside, chunk_list, data):
-    """The pairs of the new segment and the new length of the file."""
-    refuse_if(stated_length > len(buffer), STATED_LENGTH_OVER_BUFFER)
-    head, segments, chunks = read_earlier(buffer[:stated_length])
-    pairs = pairs_of(chunk_list)
+def check_given(head, given):
+    """Stages 31, 32, 35 and 34: the addition, and how many boxes of it go outside."""
+    pairs = pairs_of(given.chunk_list)
+    refuse_if(len(given.lengths) % 2 != 0, LIST_FAULT)
     kept = sum(size for size, state in pairs if present(state))
-    refuse_if(len(data) != kept, DATA_NOT_EQUAL_TO_SIZES)
-    outside_count = check_outside(head, pairs, data, outside)
-    end = stated_length + added_length(source_offset, pairs, len(data), outside)
-    refuse_if(end > LIMITS["file"], FILE_OVER_LIMIT)
-    box_count = len(head.boxes) + any_inside(pairs, outside) + outside_count + 1
-    refuse_if(box_count > LIMITS["boxes in one container"], TOO_MANY_BOXES)
+    refuse_if(len(given.data) != kept or len(given.texts) != sum(given.lengths), BYTES_NOT_AS_LISTED)
+    outside_count = check_outside(head, pairs, given.data, given.outside)
+    refuse_if(0 in given.texts, ZERO_BYTE_IN_TEXT)
+    surls = surls_of(given.texts, given.lengths)
+    return Addition(given.source_offset, given.repair_time, given.last, given.outside, pairs, given.data, surls), outside_count
+
+
+def check_counts(head, segments, chunks, new, outside_count):
+    """Stages 6, 13, 41, 22 and 23 of the result."""
+    box_count = len(head.boxes) + any_inside(new.pairs, new.outside) + outside_count + 1
+    pshd_ploc_and_surls = 2 + len(new.surls)
+    most = LIMITS["boxes in one container"]
+    refuse_if(box_count > most or pshd_ploc_and_surls > most, TOO_MANY_BOXES)
     refuse_if(len(segments) + 1 > LIMITS["segments"], TOO_MANY_SEGMENTS)
-    refuse_if(len(chunks) + len(pairs) > LIMITS["chunks"], TOO_MANY_CHUNKS)
-    source_end = source_offset + sum(size for size, state in pairs)
-    refuse_if(source_end > LIMITS["source"], SOURCE_OVER_LIMIT)
-    new = Segment(place=None, offset=source_offset, flags=flags_of(last), repair_time=None,
-                  chunk_count=len(pairs), pshd_body=None, pshd_length=None, end=source_end)
-    known_size(segments + [new])
-    if b"fidx" in buffer[:stated_length]:
-        accept(buffer[:stated_length] + addition(source_offset, 0, last, outside, pairs, data))
-    refuse_if(end > len(buffer), BUFFER_TOO_SHORT)
-    return pairs, end
+    refuse_if(not new.surls and not head.surls, NO_SURL)
+    refuse_if(len(chunks) + len(new.pairs) > LIMITS["chunks"], TOO_MANY_CHUNKS)
+    refuse_if(end_of(new) > LIMITS["source"], SOURCE_OVER_LIMIT)
+
+
+def end_of(new):
+    return new.source_offset + sum(size for size, state in new.pairs)
+
+
+def check_sources(file, head, segments, new):
+    """Stages 25 and 40 of the result: only the source that is added to can disagree."""
+    urls = [url for url, mime in new.surls] or urls_of(file, head.surls)
+    lists = [list_of(file, head, segment) for segment in segments]
+    added = Segment(place=None, offset=new.source_offset, flags=flags_of(new.last), repair_time=None, chunk_count=len(new.pairs),
+                    pshd_body=None, pshd_length=None, source=None, end=end_of(new), surls=None)
+    known_size([segment for segment, other in zip(segments, lists) if other == urls] + [added])
+    refuse_if(len(lists_by_number([*lists, urls])) > LIMITS["sources"], TOO_MANY_SOURCES)
+
+
+def check_append(given):
+    """The addition and the new length of the file."""
+    refuse_if(given.stated_length > len(given.buffer), STATED_LENGTH_OVER_BUFFER)
+    file = given.buffer[:given.stated_length]
+    head, segments, chunks = read_earlier(file)
+    new, outside_count = check_given(head, given)
+    end = given.stated_length + added_length(new)
+    refuse_if(end > LIMITS["file"], FILE_OVER_LIMIT)
+    check_counts(head, segments, chunks, new, outside_count)
+    check_sources(file, head, segments, new)
+    if b"fidx" in file:
+        accept(file + addition(new))
+    refuse_if(end > len(given.buffer), BUFFER_TOO_SHORT)
+    return new, end
 
 
 def flags_of(last):
@@ -740,25 +882,26 @@ def write_ploc(pairs, offsets):
     return write_box(b"ploc", head, entries)
 
 
-def addition(source_offset, repair_time, last, outside, pairs, data):
+def addition(new):
     """One pdat, if any chunk's data goes there, then that of the chunks outside, then the pseg."""
     pdat = b""
-    if any_inside(pairs, outside):
-        pdat = write_box(b"pdat", *data_of(pairs, data, outside, goes_inside))
-    boxes = b"".join(data_of(pairs, data, outside, goes_outside))
-    pshd = write_pshd(source_offset, repair_time, last)
-    ploc = write_ploc(pairs, offsets_of(pairs, outside))
-    return pdat + boxes + write_box(b"pseg", pshd, ploc)
+    if any_inside(new.pairs, new.outside):
+        pdat = write_box(b"pdat", *data_of(new.pairs, new.data, new.outside, goes_inside))
+    boxes = b"".join(data_of(new.pairs, new.data, new.outside, goes_outside))
+    pshd = write_pshd(new.source_offset, new.repair_time, new.last)
+    ploc = write_ploc(new.pairs, offsets_of(new.pairs, new.outside))
+    surls = [write_surl(url, mime) for url, mime in new.surls]
+    return pdat + boxes + write_box(b"pseg", pshd, ploc, *surls)
 
 
-def append(buffer, stated_length, source_offset, repair_time, last, outside, chunk_list, data):
+def append(buffer, stated_length, source_offset, repair_time, last, outside, chunk_list, data, texts=b"", lengths=()):
     """Writes an addition that is taken behind the file."""
-    number, checked = attempt(
-        check_append, buffer, stated_length, source_offset, last, outside, chunk_list, data)
+    given = Given(buffer, stated_length, source_offset, repair_time, last, outside, chunk_list, data, texts, lengths)
+    number, checked = attempt(check_append, given)
     if number:
         return ("refused", number), buffer
-    pairs, end = checked
-    file = buffer[:stated_length] + addition(source_offset, repair_time, last, outside, pairs, data)
+    new, end = checked
+    file = buffer[:stated_length] + addition(new)
     assert len(file) == end
     return ("length", end), file + buffer[end:]
 
@@ -769,45 +912,49 @@ def line(*fields):
     return "\t".join(str(field) for field in fields).encode("ascii") + b"\n"
 
 
-def name_of(reading, p):
+def name_of(source, p):
     """What the map calls a position: one that is missing is held if some damaged chunk covers it, wherever that one
     stands in the file."""
-    if supplier(reading, p) is not None:
+    if supplier(source, p) is not None:
         return "have"
-    return "lost" if first_covering(reading, DAMAGED, p) is None else "held"
+    return "lost" if first_covering(source, DAMAGED, p) is None else "held"
 
 
-def named_ranges(reading):
+def named_ranges(source):
     """The maximal ranges of positions with one name, ascending: name, first position, length."""
     found = []
-    marks = edges(reading, (GOOD, DAMAGED))
+    marks = edges(source, (GOOD, DAMAGED))
     for first, end in zip(marks, marks[1:]):
-        name = name_of(reading, first)
+        name = name_of(source, first)
         if found and found[-1][0] == name:
             first = found.pop()[1]
         found.append((name, first, end - first))
     return found
 
 
-def both_lists(reading):
+def both_lists(source):
     """Both lists merged, in the same form."""
-    merged = [("have", first, run) for first, run in ranges(reading, True)]
-    merged += [("miss", first, run) for first, run in ranges(reading, False)]
+    merged = [("have", first, run) for first, run in ranges(source, True)]
+    merged += [("miss", first, run) for first, run in ranges(source, False)]
     return sorted(merged, key=lambda one: one[1])
 
 
+def text_of_source(source, found, names):
+    """One source, its ranges, and the total of each name."""
+    text = line("source", source.described, "closed" if source.closed else "open")
+    for name, first, run in found:
+        text += line(name, first, run)
+    return text + line("total", *[sum(run for name, first, run in found if name == one) for one in names])
+
+
 def text_of_ranges(data, most, ranges_of, names):
-    """The source, its ranges, and the total of each name; or the refusal."""
+    """The lines of each source in the order of their numbers, or the refusal."""
     if len(data) > most:
         return line("refused", INPUT_OVER_LIMIT)
     number, reading = attempt(accept, data)
     if number:
         return line("refused", number)
-    found = ranges_of(reading)
-    text = line("source", reading.described, "closed" if reading.closed else "open")
-    for name, first, run in found:
-        text += line(name, first, run)
-    return text + line("total", *[sum(run for name, first, run in found if name == one) for one in names])
+    return b"".join(text_of_source(source, ranges_of(source), names) for source in reading.sources)
 
 
 def map_text(data, most=LIMITS["program input"]):

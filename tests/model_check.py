@@ -5,6 +5,7 @@ import random
 
 import model
 import model_check_index
+import model_check_sources
 from boxes import box, entry, ftyp, full, head, lost_segment, open_segment, pfhd, ploc, pshd, surl
 from expecting import close, expect
 from model import PAFF, PMFF
@@ -24,11 +25,11 @@ def begun(url=b"a", mime=b"", brand=PAFF):
     return file
 
 
-def appended(file, source_offset, chunk_list, data, last=False, repair_time=0, outside=False):
+def appended(file, source_offset, chunk_list, data, last=False, repair_time=0, outside=False, texts=b"", lengths=()):
     """The file after an append with room to spare, cut to its new length."""
-    buffer = file + bytes(200 + 20 * len(chunk_list) + len(data))
+    buffer = file + bytes(200 + 20 * len(chunk_list) + len(data) + len(texts) + 14 * len(lengths))
     answer, buffer = model.append(
-        buffer, len(file), source_offset, repair_time, last, outside, chunk_list, data)
+        buffer, len(file), source_offset, repair_time, last, outside, chunk_list, data, texts, lengths)
     assert answer[0] == "length", answer
     return buffer[:answer[1]]
 
@@ -219,14 +220,14 @@ def check_errors_of_the_trade():
 
 def check_rooms():
     p9 = appended(begun(), 0, [4, 2, 6, 0], b"abcd", last=True)
-    expect("tables that just hold", model.read(p9, 7, 12)[0], "read")
-    expect("segment table too short", model.read(p9, 6, 12), refused(26))
-    expect("chunk table too short", model.read(p9, 7, 11), refused(26))
-    expect("had list too short", model.lists(p9, 7, 12, 1, 2), refused(26))
-    expect("missing list too short", model.lists(p9, 7, 12, 2, 1), refused(26))
-    expect("lists that just hold", model.lists(p9, 7, 12, 2, 2)[0], "lists")
-    expect("not served", model.serve(p9, 0, 6, 12), (0, 0))
-    expect("asked", model.ask(p9, 0, 6, 12), refused(26))
+    expect("tables that just hold", model.read(p9, 8, 12)[0], "read")
+    expect("segment table too short", model.read(p9, 7, 12), refused(26))
+    expect("chunk table too short", model.read(p9, 8, 11), refused(26))
+    expect("had list too short", model.lists(p9, 8, 12, 1, 2), refused(26))
+    expect("missing list too short", model.lists(p9, 8, 12, 2, 1), refused(26))
+    expect("lists that just hold", model.lists(p9, 8, 12, 2, 2)[0], "lists")
+    expect("not served", model.serve(p9, 0, 7, 12), (0, 0))
+    expect("asked", model.ask(p9, 0, 7, 12), refused(26))
 
 
 def check_append_order():
@@ -649,16 +650,36 @@ def chunk_bytes(file, rows):
     return b"".join(file[row[5]:row[5] + row[3]] for row in rows if row[4] in (1, 2))
 
 
+def random_texts(rng, file):
+    """The texts of an addition: none, those of an earlier segment, or new ones."""
+    rows = model.read(file)[1] if model.read(file)[0] == "read" else []
+    if rows and rng.random() < 0.3:
+        return model.texts(file, rng.randrange(len(rows)))[1:]
+    parts = [bytes(rng.choices(b"ab", k=rng.randint(0, 3))) for _ in range(2 * rng.choice([0, 0, 0, 1, 2]))]
+    return b"".join(parts), [len(part) for part in parts]
+
+
+def said_of(file, texts, lengths):
+    """The described length of the source of these texts, and whether it is the known size."""
+    number, reading = model.attempt(model.accept, file)
+    urls = [url for url, mime in model.surls_of(texts, lengths)]
+    for source in [] if number else reading.sources:
+        if model.urls_of(file, source.surls) == (urls or model.urls_of(file, reading.surls)):
+            return source.described, source.closed
+    return 0, False
+
+
 def check_one_append(rng, file, mixed):
     """Appends a random segment; gives the file after it."""
-    described, closed = model.length(file)[1:] if model.read(file)[0] == "read" else (0, False)
+    texts, lengths = random_texts(rng, file)
+    described, closed = said_of(file, texts, lengths)
     limit = described if closed else rng.choice([500, WIDE + 20, LIMIT])
     offset = rng.choice([0, rng.randint(0, min(limit, 99)), rng.randint(0, limit), max(0, limit - rng.randint(0, 40))])
     outside = mixed and rng.random() < 0.6
     chunk_list, data = random_chunks(rng, limit - offset, outside)
     last = not closed and offset + sum(chunk_list[0::2]) >= described and rng.random() < 0.3
     repair_time = rng.getrandbits(64)
-    given = (len(file), offset, repair_time, last, outside, chunk_list, data)
+    given = (len(file), offset, repair_time, last, outside, chunk_list, data, texts, lengths)
     spare = rng.randbytes(rng.choice([0, 1, 30]) + 2000 + len(data))
     answer, buffer = model.append(file + spare, *given)
     expect("appended", answer[0], "length")
@@ -671,6 +692,7 @@ def check_one_append(rng, file, mixed):
            (offset, int(last), repair_time, len(chunk_list) // 2))
     expect("sizes and states", [number for row in added for number in row[3:5]], chunk_list)
     expect("bytes", chunk_bytes(new, added), data)
+    expect("texts", model.texts(new, len(segment_rows) - 1), ("texts", texts, list(lengths)))
     expect("no byte but the data's and two headers'", answer[1] - len(file) - len(data) - len(new[segment_rows[-1][0]:]),
            8 if any(state == 1 or state == 2 and not outside for state in chunk_list[1::2]) else 0)
     exact = model.append(new[:len(file)] + bytes(len(new) - len(file)), *given)
@@ -698,7 +720,7 @@ def written_again(file):
     for number, row in enumerate(segment_rows):
         rows = [chunk for chunk in chunk_rows if chunk[0] == number]
         chunk_list = [field for chunk in rows for field in chunk[3:5]]
-        again = appended(again, row[1], chunk_list, chunk_bytes(file, rows), bool(row[2]), row[3], some_good_outside(file, rows))
+        again = appended(again, row[1], chunk_list, chunk_bytes(file, rows), bool(row[2]), row[3], some_good_outside(file, rows), *model.texts(file, number)[1:])
     return again
 
 
@@ -746,5 +768,6 @@ if __name__ == "__main__":
     check_held_and_lost()
     check_ranges_of_names()
     model_check_index.check()
+    model_check_sources.check(random.Random(2))
     check_random_runs(random.Random(1), 300)
     raise SystemExit(close())

@@ -20,6 +20,7 @@ Readings, where the request can be read in two ways:
 13. A box inside one whose end is not known?  It is judged as any other, but does not have to fill it.
 14. A size 0 of level 1 in a segment?  It runs to the end of the source, not of the segment.
 15. Is an empty `fidx` an index?  Yes, it counts as a second one and for 38, and has no rows.
+16. With several sources, whose end does a size 0 of level 1 run to?  That of its index's own source (request 8).
 """
 
 from collections import namedtuple
@@ -115,16 +116,14 @@ def read_index(file, container):
     return read_list(file, frame_list(file, indexes[0].body, indexes[0].end), 1)
 
 
-def indexed_boxes(file, boxes, offsets, size):
-    """Stages 36 to 39: every indexed box, in file order; the source offset of each segment of the file, and the size of
-    the source or None, are given."""
+def indexed_boxes(file, boxes, starts, sizes):
+    """Stages 36 to 39: the indexed boxes of pfil and of each segment, in file order; of each of these the position is
+    given that its index starts from, and the size of its source, None where that is not known."""
     containers = [boxes[1], *of_kind(boxes, b"pseg")]
     indexes = [read_index(file, container) for container in containers]
-    rows = []
-    for index, start in zip(indexes, [0, *offsets]):
-        rows += placed(index or [], 1, start, size)
+    found = [placed(index or [], 1, start, size) for index, start, size in zip(indexes, starts, sizes)]
     refuse_if(any(has_ninth(index or []) for index in indexes), NINTH_LEVEL)
     of_pfil, *of_segments = [index is not None for index in indexes]
     refuse_if(of_pfil and any(of_segments), INDEXES_IN_BOTH)
-    refuse_if(any(row.size is None for row in rows), END_NOT_KNOWN)
-    return rows
+    refuse_if(any(row.size is None for rows in found for row in rows), END_NOT_KNOWN)
+    return found

@@ -3,6 +3,7 @@ file may be or a little larger."""
 
 import corpus
 import corpus_index
+import corpus_sources
 import generate
 import lists
 import maps
@@ -11,6 +12,7 @@ from faults import BOXES, CHUNKS, FAULTS, SEGMENTS, too_many_boxes
 from faults_index import to_the_end
 from foreign import GOOD, LOST, close, foreign_entry, foreign_plan, foreign_segment
 from indexes import Index, Indexed, put_index
+from layers import SOURCES, boxes_for, put_urls
 from plan import Data, Entry, Plan, Segment, Whole
 from spoiling import boxes_in, cut
 
@@ -60,6 +62,30 @@ def many_segments(rng):
     items = datas + segments
     rng.shuffle(items)
     return plain(items).assemble()
+
+
+def many_sources(rng):
+    """As many sources as a file may have, one fewer or one more, that of pfil among them, over as many segments by turns,
+    told apart by the last byte of a long URL, or by where a long list begins."""
+    data, count = Data(rng.randbytes(24)), near(rng, SOURCES - 1)
+    long, many = rng.choice([0, 40, 3_000]) * b"u", [b"%d" % at for at in range(rng.choice([9, 100]))]
+    lists = rng.choice([[[long + bytes([65 + at])] for at in range(count)], [many[at:] + many[:at] for at in range(count)]])
+    segments = [foreign_segment(rng, [data], 400) for _ in range(SEGMENTS)]
+    for segment in segments[2:]:
+        put_urls(rng, segment, rng.choice(lists))
+    return plain([data, *segments]).assemble()
+
+
+def many_surls(rng):
+    """As many surl boxes as pfil or a segment has room for, or one more, and segments of that source and of near ones."""
+    urls = [rng.choice([b"", b"a", b"ab"]) for _ in range(near(rng, BOXES - 2))]
+    segments = [Segment(at, []) for at in range(4)]
+    plan = plain(segments)
+    put_urls(rng, segments[1], urls)
+    put_urls(rng, segments[2], urls[:-1] if rng.random() < 0.5 else urls[::-1])
+    if rng.random() < 0.5:
+        plan.pfil_parts = [pfhd(), *boxes_for(rng, urls[1:])]
+    return plan.assemble()
 
 
 def many_boxes(rng):
@@ -119,7 +145,7 @@ def many_indexed(rng):
     return plan.assemble()
 
 
-LARGE = [many_chunks, many_segments, many_indexed, many_boxes, many_boxes, many_outside, many_outside, long_data, near_what_the_program_takes]
+LARGE = [many_chunks, many_segments, many_sources, many_sources, many_surls, many_indexed, many_boxes, many_boxes, many_outside, many_outside, long_data, near_what_the_program_takes]
 
 
 def large_file(rng):
@@ -154,10 +180,10 @@ def noise(rng):
 
 
 def of_corpora():
-    """Every file that the corpora of reading and listing have, once, with all that were worked out by hand on indexes,
-    and those on damage that the corpus of the maps has."""
-    records = [*corpus.records(), *corpus_index.claims(), *lists.records()]
-    return sorted({record.file for record in records} | {file.content for file in maps.of_damage()})
+    """Every file that the corpora of reading and listing have, once, with all that were worked out by hand on indexes and
+    sources, and those on damage and on sources that the corpus of the maps has."""
+    records = [*corpus.records(), *corpus_index.claims(), *corpus_sources.claims(), *lists.records()]
+    return sorted({record.file for record in records} | {file.content for file in [*maps.of_damage(), *maps.of_sources()]})
 
 
 def chooser(listed):

@@ -9,6 +9,8 @@ from scale_writing import append_case, begin_case
 from writes_run import Append, Begin
 
 MOST = model.LIMITS["file"]
+# The bytes of a surl with a URL of one byte.
+SURL = 15
 
 
 def data_to_end_at(end):
@@ -26,3 +28,6 @@ def largest_cases(stream, rng):
         begin_case(stream, Begin(model.PMFF, b"u", zeros), 99)
         data = data_to_end_at(length)
         append_case(stream, head(), Append(len(head()), 0, 0, 1, False, (len(data), 2), 2, data), 4_000)
+        data = data_to_end_at(length - SURL)
+        append_case(stream, head(), Append(len(head()), 0, 0, 1, False, (len(data), 2), 2, data, b"a", (1, 0), 2), 4_000)
+        append_case(stream, head(), Append(len(head()), 0, 0, 1, False, (), 0, b"", zeros, (length, 0), 2), 4_000)

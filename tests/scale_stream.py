@@ -2,7 +2,7 @@
 them.
 
 A record opens with a byte. 0 is a block that the driver holds from then on: its index in a byte, its length, its bytes.
-1 to 13 are the calls, in the order of FORMS: a byte that says how memory is lent; the answer; the call's numbers; for
+1 to 16 are the calls, in the order of FORMS: a byte that says how memory is lent; the answer; the call's numbers; for
 each memory its length in elements, the index of the block that it starts with and of the block that it must start with
 afterwards, a byte each, 255 for none; then how many numbers are told, in a byte, and these, none after a refusal. 254
 is a block of zeros that is too large to be sent: its index in a byte, its length. 255 ends the stream, with how many
@@ -14,17 +14,17 @@ from collections import Counter, namedtuple
 
 # How many numbers and memories a call takes.
 Form = namedtuple("Form", "kind numbers memories")
-FORMS = {"read": Form(1, 0, 3), "url": Form(2, 0, 1), "mime": Form(3, 0, 1), "serve": Form(4, 1, 3), "ask": Form(5, 1, 3), "list": Form(6, 0, 5),
-         "map": Form(7, 1, 2), "begin": Form(8, 1, 3), "append": Form(9, 5, 3), "boxes": Form(10, 1, 2), "missmap": Form(11, 1, 2),
-         "heading": Form(12, 0, 1), "index": Form(13, 0, 2)}
+FORMS = {"read": Form(1, 1, 3), "url": Form(2, 0, 1), "mime": Form(3, 0, 1), "serve": Form(4, 2, 3), "ask": Form(5, 2, 3), "list": Form(6, 1, 5),
+         "map": Form(7, 1, 2), "begin": Form(8, 1, 3), "append": Form(9, 5, 5), "boxes": Form(10, 1, 2), "missmap": Form(11, 1, 2),
+         "heading": Form(12, 0, 1), "index": Form(13, 0, 2), "source_url": Form(14, 1, 1), "source_mime": Form(15, 1, 1), "texts": Form(16, 1, 3)}
 BLOCK, ZEROS, END = 0, 254, 255
 # A block from this length on is all zeros, and is not sent.
 TOO_LARGE = 1 << 29
 
 # The blocks, by what stands in them.
-FILE, SEGMENTS, CHUNKS, HAD, MISSING, TEXT, BEFORE, AFTER, LIST, DATA, URL, MIME, TABLE = range(13)
+FILE, SEGMENTS, CHUNKS, HAD, MISSING, TEXT, BEFORE, AFTER, LIST, DATA, URL, MIME, TABLE, TEXTS, LENGTHS = range(15)
 NONE = 255
-NAMES = ["file", "segments", "chunks", "had", "missing", "text", "before", "after", "list", "data", "url", "mime", "table"]
+NAMES = ["file", "segments", "chunks", "had", "missing", "text", "before", "after", "list", "data", "url", "mime", "table", "texts", "lengths"]
 
 # How memory is lent, as tests/scale/lent.h has it: at an odd address, at none where the length is 0, before a page that
 # nobody may touch.

@@ -2,6 +2,7 @@
 length, and the runs of the corpus."""
 
 import additions
+import additions_texts
 import generate
 import model
 import writes_elsewhere
@@ -10,9 +11,11 @@ import writes_limits
 import writes_mixed
 import writes_random
 import writes_refusals
+import writes_sources
+from boxes import bare_head
 from scale_reading import awkward, file_cases, number_of
-from scale_stream import AFTER, BEFORE, DATA, LIST, MIME, NONE, URL, Memory, packed
-from writes_run import Append, Begin, chunk_list, lent_buffer, made, of_arguments, performed
+from scale_stream import AFTER, BEFORE, DATA, LENGTHS, LIST, MIME, NONE, TEXTS, URL, Memory, packed
+from writes_run import Append, Begin, chunk_list, lent_buffer, made, of_arguments, performed, text_lengths, with_texts
 
 # The longest buffer that is lent for a stated length which no buffer holds.
 LONGEST = 400_000
@@ -22,8 +25,8 @@ LARGE = (127, 128, 129, 255, 256, 257, 32_767, 32_768, 32_769, 65_535, 65_536, 1
 
 # Faults of an append in an order in which each can be put beside the earlier ones. Those that fill the file up come
 # seldom, as it is large then.
-FILLINGS = [additions.fill_with_chunks, additions.fill_with_segments, additions.fill_with_boxes]
-FAULTS = [additions.overstep_limit, additions.overstep_size, additions.spoil_outside, additions.spoil_data, additions.spoil_chunk_list]
+FILLINGS = [additions_texts.fill_with_sources, additions.fill_with_chunks, additions.fill_with_segments, additions.fill_with_boxes]
+FAULTS = [additions.overstep_limit, additions.overstep_size, additions.spoil_outside, additions_texts.put_zero, additions.spoil_data, additions.spoil_lists]
 
 
 # One case each. `known` is the front of the buffer; what lies behind it is marks, which the model need not know, since
@@ -49,7 +52,9 @@ def append_case(stream, known, call, room):
     stream.hold(AFTER, buffer[:max(len(known), 0 if refusal else answer[1])])
     stream.hold(LIST, packed(chunk_list(call)))
     stream.hold(DATA, call.data)
-    memories = [Memory(room, BEFORE, AFTER), stream.whole(LIST, 8), stream.whole(DATA)]
+    stream.hold(TEXTS, call.texts)
+    stream.hold(LENGTHS, packed(text_lengths(call)))
+    memories = [Memory(room, BEFORE, AFTER), stream.whole(LIST, 8), stream.whole(DATA), stream.whole(TEXTS), stream.whole(LENGTHS, 8)]
     stream.call("append", refusal, (call.stated, call.offset, call.repair, call.flags % 2, call.outside), memories, answer[1:])
 
 
@@ -92,7 +97,7 @@ def append_cases(stream, rng, known, call):
         for room in (len(known), min(call.stated - 1, LONGEST)):
             append_case(stream, known, call, room)
         return None
-    end = call.stated + additions.added_length(call.offset, chunk_list(call), call.data, call.outside)
+    end = call.stated + additions.added_length(call.offset, chunk_list(call), call.data, call.outside, call.texts, text_lengths(call))
     others = (0, max(0, call.stated - 1), call.stated, end - 1, end + 1, end + rng.randint(0, 99))
     for room in [end, *rng.sample(others, 2)]:
         append_case(stream, known, call, room)
@@ -114,11 +119,15 @@ def large_append(rng, file):
         numbers += [rng.choice(LARGE), rng.choice([0, 1, 2, 2, 3])]
     outside = additions.is_mixed(file) and rng.random() < 0.5
     data = additions.data_for(rng, numbers, outside)
-    return Append(len(file), rng.choice([0, 7, 2 ** 31, 2 ** 32 - 1, 2 ** 32, 2 ** 39]), rng.getrandbits(64), rng.getrandbits(1), outside, tuple(numbers), len(numbers), data)
+    call = Append(len(file), rng.choice([0, 7, 2 ** 31, 2 ** 32 - 1, 2 ** 32, 2 ** 39]), rng.getrandbits(64), rng.getrandbits(1), outside, tuple(numbers), len(numbers), data)
+    return with_texts(call, *additions_texts.some_texts(rng, file))
 
 
 def first_file(stream, rng):
-    """What a run appends to: a file that is begun, by another writer with an index, or any other."""
+    """What a run appends to: a file that is begun, by another writer with an index or without a list in pfil, or any
+    other."""
+    if rng.random() < 0.05:
+        return bare_head(brand=rng.choice(additions.BRANDS))
     if rng.random() < 0.55:
         return begin_cases(stream, rng, Begin(rng.choice(additions.BRANDS), *additions.texts(rng)))
     if rng.random() < 0.35:
@@ -153,7 +162,7 @@ def run_of_corpus(stream, run):
 
 
 def corpus_runs(stream):
-    for run in [*writes_limits.runs(), *writes_refusals.runs(), *writes_mixed.runs(), *writes_elsewhere.runs(), *writes_index.runs()]:
+    for run in [*writes_limits.runs(), *writes_refusals.runs(), *writes_mixed.runs(), *writes_elsewhere.runs(), *writes_index.runs(), *writes_sources.runs()]:
         run_of_corpus(stream, run)
 
 

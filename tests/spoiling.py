@@ -1,4 +1,5 @@
-"""Spoils a file: cuts, flips, splices, wrong sizes and types, boxes dropped, doubled or swapped, in an index too."""
+"""Spoils a file: cuts, flips, splices, wrong sizes and types, boxes dropped, doubled or swapped, in an index too, and
+the texts of sources."""
 
 
 def boxes_in(file, place, end):
@@ -107,6 +108,21 @@ def restate(rng, file):
     return with_size(file, place + header, 8, size)
 
 
+def relabel(rng, file):
+    """Puts a surl into the place of another box, or beside it, mostly of another surl; or makes a text of its shorter or
+    longer by a zero byte."""
+    boxes = boxes_in(file, 0, len(file))
+    labels = [one for one in boxes if file[one[0] + 4:one[0] + 8] == b"surl"]
+    if not labels:
+        return flip(rng, file)
+    place, end, header = rng.choice(labels)
+    if rng.random() < 0.3 and end > place + header + 4:
+        at = rng.randint(place + header + 4, end - 1)
+        return edit(rng, file, at, at + rng.choice([0, 1]), rng.choice([b"\0", b"a", b""]))
+    over = rng.choice(labels if rng.random() < 0.5 else boxes)
+    return edit(rng, file, over[0], rng.choice(over[:2]), file[place:end])
+
+
 def drop(rng, file):
     boxes = boxes_in(file, 0, len(file))
     if not boxes:
@@ -134,7 +150,7 @@ def swap(rng, file):
             + file[one[0]:one[1]] + file[two[1]:])
 
 
-SPOILINGS = [cut, cut_out, flip, flip, flip, flip, insert, splice, resize, retype, restate, drop, double, swap]
+SPOILINGS = [cut, cut_out, flip, flip, flip, flip, insert, splice, resize, retype, restate, relabel, relabel, drop, double, swap]
 
 
 def spoil(rng, file):

@@ -6,9 +6,11 @@ A record of `stdin` is a run. Four numbers of two bytes, most significant first:
 as the buffer, the length of the file that stands in it at first, and how many calls are made; then the name, the file
 and the calls. A begin is four numbers of two bytes, 0, the brand (0 is `paff`, 1 `pmff`) and the lengths of the URL and
 of the MIME text, and the two texts. An append is 1, whether its good chunks go outside (1 where they do), how many
-numbers of its chunk list are given, and the length of its data; then five numbers of eight bytes, the stated length,
-source offset, repair time, flags, and the length of the list, which goes on with the same numbers again; then those
-numbers and the data. `stdout` is made of the model's answers alone.
+numbers of its chunk list are given, and the length of its data; then eight numbers of eight bytes, the stated length,
+source offset, repair time, flags, and the length of the list, which goes on with the same numbers again, how many text
+lengths are given, the length of that list, which goes on in the same way, and how many text bytes there are; then the
+numbers of the chunk list, the data, the text lengths and the text bytes. `stdout` is made of the model's answers alone;
+at the end of a run the file is read twice, with source 0 and with source 1.
 
 Refusal 1 is not met: it takes a file of over 1,073,741,824 bytes.
 """
@@ -23,21 +25,23 @@ import writes_limits
 import writes_mixed
 import writes_random
 import writes_refusals
-from corpus import ROOT, command, line
+import writes_sources
+from corpus import ROOT, command, line, read_line
 from additions import BRANDS
 from faults import FAULTS
 from sums import sum_of
 from writes_run import Append, Begin, length_after, performed
 
 CRATE = os.path.join(ROOT, "crates", "writing_run")
-MOST_BYTES = 560_000
+MOST_BYTES = 630_000
 SHORT = 96
 OF_BEGIN = {33, 34}
-OF_APPEND = set(FAULTS) - {12} | {30, 31, 32, 33, 35}
+OF_APPEND = set(FAULTS) - {12} | set(range(30, 36))
+MOST_LENGTHS = 1_300
 
 
 def runs():
-    return [run for part in (writes_refusals, writes_limits, writes_mixed, writes_elsewhere, writes_index, writes_random) for run in part.runs()]
+    return [run for part in (writes_refusals, writes_limits, writes_mixed, writes_elsewhere, writes_index, writes_sources, writes_random) for run in part.runs()]
 
 
 # Their bytes.
@@ -49,8 +53,10 @@ def numbers(width, *given):
 def encoded_call(call):
     if isinstance(call, Begin):
         return numbers(2, 0, BRANDS.index(call.brand), len(call.url), len(call.mime)) + call.url + call.mime
+    assert call.length_count <= MOST_LENGTHS
     front = numbers(2, 1, int(call.outside), len(call.given), len(call.data))
-    return front + numbers(8, call.stated, call.offset, call.repair, call.flags, call.count, *call.given) + call.data
+    front += numbers(8, call.stated, call.offset, call.repair, call.flags, call.count, len(call.lengths), call.length_count, len(call.texts))
+    return front + numbers(8, *call.given) + call.data + numbers(8, *call.lengths) + call.texts
 
 
 def encoded(run):
@@ -71,12 +77,12 @@ def call_line(call, answer, buffer):
     return line("begin" if begun else "append", *fields)
 
 
-def read_line(file):
+def read_lines(file):
+    """What is read of the first source and of the second."""
     answer = model.read(file)
     if answer[0] == "refused":
-        return line(*answer)
-    described, closed = model.length(file)[1:]
-    return line("read", len(answer[1]), len(answer[2]), described, "closed" if closed else "open")
+        return 2 * line(*answer)
+    return "".join(read_line(file, *map(len, answer[1:]), source) for source in (0, 1))
 
 
 def answers(run):
@@ -84,7 +90,7 @@ def answers(run):
     for call, answer, buffer in performed(run.file, run.lent, run.calls):
         lines.append(call_line(call, answer, buffer))
         length = length_after(answer, length)
-    return "".join(lines) + read_line(buffer[:length])
+    return "".join(lines) + read_lines(buffer[:length])
 
 
 # The command.

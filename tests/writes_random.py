@@ -4,13 +4,14 @@ faults between."""
 import random
 
 import additions
+import additions_texts
 import generate
 from writes_run import LARGEST, Begin, length_after, lent_buffer, longest, made, of_arguments, run
 
 SEED = 2_300_114
 RUNS = 150
 LONGEST_FILE = 1_200
-FAULTS = {31: additions.spoil_chunk_list, 32: additions.spoil_data, 35: additions.spoil_outside, 23: additions.overstep_limit, 25: additions.overstep_size}
+FAULTS = {31: additions.spoil_lists, 32: additions.spoil_data, 35: additions.spoil_outside, 34: additions_texts.put_zero, 23: additions.overstep_limit, 25: additions.overstep_size}
 
 
 def other_length(rng, length, earlier):

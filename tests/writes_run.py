@@ -7,9 +7,10 @@ import model
 from lists_record import chunks
 
 # Of an append, `stated` is the length of the file that it states, `given` the front of its chunk list, which goes on
-# with the same numbers again up to `count`, and `flags` all 32 bits of the flags.
+# with the same numbers again up to `count`, and `flags` all 32 bits of the flags; so does the list of text lengths, of
+# which `lengths` is the front, up to `length_count`.
 Begin = namedtuple("Begin", "brand url mime")
-Append = namedtuple("Append", "stated offset repair flags outside given count data")
+Append = namedtuple("Append", "stated offset repair flags outside given count data texts lengths length_count", defaults=(b"", (), 0))
 
 # `wanted` has for each call the number of its refusal, 0 where it is to be taken; it is None where only the model says.
 Run = namedtuple("Run", "kind name wanted lent file calls")
@@ -32,6 +33,16 @@ def given_list(offset, numbers, data=b"", flags=0, repair=0, stated=None, count=
     return Append(stated, offset, repair, flags, outside, tuple(numbers), len(numbers) if count is None else count, data)
 
 
+def with_texts(call, texts, lengths, count=None):
+    """The append with text bytes and a list of their lengths."""
+    return call._replace(texts=texts, lengths=tuple(lengths), length_count=len(lengths) if count is None else count)
+
+
+def to_source(call, *texts):
+    """The append with these texts, URL and MIME text by turns."""
+    return with_texts(call, b"".join(texts), [len(text) for text in texts])
+
+
 def outside(offset, *chunks, flags=0, repair=0):
     """An append whose good chunks go outside: bytes are good, a pair is damaged bytes or the size of a chunk that is
     not present."""
@@ -48,7 +59,8 @@ def of_arguments(given, stated=None, flags=None):
     are given."""
     numbers = tuple(given["chunk_list"])
     return Append(given["stated_length"] if stated is None else stated, given["source_offset"], given["repair_time"],
-                  int(given["last"]) if flags is None else flags, given["outside"], numbers, len(numbers), given["data"])
+                  int(given["last"]) if flags is None else flags, given["outside"], numbers, len(numbers), given["data"],
+                  given["texts"], tuple(given["lengths"]), len(given["lengths"]))
 
 
 def data_of(size):
@@ -67,6 +79,10 @@ def chunk_list(call):
     return [call.given[at % len(call.given)] for at in range(call.count)]
 
 
+def text_lengths(call):
+    return [call.lengths[at % len(call.lengths)] for at in range(call.length_count)]
+
+
 # What the model makes of them.
 
 def marked(length):
@@ -82,7 +98,7 @@ def made(buffer, call):
     if isinstance(call, Begin):
         return model.begin(buffer, call.brand, call.url, call.mime)
     last = call.flags % 2 == 1
-    return model.append(buffer, call.stated, call.offset, call.repair, last, call.outside, chunk_list(call), call.data)
+    return model.append(buffer, call.stated, call.offset, call.repair, last, call.outside, chunk_list(call), call.data, call.texts, text_lengths(call))
 
 
 def length_after(answer, length):

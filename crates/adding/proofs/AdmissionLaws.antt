@@ -9,37 +9,35 @@ use native.Mathlib.Nat.{mod-lt}
 use native.Mathlib.Decide.{decLe}
 use native.Mathlib.Omega.{arith}
 use borrow.Author.Tests.{le-leb, lt-leb, leb-true, eq-eqb, ne-eqb, eqb-true, eqb-false}
-use lib.Dec.{leb, eqb, lit<}
+use lib.Dec.{leb, ltb, eqb, lit<}
 use lib.ListN.{length}
 use Rattle.boxes.specs.Answer.{Answer, refused, given, _>>=_}
-use Rattle.boxes.specs.Kinds.{pseg, those}
-use Rattle.boxes.proofs.AnswerLaws.{then-then, both-given, held, given-same}
+use Rattle.boxes.proofs.AnswerLaws.{then-then}
 use Rattle.boxes.specs.Framing.{boxLimit}
 use Rattle.additions.specs.Addition.{Addition, items, flagsFor, surls}
 use Rattle.additions.specs.Append.{added, addedBoxes, innerBoxes, newSegment, psegPlace, admission, admitted}
 use Rattle.partial.specs.Heading.{Heading}
 use Rattle.partial.specs.Index.{indexed}
-use Rattle.partial.specs.Limits.{fileLimit, segmentLimit, chunkLimit, sourceLimit}
+use Rattle.partial.specs.Limits.{fileLimit, segmentLimit, chunkLimit, sourceLimit, layerLimit}
 use Rattle.partial.specs.Meaning.{agree}
 use Rattle.partial.specs.Segments.{Segment, isLast, endOf, chunksOf}
 use Rattle.partial.specs.Sequences.{sum}
-use Rattle.partial.specs.Sources.{ofSource, agreed}
-use Rattle.partial.specs.Reading.{segmentsFrom, segments}
+use Rattle.partial.specs.Sources.{sourceCount, ofSource, agreed}
 use Rattle.partial.proofs.Meaning.SequenceLaws.{which, all-members}
-use Rattle.partial.proofs.Meaning.SourceLaws.{of-append, agreed-of}
+use Rattle.partial.proofs.Meaning.SourceLaws.{of-append, agreed-of, source-count-more}
+use Rattle.partial.proofs.Reading.KeptLaws.{Segmented, segmented}
 use Rattle.partial.proofs.Reading.RefusalLaws.{earlier-read}
 use Rattle.additions.specs.declared.header.SegmentHeader.{SegmentHeader}
 use Rattle.additions.proofs.NewSegmentLaws.{length-new, end-new}
 use Rattle.gathering.specs.Gathered.{gatheredOf}
 use Rattle.gathering.specs.declared.gathered.Gathered.{Gathered}
 use Rattle.gathering.proofs.GatheredLaws.{gathered-segments, gathered-chunks}
-use Rattle.outside.specs.declared.chunks.Outside.{Outside}
 use Rattle.reading.specs.declared.judging.Judged.{Judged}
-use Rattle.adding.specs.Admission.{Tells, Known, indexedBeside, admittedBeside, Beside, Asked, admittedLength}
+use Rattle.adding.specs.Admission.{Tells, Known, indexedBeside, admittedBeside, Beside, AskedBy, admittedLength}
 use Rattle.adding.specs.Counts.{capped}
 use Rattle.adding.specs.Texts.{textsOf}
+use Rattle.adding.specs.declared.admission.Asked.{Asked}
 use Rattle.adding.specs.declared.counts.Counts.{Counts}
-use Rattle.adding.specs.declared.layout.Layout.{Layout}
 use Rattle.adding.specs.declared.texts.Texts.{Texts}
 use Rattle.adding.proofs.CountLaws.{counted-items, counted-sum}
 
@@ -119,14 +117,25 @@ module _ (ss : List Segment) (s : Segment) where
             | inr other ↦ ap agree (others n (eqb-false (s .source) n other)) ∙ agreed-of ss before n
           ]
 
--- those of a file that append takes agree
-pub earlier-agreed : {f : List ℕ} {h : Heading} {ss : List Segment} {inPfil : Bool} → Known f h ss inPfil → agreed ss ≡ true
-unfolding segments
-earlier-agreed {f} {h} {ss} file =
-    let (_, e1) = held 13 (leb (length (those pseg (h .boxes))) segmentLimit) _ (earlier-read sourceLimit f (file .head) (file .read)) in
-    let (ts, _, e2) = both-given (segmentsFrom sourceLimit f h [] (those pseg (h .boxes))) _ e1 in
-    let (agrees, same) = held 25 (agreed ts) _ e2 in
-    subst (λ (us : List Segment). agreed us ≡ true) (given-same same) agrees
+-- those of a file that append takes agree, and are of no more sources than may be
+pub earlier-segmented : {f : List ℕ} {h : Heading} {ss : List Segment} {inPfil : Bool} → Known f h ss inPfil → Segmented sourceLimit f h ss
+earlier-segmented {f} {h} file = segmented sourceLimit f h (earlier-read sourceLimit f (file .head) (file .read))
+
+-- 40 is told by the number of the new one's source
+module _ (ss : List Segment) (s : Segment) where
+  pub sources-full : layerLimit ≤ s .source → false ≡ leb (sourceCount (ss ++ (s ∷ []))) layerLimit
+  sources-full full = sym (lt-leb (sourceCount (ss ++ (s ∷ []))) layerLimit (omega (arith, source-count-more ss s)))
+
+  pub sources-few : leb (sourceCount ss) layerLimit ≡ true → s .source < layerLimit → true ≡ leb (sourceCount (ss ++ (s ∷ []))) layerLimit
+  sources-few before few =
+      sym (le-leb (sourceCount (ss ++ (s ∷ []))) layerLimit (omega (arith, source-count-more ss s, leb-true (sourceCount ss) layerLimit before)))
+
+-- the tests up to 23, where all are passed
+pub record Passes23 (ss : List Segment) (s : Segment) : Type 0 where
+  pub few : leb (length ss + 1) segmentLimit ≡ true
+  pub listed : true ≡ ltb 0 (length (s .urls))
+  pub chunks : true ≡ leb (length (chunksOf ss) + length (s .chunks)) chunkLimit
+  pub low : true ≡ leb (endOf s) sourceLimit
 
 -- the answer, by the first test that fails
 module _ (f : List ℕ) (h : Heading) (ss : List Segment) (s : Segment) where
@@ -135,57 +144,66 @@ module _ (f : List ℕ) (h : Heading) (ss : List Segment) (s : Segment) where
   admitted-13 over = rw over
 
   module _ (few : leb (length ss + 1) segmentLimit ≡ true) where
-    pub admitted-22 : false ≡ leb (length (chunksOf ss) + length (s .chunks)) chunkLimit → refused 22 ≡ admittedBeside f h ss s
+    pub admitted-41 : false ≡ ltb 0 (length (s .urls)) → refused 41 ≡ admittedBeside f h ss s
     unfolding admittedBeside admitted
-    admitted-22 over = rw (few, ← over)
+    admitted-41 none = rw (few, ← none)
 
-    module _ (chunks : true ≡ leb (length (chunksOf ss) + length (s .chunks)) chunkLimit) where
-      pub admitted-23 : false ≡ leb (endOf s) sourceLimit → refused 23 ≡ admittedBeside f h ss s
+    module _ (listed : true ≡ ltb 0 (length (s .urls))) where
+      pub admitted-22 : false ≡ leb (length (chunksOf ss) + length (s .chunks)) chunkLimit → refused 22 ≡ admittedBeside f h ss s
       unfolding admittedBeside admitted
-      admitted-23 over = rw (few, ← chunks, ← over)
+      admitted-22 over = rw (few, ← listed, ← over)
 
-      module _ (low : true ≡ leb (endOf s) sourceLimit) where
-        pub admitted-25 : false ≡ agreed (ss ++ (s ∷ [])) → refused 25 ≡ admittedBeside f h ss s
-        unfolding admittedBeside admitted
-        admitted-25 differ = rw (few, ← chunks, ← low, ← differ)
+      pub admitted-23 : true ≡ leb (length (chunksOf ss) + length (s .chunks)) chunkLimit → false ≡ leb (endOf s) sourceLimit → refused 23 ≡ admittedBeside f h ss s
+      unfolding admittedBeside admitted
+      admitted-23 chunks over = rw (few, ← listed, ← chunks, ← over)
 
-        -- and else by the index
-        pub admitted-by : true ≡ agreed (ss ++ (s ∷ [])) → indexedBeside f h ss s ≡ admittedBeside f h ss s
-        unfolding admittedBeside admitted indexedBeside
-        admitted-by same = rw (few, ← chunks, ← low, ← same)
+  module _ (t : Passes23 ss s) where
+    pub admitted-25 : false ≡ agreed (ss ++ (s ∷ [])) → refused 25 ≡ admittedBeside f h ss s
+    unfolding admittedBeside admitted
+    admitted-25 differ = rw (t .few, ← t .listed, ← t .chunks, ← t .low, ← differ)
+
+    module _ (same : true ≡ agreed (ss ++ (s ∷ []))) where
+      pub admitted-40 : false ≡ leb (sourceCount (ss ++ (s ∷ []))) layerLimit → refused 40 ≡ admittedBeside f h ss s
+      unfolding admittedBeside admitted
+      admitted-40 over = rw (t .few, ← t .listed, ← t .chunks, ← t .low, ← same, ← over)
+
+      -- and else by the index
+      pub admitted-by : true ≡ leb (sourceCount (ss ++ (s ∷ []))) layerLimit → indexedBeside f h ss s ≡ admittedBeside f h ss s
+      unfolding admittedBeside admitted indexedBeside
+      admitted-by sources = rw (t .few, ← t .listed, ← t .chunks, ← t .low, ← same, ← sources)
 
 -- ---- an addition to a file
 
 -- the tests, by what the code has at hand
-module _ {f : List ℕ} {h : Heading} {ss : List Segment} {j : Judged} {a : Addition} {header : SegmentHeader} {c : Counts} {o : Outside} {t : Texts} {l : Layout} (n : ℕ) (beside : Beside f h ss j) (asked : Asked a header c o t l) where
-  pub file-test : {b : Bool} → b ≡ leb (n + l .added) fileLimit → b ≡ leb (n + length (added a)) fileLimit
+module _ {f : List ℕ} {h : Heading} {ss : List Segment} {j : Judged} {a : Addition} {x : Asked} (n : ℕ) (beside : Beside f h ss j) (asked : AskedBy a x) where
+  pub file-test : {b : Bool} → b ≡ leb (n + x .layout .added) fileLimit → b ≡ leb (n + length (added a)) fileLimit
   file-test test =
       test
       ∙ ap (λ (m : ℕ). leb (n + m) fileLimit) (asked .laid .all)
       ∙ capped-ends n (length (added a)) fileLimit (fileLimit + 1) (omega arith)
 
-  pub size-whole : true ≡ leb (n + length (added a)) fileLimit → l .added ≡ length (added a)
+  pub size-whole : true ≡ leb (n + length (added a)) fileLimit → x .layout .added ≡ length (added a)
   size-whole test = omega (arith, asked .laid .all, leb-true (n + length (added a)) fileLimit (sym test))
 
   pub box-test : {more : ℕ} {b : Bool} → more ≡ capped (addedBoxes a) → b ≡ leb (j .head .boxes + more) 512 → b ≡ leb (length (h .boxes) + addedBoxes a) boxLimit
   unfolding boxLimit
   box-test more test = test ∙ ap₂ (λ (n m : ℕ). leb (n + m) 512) (beside .boxes) more ∙ capped-ends (length (h .boxes)) (addedBoxes a) 512 (2 ^ 64 - 1) (omega arith)
 
-  pub inner-test : {b : Bool} → b ≡ leb (2 + t .surls) 512 → b ≡ leb (innerBoxes a) boxLimit
+  pub inner-test : {b : Bool} → b ≡ leb (2 + x .texts .surls) 512 → b ≡ leb (innerBoxes a) boxLimit
   unfolding boxLimit innerBoxes surls textsOf
-  inner-test test = test ∙ ap (λ (x : Texts). leb (2 + x .surls) 512) (asked .texted .counts)
+  inner-test test = test ∙ ap (λ (t : Texts). leb (2 + t .surls) 512) (asked .texted .counts)
 
   -- the segment that it makes is told of
   sizes-new : sum (map (λ c. c .size) (new h ss n a .chunks)) ≡ sum (map (λ i. i .size) (items (a .list)))
   unfolding endOf newSegment
   sizes-new = omega (arith, end-new h ss (psegPlace n a) a)
 
-  pub tells-new : Tells (new h ss n a) header c
+  pub tells-new : Tells (new h ss n a) (x .header) (x .counts)
   unfolding newSegment
   tells-new =
       record {
         offset = asked .offset;
-        flags = flags-last (header .flags) (a .last) (asked .last);
+        flags = flags-last (x .header .flags) (a .last) (asked .last);
         items = counted-items (items (a .list)) (asked .sorted .counted .items .counts) ∙ sym (length-new h ss (psegPlace n a) a);
         sum = counted-sum (items (a .list)) (asked .sorted .counted .items .counts) ∙ ap capped (sym sizes-new);
       }

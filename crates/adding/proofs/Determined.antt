@@ -7,10 +7,11 @@ use denote.Ref.{now}
 use Rattle.partial.proofs.Determined.{written-told}
 use Rattle.numerals.proofs.Determined.{OneResult, OneKnown}
 use Rattle.additions.specs.Addition.{Addition, items}
+use Rattle.additions.specs.Append.{newUrls}
 use Rattle.partial.specs.Heading.{Heading}
 use Rattle.partial.specs.Segments.{Segment}
 use Rattle.outside.specs.Chunks.{outsideOf}
-use Rattle.adding.specs.Admission.{Beside, Goes, Asked}
+use Rattle.adding.specs.Admission.{Beside, Goes, AskedBy}
 use Rattle.adding.specs.Counts.{Sorted}
 use Rattle.adding.specs.Layout.{Laid}
 use Rattle.adding.specs.Texts.{Texted}
@@ -45,9 +46,7 @@ outside-right-result κs args (h, a) (mixed, sorted) x y after after′ p q = p 
 
 admission-result : OneKnown admission.Post
     (λ κs args ((h, ss, a) : Heading × List Segment × Addition).
-    Beside (now (args .0)) h ss (args .1 .0)
-    × Goes h ss a (now (args .1 .1 .0)) (args .1 .1 .1 .0)
-    × Asked a (args .1 .1 .1 .1 .1 .0) (args .1 .1 .1 .1 .1 .1 .0) (args .1 .1 .1 .1 .1 .1 .1 .0) (args .1 .1 .1 .1 .1 .1 .1 .1 .0) (args .1 .1 .1 .1 .1 .1 .1 .1 .1 .0))
+    Beside (now (args .0)) h ss (args .1 .0 .judged) × Goes h ss (newUrls h a) (args .1 .0 .target) × AskedBy a (args .1 .1 .0))
 admission-result κs args (h, ss, a) (beside, goes, asked) x y after after′ p q = written-told x y (p h ss a beside goes asked ∙ sym (q h ss a beside goes asked))
 
 is-text-result : OneResult is-text.Post

@@ -11,8 +11,8 @@ use lib.ListN.{length, drop, getD, length-append, drop-of-length-le}
 use lib.Seq.{drop-cons}
 use Rattle.boxes.proofs.BoxedLaws.{front-size, length-boxed}
 use Rattle.boxes.specs.Kinds.{surl}
-use Rattle.additions.specs.Addition.{Addition, Surl, lengthsRight, textsRight, surlsOf, surls}
-use Rattle.additions.specs.Again.{textsFor}
+use Rattle.additions.specs.Addition.{Addition, lengthsRight, textsRight, surlsOf, surls}
+use Rattle.partial.specs.Texts.{Surl, textsFor}
 use Rattle.additions.specs.Append.{surlBoxes}
 use Rattle.additions.proofs.SurlLaws.{surl-long, cut-joined}
 use Rattle.additions.specs.Begin.{isText, surlBody, surlBox}

@@ -1,13 +1,14 @@
 -- Document 01, "Append": "1, 6, 13, 22, 23 or 25 if the result would have it", and document 02, [7]: "36, 37 or 39 if
--- its result would", by what was read of the file and counted of the addition.
+-- its result would", and [8]: 41 and 40, by what was read of the file and counted of the addition.
 use Prim.Native.Nat.{ℕ, _+_, _%_}
 use mathlib.Core.Bool.{Bool, true}
 use mathlib.Core.List.{List, [], _∷_, _++_, map}
 use mathlib.Core.Path.{_≡_}
+use lib.Dec.{ltb}
 use lib.ListN.{length}
 use Rattle.boxes.specs.Answer.{Answer, refused, given, _>>=_}
 use Rattle.additions.specs.Addition.{Addition}
-use Rattle.additions.specs.Append.{added, newUrls, admission, admitted}
+use Rattle.additions.specs.Append.{added, admission, admitted}
 use Rattle.partial.specs.Heading.{Heading, heading}
 use Rattle.partial.specs.Index.{hasIndex, indexed}
 use Rattle.partial.specs.Limits.{sourceLimit}
@@ -17,19 +18,16 @@ use Rattle.partial.specs.Sequences.{sum}
 use Rattle.partial.specs.Sources.{sameUrls, sourceBeside, ofSource}
 use Rattle.additions.specs.declared.header.SegmentHeader.{SegmentHeader}
 use Rattle.ends.specs.Sizes.{sizesOf}
-use Rattle.ends.specs.Table.{sizesIn}
 use Rattle.gathering.specs.Gathered.{gatheredOf}
-use Rattle.outside.specs.declared.chunks.Outside.{Outside}
 use Rattle.reading.specs.declared.judging.Judged.{Judged}
 use Rattle.adding.specs.Counts.{capped, Sorted}
 use Rattle.adding.specs.Layout.{Laid}
 use Rattle.adding.specs.Texts.{Texted}
+use Rattle.adding.specs.declared.admission.Asked.{Asked}
 use Rattle.adding.specs.declared.admission.Target.{Target}
 use Rattle.adding.specs.declared.admission.Verdict.{Verdict}
 use Rattle.adding.specs.declared.admission.Verdict.the-variants.{Refused, Taken}
 use Rattle.adding.specs.declared.counts.Counts.{Counts}
-use Rattle.adding.specs.declared.layout.Layout.{Layout}
-use Rattle.adding.specs.declared.texts.Texts.{Texts}
 
 -- what a header and the counts of a chunk list tell of a new segment
 pub record Tells (s : Segment) (header : SegmentHeader) (c : Counts) : Type 0 where
@@ -68,22 +66,23 @@ pub record Beside (f : List ℕ) (h : Heading) (ss : List Segment) (j : Judged) 
   pub boxes : j .head .boxes ≡ length (h .boxes)
   pub segments : j .gathered ≡ gatheredOf ss
 
--- the source that an addition goes to beside the segments of a file, what their ends say of it in a table, and whether
--- its list of URLs is that in `pfil`
-pub record Goes (h : Heading) (ss : List Segment) (a : Addition) (z : List ℕ) (target : Target) : Type 0 where
-  pub number : target .source ≡ sourceBeside ss (newUrls h a)
-  pub sizes : sizesIn z (target .source) ≡ sizesOf (ofSource (target .source) ss)
-  pub list : target .«in_pfil» ≡ sameUrls (h .urls) (newUrls h a)
+-- the source of a list of URLs beside the segments of a file: its number, what the ends of its segments say, whether the
+-- list is that in `pfil`, and whether there is one
+pub record Goes (h : Heading) (ss : List Segment) (us : List (List ℕ)) (target : Target) : Type 0 where
+  pub number : target .source ≡ sourceBeside ss us
+  pub sizes : target .sizes ≡ sizesOf (ofSource (target .source) ss)
+  pub list : target .«in_pfil» ≡ sameUrls (h .urls) us
+  pub listed : target .listed ≡ ltb 0 (length us)
 
--- what is asked of append, by the header, the counts of the chunk list, what goes outside, each chunk whole boxes, the
+-- what is asked of append: the header, the counts of the chunk list, what goes outside, each chunk whole boxes, the
 -- counts of the texts, and the layout
-pub record Asked (a : Addition) (header : SegmentHeader) (c : Counts) (o : Outside) (t : Texts) (l : Layout) : Type 0 where
-  pub offset : header .offset .0 ≡ a .sourceOffset
-  pub last : isLast (header .flags) ≡ a .last
-  pub sorted : Sorted a c o
-  pub whole : o .right ≡ true
-  pub texted : Texted a t
-  pub laid : Laid a l
+pub record AskedBy (a : Addition) (x : Asked) : Type 0 where
+  pub offset : x .header .offset .0 ≡ a .sourceOffset
+  pub last : isLast (x .header .flags) ≡ a .last
+  pub sorted : Sorted a (x .counts) (x .outside)
+  pub whole : x .outside .right ≡ true
+  pub texted : Texted a (x .texts)
+  pub laid : Laid a (x .layout)
 
 -- the length of a file of n bytes with the addition, or its refusal
 unfoldable pub admittedLength : List ℕ → Heading → List Segment → ℕ → Addition → Answer ℕ

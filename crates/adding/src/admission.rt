@@ -1,4 +1,4 @@
-// Whether a file takes an addition: 35, and then 1, 6, 13, 22, 23, 25, 36, 37 or 39 if the result would have it.
+// Whether a file takes an addition: 35, and then 1, 6, 13, 41, 22, 23, 25, 40, 36, 37 or 39 if the result would have it.
 use crate::counts::Counts;
 use crate::layout::Layout;
 use crate::texts::Texts;
@@ -10,7 +10,6 @@ use ends::sizes::gives_size;
 use ends::table::ALL_SIZES;
 use ends::table::ONE_SOURCE;
 use ends::table::put_sizes;
-use ends::table::sizes_at;
 use gathering::gathered::Gathered;
 use indexing::end::End;
 use numerals::order::ends_by;
@@ -20,14 +19,17 @@ use partial::answers::Counted;
 use partial::answers::Written;
 use partial::limits::CHUNK_LIMIT;
 use partial::limits::FILE_LIMIT;
+use partial::limits::LAYER_LIMIT;
 use partial::limits::SEGMENT_LIMIT;
 use partial::limits::SOURCE_LIMIT;
 use partial::position::Position;
 use partial::refusals::FILE_TOO_LONG;
+use partial::refusals::NO_URL;
 use partial::refusals::SIZES_DIFFER;
 use partial::refusals::SOURCE_TOO_LONG;
 use partial::refusals::TOO_MANY_CHUNKS;
 use partial::refusals::TOO_MANY_SEGMENTS;
+use partial::refusals::TOO_MANY_SOURCES;
 use reading::indexed::index_stages;
 use reading::judging::Judged;
 use sources::numbers::ALL_SOURCES;
@@ -38,19 +40,17 @@ ghost use mathlib.Core.Path.{_≡_};
 ghost use lib.ListN.{length};
 ghost use Rattle.boxes.specs.Kinds.{fidx, those};
 ghost use Rattle.additions.specs.Addition.{Addition, items, outsideRight};
-ghost use Rattle.additions.specs.Append.{addedBoxes};
+ghost use Rattle.additions.specs.Append.{addedBoxes, newUrls};
 ghost use Rattle.partial.specs.Answers.{writtenAnswer};
 ghost use Rattle.partial.specs.Heading.{Heading};
 ghost use Rattle.partial.specs.Index.{sizeFor};
 ghost use Rattle.partial.specs.Limits.{sourceLimit};
 ghost use Rattle.partial.specs.Meaning.{givesSize};
 ghost use Rattle.partial.specs.Segments.{Segment, endOf as segmentEnd};
-ghost use Rattle.partial.specs.Sources.{sameUrls, sourceBeside, ofSource};
-ghost use Rattle.ends.specs.Sizes.{sizesOf};
-ghost use Rattle.ends.specs.Table.{sizesIn};
+ghost use Rattle.partial.specs.Sources.{sameUrls, sourceBeside};
 ghost use Rattle.gathering.specs.Gathered.{gatheredOf};
 ghost use Rattle.indexing.specs.Ends.{endOf};
-ghost use Rattle.adding.specs.Admission.{Tells, Known, indexedBeside, admittedBeside, admittedAnswer, Beside, Goes, Asked, admittedLength};
+ghost use Rattle.adding.specs.Admission.{Tells, Known, indexedBeside, admittedBeside, admittedAnswer, Beside, Goes, AskedBy, admittedLength};
 ghost use Rattle.outside.specs.Chunks.{outsideOf};
 ghost use Rattle.adding.specs.Counts.{capped, Sorted};
 
@@ -83,10 +83,30 @@ pub enum Verdict {
     Taken,
 }
 
-// The source that an addition goes to: its number, and whether its list of URLs is that in `pfil`.
+// The source that an addition goes to: its number, what the ends of its segments say, whether its list of URLs is that in
+// `pfil`, and whether it has one at all.
 pub struct Target {
     pub source: u64,
+    pub sizes: Sizes,
     pub in_pfil: bool,
+    pub listed: bool,
+}
+
+// The file that is added to: its length, what was read of it, and the source that the addition goes to.
+pub struct Onto {
+    pub length: u64,
+    pub judged: Judged,
+    pub target: Target,
+}
+
+// What is asked of append: the header, the chunk list as it is counted, what of it goes outside, the texts as they are
+// counted, and the layout of the boxes.
+pub struct Asked {
+    pub header: SegmentHeader,
+    pub counts: Counts,
+    pub outside: Outside,
+    pub texts: Texts,
+    pub layout: Layout,
 }
 
 // Where the source of the list in `pfil` ends beside a new segment alone, which is of that source or not, and gives its
@@ -134,25 +154,26 @@ fn index_beside(file: &[u8], indexed: bool, segments: u64, size: End) -> Verdict
     }
 }
 
-// 13, 22, 23 and 25 of the new segment, by what was gathered of those before it and what the ends of its own source
-// say, since the sizes of every other agree, and then the index beside it.
+// 13, 41, 22, 23, 25 and 40 of the new segment, by what was gathered of those before it and what the ends of its own
+// source say, since the sizes of every other agree, and then the index beside it.
 fn admitted(
     file: &[u8],
     indexed: bool,
     gathered: Gathered,
-    sizes: &[u64; ALL_SIZES],
     target: Target,
     header: SegmentHeader,
     counts: Counts,
 ) -> Verdict
     ensures { λ r. ⌜ ((h : Heading) (ss : List Segment) (s : Segment) → Known (now (file .entry)) h ss indexed
-        → gathered ≡ gatheredOf ss → sizesIn (now (sizes .entry)) (target .source) ≡ sizesOf (ofSource (target .source) ss)
-        → s .source ≡ sourceBeside ss (s .urls) → s .source ≡ target .source → target .«in_pfil» ≡ sameUrls (h .urls) (s .urls) → Tells s header counts → those fidx (s .inner) ≡ []
-        → admittedAnswer r ≡ admittedBeside (now (file .entry)) h ss s) ⌝ }
+        → gathered ≡ gatheredOf ss → Goes h ss (s .urls) target → s .source ≡ sourceBeside ss (s .urls)
+        → Tells s header counts → those fidx (s .inner) ≡ [] → admittedAnswer r ≡ admittedBeside (now (file .entry)) h ss s) ⌝ }
 {
     let offset = header.offset;
     if SEGMENT_LIMIT <= gathered.segments {
         return Verdict::Refused(TOO_MANY_SEGMENTS);
+    }
+    if !target.listed {
+        return Verdict::Refused(NO_URL);
     }
     if !ends_by(gathered.chunks, counts.items, CHUNK_LIMIT) {
         return Verdict::Refused(TOO_MANY_CHUNKS);
@@ -161,54 +182,48 @@ fn admitted(
         return Verdict::Refused(SOURCE_TOO_LONG);
     }
     let gives = gives_size(header.flags as u64 % 2, counts.items);
-    let said = sizes_at(sizes, target.source);
+    let said = target.sizes;
     let end = offset.0 + counts.sum;
     let with = said.with(Position(end), gives);
     if !with.agree() {
         return Verdict::Refused(SIZES_DIFFER);
     }
+    if LAYER_LIMIT <= target.source {
+        return Verdict::Refused(TOO_MANY_SOURCES);
+    }
     let size = end_beside(target.in_pfil, gives, Position(end));
     index_beside(file, indexed, gathered.segments, size)
 }
 
-// The length of a file of n bytes with the addition, which goes to that source, or the number of the first refusal that
-// the result would have.
-pub fn admission(
-    file: &[u8],
-    judged: Judged,
-    sizes: &[u64; ALL_SIZES],
-    target: Target,
-    n: u64,
-    header: SegmentHeader,
-    counts: Counts,
-    outside: Outside,
-    texts: Texts,
-    layout: Layout,
-) -> Written
-    ensures { λ r. ⌜ ((h : Heading) (ss : List Segment) (a : Addition) → Beside (now (file .entry)) h ss judged
-        → Goes h ss a (now (sizes .entry)) target → Asked a header counts outside texts layout
-        → writtenAnswer r ≡ admittedLength (now (file .entry)) h ss n a) ⌝ }
+// The length of the file with the addition, or the number of the first refusal that the result would have.
+pub fn admission(file: &[u8], onto: Onto, asked: Asked) -> Written
+    ensures { λ r. ⌜ ((h : Heading) (ss : List Segment) (a : Addition) → Beside (now (file .entry)) h ss (onto .judged)
+        → Goes h ss (newUrls h a) (onto .target) → AskedBy a asked
+        → writtenAnswer r ≡ admittedLength (now (file .entry)) h ss (onto .length) a) ⌝ }
 {
+    let n = onto.length;
+    let judged = onto.judged;
     let head = judged.head;
-    if !ends_by(n, layout.added, FILE_LIMIT) {
+    let counts = asked.counts;
+    let added = asked.layout.added;
+    if !ends_by(n, added, FILE_LIMIT) {
         return Written::Refused(FILE_TOO_LONG);
     }
-    if !ends_by(head.boxes, added_boxes(counts, outside), BOX_LIMIT) {
+    if !ends_by(head.boxes, added_boxes(counts, asked.outside), BOX_LIMIT) {
         return Written::Refused(TOO_MANY_BOXES);
     }
-    if !ends_by(PLAIN_BOXES, texts.surls, BOX_LIMIT) {
+    if !ends_by(PLAIN_BOXES, asked.texts.surls, BOX_LIMIT) {
         return Written::Refused(TOO_MANY_BOXES);
     }
     match admitted(
         file,
         head.indexed,
         judged.gathered,
-        sizes,
-        target,
-        header,
+        onto.target,
+        asked.header,
         counts,
     ) {
         Verdict::Refused(k) => Written::Refused(k),
-        Verdict::Taken => Written::Length(n + layout.added),
+        Verdict::Taken => Written::Length(n + added),
     }
 }

@@ -1,7 +1,6 @@
--- After each accepted addition: its source grows and no other is touched, and where it has no texts the longer file
--- reads so.
+-- After each accepted addition: its source grows and no other is touched, and the longer file reads so.
 use Prim.Native.Nat.{ℕ, _^_, _<_, _+_}
-use mathlib.Core.List.{List, [], _∷_, _++_, List·Memᴰ·head, List·Memᴰ·tail}
+use mathlib.Core.List.{List, [], _∷_, _++_}
 use mathlib.Core.Logic.{_↔_}
 use mathlib.Core.Path.{_≡_, refl, sym, ap, subst, _∙_}
 use native.Mathlib.Nat.{mod-lt}
@@ -21,7 +20,7 @@ use Rattle.additions.specs.Runs.{Lent, lent, fileIn, sizeAfter, append, 
 use Rattle.additions.specs.Carried.{carried}
 use Rattle.partial.proofs.Reading.ReadingLaws.{accepted-of}
 use Rattle.partial.proofs.Reading.NumberedLaws.{segments-numbered}
-use Rattle.additions.specs.Demands.{Plain, AllPlain, Taking, Extended, Acceptable}
+use Rattle.additions.specs.Demands.{Taking, Extended, Acceptable}
 use Rattle.additions.proofs.GrownLaws.{extended}
 use Rattle.additions.proofs.RepairTimeLaws.{cut, added-cut, taken-cut}
 use Rattle.additions.proofs.ReadsBackLaws.{Taken, taken-any, taken, taken-sayable, reading-added, file-after, admits, Admits}
@@ -30,7 +29,7 @@ use Rattle.partial.proofs.Reading.RefusalLaws.{takes, earlier-read}
 use Rattle.partial.proofs.Meaning.SourceLaws.{in-agreement, agreement}
 use Rattle.additions.proofs.ResultLaws.{appended-offered}
 
--- of an addition that a file takes, whatever texts it has
+-- of an addition that a file takes
 extended-taken : (limit : ℕ) (f : List ℕ) (h : Heading) (ss : List Segment) (a : Addition) → Taken limit f h ss a
     → Extended f (f ++ added a) h ss (ss ++ (newSegment h ss (psegPlace (length f) a) a ∷ [])) a
 extended-taken limit f h ss a t =
@@ -38,15 +37,15 @@ extended-taken limit f h ss a t =
     extended f h ss a (accepted-of limit f h (t .offered .headed) before) (segments-numbered limit f h before) (t .offered .carried)
     (admits limit h ss (length f) a (t .admits) .0 .agreed)
 
--- and without texts the longer file reads so, but for what is cut from the repair time
-read-taken : (limit : ℕ) (f : List ℕ) (h : Heading) (ss : List Segment) (a : Addition) → Taken limit f h ss a → limit < 2 ^ 64 → Plain a
+-- and the longer file reads so, but for what is cut from the repair time
+read-taken : (limit : ℕ) (f : List ℕ) (h : Heading) (ss : List Segment) (a : Addition) → Taken limit f h ss a → limit < 2 ^ 64
     → (ts : List Segment) × (reading limit (f ++ added a) ≡ given ts) × Extended f (f ++ added a) h ss ts a
 unfolding carried newUrls surls
-read-taken limit f h ss a t below plain =
+read-taken limit f h ss a t below =
     let new : List Segment = newSegment h ss (psegPlace (length f) (cut a)) (cut a) ∷ [] in
     let same = added-cut a in
     let u = taken-cut limit f h ss a t in
-    let read : reading limit (f ++ added a) ≡ given (ss ++ new) = rw same at (reading-added limit f h ss (cut a) u (taken-sayable limit f h ss (cut a) u below (mod-lt (a .repairTime) (lit< tt))) plain) in
+    let read : reading limit (f ++ added a) ≡ given (ss ++ new) = rw same at (reading-added limit f h ss (cut a) u (taken-sayable limit f h ss (cut a) u below (mod-lt (a .repairTime) (lit< tt)))) in
     let grew : Extended f (f ++ added a) h ss (ss ++ new) (cut a) = rw same at (extended-taken limit f h ss (cut a) u) in
     let its = grew .grown in
     (ss ++ new, read, record { grown = record { kept = its .kept; noShorter = its .noShorter }; untouched = grew .untouched; numbered = grew .numbered; numbers = grew .numbers })
@@ -62,13 +61,13 @@ module _ (limit : ℕ) (buffer : List ℕ) (n : ℕ) (a : Addition) (size : ℕ)
       rw (file-after limit buffer n a size e long total)
       (subst (λ (m : ℕ). Extended f (f ++ added a) h ss (ss ++ (newSegment h ss (psegPlace m a) a ∷ [])) a) (sym long) (extended-taken limit f h ss a t))
 
-  pub after-addition : limit < 2 ^ 64 → Plain a
+  pub after-addition : limit < 2 ^ 64
       → let g = fileIn (append limit (lent buffer n) a) in
       (ts : List Segment) × (reading limit g ≡ given ts) × Extended (fileIn (lent buffer n)) g (file .h) (file .ss) ts a
   unfolding fileIn
-  after-addition below plain =
+  after-addition below =
       let (t, long, total) = taken limit buffer n a size (file .h) (file .ss) (file .headed) (file .before) e in
-      rw (file-after limit buffer n a size e long total) (read-taken limit (take n buffer) (file .h) (file .ss) a t below plain)
+      rw (file-after limit buffer n a size e long total) (read-taken limit (take n buffer) (file .h) (file .ss) a t below)
 
 -- an addition is given a length exactly if append takes it, and the length is that of the file and of what is added
 module _ (limit : ℕ) (buffer : List ℕ) (n : ℕ) (a : Addition) where
@@ -83,9 +82,11 @@ module _ (limit : ℕ) (buffer : List ℕ) (n : ℕ) (a : Addition) where
         boxes = r .boxes;
         inner = r .inner;
         few = omega (arith, r .few);
+        listed = r .listed;
         chunks = r .chunks;
         low = r .low;
         agreed = in-agreement (ss ++ (newSegment h ss (psegPlace n a) a ∷ [])) (r .agreed);
+        layers = r .layers;
       } in
       appended-offered limit buffer n a h ss (t .file .enough) (offered-of limit (take n buffer) h ss a (t .file .headed) (t .file .before) (t .sound))
       ∙ rw (admission-of limit h ss n a ok, t .index .1, le-leb (n + length (added a)) (length buffer) (t .room))
@@ -103,9 +104,11 @@ module _ (limit : ℕ) (buffer : List ℕ) (n : ℕ) (a : Addition) where
             boxes = ok .boxes;
             inner = ok .inner;
             few = omega (arith, ok .few);
+            listed = ok .listed;
             chunks = ok .chunks;
             low = ok .low;
             agreed = agreement _ (ok .agreed);
+            layers = ok .layers;
           };
           index = (t .index .0, ap (λ (m : ℕ). indexed limit (take n buffer) h (ss ++ (newSegment h ss (psegPlace m a) a ∷ []))) long ∙ t .index .1);
           room = omega arith;
@@ -118,22 +121,22 @@ module _ (limit : ℕ) (buffer : List ℕ) (n : ℕ) (a : Addition) where
 
 -- a run of additions leaves a file that append takes
 module _ (limit : ℕ) (below : limit < 2 ^ 64) where
-  stands-one : (l : Lent) (a : Addition) (ss : List Segment) → Plain a → earlierSegments limit (fileIn l) ≡ given ss
+  stands-one : (l : Lent) (a : Addition) (ss : List Segment) → earlierSegments limit (fileIn l) ≡ given ss
       → (ts : List Segment) × (earlierSegments limit (fileIn (append limit l a)) ≡ given ts)
   unfolding fileIn append after sizeAfter
-  stands-one (lent buffer n) a ss plain before = go (appended limit buffer n a) refl
+  stands-one (lent buffer n) a ss before = go (appended limit buffer n a) refl
     where
       go : (answer : Answer ℕ) → appended limit buffer n a ≡ answer → (ts : List Segment) × (earlierSegments limit (fileIn (append limit (lent buffer n) a)) ≡ given ts)
       go (refused k) e = (ss, rw e before)
       go (given size) e =
           let (acceptable, _) = accepts limit buffer n a size .0 e in
-          let (ts, read, _) = after-addition limit buffer n a size (acceptable .file) e below plain in
+          let (ts, read, _) = after-addition limit buffer n a size (acceptable .file) e below in
           (ts, takes limit (fileIn (append limit (lent buffer n) a)) .acceptable ts read)
 
-  pub stands : (l : Lent) (additions : List Addition) (ss : List Segment) → AllPlain additions → earlierSegments limit (fileIn l) ≡ given ss
+  pub stands : (l : Lent) (additions : List Addition) (ss : List Segment) → earlierSegments limit (fileIn l) ≡ given ss
       → (ts : List Segment) × (earlierSegments limit (fileIn (appendAll limit l additions)) ≡ given ts)
   unfolding appendAll
-  stands l [] ss plain before = (ss, before)
-  stands l (a ∷ more) ss plain before =
-      let (ts, after) = stands-one l a ss (plain a (List·Memᴰ·head refl)) before in
-      stands (append limit l a) more ts (λ b there. plain b (List·Memᴰ·tail there)) after
+  stands l [] ss before = (ss, before)
+  stands l (a ∷ more) ss before =
+      let (ts, after) = stands-one l a ss before in
+      stands (append limit l a) more ts after

@@ -10,7 +10,7 @@ use Rattle.partial.proofs.Reading.RefusalLaws.{takes}
 use Rattle.partial.proofs.Meaning.SequenceLaws.{passes}
 use Rattle.additions.proofs.IndexReasonLaws.{by-index}
 use Rattle.additions.proofs.ReasonLaws.{length-over, file-refused, lists-wrong, bytes-wrong, outside-wrong, texts-wrong}
-use Rattle.additions.proofs.ResultLaws.{by-result, too-many}
+use Rattle.additions.proofs.ResultLaws.{by-result, overfull, too-many}
 use Rattle.additions.proofs.BegunLaws.{just-begun, begins}
 use Rattle.additions.proofs.BufferLaws.{earlier-kept, behind-kept, as-long}
 use Rattle.additions.proofs.AcceptedLaws.{extends, after-addition, stands, accepts}
@@ -28,6 +28,7 @@ reasons limit buffer n a =
       textsWrong = λ file lists bytes outer. texts-wrong limit buffer n a (file .enough) (file .headed) (file .before) (passes _ lists) (passes _ bytes) (passes _ outer);
       byIndex = by-index limit buffer n a;
       byResult = by-result limit buffer n a;
+      overfull = overfull limit buffer n a;
       tooMany = too-many limit buffer n a;
     }
 
@@ -43,7 +44,7 @@ demand3 limit below =
       behindKept = behind-kept limit;
       asLong = as-long limit;
       extends = extends limit;
-      accepted = λ buffer n a size file plain e. after-addition limit buffer n a size file e below plain;
+      accepted = λ buffer n a size file e. after-addition limit buffer n a size file e below;
       refusedExactly = reasons limit;
       unchanged = demand1 limit .appendKept;
     }

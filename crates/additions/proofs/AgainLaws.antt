@@ -13,10 +13,11 @@ use Rattle.boxes.specs.Kinds.{pseg}
 use Rattle.partial.specs.Sequences.{allOf}
 use Rattle.partial.specs.Segments.{present, isLast, Segment}
 use Rattle.partial.specs.Heading.{Heading, bytesIn}
+use Rattle.partial.specs.Texts.{surlsIn, textsFor, lengthsFor}
 use Rattle.additions.specs.Begin.{isText}
 use Rattle.additions.specs.Addition.{Item, items, Addition, flagsFor, listRight, lengthsRight, sizeOf, dataSize, dataRight, textsRight, surls, goesOut}
 use Rattle.additions.specs.Append.{back, placedWith, placed, newChunks, newSegment, added, psegPlace, psegBody, stored}
-use Rattle.additions.specs.Again.{dataOf, listFor, someOutside, surlsIn, textsFor, lengthsFor, again, settled}
+use Rattle.additions.specs.Again.{dataOf, listFor, someOutside, again, settled}
 use Rattle.partial.proofs.Meaning.SequenceLaws.{which, both}
 use Rattle.additions.proofs.DataLaws.{data-nothing, data-cons, data-one, data-none, data-past, data-length}
 use Rattle.additions.proofs.PlacedLaws.{place-present, formed, formed-some, list-formed}

@@ -13,12 +13,12 @@ use lib.Seq.{take-at}
 use Rattle.boxes.specs.Answer.{given}
 use Rattle.numerals.specs.Numbers.{number, bytesOf}
 use Rattle.boxes.specs.Framing.{Box, frontSize, boxed, boxesIn, boxedAt}
-use Rattle.boxes.specs.Kinds.{ftyp, pfil, pfhd, surl, right, those, boxAt, firstOf, pseg}
+use Rattle.boxes.specs.Kinds.{ftyp, pfil, pfhd, surl, right, those, pseg}
 use Rattle.boxes.specs.declared.kinds.Container.the-variants.{File, Pfil}
 use Rattle.boxes.proofs.AnswerLaws.{held, given-same}
 use Rattle.numerals.proofs.NumberLaws.{length-bytesOf, number-byte, bytesOf-zero}
 use Rattle.boxes.proofs.BoxedLaws.{length-boxed, boxed-stand}
-use Rattle.boxes.proofs.KindLaws.{some-right, right-some, firstOf-those, one-right, is-eqb, boxAt-getD, first-is}
+use Rattle.boxes.proofs.KindLaws.{right-some, one-right, is-eqb, first-is}
 use Rattle.partial.specs.Limits.{fileLimit}
 use Rattle.partial.specs.Sequences.{someOf, allOf}
 use Rattle.partial.specs.Heading.{Heading, paff, pmff, ftypRight, brandsFrom, brands, branded, brandRight, pfilRight, pfhdFormed, urlsIn}
@@ -113,17 +113,13 @@ module _ (brand : Brand) (u m : List ℕ) where
   unfolding beginning
   source-inside = simp (length-append, length-boxed) (omega arith)
 
-  only-source : those surl (begunHeading .inner) ≡ sourceBox ∷ []
+  pub only-source : those surl (begunHeading .inner) ≡ sourceBox ∷ []
   only-source = only-second surl plainBox sourceBox (is-eqb surl plainBox) (is-eqb surl sourceBox)
 
   begun-surl : isText u ≡ true → isText m ≡ true → surlRight (beginning brand u m) (begunHeading .inner) ≡ true
   unfolding surlRight allOf
   begun-surl plain-url plain-mime =
-      let some-source = some-right Pfil surl (begunHeading .inner) refl (rw only-source (omega arith)) in
-      rw (some-source, only-source, surl-back u m (beginning brand u m) sourceBox source-stands source-ends plain-url plain-mime)
-
-  pub first-source : firstOf surl (begunHeading .inner) ≡ sourceBox
-  first-source = firstOf-those surl (begunHeading .inner) ∙ ap (boxAt 0) only-source ∙ boxAt-getD 0 (sourceBox ∷ [])
+      rw (only-source, surl-back u m (beginning brand u m) sourceBox source-stands source-ends plain-url plain-mime)
 
   pub begun-url : isText u ≡ true → isText m ≡ true → url (beginning brand u m) sourceBox ≡ record { place = sourceBox .body + 4; size = length u }
   begun-url plain-url plain-mime = url-back u m (beginning brand u m) sourceBox source-stands source-ends plain-url plain-mime

@@ -17,6 +17,6 @@ unfolding
     Append.plocBody Append.versionFor Append.pshdBody Append.surlBoxes Append.psegBody Append.innerBoxes Append.surlsAt Append.newUrls Append.added Append.psegPlace Append.newChunks
     Append.newInner Append.newSegment Append.admitted Append.admission Append.appended Append.result
     Runs.bufferIn Runs.fileIn Runs.sizeAfter Runs.begin Runs.append Runs.appendAll
-    Again.dataOf Again.listFor Again.someOutside Again.surlsIn Again.textsFor Again.lengthsFor Again.again Again.writeAgain
+    Again.dataOf Again.listFor Again.someOutside Again.again Again.writeAgain
     Carried.carriedBy Carried.carried
 computing = tt

@@ -43,6 +43,7 @@ module _ (limit : ℕ) (buffer : List ℕ) (n : ℕ) (a : Addition) (k : ℕ) (o
       let f : List ℕ = take n buffer in
       let size : ℕ = n + length (added a) in
       let low = of-index k of .0 in
+      let high = of-index k of .1 in
       let known = not-index k of in
       let (_, e1) = passed 30 (leb n (length buffer)) _ (λ same. omega arith) e in
       let (h, head, e2) = passed-on (heading f) _ (heading-only NotIt known f) e1 in
@@ -51,7 +52,7 @@ module _ (limit : ℕ) (buffer : List ℕ) (n : ℕ) (a : Addition) (k : ℕ) (o
       let (_, e4) = passed 32 (bytesRight a) _ (λ same. omega arith) e3 in
       let (_, e5) = passed 35 (outsideRight h a) _ (λ same. omega arith) e4 in
       let (_, e6) = passed 34 (isText (a .texts)) _ (λ same. omega arith) e5 in
-      let (ts, admitted-there, e7) = passed-on (admission limit h us n a) _ (admission-only NotIt known (λ same. omega arith) limit h us n a) e6 in
+      let (ts, admitted-there, e7) = passed-on (admission limit h us n a) _ (admission-only NotIt known (λ same. omega arith) (λ same. omega arith) limit h us n a) e6 in
       let told = refused-first (indexed limit f h ts) _ e7 (λ _. only-held NotIt 33 (leb size (length buffer)) _ (λ same. omega arith) (only-given NotIt size)) in
       let there : indexed limit f h (us ++ (new h us ∷ [])) ≡ refused k = ap (indexed limit f h) (sym (admits limit h us n a admitted-there .1)) ∙ told in
       (h, head, subst (λ (vs : List Segment). indexed limit f h (vs ++ (new h vs ∷ [])) ≡ refused k) (given-same (sym read ∙ before)) there)

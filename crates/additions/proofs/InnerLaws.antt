@@ -13,17 +13,14 @@ use Rattle.boxes.specs.Framing.{Box, frontSize, boxed, boxedAt, boxesIn, boxLim
 use Rattle.boxes.specs.Kinds.{pseg, pshd, ploc, surl, fidx, those}
 use Rattle.boxes.specs.declared.kinds.Container.the-variants.{Pseg}
 use Rattle.boxes.proofs.HeaderLaws.{moved}
-use Rattle.boxes.proofs.ContainerLaws.{Filled, filled-appended, filled-moved, filled-boxes, box-limit}
+use Rattle.boxes.proofs.ContainerLaws.{Filled, filled-appended, filled-moved, filled-boxes}
 use Rattle.boxes.proofs.BoxedLaws.{length-boxed, boxed-alone, moved-boxedAt}
 use Rattle.boxes.proofs.KindLaws.{those-one, those-other, is-eqb}
-use Rattle.partial.specs.Sequences.{allOf}
-use Rattle.partial.specs.Heading.{Heading, surlFormed, urlsIn}
-use Rattle.partial.specs.Sources.{urlsFor}
+use Rattle.partial.specs.Heading.{surlRight, urlsIn}
+use Rattle.partial.specs.Texts.{Surl, surlsIn}
 use Rattle.additions.specs.Begin.{isText}
-use Rattle.additions.specs.Addition.{Addition, items, Surl, surlsOf, surls}
-use Rattle.additions.specs.Append.{stored, placed, plocBody, pshdBody, surlBoxes, psegBody, innerBoxes, added, psegPlace, surlsAt, newUrls}
-use Rattle.additions.specs.Again.{surlsIn}
-use Rattle.additions.specs.Demands.{Plain}
+use Rattle.additions.specs.Addition.{Addition, items, surlsOf, surls}
+use Rattle.additions.specs.Append.{stored, placed, plocBody, pshdBody, surlBoxes, psegBody, innerBoxes, added, psegPlace, surlsAt}
 use Rattle.additions.proofs.StandsLaws.{Stands, stands-behind, stands-longer, stands-left, stands-right}
 use Rattle.additions.proofs.BoxesStandLaws.{stands-body}
 use Rattle.additions.proofs.AddedBoxesLaws.{length-added}
@@ -135,8 +132,8 @@ module _ (g : List ℕ) (at : ℕ) (a : Addition) (stands : Stands g at (psegBod
 
   -- their `surl` boxes are well-formed, and say the texts
   module _ (plain : isText (a .texts) ≡ true) where
-    pub inners-formed : allOf (surlFormed g) (those surl (inners at a)) ≡ true
-    unfolding surls
+    pub inners-formed : surlRight g (inners at a) ≡ true
+    unfolding surlRight surls
     inners-formed = rw only-surls (surls-formed g (surlsPlace at a) (surls a) (cut-textual (a .texts) (a .lengths) plain) surls-stand)
 
     pub surls-told : at + length (psegBody a) ≤ length g → surlsIn g (inners at a) ≡ surls a
@@ -150,7 +147,7 @@ module _ (g : List ℕ) (at : ℕ) (a : Addition) (stands : Stands g at (psegBod
 
 -- it stands in a file that the addition was put behind, and in any that goes on from there
 module _ (f more : List ℕ) (a : Addition) where
-  pub body-whole : psegPlace (length f) a + frontSize + length (psegBody a) ≡ length (f ++ added a)
+  body-whole : psegPlace (length f) a + frontSize + length (psegBody a) ≡ length (f ++ added a)
   unfolding psegPlace
   body-whole = omega (arith, length-append f (added a), length-added a)
 
@@ -165,25 +162,7 @@ module _ (f more : List ℕ) (a : Addition) where
       let behind = stands-right g (length f) (stored a) (boxed (pseg .code) (psegBody a)) (stands-behind f (added a)) in
       stands-longer g more (at + frontSize) (psegBody a) (stands-body g at (pseg .code) (psegBody a) behind) (omega (arith, body-whole))
 
--- with an empty list of texts
-module _ (a : Addition) (plain : Plain a) where
-  pub surls-none : surls a ≡ []
-  unfolding surls surlsOf
-  surls-none = rw plain
-
-  -- the segment is `pshd` and `ploc` alone
-  pub plain-body : psegBody a ≡ boxed (pshd .code) (pshdBody a) ++ boxed (ploc .code) (location a)
-  unfolding psegBody surlBoxes
-  plain-body = rw (surls-none, append-nil)
-
-  plain-many : innerBoxes a ≡ 2
-  unfolding innerBoxes
-  plain-many = rw surls-none
-
-  pub plain-few : innerBoxes a ≤ boxLimit
-  plain-few = omega (arith, plain-many, box-limit)
-
-  -- and goes to the source of the list in `pfil`
-  pub plain-urls : (h : Heading) → newUrls h a ≡ h .urls
-  unfolding newUrls urlsFor
-  plain-urls h = rw surls-none
+-- with an empty list of texts the segment is `pshd` and `ploc` alone
+pub plain-body : (a : Addition) → a .lengths ≡ [] → psegBody a ≡ boxed (pshd .code) (pshdBody a) ++ boxed (ploc .code) (location a)
+unfolding psegBody surls surlsOf surlBoxes
+plain-body a none = rw (none, append-nil)

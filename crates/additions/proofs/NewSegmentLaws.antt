@@ -7,12 +7,12 @@ use native.Mathlib.Nat.{add-assoc}
 use native.Mathlib.Decide.{decLe}
 use native.Mathlib.Omega.{arith}
 use borrow.Author.Tests.{le-leb, lt-leb, eq-eqb}
-use lib.Dec.{leb, lit<}
+use lib.Dec.{leb, ltb, lit<}
 use lib.ListN.{length}
 use Rattle.boxes.specs.Answer.{Answer, refused, given, _>>=_, hold}
 use Rattle.numerals.specs.Numbers.{holds}
 use Rattle.boxes.specs.Framing.{Box, frontSize, boxedAt, boxLimit}
-use Rattle.boxes.specs.Kinds.{pseg, pshd, ploc, fidx, right, boxAt, firstOf, those, surl}
+use Rattle.boxes.specs.Kinds.{pseg, pshd, ploc, fidx, right, boxAt, firstOf, those}
 use Rattle.boxes.specs.declared.kinds.Container.the-variants.{Pseg}
 use Rattle.boxes.proofs.KindLaws.{first-is, one-right, firstOf-those, is-eqb, boxAt-getD}
 use Rattle.partial.specs.Limits.{chunkLimit}
@@ -23,8 +23,7 @@ use Rattle.partial.specs.Sources.{sourceBeside}
 use Rattle.partial.specs.Reading.{pshdRight, segment, pshdFields}
 use Rattle.additions.specs.Begin.{isText}
 use Rattle.additions.specs.Addition.{items, Addition, flagsFor, sizeOf, dataSize, dataRight, goesOut}
-use Rattle.additions.specs.Append.{plocBody, pshdBody, added, newChunks, surlsAt, newInner, newUrls, newSegment, Placed, placed, psegBody, innerBoxes, psegPlace}
-use Rattle.additions.specs.Demands.{Plain}
+use Rattle.additions.specs.Append.{plocBody, pshdBody, added, newChunks, newInner, newUrls, newSegment, Placed, placed, psegBody, innerBoxes, psegPlace}
 use Rattle.partial.proofs.Reading.HeadingAppendLaws.{withBoxes}
 use Rattle.additions.proofs.DataLaws.{sizes-split}
 use Rattle.additions.proofs.PlacedLaws.{formed, sizes-placed, length-placed, OutLie, placed-tell, offsets-eight}
@@ -32,8 +31,8 @@ use Rattle.additions.proofs.StandsLaws.{Stands}
 use Rattle.additions.proofs.EntriesBackLaws.{chunks-back}
 use Rattle.additions.proofs.FieldsBackLaws.{fields-back, plocOf, head-back, sizes-held, offsets-held}
 use Rattle.additions.proofs.AddedBoxesLaws.{data-low, InLie}
-use Rattle.additions.proofs.InnerLaws.{headerBox, locationPlace, locationBox, inners, only-header, only-location, only-surls, no-index, surls-none}
-use Rattle.additions.proofs.InnerLaws.{header-stands, location-stands, inners-framed, urls-told, body-stands, body-inside}
+use Rattle.additions.proofs.InnerLaws.{headerBox, locationPlace, locationBox, inners, only-header, only-location, no-index}
+use Rattle.additions.proofs.InnerLaws.{header-stands, location-stands, inners-framed, inners-formed, urls-told, body-stands, body-inside}
 
 -- the new chunks are as many as the items, and as long
 length-chunks : (at start : ℕ) (ps : List Placed) → length (newChunks at start ps) ≡ length ps
@@ -83,6 +82,12 @@ pub record Sayable (a : Addition) : Type 0 where
   pub sizes : allOf (λ p. holds 8 (p .size)) (placed (a .outside) (items (a .list))) ≡ true
   pub count : length (items (a .list)) < 2 ^ 16
 
+-- what is tested of it beside those before it: 41, 22 and 23
+abbrev tested : ℕ → List Segment → Segment → Answer Segment
+tested limit before s =
+    hold 41 (ltb 0 (length (s .urls)))
+    >>= λ _. hold 22 (leb (length (chunksOf before) + length (s .chunks)) chunkLimit) >>= λ _. hold 23 (leb (endOf s) limit) >>= λ _. given s
+
 -- the segment of a `pseg` box at a place, whose body stands there and before which its data lies
 module _ (limit : ℕ) (g : List ℕ) (h : Heading) (before : List Segment) (a : Addition) (at : ℕ) where
   abbrev here : ℕ
@@ -106,13 +111,7 @@ module _ (limit : ℕ) (g : List ℕ) (h : Heading) (before : List Segment) (a :
   location-found : firstOf ploc (inners here a) ≡ locationBox here a
   location-found = firstOf-those ploc (inners here a) ∙ ap (boxAt 0) (only-location here a) ∙ boxAt-getD 0 (locationBox here a ∷ [])
 
-  -- there is no `surl` where the addition has no texts
-  no-source : Plain a → those surl (inners here a) ≡ []
-  unfolding surlsAt
-  no-source plain = only-surls here a ∙ rw (surls-none a plain)
-
   segment-at : Sayable a
-      → Plain a
       → innerBoxes a ≤ boxLimit
       → isText (a .texts) ≡ true
       → allOf formed (items (a .list)) ≡ true
@@ -123,11 +122,9 @@ module _ (limit : ℕ) (g : List ℕ) (h : Heading) (before : List Segment) (a :
       → dataSize (items (a .list)) < 2 ^ 63
       → InLie h at a
       → OutLie h at (a .outside) (items (a .list))
-      → segment limit g h before (boxedAt at (pseg .code) (length (psegBody a)))
-      ≡ (hold 22 (leb (length (chunksOf before) + length (newSegment h before at a .chunks)) chunkLimit)
-      >>= λ _. hold 23 (leb (endOf (newSegment h before at a)) limit) >>= λ _. given (newSegment h before at a))
+      → segment limit g h before (boxedAt at (pseg .code) (length (psegBody a))) ≡ tested limit before (newSegment h before at a)
   unfolding segment newSegment newInner newUrls placed
-  segment-at says plain few texts listed small stands inside data-low data-small lie outer =
+  segment-at says few texts listed small stands inside data-low data-small lie outer =
       let list = items (a .list) in
       let ps = placed (a .outside) list in
       let all = sizes-split (a .outside) list in
@@ -145,19 +142,20 @@ module _ (limit : ℕ) (g : List ℕ) (h : Heading) (before : List Segment) (a :
       (offsets-held ps (offsets-eight (a .outside) list data-small)) in
       let sizes = sizes-placed (a .outside) list in
       let count = length-placed (a .outside) list in
+      let surls-right = inners-formed g here a stands texts in
       let urls = urls-told g here a stands texts inside in
       rw (length-new h before at a, end-new h before at a, ← sizes, ← count)
       (elim (decLe (a .sourceOffset) limit) [
         | yes low ↦
-            rw (boxes, right-header, location-right, urls, no-source plain, location-found, head, header-found, fields, le-leb (a .sourceOffset) limit low, chunks low, long)
-            (both-tests (leb (length (chunksOf before) + length ps) chunkLimit) (leb total limit))
+            rw (boxes, right-header, location-right, surls-right, urls, location-found, head, header-found, fields, le-leb (a .sourceOffset) limit low, chunks low, long)
+            (both-tests (ltb 0 (length (newUrls h a))) (leb (length (chunksOf before) + length ps) chunkLimit) (leb total limit))
         | no over ↦
-            rw (boxes, right-header, location-right, no-source plain, location-found, head, header-found, fields, lt-leb (a .sourceOffset) limit (omega arith), lt-leb total limit (omega arith))
-            (one-test (leb (length (chunksOf before) + length ps) chunkLimit))
+            rw (boxes, right-header, location-right, surls-right, urls, location-found, head, header-found, fields, lt-leb (a .sourceOffset) limit (omega arith), lt-leb total limit (omega arith))
+            (one-test (ltb 0 (length (newUrls h a))) (leb (length (chunksOf before) + length ps) chunkLimit))
       ])
     where
-      both-tests : (few low : Bool)
-          → (hold 22 few >>= λ _. hold 23 low >>= (λ _. given (newChunks at (a .sourceOffset) (placed (a .outside) (items (a .list))))) >>= λ cs. given (record {
+      both-tests : (listed few low : Bool)
+          → (hold 41 listed >>= λ _. hold 22 few >>= λ _. hold 23 low >>= (λ _. given (newChunks at (a .sourceOffset) (placed (a .outside) (items (a .list))))) >>= λ cs. given (record {
             place = at;
             inner = newInner at a;
             urls = newUrls h a;
@@ -168,17 +166,17 @@ module _ (limit : ℕ) (g : List ℕ) (h : Heading) (before : List Segment) (a :
             headerPlace = at + frontSize + frontSize;
             headerLength = length (pshdBody a);
             chunks = cs;
-          })) ≡ (hold 22 few >>= λ _. hold 23 low >>= λ _. given (newSegment h before at a))
-      both-tests true true = refl
-      both-tests true false = refl
-      both-tests false low = refl
+          })) ≡ (hold 41 listed >>= λ _. hold 22 few >>= λ _. hold 23 low >>= λ _. given (newSegment h before at a))
+      both-tests true true true = refl
+      both-tests true true false = refl
+      both-tests true false low = refl
+      both-tests false few low = refl
 
-      one-test : (few : Bool) → _≡_ {A = Answer Segment} (hold 22 few >>= λ _. refused 23) (hold 22 few >>= λ _. refused 23)
-      one-test few = refl
+      one-test : (listed few : Bool) → _≡_ {A = Answer Segment} (hold 41 listed >>= λ _. hold 22 few >>= λ _. refused 23) (hold 41 listed >>= λ _. hold 22 few >>= λ _. refused 23)
+      one-test listed few = refl
 
 -- the same of a file that an addition was put behind
 pub new-segment : (limit : ℕ) (f : List ℕ) (h : Heading) (before : List Segment) (a : Addition) → Sayable a
-    → Plain a
     → innerBoxes a ≤ boxLimit
     → isText (a .texts) ≡ true
     → allOf formed (items (a .list)) ≡ true
@@ -188,10 +186,9 @@ pub new-segment : (limit : ℕ) (f : List ℕ) (h : Heading) (before : List Segm
     → InLie h (psegPlace (length f) a) a
     → OutLie h (psegPlace (length f) a) (a .outside) (items (a .list))
     → segment limit (f ++ added a) h before (boxedAt (psegPlace (length f) a) (pseg .code) (length (psegBody a)))
-    ≡ (hold 22 (leb (length (chunksOf before) + length (newSegment h before (psegPlace (length f) a) a .chunks)) chunkLimit)
-    >>= λ _. hold 23 (leb (endOf (newSegment h before (psegPlace (length f) a) a)) limit) >>= λ _. given (newSegment h before (psegPlace (length f) a) a))
+    ≡ tested limit before (newSegment h before (psegPlace (length f) a) a)
 unfolding psegPlace
-new-segment limit f h before a says plain few texts listed small right data-small lie outer =
+new-segment limit f h before a says few texts listed small right data-small lie outer =
     let stands = rw append-nil at (body-stands f [] a) in
     let inside = rw append-nil at (body-inside f [] a) in
-    segment-at limit (f ++ added a) h before a (psegPlace (length f) a) says plain few texts listed small stands inside (omega (arith, data-low a right)) data-small lie outer
+    segment-at limit (f ++ added a) h before a (psegPlace (length f) a) says few texts listed small stands inside (omega (arith, data-low a right)) data-small lie outer

@@ -5,7 +5,7 @@ use mathlib.Core.Bool.{_&&_}
 use mathlib.Core.List.{List}
 use mathlib.Core.Logic.{inl}
 use mathlib.Core.Path.{_≡_, refl}
-use lib.Dec.{leb}
+use lib.Dec.{leb, ltb}
 use lib.ListN.{length, take}
 use Rattle.boxes.specs.Answer.{given, hold}
 use Rattle.boxes.specs.Framing.{boxLimit}
@@ -28,8 +28,10 @@ module _ (low high : ℕ) (raised : low ≤ high) where
   admitted-same before s =
       same-after (hold 13 (leb (length before + 1) segmentLimit)) _ _
       (λ _.
+      same-after (hold 41 (ltb 0 (length (s .urls)))) _ _
+      (λ _.
       same-after (hold 22 (leb (length (chunksOf before) + length (s .chunks)) chunkLimit)) _ _
-      (λ _. same-held low high raised (endOf s) _ _ (inl refl)))
+      (λ _. same-held low high raised (endOf s) _ _ (inl refl))))
 
   admission-same : (h : Heading) (ss : List Segment) (n : ℕ) (a : Addition) → Same (admission low h ss n a) (admission high h ss n a)
   unfolding admission

@@ -5,8 +5,8 @@ use mathlib.Core.List.{List, [], _∷_, _++_, map}
 use mathlib.Core.Path.{_≡_, refl, sym, ap, subst, _∙_}
 use native.Mathlib.Decide.{decLe}
 use native.Mathlib.Omega.{arith}
-use borrow.Author.Tests.{le-leb, lt-leb, leb-true}
-use lib.Dec.{leb, eqb}
+use borrow.Author.Tests.{le-leb, lt-leb, leb-true, lt-ltb, ltb-true}
+use lib.Dec.{leb, ltb, eqb}
 use lib.ListN.{length, take, drop, length-append}
 use lib.Seq.{length-take-le, take-at}
 use Rattle.boxes.specs.Answer.{Answer, refused, given, _>>=_, hold}
@@ -17,25 +17,25 @@ use Rattle.boxes.specs.declared.kinds.Kind.{Kind}
 use Rattle.boxes.proofs.AnswerLaws.{both-given, held, given-same}
 use Rattle.boxes.proofs.KindLaws.{those-append, those-one, is-eqb, some-right, those-nil, those-other}
 use Rattle.boxes.proofs.ContainerLaws.{Filled, boxes-filled, boxes-crowded}
-use Rattle.partial.specs.Limits.{fileLimit, segmentLimit, chunkLimit}
+use Rattle.partial.specs.Limits.{fileLimit, segmentLimit, chunkLimit, layerLimit}
 use Rattle.partial.specs.Sequences.{allOf, sum}
 use Rattle.partial.specs.Segments.{Segment, endOf, chunksOf}
 use Rattle.partial.specs.Heading.{Heading, heading, fileBoxes}
 use Rattle.partial.specs.Mixed.{allowed}
-use Rattle.partial.specs.Sources.{agreed}
+use Rattle.partial.specs.Sources.{sourceCount, agreed}
 use Rattle.partial.specs.Index.{SourceBox, indexed}
 use Rattle.partial.specs.Reading.{segment, segmentsFrom, segments, reading, earlierSegments}
 use Rattle.additions.specs.Append.{admitted}
 use Rattle.partial.specs.Memory.{after, filled}
 use Rattle.additions.specs.Begin.{isText}
 use Rattle.additions.specs.Addition.{items, Addition, listRight, lengthsRight, listsRight, dataRight, textsRight, bytesRight, outsideRight}
-use Rattle.additions.specs.Append.{addedBoxes, innerBoxes, added, newSegment, appended, result, admission, psegPlace, placed}
+use Rattle.additions.specs.Append.{addedBoxes, innerBoxes, added, newUrls, newSegment, appended, result, admission, psegPlace, placed}
 use Rattle.additions.specs.Runs.{lent, fileIn, sizeAfter, append}
-use Rattle.additions.specs.Demands.{Plain, Taking, Sound}
+use Rattle.additions.specs.Demands.{Taking, Sound}
 use Rattle.partial.proofs.Meaning.SequenceLaws.{both, passes}
 use Rattle.additions.proofs.PlacedLaws.{list-formed, sizes-placed}
 use Rattle.partial.proofs.Reading.HeadingAppendLaws.{headed, heading-of, headed-appended, inner-lie, lies, boxes-lie, those-all, withBoxes}
-use Rattle.partial.proofs.Reading.KeptLaws.{segments-kept, segments-inside}
+use Rattle.partial.proofs.Reading.KeptLaws.{segmented, segments-kept, segments-inside}
 use Rattle.partial.proofs.Reading.IndexKeptLaws.{then-known}
 use Rattle.partial.proofs.Reading.IndexedLaws.{indexed-kept}
 use Rattle.partial.proofs.Reading.ReadingLaws.{reading-headless, reading-some}
@@ -45,8 +45,7 @@ use Rattle.additions.proofs.FieldsBackLaws.{sizes-eight}
 use Rattle.additions.proofs.WholeLaws.{allowed-other, filled-row, row-starts}
 use Rattle.additions.proofs.AddedBoxesLaws.{segmentBox, newBoxes, boxes-added, added-moved, those-new, data-low, length-added}
 use Rattle.additions.proofs.AddedBoxesLaws.{added-many, lie-longer, lie-new, out-lie}
-use Rattle.additions.proofs.InnerLaws.{plain-few}
-use Rattle.additions.proofs.NewSegmentLaws.{Sayable, length-new, new-segment, end-new, no-index-new, new-longer}
+use Rattle.additions.proofs.NewSegmentLaws.{Sayable, length-new, urls-new, new-segment, end-new, no-index-new, new-longer}
 
 -- segments are read box by box
 module _ (limit : ℕ) (f : List ℕ) (h : Heading) where
@@ -110,9 +109,11 @@ pub record Admits (limit : ℕ) (h : Heading) (ss : List Segment) (n : ℕ) (a :
   pub boxes : length (h .boxes) + addedBoxes a ≤ boxLimit
   pub inner : innerBoxes a ≤ boxLimit
   pub few : length ss + 1 ≤ segmentLimit
+  pub listed : 0 < length (newUrls h a)
   pub chunks : length (chunksOf ss) + length (items (a .list)) ≤ chunkLimit
   pub low : a .sourceOffset + sum (map (λ i. i .size) (items (a .list))) ≤ limit
   pub agreed : agreed (ss ++ (newSegment h ss (psegPlace n a) a ∷ [])) ≡ true
+  pub layers : sourceCount (ss ++ (newSegment h ss (psegPlace n a) a ∷ [])) ≤ layerLimit
 
 module _ (limit : ℕ) (h : Heading) (ss : List Segment) (n : ℕ) (a : Addition) where
   pub admits : {ts : List Segment} → admission limit h ss n a ≡ given ts → Admits limit h ss n a × (ts ≡ ss ++ (newSegment h ss (psegPlace n a) a ∷ []))
@@ -123,19 +124,23 @@ module _ (limit : ℕ) (h : Heading) (ss : List Segment) (n : ℕ) (a : Addition
       let (boxes-both, e7) = held 6 (leb (length (h .boxes) + addedBoxes a) boxLimit && leb (innerBoxes a) boxLimit) _ e6 in
       let (boxes, inner) = both (leb (length (h .boxes) + addedBoxes a) boxLimit) (leb (innerBoxes a) boxLimit) boxes-both in
       let (few, e8) = held 13 (leb (length ss + 1) segmentLimit) _ e7 in
-      let (chunks, e9) = held 22 (leb (length (chunksOf ss) + length (new .chunks)) chunkLimit) _ e8 in
-      let (low, e10) = held 23 (leb (endOf new) limit) _ e9 in
-      let (agreed, e11) = held 25 (agreed (ss ++ (new ∷ []))) _ e10 in (
+      let (listed, e9) = held 41 (ltb 0 (length (new .urls))) _ e8 in
+      let (chunks, e10) = held 22 (leb (length (chunksOf ss) + length (new .chunks)) chunkLimit) _ e9 in
+      let (low, e11) = held 23 (leb (endOf new) limit) _ e10 in
+      let (agreed, e12) = held 25 (agreed (ss ++ (new ∷ []))) _ e11 in
+      let (layers, e13) = held 40 (leb (sourceCount (ss ++ (new ∷ []))) layerLimit) _ e12 in (
         record {
           small = leb-true (n + length (added a)) fileLimit small;
           boxes = leb-true (length (h .boxes) + addedBoxes a) boxLimit boxes;
           inner = leb-true (innerBoxes a) boxLimit inner;
           few = leb-true (length ss + 1) segmentLimit few;
+          listed = rw (urls-new h ss (psegPlace n a) a) at (ltb-true 0 (length (new .urls)) listed);
           chunks = rw (length-new h ss (psegPlace n a) a) at (leb-true (length (chunksOf ss) + length (new .chunks)) chunkLimit chunks);
           low = rw (end-new h ss (psegPlace n a) a) at (leb-true (endOf new) limit low);
           agreed = agreed;
+          layers = leb-true (sourceCount (ss ++ (new ∷ []))) layerLimit layers;
         },
-        sym (given-same e11),
+        sym (given-same e13),
       )
 
   pub admission-of : Admits limit h ss n a → admission limit h ss n a ≡ given (ss ++ (newSegment h ss (psegPlace n a) a ∷ []))
@@ -146,11 +151,13 @@ module _ (limit : ℕ) (h : Heading) (ss : List Segment) (n : ℕ) (a : Addition
         le-leb (length (h .boxes) + addedBoxes a) boxLimit (t .boxes),
         le-leb (innerBoxes a) boxLimit (t .inner),
         le-leb (length ss + 1) segmentLimit (t .few),
+        ap (λ (us : List (List ℕ)). ltb 0 (length us)) (urls-new h ss (psegPlace n a) a) ∙ lt-ltb 0 (length (newUrls h a)) (t .listed),
         length-new h ss (psegPlace n a) a,
         le-leb (length (chunksOf ss) + length (items (a .list))) chunkLimit (t .chunks),
         end-new h ss (psegPlace n a) a,
         le-leb (a .sourceOffset + sum (map (λ i. i .size) (items (a .list)))) limit (t .low),
         t .agreed,
+        le-leb (sourceCount (ss ++ (newSegment h ss (psegPlace n a) a ∷ []))) layerLimit (t .layers),
       )
 
 -- what is admitted is the segment behind those before it
@@ -158,9 +165,11 @@ pub admitted-given : (limit : ℕ) (ss : List Segment) (s : Segment) {ts : List 
 unfolding admitted
 admitted-given limit ss s e =
     let (_, e1) = held 13 (leb (length ss + 1) segmentLimit) _ e in
-    let (_, e2) = held 22 (leb (length (chunksOf ss) + length (s .chunks)) chunkLimit) _ e1 in
-    let (_, e3) = held 23 (leb (endOf s) limit) _ e2 in
-    sym (given-same (held 25 (agreed (ss ++ (s ∷ []))) _ e3 .1))
+    let (_, e2) = held 41 (ltb 0 (length (s .urls))) _ e1 in
+    let (_, e3) = held 22 (leb (length (chunksOf ss) + length (s .chunks)) chunkLimit) _ e2 in
+    let (_, e4) = held 23 (leb (endOf s) limit) _ e3 in
+    let (_, e5) = held 25 (agreed (ss ++ (s ∷ []))) _ e4 in
+    sym (given-same (held 40 (leb (sourceCount (ss ++ (s ∷ []))) layerLimit) _ e5 .1))
 
 -- an accepted addition is one to a file that append takes, and there is room for it
 pub taken-any : (limit : ℕ) (buffer : List ℕ) (n : ℕ) (a : Addition) (size : ℕ) → appended limit buffer n a ≡ given size
@@ -219,6 +228,10 @@ module _ (limit : ℕ) (f : List ℕ) (h : Heading) (ss : List Segment) (a : Add
   new-psegs = those-one pseg newBox [] (is-eqb pseg newBox) ∙ ap (λ (bs : List Box). newBox ∷ bs) (those-nil pseg)
 
   module _ (t : Offered limit f h ss a) where
+    -- the segments of the file before
+    before : segmentsFrom limit f h [] (those pseg (h .boxes)) ≡ given ss
+    before = segmented limit f h (earlier-read limit f (t .headed) (t .before)) .read
+
     psegs-added : those pseg (grownHeading .boxes) ≡ those pseg (h .boxes) ++ (newBox ∷ [])
     psegs-added =
         those-append pseg (h .boxes) (newBoxes (length f) a)
@@ -263,30 +276,23 @@ module _ (limit : ℕ) (f : List ℕ) (h : Heading) (ss : List Segment) (a : Add
       -- nothing of its index changes, with the new segment beside the others
       index-added : let ts = ss ++ (newSegment h ss (psegPlace (length f) a) a ∷ []) in
           indexed limit (f ++ added a) grownHeading ts ≡ indexed limit f h ts
-      unfolding segments allOf
+      unfolding allOf
       index-added =
           let n = length f in
           let old : List Box = those pseg (h .boxes) in
-          let (_, e1) = held 13 (leb (length old) segmentLimit) _ (earlier-read limit f (t .headed) (t .before)) in
-          let (us, read, e2) = both-given (segmentsFrom limit f h [] old) _ e1 in
-          let (_, e3) = held 25 (agreed us) _ e2 in
           let head = headed f h (t .headed) in
           let lie = those-all pseg (lies n) (h .boxes) (boxes-lie File f 0 n (h .boxes) (head .boxes)) in
           let new : Segment = newSegment h ss (psegPlace n a) a in
-          indexed-kept f (added a) limit h grownHeading refl refl new (no-index-new h ss (psegPlace n a) a) ss (inner-lie f h head) (segments-inside limit f h old [] lie refl (read ∙ e3))
+          indexed-kept f (added a) limit h grownHeading refl refl new (no-index-new h ss (psegPlace n a) a) ss (inner-lie f h head) (segments-inside limit f h old [] lie refl before)
 
       segments-added : Sayable a
-          → Plain a
+          → innerBoxes a ≤ boxLimit
           → segments limit (f ++ added a) grownHeading ≡ admitted limit ss (newSegment h ss (psegPlace (length f) a) a)
       unfolding segments segmentsFrom admitted
-      segments-added says plain =
+      segments-added says few =
           let n = length f in
           let new : Segment = newSegment h ss (psegPlace n a) a in
           let old : List Box = those pseg (h .boxes) in
-          let (enough, e1) = held 13 (leb (length old) segmentLimit) _ (earlier-read limit f (t .headed) (t .before)) in
-          let (us, read, e2) = both-given (segmentsFrom limit f h [] old) _ e1 in
-          let (agreed, e3) = held 25 (agreed us) _ e2 in
-          let before : segmentsFrom limit f h [] old ≡ given ss = read ∙ e3 in
           let framed = headed f h (t .headed) .boxes in
           let lie = those-all pseg (lies n) (h .boxes) (boxes-lie File f 0 n (h .boxes) framed) in
           let first = row-starts 0 n (h .boxes) (filled-row (omega arith) (boxes-filled File f 0 n framed)) n (omega arith) in
@@ -295,23 +301,27 @@ module _ (limit : ℕ) (f : List ℕ) (h : Heading) (ss : List Segment) (a : Add
           let long : length (old ++ (newBox ∷ [])) ≡ length ss + 1 = length-append old (newBox ∷ []) ∙ omega arith in
           let size = length-added a in
           let longer = new-longer h ss (psegPlace n a) a (newBoxes n a) in
-          let read-new = rw longer at (new-segment limit f grownHeading ss a says plain (plain-few a plain) (t .text) (list-formed (a .list) (t .list)) (omega arith) (t .carried) (omega (arith, data-low a (t .carried))) (lie-new h n a (t .carried)) (out-lie h a (t .list) (t .carried) (t .outside) n first)) in
+          let read-new = rw longer at (new-segment limit f grownHeading ss a says few (t .text) (list-formed (a .list) (t .list)) (omega arith) (t .carried) (omega (arith, data-low a (t .carried))) (lie-new h n a (t .carried)) (out-lie h a (t .list) (t .carried) (t .outside) n first)) in
           rw (psegs-added, long, segments-on limit (f ++ added a) grownHeading old (newBox ∷ []) [] kept, read-new)
-          (go (leb (length ss + 1) segmentLimit) (leb (length (chunksOf ss) + length (new .chunks)) chunkLimit) (leb (endOf new) limit))
+          (go (leb (length ss + 1) segmentLimit) (ltb 0 (length (new .urls))) (leb (length (chunksOf ss) + length (new .chunks)) chunkLimit) (leb (endOf new) limit))
         where
-          go : (few chunks low : Bool)
+          last : List Segment → Answer (List Segment)
+          last ts = hold 25 (agreed ts) >>= λ _. hold 40 (leb (sourceCount ts) layerLimit) >>= λ _. given ts
+
+          go : (few listed chunks low : Bool)
               → (hold 13 few
-              >>= λ _. (hold 22 chunks >>= λ _. hold 23 low >>= λ _. given (newSegment h ss (psegPlace (length f) a) a)) >>= (λ s. given (ss ++ (s ∷ []))) >>= λ ts. hold 25 (agreed ts) >>= λ _. given ts)
-              ≡ (hold 13 few >>= λ _. hold 22 chunks >>= λ _. hold 23 low >>= λ _. hold 25 (agreed (ss ++ (newSegment h ss (psegPlace (length f) a) a ∷ []))) >>= λ _. given (ss ++ (newSegment h ss (psegPlace (length f) a) a ∷ [])))
-          go true true true = refl
-          go true true false = refl
-          go true false low = refl
-          go false chunks low = refl
+              >>= λ _. (hold 41 listed >>= λ _. hold 22 chunks >>= λ _. hold 23 low >>= λ _. given (newSegment h ss (psegPlace (length f) a) a)) >>= (λ s. given (ss ++ (s ∷ []))) >>= last)
+              ≡ (hold 13 few >>= λ _. hold 41 listed >>= λ _. hold 22 chunks >>= λ _. hold 23 low >>= λ _. last (ss ++ (newSegment h ss (psegPlace (length f) a) a ∷ [])))
+          go true true true true = refl
+          go true true true false = refl
+          go true true false low = refl
+          go true false chunks low = refl
+          go false listed chunks low = refl
 
     -- reading the longer file: the refusals that the result would have, in their order, or its segments
-    pub reading-result : Sayable a → Plain a → reading limit (f ++ added a) ≡ (admission limit h ss (length f) a >>= λ ts. indexed limit f h ts >>= λ _. given ts)
+    pub reading-result : Sayable a → innerBoxes a ≤ boxLimit → reading limit (f ++ added a) ≡ (admission limit h ss (length f) a >>= λ ts. indexed limit f h ts >>= λ _. given ts)
     unfolding admission
-    reading-result says plain =
+    reading-result says few =
         let size : ℕ = length f + length (added a) in
         let many : ℕ = length (h .boxes) + addedBoxes a in
         elim (decLe size fileLimit) [
@@ -323,7 +333,7 @@ module _ (limit : ℕ) (f : List ℕ) (h : Heading) (ss : List Segment) (a : Add
                     ∙ rw (le-leb size fileLimit small, lt-leb many boxLimit (omega arith))
                 | yes room ↦
                     reading-some limit (f ++ added a) (heading-added small room) pseg-there
-                    ∙ rw (segments-added small says plain, le-leb size fileLimit small, le-leb many boxLimit room, le-leb (innerBoxes a) boxLimit (plain-few a plain))
+                    ∙ rw (segments-added small says few, le-leb size fileLimit small, le-leb many boxLimit room, le-leb (innerBoxes a) boxLimit few)
                     (then-known (admitted limit ss (newSegment h ss (psegPlace (length f) a) a)) _ _ (λ ts e.
                     let same = admitted-given limit ss (newSegment h ss (psegPlace (length f) a) a) e in
                     rw same (ap (λ (x : Answer (List SourceBox)). x >>= λ _. given (ss ++ (newSegment h ss (psegPlace (length f) a) a ∷ []))) (index-added small))))
@@ -336,9 +346,10 @@ taken-sayable limit f h ss a t below time =
     let (ok, same) = admits limit h ss (length f) a (t .admits) in
     record { offset = omega arith; time = time; sizes = sizes-eight (placed (a .outside) (items (a .list))) (rw sizes-placed (omega arith)); count = omega arith }
 
-pub reading-added : (limit : ℕ) (f : List ℕ) (h : Heading) (ss : List Segment) (a : Addition) → Taken limit f h ss a → Sayable a → Plain a
+pub reading-added : (limit : ℕ) (f : List ℕ) (h : Heading) (ss : List Segment) (a : Addition) → Taken limit f h ss a → Sayable a
     → reading limit (f ++ added a) ≡ given (ss ++ (newSegment h ss (psegPlace (length f) a) a ∷ []))
-reading-added limit f h ss a t says plain = reading-result limit f h ss a (t .offered) says plain ∙ rw (t .admits, t .index .1)
+reading-added limit f h ss a t says =
+    reading-result limit f h ss a (t .offered) says (admits limit h ss (length f) a (t .admits) .0 .inner) ∙ rw (t .admits, t .index .1)
 
 -- the file that an accepted addition leaves
 pub file-after : (limit : ℕ) (buffer : List ℕ) (n : ℕ) (a : Addition) (size : ℕ) → appended limit buffer n a ≡ given size → n ≡ length (take n buffer)
@@ -349,16 +360,15 @@ file-after limit buffer n a size e long total =
     let whole : length (take n buffer ++ added a) ≡ size = rw (length-append, total) (ap (λ (m : ℕ). m + length (added a)) (sym long)) in
     rw e (take-at (take n buffer ++ added a) (drop (length (take n buffer ++ added a)) buffer) size whole)
 
--- a segment that our writer adds reads back with its fields and chunks
+-- a segment that our writer adds reads back with its fields, its chunks, the boxes inside and its source
 pub reads-back : (limit : ℕ) → limit < 2 ^ 64 → (buffer : List ℕ) (n : ℕ) (a : Addition) (size : ℕ) (file : Taking limit buffer n)
-    → Plain a
     → a .repairTime < 2 ^ 64
     → appended limit buffer n a ≡ given size
     → reading limit (fileIn (append limit (lent buffer n) a)) ≡ given (file .ss ++ (newSegment (file .h) (file .ss) (psegPlace n a) a ∷ []))
 unfolding fileIn
-reads-back limit below buffer n a size file plain time e =
+reads-back limit below buffer n a size file time e =
     let h = file .h in
     let ss = file .ss in
     let (t, long, total) = taken limit buffer n a size h ss (file .headed) (file .before) e in
     rw (file-after limit buffer n a size e long total)
-    (reading-added limit (take n buffer) h ss a t (taken-sayable limit (take n buffer) h ss a t below time) plain ∙ ap (λ (m : ℕ). given (ss ++ (newSegment h ss (psegPlace m a) a ∷ []))) (sym long))
+    (reading-added limit (take n buffer) h ss a t (taken-sayable limit (take n buffer) h ss a t below time) ∙ ap (λ (m : ℕ). given (ss ++ (newSegment h ss (psegPlace m a) a ∷ []))) (sym long))

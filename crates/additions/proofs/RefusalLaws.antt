@@ -4,20 +4,20 @@ use Prim.Native.Nat.{ℕ, _+_}
 use mathlib.Core.Bool.{_&&_, _||_}
 use mathlib.Core.List.{List, [], _∷_, _++_}
 use mathlib.Core.Path.{_≡_}
-use lib.Dec.{T, leb, eqb}
+use lib.Dec.{T, leb, ltb, eqb}
 use lib.ListN.{length, take}
 use Rattle.boxes.specs.Answer.{refused}
 use Rattle.boxes.specs.Framing.{boxLimit}
 use Rattle.boxes.proofs.AnswerLaws.{Only, only-then, only-held, only-given}
-use Rattle.partial.specs.Limits.{fileLimit, segmentLimit, chunkLimit}
+use Rattle.partial.specs.Limits.{fileLimit, segmentLimit, chunkLimit, layerLimit}
 use Rattle.partial.specs.Sequences.{someOf, within}
 use Rattle.partial.specs.Segments.{Segment, chunksOf, endOf}
 use Rattle.partial.specs.Heading.{Heading, heading}
-use Rattle.partial.specs.Sources.{agreed}
+use Rattle.partial.specs.Sources.{sourceCount, agreed}
 use Rattle.partial.specs.Reading.{earlierSegments}
 use Rattle.partial.specs.Index.{indexed}
 use Rattle.partial.specs.Memory.{after}
-use Rattle.partial.specs.ReadingDemands.{beforeAgreement, ofIndex, ofStages}
+use Rattle.partial.specs.ReadingDemands.{beforeAgreement, fromAgreement, ofStages}
 use Rattle.partial.specs.declared.brand.Brand.{Brand}
 use Rattle.partial.proofs.Reading.RefusalLaws as reading
 use Rattle.partial.proofs.Reading.RefusalLaws.{heading-only, told-only, beside, known-file, rest-file, earlier-only, memory-kept}
@@ -28,17 +28,19 @@ use Rattle.additions.specs.Runs.{lent, sizeAfter, append}
 use Rattle.additions.specs.Demands.{NeverWritten, Demand1}
 
 module _ (P : ℕ → Type 0) (known : (n : ℕ) → T (beforeAgreement n) → P n) where
-  -- 1, 6, 13, 22, 23 and 25 of an addition's result
-  pub admission-only : P 25 → (limit : ℕ) (h : Heading) (ss : List Segment) (n : ℕ) (a : Addition) → Only P (admission limit h ss n a)
+  -- 1, 6, 13, 41, 22, 23, 25 and 40 of an addition's result
+  pub admission-only : P 25 → P 40 → (limit : ℕ) (h : Heading) (ss : List Segment) (n : ℕ) (a : Addition) → Only P (admission limit h ss n a)
   unfolding admission admitted within
-  admission-only last limit h ss n a =
+  admission-only apart ninth limit h ss n a =
       let new = newSegment h ss (psegPlace n a) a in
       only-held P 1 (leb (n + length (added a)) fileLimit) _ (known 1 tt)
       (only-held P 6 (leb (length (h .boxes) + addedBoxes a) boxLimit && leb (innerBoxes a) boxLimit) _ (known 6 tt)
       (only-held P 13 (leb (length ss + 1) segmentLimit) _ (known 13 tt)
+      (only-held P 41 (ltb 0 (length (new .urls))) _ (known 41 tt)
       (only-held P 22 (leb (length (chunksOf ss) + length (new .chunks)) chunkLimit) _ (known 22 tt)
       (only-held P 23 (leb (endOf new) limit) _ (known 23 tt)
-      (only-held P 25 (agreed (ss ++ (new ∷ []))) _ last (only-given P _))))))
+      (only-held P 25 (agreed (ss ++ (new ∷ []))) _ apart
+      (only-held P 40 (leb (sourceCount (ss ++ (new ∷ []))) layerLimit) _ ninth (only-given P _))))))))
 
 -- the numbers of each call
 module _ (limit : ℕ) where
@@ -52,7 +54,7 @@ module _ (limit : ℕ) where
   known-added : (n : ℕ) → T (beforeAgreement n) → OfAddition n
   known-added n before = beside (ofStages n) (someOf (eqb n) ownNumbers) (known-file n before)
 
-  rest-added : (n : ℕ) → T (eqb n 25 || ofIndex n) → OfAddition n
+  rest-added : (n : ℕ) → T (fromAgreement n) → OfAddition n
   rest-added n other = beside (ofStages n) (someOf (eqb n) ownNumbers) (rest-file n other)
 
   appended-only : (buffer : List ℕ) (n : ℕ) (a : Addition) → Only OfAddition (appended limit buffer n a)
@@ -69,7 +71,7 @@ module _ (limit : ℕ) where
       (only-held OfAddition 32 (bytesRight a) _ tt
       (only-held OfAddition 35 (outsideRight h a) _ tt
       (only-held OfAddition 34 (isText (a .texts)) _ tt
-      (only-then OfAddition (admission limit h ss n a) _ (admission-only OfAddition known-added (rest-added 25 tt) limit h ss n a)
+      (only-then OfAddition (admission limit h ss n a) _ (admission-only OfAddition known-added (rest-added 25 tt) (rest-added 40 tt) limit h ss n a)
       (λ ts.
       only-then OfAddition (indexed limit f h ts) _ (told-only OfAddition known-added rest-added limit f h ts)
       (λ _. only-held OfAddition 33 (leb size (length buffer)) _ tt (only-given OfAddition size))))))))))

@@ -6,19 +6,19 @@ use mathlib.Core.List.{List, [], _∷_, _++_}
 use mathlib.Core.Logic.{inl, inr}
 use mathlib.Core.Option.{Option, none, some}
 use mathlib.Core.Path.{_≡_, refl, sym, ap, ap₂, _∙_}
-use lib.Dec.{leb, eqb}
+use lib.Dec.{leb, ltb, eqb}
 use lib.ListN.{length}
 use Rattle.numerals.specs.Numbers.{bytesOf}
 use Rattle.boxes.specs.Framing.{boxed, boxLimit}
 use Rattle.boxes.specs.Kinds.{pseg, pshd, ploc}
 use Rattle.boxes.specs.Answer.{Answer, _>>=_, hold, given}
 use Rattle.numerals.proofs.NumberLaws.{bytesOf-mod}
-use Rattle.partial.specs.Limits.{fileLimit, segmentLimit, chunkLimit}
+use Rattle.partial.specs.Limits.{fileLimit, segmentLimit, chunkLimit, layerLimit}
 use Rattle.partial.specs.Sequences.{allOf}
 use Rattle.partial.specs.Segments.{Segment, isOpen, endOf, chunksOf}
 use Rattle.partial.specs.Heading.{Heading}
 use Rattle.partial.specs.Meaning.{givesSize, knownSize, agree}
-use Rattle.partial.specs.Sources.{sourceBeside, ofSource, ofUrls, agreed}
+use Rattle.partial.specs.Sources.{sourceCount, sourceBeside, ofSource, ofUrls, agreed}
 use Rattle.partial.specs.Index.{sizeFor, indexed}
 use Rattle.partial.specs.Reading.{offsetWidth}
 use Rattle.additions.specs.Append.{admitted}
@@ -27,7 +27,7 @@ use Rattle.additions.specs.Append.{insideData, outsideData, anyInside, d
 use Rattle.additions.specs.Append.{pshdBody, surlBoxes, psegBody, innerBoxes, added, psegPlace, newUrls, newSegment, admission}
 use Rattle.additions.specs.Carried.{carried}
 use Rattle.partial.proofs.Meaning.SequenceLaws.{which, all-append, all-same}
-use Rattle.partial.proofs.Meaning.SourceLaws.{of-append, beside-last}
+use Rattle.partial.proofs.Meaning.SourceLaws.{of-append, beside-last, source-count-more}
 use Rattle.partial.proofs.Reading.IndexedLaws.{indexed-alike}
 use Rattle.additions.proofs.NewSegmentLaws.{no-index-new}
 use Rattle.additions.proofs.ReadsBackLaws.{Offered, Taken, Admits, admission-of, admits}
@@ -118,13 +118,21 @@ module _ (a : Addition) where
   unfolding addedBoxes anyInside outsideData
   boxes-cut = refl
 
-  inner-cut : innerBoxes (cut a) ≡ innerBoxes a
+  pub inner-cut : innerBoxes (cut a) ≡ innerBoxes a
   unfolding innerBoxes surls
   inner-cut = refl
 
   agreed-cut : (h : Heading) (ss : List Segment) (at : ℕ) → agreed (ss ++ (newSegment h ss at (cut a) ∷ [])) ≡ agreed (ss ++ (newSegment h ss at a ∷ []))
   unfolding newSegment newUrls surls endOf givesSize isOpen
   agreed-cut h ss at = agreed-same (newSegment h ss at (cut a)) (newSegment h ss at a) refl refl refl ss
+
+  urls-cut : (h : Heading) → newUrls h (cut a) ≡ newUrls h a
+  unfolding newUrls surls
+  urls-cut h = refl
+
+  layers-cut : (h : Heading) (ss : List Segment) (at : ℕ) → sourceCount (ss ++ (newSegment h ss at (cut a) ∷ [])) ≡ sourceCount (ss ++ (newSegment h ss at a ∷ []))
+  unfolding newSegment newUrls surls
+  layers-cut h ss at = source-count-more ss (newSegment h ss at (cut a)) ∙ sym (source-count-more ss (newSegment h ss at a))
 
   -- nor does the index, for which each source ends where it did
   pub index-cut : (limit : ℕ) (f : List ℕ) (h : Heading) (ss : List Segment) (at : ℕ)
@@ -142,20 +150,27 @@ module _ (limit : ℕ) (h : Heading) (ss : List Segment) (n : ℕ) (a : Addition
   unfolding admission admitted newSegment newUrls surls endOf
   admission-cut rest same =
       let at = psegPlace n a in
-      rw (added-cut a, boxes-cut a, inner-cut a, place-cut a n, agreed-cut a h ss at)
+      rw (added-cut a, boxes-cut a, inner-cut a, place-cut a n, agreed-cut a h ss at, layers-cut a h ss at)
       (go (leb (n + length (added a)) fileLimit) (leb (length (h .boxes) + addedBoxes a) boxLimit && leb (innerBoxes a) boxLimit) (leb (length ss + 1) segmentLimit)
-      (leb (length (chunksOf ss) + length (newSegment h ss at a .chunks)) chunkLimit) (leb (endOf (newSegment h ss at a)) limit) (agreed (ss ++ (newSegment h ss at a ∷ []))))
+      (ltb 0 (length (newUrls h a))) (leb (length (chunksOf ss) + length (newSegment h ss at a .chunks)) chunkLimit) (leb (endOf (newSegment h ss at a)) limit) (agreed (ss ++ (newSegment h ss at a ∷ [])))
+      (leb (sourceCount (ss ++ (newSegment h ss at a ∷ []))) layerLimit))
     where
-      go : (t1 t6 t13 t22 t23 t25 : Bool)
-          → (hold 1 t1 >>= (λ _. hold 6 t6 >>= λ _. hold 13 t13 >>= λ _. hold 22 t22 >>= λ _. hold 23 t23 >>= λ _. hold 25 t25 >>= λ _. given (ss ++ (newSegment h ss (psegPlace n a) (cut a) ∷ []))) >>= rest)
-          ≡ (hold 1 t1 >>= (λ _. hold 6 t6 >>= λ _. hold 13 t13 >>= λ _. hold 22 t22 >>= λ _. hold 23 t23 >>= λ _. hold 25 t25 >>= λ _. given (ss ++ (newSegment h ss (psegPlace n a) a ∷ []))) >>= rest)
-      go true true true true true true = same
-      go true true true true true false = refl
-      go true true true true false t25 = refl
-      go true true true false t23 t25 = refl
-      go true true false t22 t23 t25 = refl
-      go true false t13 t22 t23 t25 = refl
-      go false t6 t13 t22 t23 t25 = refl
+      tests : (t1 t6 t13 t41 t22 t23 t25 t40 : Bool) → List Segment → Answer (List Segment)
+      tests t1 t6 t13 t41 t22 t23 t25 t40 ts =
+          hold 1 t1 >>= λ _. hold 6 t6 >>= λ _. hold 13 t13 >>= λ _. hold 41 t41 >>= λ _. hold 22 t22 >>= λ _. hold 23 t23 >>= λ _. hold 25 t25 >>= λ _. hold 40 t40 >>= λ _. given ts
+
+      go : (t1 t6 t13 t41 t22 t23 t25 t40 : Bool)
+          → (tests t1 t6 t13 t41 t22 t23 t25 t40 (ss ++ (newSegment h ss (psegPlace n a) (cut a) ∷ [])) >>= rest)
+          ≡ (tests t1 t6 t13 t41 t22 t23 t25 t40 (ss ++ (newSegment h ss (psegPlace n a) a ∷ [])) >>= rest)
+      go true true true true true true true true = same
+      go true true true true true true true false = refl
+      go true true true true true true false t40 = refl
+      go true true true true true false t25 t40 = refl
+      go true true true true false t23 t25 t40 = refl
+      go true true true false t22 t23 t25 t40 = refl
+      go true true false t41 t22 t23 t25 t40 = refl
+      go true false t13 t41 t22 t23 t25 t40 = refl
+      go false t6 t13 t41 t22 t23 t25 t40 = refl
 
   admits-cut : Admits limit h ss n a → Admits limit h ss n (cut a)
   admits-cut t =
@@ -164,9 +179,11 @@ module _ (limit : ℕ) (h : Heading) (ss : List Segment) (n : ℕ) (a : Addition
         boxes = rw boxes-cut (t .boxes);
         inner = rw inner-cut (t .inner);
         few = t .few;
+        listed = rw urls-cut (t .listed);
         chunks = t .chunks;
         low = t .low;
         agreed = rw place-cut (agreed-cut a h ss (psegPlace n a) ∙ t .agreed);
+        layers = rw (place-cut, layers-cut) (t .layers);
       }
 
 module _ (limit : ℕ) (f : List ℕ) (h : Heading) (ss : List Segment) (a : Addition) where

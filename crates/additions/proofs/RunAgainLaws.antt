@@ -2,7 +2,7 @@
 -- the whole file fits.
 use Prim.Native.Nat.{ℕ, _+_, _^_, _≤_, _<_}
 use mathlib.Core.Bool.{true}
-use mathlib.Core.List.{List, [], _∷_, _++_, map, append-assoc, append-nil, List·Memᴰ·head, List·Memᴰ·tail}
+use mathlib.Core.List.{List, [], _∷_, _++_, map, append-assoc, append-nil}
 use mathlib.Core.Path.{_≡_, refl, sym, ap, subst, _∙_}
 use native.Mathlib.Nat.{mod-lt}
 use native.Mathlib.Omega.{arith}
@@ -22,7 +22,6 @@ use Rattle.additions.specs.Addition.{Addition, listsRight, dataRight, te
 use Rattle.additions.specs.Append.{added, newSegment, appended, result, psegPlace}
 use Rattle.additions.specs.Runs.{Lent, lent, fileIn, sizeAfter, append, appendAll}
 use Rattle.additions.specs.Again.{again, settled}
-use Rattle.additions.specs.Demands.{Plain, AllPlain}
 use Rattle.partial.proofs.Meaning.SequenceLaws.{both, all-append}
 use Rattle.partial.proofs.Reading.HeadingAppendLaws.{headed, boxes-lie}
 use Rattle.partial.proofs.Reading.RefusalLaws.{takes}
@@ -147,7 +146,7 @@ module _ (limit : ℕ) (below : limit < 2 ^ 64) where
             (r .rewritten (filled (f ++ added a) other) (filled-take (f ++ added a) other) (rw (filled-long (f ++ added a) other (omega arith)) room));
       }
 
-  step-rewrite : (l : Lent) (a : Addition) → Plain a → (whole : List ℕ) (h : Heading) (ss : List Segment) → heading (fileIn l) ≡ given h
+  step-rewrite : (l : Lent) (a : Addition) (whole : List ℕ) (h : Heading) (ss : List Segment) → heading (fileIn l) ≡ given h
       → earlierSegments limit (fileIn l) ≡ given ss
       → ((k : Heading) (ts : List Segment)
       → heading (fileIn (append limit l a)) ≡ given k
@@ -155,7 +154,7 @@ module _ (limit : ℕ) (below : limit < 2 ^ 64) where
       → Rewrites limit (fileIn (append limit l a)) k ts whole)
       → Rewrites limit (fileIn l) h ss whole
   unfolding fileIn
-  step-rewrite (lent buffer n) a plain whole h ss head read rest = go (appended limit buffer n a) refl
+  step-rewrite (lent buffer n) a whole h ss head read rest = go (appended limit buffer n a) refl
     where
       f : List ℕ
       f = take n buffer
@@ -172,16 +171,16 @@ module _ (limit : ℕ) (below : limit < 2 ^ 64) where
           let k = grownHeading limit f h ss c in
           let (ok, _) = admits limit h ss (length f) c (u .admits) in
           let new-head = heading-added limit f h ss c (u .offered) (ok .small) (ok .boxes) in
-          let new-read = takes limit (f ++ added c) .acceptable _ (reading-added limit f h ss c u (taken-sayable limit f h ss c u below (mod-lt (a .repairTime) (lit< tt))) plain) in
+          let new-read = takes limit (f ++ added c) .acceptable _ (reading-added limit f h ss c u (taken-sayable limit f h ss c u below (mod-lt (a .repairTime) (lit< tt)))) in
           let ts = ss ++ (newSegment h ss (psegPlace (length f) c) c ∷ []) in
           one-rewrite f h ss c u whole
           (subst (λ (g : List ℕ). Rewrites limit g k ts whole) same (rest k ts (rw same new-head) (rw same new-read)))
 
-  pub rewrites : (additions : List Addition) → AllPlain additions → (l : Lent) (h : Heading) (ss : List Segment) → heading (fileIn l) ≡ given h
+  pub rewrites : (additions : List Addition) (l : Lent) (h : Heading) (ss : List Segment) → heading (fileIn l) ≡ given h
       → earlierSegments limit (fileIn l) ≡ given ss
       → Rewrites limit (fileIn l) h ss (fileIn (appendAll limit l additions))
   unfolding appendAll fileIn allOf
-  rewrites [] plain l h ss head read =
+  rewrites [] l h ss head read =
       record {
         more = [];
         longer = sym (append-nil (fileIn l));
@@ -196,6 +195,5 @@ module _ (limit : ℕ) (below : limit < 2 ^ 64) where
         read = rw append-nil read;
         rewritten = λ other same room. same;
       }
-  rewrites (a ∷ more) plain l h ss head read =
-      step-rewrite l a (plain a (List·Memᴰ·head refl)) (fileIn (appendAll limit (append limit l a) more)) h ss head read
-      (λ k ts. rewrites more (λ b there. plain b (List·Memᴰ·tail there)) (append limit l a) k ts)
+  rewrites (a ∷ more) l h ss head read =
+      step-rewrite l a (fileIn (appendAll limit (append limit l a) more)) h ss head read (λ k ts. rewrites more (append limit l a) k ts)

@@ -22,11 +22,11 @@ use Rattle.boxes.proofs.KindLaws.{those-nil, those-one, those-other, is-eqb}
 use Rattle.numerals.proofs.NumberLaws.{length-bytesOf}
 use Rattle.partial.specs.Sequences.{allOf, sum, stretch}
 use Rattle.partial.specs.Heading.{text, url, mime, surlFormed, bytesIn}
+use Rattle.partial.specs.Texts.{Surl, textsFor, lengthsFor}
 use Rattle.partial.proofs.Meaning.SequenceLaws.{both, all-append}
 use Rattle.additions.specs.Begin.{versionAndFlags, surlBody, surlBox, isText}
-use Rattle.additions.specs.Addition.{Surl, surlsOf}
+use Rattle.additions.specs.Addition.{surlsOf}
 use Rattle.additions.specs.Append.{surlBoxes, surlsAt}
-use Rattle.additions.specs.Again.{textsFor, lengthsFor}
 use Rattle.additions.proofs.StandsLaws.{Stands, stands-head, stands-tail, stands-left, stands-right, stands-number, part-stands}
 use Rattle.additions.proofs.BoxesStandLaws.{stands-body}
 

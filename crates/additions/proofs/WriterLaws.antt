@@ -1,48 +1,24 @@
 -- Demand 2, over the definitions, at any source limit that 64 bits hold.
-use Prim.Native.Nat.{ℕ, _+_, _^_, _<_}
+use Prim.Native.Nat.{ℕ, _^_, _<_}
 use mathlib.Core.List.{List, [], _++_, append-nil}
-use mathlib.Core.Path.{_≡_, refl, sym, ap, subst, _∙_}
-use native.Mathlib.Omega.{arith}
+use mathlib.Core.Path.{_≡_, refl, sym, ap, _∙_}
 use lib.ListN.{length, take}
 use Rattle.boxes.specs.Answer.{given}
-use Rattle.boxes.specs.Framing.{frontSize}
 use Rattle.boxes.proofs.AnswerLaws.{given-same}
 use Rattle.partial.specs.Sequences.{allOf}
 use Rattle.partial.specs.Segments.{Segment}
 use Rattle.partial.specs.Heading.{Heading, heading}
 use Rattle.additions.specs.Addition.{Addition}
-use Rattle.additions.specs.Append.{psegBody, added, newInner, newUrls, newSegment, appended, psegPlace}
+use Rattle.additions.specs.Append.{added, newSegment, appended, psegPlace}
 use Rattle.additions.specs.Runs.{lent, fileIn, append}
 use Rattle.additions.specs.Again.{again, settled}
-use Rattle.additions.specs.Demands.{Framed, Demand2}
+use Rattle.additions.specs.Demands.{Demand2}
 use Rattle.partial.proofs.Demands.{demand2-of-reading}
 use Rattle.additions.proofs.DataLaws.{settled-added}
-use Rattle.additions.proofs.AddedBoxesLaws.{length-added}
-use Rattle.additions.proofs.StandsLaws.{Stands}
-use Rattle.additions.proofs.InnerLaws.{inners-framed, inners-formed, urls-told, body-whole, body-stands, plain-body}
+use Rattle.additions.proofs.InnerLaws.{plain-body}
 use Rattle.additions.proofs.ReadsBackLaws.{taken-any, file-after, reads-back, grownHeading, heading-added, admits}
 use Rattle.additions.proofs.RunAgainLaws.{says-whole}
 use Rattle.additions.proofs.WrittenAgainLaws.{written-again}
-
--- the boxes inside the new `pseg`
-inside-framed : (limit : ℕ) (buffer : List ℕ) (n : ℕ) (a : Addition) (size : ℕ) (h : Heading) (us : List Segment) → appended limit buffer n a ≡ given size
-    → Framed (fileIn (append limit (lent buffer n) a)) h (newSegment h us (psegPlace n a) a)
-unfolding newSegment newInner newUrls
-inside-framed limit buffer n a size h us e =
-    let (h₀, ss, t, long, total, _) = taken-any limit buffer n a size e in
-    let f : List ℕ = take n buffer in
-    let g = f ++ added a in
-    let (ok, _) = admits limit h₀ ss (length f) a (t .admits) in
-    let at : ℕ = psegPlace (length f) a + frontSize in
-    let stands : Stands g at (psegBody a) = rw append-nil at (body-stands f [] a) in
-    let ends : at + length (psegBody a) ≡ length g = body-whole f [] a in
-    let text = t .offered .text in
-    let there : Framed g h (newSegment h us (psegPlace (length f) a) a) = record {
-      boxes = rw ends at (inners-framed g at a stands (ok .inner) (omega (arith, length-added a)));
-      formed = rw (inners-formed g at a stands text) tt;
-      urls = rw (urls-told g at a stands text (omega arith)) refl;
-    } in
-    rw (file-after limit buffer n a size e long total) (subst (λ (m : ℕ). Framed g h (newSegment h us (psegPlace m a) a)) (sym long) there)
 
 -- a segment that our writer adds says again what was added, with the same bytes
 pub says-again : (limit : ℕ) (buffer : List ℕ) (n : ℕ) (a : Addition) (size : ℕ) (h : Heading) (us : List Segment) → appended limit buffer n a ≡ given size
@@ -67,7 +43,6 @@ demand2 limit below =
     record {
       ofReading = demand2-of-reading limit;
       readsBack = reads-back limit below;
-      framed = inside-framed limit;
       sameAgain = says-again limit;
       sameBytes = settled-added;
       plainBytes = plain-body;

@@ -8,7 +8,7 @@ use borrow.Author.Tests.{le-leb}
 use lib.ListN.{length, take, drop, length-append}
 use Rattle.boxes.specs.Answer.{Answer, refused, given}
 use Rattle.boxes.specs.Framing.{Box}
-use Rattle.boxes.specs.Kinds.{surl, is, boxAt, firstOf, ftyp, noBox}
+use Rattle.boxes.specs.Kinds.{is, boxAt, ftyp, noBox}
 use Rattle.boxes.specs.declared.kinds.Container.the-variants.{File}
 use Rattle.boxes.proofs.AnswerLaws.{not-both, given-same}
 use Rattle.boxes.proofs.KindLaws.{boxAt-getD, is-eqb}
@@ -18,7 +18,7 @@ use Rattle.partial.specs.Segments.{Segment}
 use Rattle.partial.specs.Heading.{Part, Heading, heading, ftypRight, url, mime, fileBoxes, judged, bytesIn}
 use Rattle.partial.specs.Reading.{reading}
 use Rattle.partial.specs.Memory.{after, filled}
-use Rattle.partial.specs.Tables.{textOf}
+use Rattle.partial.specs.Tables.{firstText, textOf}
 use Rattle.partial.specs.declared.brand.Brand.{Brand}
 use Rattle.partial.specs.declared.brand.Brand.the-variants.{Paff, Pmff}
 use Rattle.additions.specs.Begin.{brandFor, brandCode, beginning, isText, begun}
@@ -26,12 +26,11 @@ use Rattle.additions.specs.Addition.{Addition}
 use Rattle.additions.specs.Append.{appended}
 use Rattle.additions.specs.Runs.{Lent, lent, fileIn, sizeAfter, begin, append, appendAll}
 use Rattle.additions.specs.Again.{writeAgain}
-use Rattle.additions.specs.Demands.{AllPlain}
 use Rattle.partial.proofs.Reading.ReadingLaws.{reading-headless}
 use Rattle.partial.proofs.Reading.RefusalLaws.{takes}
 use Rattle.partial.proofs.Reading.HeadingAppendLaws.{heading-of, url-kept, mime-kept}
 use Rattle.additions.proofs.BegunLaws.{isMixed, begunHeading, sourceBox, begun-url, begun-mime, begun-headed, begun-taken}
-use Rattle.additions.proofs.BegunLaws.{first-source, source-inside, source-stands, source-ends}
+use Rattle.additions.proofs.BegunLaws.{only-source, source-inside, source-stands, source-ends}
 use Rattle.additions.proofs.BegunLaws.{begin-given, begin-fits}
 use Rattle.additions.proofs.SurlLaws.{surl-long, url-stands, mime-stands}
 use Rattle.additions.proofs.RunAgainLaws.{Rewrites, rewrites, filled-take, filled-long}
@@ -44,8 +43,8 @@ module _ (limit : ℕ) (brand : Brand) (u m more : List ℕ) (plain-url : isText
     (read : reading limit (beginning brand u m ++ more) ≡ given ss) (head : heading (beginning brand u m ++ more) ≡ given h)
     (inner : h .inner ≡ begunHeading brand u m .inner) where
   text-from : (pick : List ℕ → Box → Part) → textOf pick limit (beginning brand u m ++ more) ≡ pick (beginning brand u m ++ more) (sourceBox brand u m)
-  unfolding textOf
-  text-from pick = rw (textOf, read, head) (ap (pick (beginning brand u m ++ more)) (ap (firstOf surl) inner ∙ first-source brand u m))
+  unfolding textOf firstText
+  text-from pick = rw (textOf, read, head) (rw (firstText, inner, only-source brand u m))
 
   -- a part of the file just begun is that part of the longer file
   part-again : (at : ℕ) (s : List ℕ) → Stands (beginning brand u m) at s → at + length s ≤ length (beginning brand u m)
@@ -121,13 +120,12 @@ module _ (limit : ℕ) (brand : Brand) (u m : List ℕ) (plain-url : isText u �
 -- of a file that begin and append alone made, written into any buffer that it fits
 pub written-again : (limit : ℕ) → limit < 2 ^ 64 → (buffer : List ℕ) (brand : Brand) (u m : List ℕ) (additions : List Addition) (other : List ℕ)
     (h : Heading) (ss : List Segment)
-    → AllPlain additions
     → let f = fileIn (appendAll limit (begin buffer brand u m) additions) in
     heading f ≡ given h
     → reading limit f ≡ given ss
     → length f ≤ length other
     → fileIn (writeAgain limit other f h ss) ≡ f
-written-again limit below buffer brand u m additions other h ss plain known read room = go (begun buffer brand u m) refl
+written-again limit below buffer brand u m additions other h ss known read room = go (begun buffer brand u m) refl
   where
     f : List ℕ
     f = fileIn (appendAll limit (begin buffer brand u m) additions)
@@ -139,5 +137,5 @@ written-again limit below buffer brand u m additions other h ss plain known read
     go (given n) e =
         let (plain-url, plain-mime, small, file) = begin-given buffer brand u m n e in
         let head = heading-of (beginning brand u m) (begunHeading brand u m) (begun-headed brand u m small plain-url plain-mime) in
-        let r = rewrites limit below additions plain (begin buffer brand u m) (begunHeading brand u m) [] (rw file head) (rw file (begun-taken brand u m limit small plain-url plain-mime)) in
+        let r = rewrites limit below additions (begin buffer brand u m) (begunHeading brand u m) [] (rw file head) (rw file (begun-taken brand u m limit small plain-url plain-mime)) in
         on-again limit brand u m plain-url plain-mime small f h ss (subst (λ (g : List ℕ). Rewrites limit g (begunHeading brand u m) [] f) file r) known read other room

@@ -10,6 +10,7 @@ use Rattle.partial.specs.Sequences.{someOf, allOf, sum}
 use Rattle.partial.specs.Segments.{elsewhere, good, present, isLast}
 use Rattle.partial.specs.Heading.{Heading}
 use Rattle.partial.specs.Mixed.{areBoxes}
+use Rattle.partial.specs.Texts.{Surl}
 
 -- the fields of `pshd`, whether the good chunks go outside `pdat`, the chunk list and the data in chunk order; the
 -- texts of the `surl` boxes to write and the list of their lengths, URL and MIME by turns
@@ -92,11 +93,6 @@ textsRight a = eqb (length (a .texts)) (sum (a .lengths))
 -- 32: both, in one stage
 unfoldable pub bytesRight : Addition → Bool
 bytesRight a = dataRight a && textsRight a
-
--- the two texts of a `surl`
-pub record Surl : Type 0 where
-  pub url : List ℕ
-  pub mime : List ℕ
 
 -- texts cut by a list of their lengths, URL and MIME by turns
 unfoldable pub surlsOf : List ℕ → List ℕ → List Surl

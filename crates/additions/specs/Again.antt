@@ -2,17 +2,16 @@
 use Prim.Native.Nat.{ℕ}
 use mathlib.Core.Bool.{Bool, true, false, not, _&&_}
 use mathlib.Core.List.{List, [], _∷_, _++_, map}
-use lib.ListN.{length}
 use lib.Dec.{eqb}
 use Rattle.boxes.specs.Framing.{Box}
-use Rattle.boxes.specs.Kinds.{surl, those}
 use Rattle.partial.specs.Sequences.{someOf}
 use Rattle.partial.specs.Segments.{Chunk, Segment, good, present, isLast}
 use Rattle.partial.specs.Heading.{Heading, url, mime, bytesIn}
 use Rattle.partial.specs.Entries.{inData}
 use Rattle.partial.specs.Tables.{textOf}
+use Rattle.partial.specs.Texts.{surlsIn, textsFor, lengthsFor}
 use Rattle.additions.specs.Begin.{brandFor}
-use Rattle.additions.specs.Addition.{Addition, items, Surl, goesOut}
+use Rattle.additions.specs.Addition.{Addition, items, goesOut}
 use Rattle.additions.specs.Runs.{Lent, begin, appendAll}
 
 -- the bytes of the present chunks of a list, in their order
@@ -29,19 +28,6 @@ listFor (c ∷ cs) = c .size ∷ c .state ∷ listFor cs
 -- whether some good chunk lies outside `pdat`, among these boxes
 unfoldable pub someOutside : List Box → List Chunk → Bool
 someOutside bs cs = someOf (λ c. eqb (c .state) good && not (inData bs (c .place) (c .size))) cs
-
--- the two texts of each `surl` among these boxes, in their order
-unfoldable pub surlsIn : List ℕ → List Box → List Surl
-surlsIn f bs = map (λ b. record { url = bytesIn f (url f b); mime = bytesIn f (mime f b) }) (those surl bs)
-
--- those texts one behind the other, and their lengths, URL and MIME by turns
-unfoldable pub textsFor : List Surl → List ℕ
-textsFor [] = []
-textsFor (s ∷ ss) = s .url ++ (s .mime ++ textsFor ss)
-
-unfoldable pub lengthsFor : List Surl → List ℕ
-lengthsFor [] = []
-lengthsFor (s ∷ ss) = length (s .url) ∷ length (s .mime) ∷ lengthsFor ss
 
 -- a segment's fields, where its good chunks lie, its chunks and bytes, and the texts of its own `surl` boxes, to be
 -- written again

@@ -5,24 +5,25 @@ use mathlib.Core.Bool.{Bool, true, false, _&&_}
 use mathlib.Core.List.{List, [], _∷_, _++_, map}
 use mathlib.Core.Option.{Option·getD}
 use lib.ListN.{length, take}
-use lib.Dec.{leb}
+use lib.Dec.{leb, ltb}
 use Rattle.boxes.specs.Answer.{Answer, given, _>>=_, hold}
 use Rattle.numerals.specs.Numbers.{bytesOf, twosComplement, holds, holdsOffset, leastWidth}
 use Rattle.boxes.specs.Framing.{Box, frontSize, boxed, boxedAt, boxLimit}
 use Rattle.boxes.specs.Kinds.{pseg, pshd, ploc, pdat, surl}
 use Rattle.numerals.specs.declared.numbers.Offset.{Offset}
 use Rattle.numerals.specs.declared.numbers.Offset.the-variants.{Ahead, Back}
-use Rattle.partial.specs.Limits.{fileLimit, segmentLimit, chunkLimit}
+use Rattle.partial.specs.Limits.{fileLimit, segmentLimit, chunkLimit, layerLimit}
 use Rattle.partial.specs.Sequences.{someOf, allOf}
 use Rattle.partial.specs.Segments.{Chunk, Segment, present, corrupted, hasPlace, endOf, chunksOf}
 use Rattle.partial.specs.Heading.{Heading, heading}
 use Rattle.partial.specs.Entries.{offsetPlace}
-use Rattle.partial.specs.Sources.{urlsFor, sourceBeside, agreed}
+use Rattle.partial.specs.Sources.{urlsFor, sourceCount, sourceBeside, agreed}
 use Rattle.partial.specs.Reading.{offsetWidth, earlierSegments}
 use Rattle.partial.specs.Index.{indexed}
 use Rattle.additions.specs.Begin.{versionAndFlags, surlBody, surlBox, isText}
 use Rattle.partial.specs.Mixed.{boxesMany}
-use Rattle.additions.specs.Addition.{Addition, flagsFor, Item, items, listsRight, sizeOf, bytesRight, Surl, surls, goesOut, goesIn, dataFor, outsideRight}
+use Rattle.partial.specs.Texts.{Surl}
+use Rattle.additions.specs.Addition.{Addition, flagsFor, Item, items, listsRight, sizeOf, bytesRight, surls, goesOut, goesIn, dataFor, outsideRight}
 
 -- the data that goes into `pdat`, and that of the chunks outside, each in chunk order
 unfoldable pub insideData : Addition → List ℕ
@@ -185,16 +186,19 @@ newSegment h before at a =
       chunks = newChunks at (a .sourceOffset) (placed (a .outside) (items (a .list)));
     }
 
--- 13, 22, 23, 25: a segment beside those before it; the segments with it
+-- 13, 41, 22, 23, 25, 40: a segment beside those before it; the segments with it
 unfoldable pub admitted : ℕ → List Segment → Segment → Answer (List Segment)
 admitted limit before s = do
   _ ← hold 13 (leb (length before + 1) segmentLimit)
+  _ ← hold 41 (ltb 0 (length (s .urls)))
   _ ← hold 22 (leb (length (chunksOf before) + length (s .chunks)) chunkLimit)
   _ ← hold 23 (leb (endOf s) limit)
   _ ← hold 25 (agreed (before ++ (s ∷ [])))
+  _ ← hold 40 (leb (sourceCount (before ++ (s ∷ []))) layerLimit)
   given (before ++ (s ∷ []))
 
--- 1, 6, 13, 22, 23 or 25 if the result would have it, 6 also of the new `pseg` itself; else the result's segments
+-- 1, 6, 13, 41, 22, 23, 25 or 40 if the result would have it, 6 also of the new `pseg` itself; else the result's
+-- segments
 unfoldable pub admission : ℕ → Heading → List Segment → ℕ → Addition → Answer (List Segment)
 admission limit h ss n a = do
   _ ← hold 1 (leb (n + length (added a)) fileLimit)

@@ -8,18 +8,17 @@ use mathlib.Core.List.{List, [], _∷_, _++_, map, List·Memᴰ}
 use mathlib.Core.Logic.{_↔_, _⊎_}
 use mathlib.Core.Path.{_≡_}
 use lib.ListN.{length, getD}
-use lib.Dec.{T, leb}
+use lib.Dec.{T, leb, ltb}
 use Rattle.boxes.specs.Answer.{refused, given, _>>=_, hold}
-use Rattle.boxes.specs.Framing.{frontSize, boxed, boxesIn, boxLimit}
-use Rattle.boxes.specs.Kinds.{pshd, ploc, surl, those}
-use Rattle.boxes.specs.declared.kinds.Container.the-variants.{Pseg}
-use Rattle.partial.specs.Limits.{fileLimit, segmentLimit, chunkLimit}
-use Rattle.partial.specs.Sequences.{allOf, sum, orElse}
+use Rattle.boxes.specs.Framing.{boxed, boxLimit}
+use Rattle.boxes.specs.Kinds.{pshd, ploc}
+use Rattle.partial.specs.Limits.{fileLimit, segmentLimit, chunkLimit, layerLimit}
+use Rattle.partial.specs.Sequences.{sum, orElse}
 use Rattle.partial.specs.Segments.{Segment, chunksOf}
 use Rattle.partial.specs.declared.brand.Brand.{Brand}
-use Rattle.partial.specs.Heading.{Heading, heading, surlFormed, urlsIn}
+use Rattle.partial.specs.Heading.{Heading, heading}
 use Rattle.partial.specs.Meaning.{describedLength, served}
-use Rattle.partial.specs.Sources.{urlsFor, sourceBeside, ofUrls}
+use Rattle.partial.specs.Sources.{sourceCount, sourceBeside, ofUrls}
 use Rattle.partial.specs.Index.{SourceBox, indexed}
 use Rattle.partial.specs.Reading.{reading, earlierSegments}
 use Rattle.partial.specs.Memory.{written}
@@ -30,14 +29,6 @@ use Rattle.additions.specs.Append.{addedBoxes, innerBoxes, placed, plocB
 use Rattle.additions.specs.Runs.{Lent, lent, bufferIn, fileIn, begin, append, appendAll}
 use Rattle.additions.specs.Again.{again, settled, writeAgain}
 use Rattle.additions.specs.Carried.{carried}
-
--- an addition without texts: append is given none, since 16 refuses to read a `surl` in a segment; so what is
--- said of reading the result is said of such additions
-abbrev pub Plain : Addition → Type 0
-Plain a = a .lengths ≡ []
-
-abbrev pub AllPlain : List Addition → Type 0
-AllPlain additions = (a : Addition) → List·Memᴰ a additions → Plain a
 
 -- a refused addition changes nothing
 abbrev NothingChanges : ℕ → Type 0
@@ -79,32 +70,19 @@ pub record Taking (limit : ℕ) (buffer : List ℕ) (n : ℕ) : Type 0 where
   pub headed : heading (fileIn (lent buffer n)) ≡ given h
   pub before : earlierSegments limit (fileIn (lent buffer n)) ≡ given ss
 
--- the new `pseg` in the result, where it is the last box, for any list of texts: its boxes are framed, its `surl` boxes
--- well-formed, and the URLs of its source are those that are read of it
-pub record Framed (g : List ℕ) (h : Heading) (s : Segment) : Type 0 where
-  pub boxes : boxesIn Pseg g (s .place + frontSize) (length g) ≡ given (s .inner)
-  pub formed : T (allOf (surlFormed g) (those surl (s .inner)))
-  pub urls : urlsFor (urlsIn g (s .inner)) (h .urls) ≡ s .urls
-
 -- demand 2: in an accepted file each source byte is served or listed missing as document 01's rules say; a segment our
 -- writer adds reads back with the same chunks and bytes; writing again what was read from our writer's file gives that
 -- file
 pub record Demand2 (limit : ℕ) : Type 0 where
   -- each source byte of an accepted file
   pub ofReading : Demand2OfReading limit
-  -- the segment reads back with its fields and chunks
+  -- the segment reads back with its fields, its chunks, the boxes inside and the URLs and number of its source
   pub readsBack :
       (buffer : List ℕ) (n : ℕ) (a : Addition) (size : ℕ) (file : Taking limit buffer n)
-      → Plain a
       → a .repairTime < 2 ^ 64
       → appended limit buffer n a ≡ given size
       → reading limit (fileIn (append limit (lent buffer n) a)) ≡ given (file .ss ++ (newSegment (file .h) (file .ss) (psegPlace n a) a ∷ []))
-  -- the boxes inside
-  pub framed :
-      (buffer : List ℕ) (n : ℕ) (a : Addition) (size : ℕ) (h : Heading) (ss : List Segment)
-      → appended limit buffer n a ≡ given size
-      → Framed (fileIn (append limit (lent buffer n) a)) h (newSegment h ss (psegPlace n a) a)
-  -- and those say again what was added, with the same bytes
+  -- and says again what was added, with the same bytes
   pub sameAgain :
       (buffer : List ℕ) (n : ℕ) (a : Addition) (size : ℕ) (h : Heading) (ss : List Segment)
       → appended limit buffer n a ≡ given size
@@ -115,12 +93,11 @@ pub record Demand2 (limit : ℕ) : Type 0 where
   -- with an empty list of texts the segment is `pshd` and `ploc` alone
   pub plainBytes :
       (a : Addition)
-      → Plain a
+      → a .lengths ≡ []
       → psegBody a ≡ boxed (pshd .code) (pshdBody a) ++ boxed (ploc .code) (plocBody (placed (a .outside) (items (a .list))))
   -- of a file that begin and append alone made, written into any buffer that it fits
   pub writtenAgain :
       (buffer : List ℕ) (brand : Brand) (u m : List ℕ) (additions : List Addition) (other : List ℕ) (h : Heading) (ss : List Segment)
-      → AllPlain additions
       → let f = fileIn (appendAll limit (begin buffer brand u m) additions) in
       heading f ≡ given h
       → reading limit f ≡ given ss
@@ -163,9 +140,11 @@ pub record Within (limit : ℕ) (h : Heading) (ss : List Segment) (n : ℕ) (a :
   pub boxes : length (h .boxes) + addedBoxes a ≤ boxLimit
   pub inner : innerBoxes a ≤ boxLimit
   pub few : length ss < segmentLimit
+  pub listed : 0 < length (newUrls h a)
   pub chunks : length (chunksOf ss) + length (items (a .list)) ≤ chunkLimit
   pub low : a .sourceOffset + sum (map (λ i. i .size) (items (a .list))) ≤ limit
   pub agreed : InAgreement (ss ++ (newSegment h ss (psegPlace n a) a ∷ []))
+  pub layers : sourceCount (ss ++ (newSegment h ss (psegPlace n a) a ∷ [])) ≤ layerLimit
 
 -- an addition that append takes: it is right and within each limit, beside a file that append takes, whose index is
 -- told beside it, and the buffer has room for the result
@@ -209,15 +188,21 @@ pub record Reasons (limit : ℕ) (buffer : List ℕ) (n : ℕ) (a : Addition) : 
       → T (ofIndex k)
       → appended limit buffer n a ≡ refused k
       → (reading limit (fileIn (lent buffer n)) ≡ refused k) ⊎ ((reading limit (fileIn (lent buffer n)) ≡ refused 12) × (k ≡ 38 → ⊥))
-  -- then what the result would have, 1, 6, 13, 22, 23, 25, 36, 37 or 39, and then 33
+  -- then what the result would have, 1, 6, 13, 41, 22, 23, 25, 40, 36, 37 or 39, and then 33
   pub byResult :
       (file : Taking limit buffer n)
       → Sound (file .h) a
-      → Plain a
+      → innerBoxes a ≤ boxLimit
       → T (sayable a)
       → let g = result buffer n a in
       appended limit buffer n a ≡ (reading limit g >>= λ _. hold 33 (leb (length g) (length buffer)) >>= λ _. given (length g))
-  -- of more chunks than `chunk_count` can say it is 22, unless 1, 6 or 13 comes before
+  -- of more boxes than the new `pseg` may hold it is 6, unless 1 comes before
+  pub overfull :
+      (file : Taking limit buffer n)
+      → Sound (file .h) a
+      → boxLimit < innerBoxes a
+      → appended limit buffer n a ≡ (hold 1 (leb (n + length (added a)) fileLimit) >>= λ _. refused 6)
+  -- of more chunks than `chunk_count` can say it is 22, unless 1, 6, 13 or 41 comes before
   pub tooMany :
       (file : Taking limit buffer n)
       → Sound (file .h) a
@@ -226,6 +211,7 @@ pub record Reasons (limit : ℕ) (buffer : List ℕ) (n : ℕ) (a : Addition) : 
       ≡ (hold 1 (leb (n + length (added a)) fileLimit)
       >>= λ _. hold 6 (leb (length (file .h .boxes) + addedBoxes a) boxLimit && leb (innerBoxes a) boxLimit)
       >>= λ _. hold 13 (leb (length (file .ss) + 1) segmentLimit)
+      >>= λ _. hold 41 (ltb 0 (length (newUrls (file .h) a)))
       >>= λ _. refused 22)
 
 -- demand 3: take any accepted file, or one just begun, and any run of additions
@@ -245,7 +231,6 @@ pub record Demand3 (limit : ℕ) : Type 0 where
   -- a run leaves a file that append takes
   pub stands :
       (l : Lent) (additions : List Addition) (ss : List Segment)
-      → AllPlain additions
       → earlierSegments limit (fileIn l) ≡ given ss
       → (ts : List Segment) × (earlierSegments limit (fileIn (appendAll limit l additions)) ≡ given ts)
   -- an addition is given a length exactly if it has right lists, data and texts, within each limit, in agreement,
@@ -280,7 +265,6 @@ pub record Demand3 (limit : ℕ) : Type 0 where
   -- and as it is read
   pub accepted :
       (buffer : List ℕ) (n : ℕ) (a : Addition) (size : ℕ) (file : Taking limit buffer n)
-      → Plain a
       → appended limit buffer n a ≡ given size
       → let g = fileIn (append limit (lent buffer n) a) in
       (ts : List Segment) × (reading limit g ≡ given ts) × Extended (fileIn (lent buffer n)) g (file .h) (file .ss) ts a

@@ -1,4 +1,4 @@
--- Document 01, "Framing", and document 02, [7]: the types that are known, with their containers and how many of each,
+-- Document 01, "Framing", and document 02, [7] and [8]: the types that are known, with their containers and how many of each,
 -- in one table.
 use Prim.Native.Nat.{ℕ}
 use mathlib.Core.Bool.{Bool, true, false, _&&_}
@@ -55,7 +55,8 @@ rules =
     rule ftyp File One
     ∷ rule pfil File One
     ∷ rule pfhd Pfil One
-    ∷ rule surl Pfil OneOrMore
+    ∷ rule surl Pfil Any
+    ∷ rule surl Pseg Any
     ∷ rule pseg File OneOrMore
     ∷ rule pshd Pseg One
     ∷ rule ploc Pseg One

@@ -54,7 +54,7 @@ pub struct Rule {
 }
 
 // How many rows the table has.
-pub const RULE_COUNT: usize = 13;
+pub const RULE_COUNT: usize = 14;
 
 pub const RULES: [Rule; RULE_COUNT] = [
     Rule {
@@ -75,7 +75,12 @@ pub const RULES: [Rule; RULE_COUNT] = [
     Rule {
         kind: SURL,
         container: Container::Pfil,
-        count: Count::OneOrMore,
+        count: Count::Any,
+    },
+    Rule {
+        kind: SURL,
+        container: Container::Pseg,
+        count: Count::Any,
     },
     Rule {
         kind: PSEG,

@@ -14,12 +14,11 @@ use Rattle.boxes.specs.declared.kinds.Container.the-variants.{Pseg}
 use Rattle.boxes.proofs.AnswerLaws.{not-both, both-given, held, given-same}
 use Rattle.boxes.proofs.KindLaws.{first-is}
 use Rattle.partial.specs.Heading.{Heading}
-use Rattle.partial.specs.Limits.{segmentLimit, sourceLimit}
-use Rattle.partial.specs.Sources.{agreed}
+use Rattle.partial.specs.Limits.{sourceLimit}
 use Rattle.partial.specs.Reading.{pshdFields, pshdRight, segment, segmentsFrom, segments}
 use Rattle.partial.specs.Segments.{Segment}
 use Rattle.partial.proofs.Meaning.SequenceLaws.{both}
-use Rattle.partial.proofs.Reading.KeptLaws.{stepped}
+use Rattle.partial.proofs.Reading.KeptLaws.{stepped, segmented}
 use Rattle.fields.specs.Fields.{valuesOf, fieldsOf}
 use Rattle.fields.specs.declared.fields.Fields.{Fields}
 use Rattle.fileindex.specs.Parts.{SegmentOf}
@@ -58,13 +57,9 @@ module _ (f : List ℕ) where
 
     -- the segments of a file are those of its `pseg` boxes
     pub segments-known : {ss : List Segment} → segments sourceLimit f h ≡ given ss → SegmentsOf f (those pseg (h .boxes)) ss
-    unfolding segments
     segments-known e =
-        let (_, e1) = held 13 (leb (length (those pseg (h .boxes))) segmentLimit) _ e in
-        let (ss, read, e2) = both-given (segmentsFrom sourceLimit f h [] (those pseg (h .boxes))) _ e1 in
-        let (_, same) = held 25 (agreed ss) _ e2 in
-        let (new, all, known) = from-known (those pseg (h .boxes)) [] read in
-        subst (SegmentsOf f (those pseg (h .boxes))) (all ∙ given-same same) known
+        let (new, all, known) = from-known (those pseg (h .boxes)) [] (segmented sourceLimit f h e .read) in
+        subst (SegmentsOf f (those pseg (h .boxes))) all known
 
   -- the fields of its `pshd` say where a segment starts
   module _ {b header : Box} {s : Segment} (known : SegmentOf f b s) (first : header ≡ firstOf pshd (s .inner)) where

@@ -18,7 +18,8 @@ use Rattle.partial.specs.Segments.{Segment}
 use Rattle.partial.specs.Sources.{sourceCount}
 use Rattle.partial.specs.Tables.{segmentRows, chunkRows}
 use Rattle.surls.specs.declared.body.Body.{Body}
-use Rattle.sources.specs.Held.{listBoxes, ListHeld}
+use Rattle.partial.specs.Texts.{listBoxes}
+use Rattle.sources.specs.Held.{ListHeld}
 use Rattle.sources.specs.Lists.{listIn}
 use Rattle.ends.specs.Table.{sizesIn}
 use Rattle.segment.proofs.ChunkLaws.{chunk-told}

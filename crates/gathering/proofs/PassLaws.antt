@@ -32,6 +32,7 @@ use Rattle.filling.specs.Rows.{Put}
 use Rattle.filling.proofs.RowLaws.{put-none, put-more, put-same}
 use Rattle.gathering.specs.Forms.{formLength, putsOf, allPuts}
 use Rattle.gathering.specs.Gathered.{gatheredOf}
+use Rattle.gathering.specs.Parts.{hasSurl}
 use Rattle.gathering.specs.Pass.{segmentsBy, Gathers}
 use Rattle.gathering.specs.Step.{Noted, Beside, Segmented}
 use Rattle.gathering.specs.declared.gathered.Gathered.{Gathered}
@@ -131,9 +132,9 @@ module _ (f : List ℕ) (h : Heading) (numbered : Bool) (t₀ u₀ : List ℕ) w
         decided = m .decide ∙ ap (λ (bs : List Box). segmentsFrom sourceLimit f h (m .before) bs) (next .2)
 
         -- it is beside those before it
-        pub midway-beside : {list : Body} → PfilList f h list → Beside f h list g z n l (m .before)
-        midway-beside pfil =
-            record { gathered = m .gathered; few = omega (arith, m .few, ap length (next .2)); numbered = m .sources; inPfil = pfil; noted = m .noted }
+        pub midway-beside : {list : Body} {listed : Bool} → PfilList f h list → listed ≡ hasSurl (h .inner) → Beside f h list listed g z n l (m .before)
+        midway-beside pfil any =
+            record { gathered = m .gathered; few = omega (arith, m .few, ap length (next .2)); numbered = m .sources; inPfil = pfil; any = any; noted = m .noted }
 
         pub midway-refused : {n : ℕ} → segment sourceLimit f h (m .before) b ≡ refused n → segmentsBy f h ≡ refused n
         unfolding segmentsFrom

@@ -1,4 +1,4 @@
--- Document 01, refusals 14 to 24: what is told of all segments of a file.
+-- Document 01, refusals 14 to 24, and document 02, [8], 41: what is told of all segments of a file.
 use Prim.Native.Nat.{ℕ, _≤_}
 use mathlib.Core.Bool.{Bool}
 use mathlib.Core.List.{List, []}

@@ -1,12 +1,14 @@
--- Document 01, "In one `pseg`: framing, 14, 15, 16, then 17 (head), 18, 19, 22, 23 (offset), entries": what is told of
--- one segment.
+-- Document 01, "In one `pseg`: framing, 14, 15, 16, then 17 (head), 18, 19, 22, 23 (offset), entries", and document 02,
+-- [8], 41 after 16: what is told of one segment.
 use Prim.Native.Nat.{ℕ, _+_, _*_, _<_, _≤_}
-use mathlib.Core.Bool.{Bool}
+use mathlib.Core.Bool.{Bool, true, false}
 use mathlib.Core.List.{List, [], _∷_, _++_}
 use mathlib.Core.Path.{_≡_}
 use lib.ListN.{length}
 use Rattle.boxes.specs.Answer.{refused, given}
 use Rattle.boxes.specs.Framing.{Box, boxOf}
+use Rattle.boxes.specs.declared.framing.Framed.{Framed}
+use Rattle.boxes.specs.declared.kinds.Container.the-variants.{Pseg}
 use Rattle.partial.specs.Heading.{Heading}
 use Rattle.partial.specs.Index.{hasIndex}
 use Rattle.partial.specs.Limits.{segmentLimit, chunkLimit, sourceLimit}
@@ -21,6 +23,7 @@ use Rattle.segment.specs.Data.{Searched}
 use Rattle.filling.specs.Rows.{Put}
 use Rattle.gathering.specs.Forms.{formLength, putsOf}
 use Rattle.gathering.specs.Gathered.{gatheredOf}
+use Rattle.gathering.specs.Parts.{hasSurl}
 use Rattle.gathering.specs.Rows.{rowBy}
 use Rattle.gathering.specs.declared.gathered.Gathered.{Gathered}
 use Rattle.gathering.specs.declared.parts.Parts.{Parts}
@@ -38,19 +41,24 @@ pub record Noted (f : List ℕ) (h : Heading) (z n l : List ℕ) (ss : List Segm
   pub sizes : Holds z ss
   pub sourced : Sourced f h n l ss
 
+-- where the list of URLs of a segment stands: in its own box, or in `pfil`
+abbrev pub chosenList : Framed → Bool → Body → Body
+chosenList b own inPfil = elim own [ true ↦ record { container = Pseg; start = b .body; end = b .end } | false ↦ inPfil ]
+
 -- the segments before are those of which that was gathered and is noted; one more is not too many, and where it has no
--- list of URLs of its own it has that in `pfil`
-pub record Beside (f : List ℕ) (h : Heading) (list : Body) (before : Gathered) (z n l : List ℕ) (ss : List Segment) : Type 0 where
+-- list of URLs of its own it has that in `pfil`, if there is one
+pub record Beside (f : List ℕ) (h : Heading) (list : Body) (listed : Bool) (before : Gathered) (z n l : List ℕ) (ss : List Segment) : Type 0 where
   pub gathered : before ≡ gatheredOf ss
   pub few : length ss < segmentLimit
   pub numbered : Numbered ss
   pub inPfil : PfilList f h list
+  pub any : listed ≡ hasSurl (h .inner)
   pub noted : Noted f h z n l ss
 
 -- the row, the source and the end of a segment of these parts were put, and it was gathered
 pub record Entered (f : List ℕ) (list : Body) (before : Gathered) (place : ℕ) (p : Parts) (end : ℕ) (t₀ t z₀ z n₀ n l₀ l : List ℕ) (r : Gathered) : Type 0 where
   pub source : ℕ
-  pub row : Put t₀ (segmentRowLength * before .segments) (rowBy place (p .fields) (p .location .count) (boxOf (p .header))) t
+  pub row : Put t₀ (segmentRowLength * before .segments) (rowBy place (p .fields) (p .location .count) (boxOf (p .header)) source) t
   pub joins : Joins f list (before .segments) (before .sources) n₀ l₀ source n l
   pub sizes : (ss : List Segment) (s : Segment) → source ≡ s .source → s .source < sources → Holds z₀ ss → p .fields .flags ≡ s .flags → p .location .count ≡ length (s .chunks)
       → end ≡ endOf s

@@ -17,6 +17,7 @@ use sources::lists::clear_lists;
 use sources::numbers::ALL_SOURCES;
 use sources::numbers::clear_sources;
 use surls::body::Body;
+use surls::first::has_surl;
 use tallying::find::NO_BOX;
 ghost use Prim.Native.Nat.{ℕ};
 ghost use mathlib.Core.List.{List, []};
@@ -43,8 +44,8 @@ fn clear_tables(
     clear_lists(lists);
 }
 
-// Judges the segments of a file, which is mixed or not and whose `pfil` has its list of URLs in that container, in their
-// order, and puts their rows and the numbers or the rows of their chunks into the tables that have room for them all.
+// Judges the segments of a file, which is mixed or not and whose `pfil` has its list of URLs, if any, in that container,
+// in their order, and puts their rows and the numbers or the rows of their chunks into the tables that have room for them all.
 // What their ends say, their sources and where the lists of these stand go into the caller's own tables, which may hold
 // anything after a refusal.
 pub fn pass(
@@ -62,6 +63,7 @@ pub fn pass(
         → Gathers (now (file .entry)) h numbered (now (segments .entry)) (now (segments .exit)) (now (chunks .entry)) (now (chunks .exit))
         (now (sizes .exit)) (now (sources .exit)) (now (lists .exit)) r) ⌝ }
 {
+    let in_pfil = has_surl(file, list);
     let mut tops = [NO_TOP; TOPS];
     tops_of(file, &mut tops);
     clear_tables(sizes, sources, lists);
@@ -79,6 +81,7 @@ pub fn pass(
                         &tops,
                         mixed,
                         list,
+                        in_pfil,
                         b,
                         gathered,
                         last,

@@ -39,7 +39,7 @@ pub(crate) fn put_chunk(
 }
 
 // Writes the row of a segment behind so many others: the place of its box, the fields of its `pshd`, the number of its
-// chunks, and the place and the length of the body of its `pshd`.
+// chunks, the place and the length of the body of its `pshd`, and the number of its source.
 pub(crate) fn put_segment(
     table: &mut [u64],
     before: u64,
@@ -47,9 +47,10 @@ pub(crate) fn put_segment(
     fields: Fields,
     count: u64,
     header: Framed,
+    source: u64,
 )
     requires { ⌜ (before ≤ boxLimit) × (header .body .0 ≤ header .end .0) ⌝ }
-    ensures { λ _. ⌜ Put (now (table .entry)) (segmentRowLength * before) (rowBy (place .0) fields count (boxOf header)) (now (table .exit)) ⌝ }
+    ensures { λ _. ⌜ Put (now (table .entry)) (segmentRowLength * before) (rowBy (place .0) fields count (boxOf header) source) (now (table .exit)) ⌝ }
 {
     let body = header.body;
     let end = header.end;
@@ -61,6 +62,7 @@ pub(crate) fn put_segment(
         count,
         body.0,
         end.0 - body.0,
+        source,
     ];
     put_row(table, (SEGMENT_ROW * before) as usize, &row);
 }

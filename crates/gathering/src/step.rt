@@ -1,4 +1,4 @@
-// The step of reading: one segment beside those before it, refusals 14 to 24.
+// The step of reading: one segment beside those before it, refusals 14 to 24 and 41.
 use crate::chunks::ChunksRead;
 use crate::chunks::chunks_of;
 use crate::gathered::Gathered;
@@ -8,6 +8,7 @@ use crate::parts::PartsRead;
 use crate::parts::parts_of;
 use crate::rows::put_segment;
 use boxes::framing::Framed;
+use boxes::kinds::Container;
 use ends::table::ALL_SIZES;
 use numerals::place::Place;
 use partial::limits::CHUNK_LIMIT;
@@ -24,13 +25,14 @@ use surls::body::Body;
 ghost use Prim.Native.Nat.{_+_, _≤_};
 ghost use mathlib.Core.List.{List};
 ghost use mathlib.Core.Path.{_≡_};
+ghost use lib.ListN.{length};
 ghost use Rattle.boxes.specs.Framing.{boxLimit, boxOf};
 ghost use Rattle.partial.specs.Heading.{Heading};
 ghost use Rattle.partial.specs.Limits.{chunkLimit};
 ghost use Rattle.partial.specs.Segments.{Segment};
 ghost use Rattle.segment.specs.Data.{Searched};
 ghost use Rattle.segment.specs.Tops.{Tops};
-ghost use Rattle.gathering.specs.Step.{Entered, Beside, Counted, Segmented};
+ghost use Rattle.gathering.specs.Step.{chosenList, Entered, Beside, Counted, Segmented};
 
 // What is gathered with one segment more, and the data box that held the last chunk; or the number of a refusal.
 pub enum SegmentRead {
@@ -59,19 +61,44 @@ fn put_read(
     let fields = p.fields;
     let header = p.header;
     let count = p.location.count;
-    put_segment(segments, before.segments, place, fields, count, header);
     let source = join(file, list, before.segments, before.sources, sources, lists);
+    put_segment(
+        segments,
+        before.segments,
+        place,
+        fields,
+        count,
+        header,
+        source,
+    );
     add_end(sizes, source, fields.flags, count, end);
     before.with(count, source, p.indexed)
 }
 
-// The segment of a `pseg` box, beside what was gathered before it, by the table of the file's boxes. It has no list of
-// URLs of its own, so its list is that in `pfil`.
+// Where the list of URLs of a segment stands: in its own box, or in `pfil` where it has none.
+fn list_of(b: Framed, own: bool, in_pfil: Body) -> Body
+    ensures { λ r. ⌜ r ≡ chosenList b own in_pfil ⌝ }
+{
+    if own {
+        let start = b.body;
+        let end = b.end;
+        return Body {
+            container: Container::Pseg,
+            start,
+            end,
+        };
+    }
+    in_pfil
+}
+
+// The segment of a `pseg` box, beside what was gathered before it, by the table of the file's boxes. In `pfil` a list of
+// URLs stands in that container, or none.
 pub(crate) fn segment_of(
     file: &[u8],
     tops: &[u32; TOPS],
     mixed: bool,
     list: Body,
+    in_pfil: bool,
     b: Framed,
     before: Gathered,
     last: Framed,
@@ -82,15 +109,15 @@ pub(crate) fn segment_of(
     sources: &mut [u64; ALL_SOURCES],
     lists: &mut [u64; ALL_LISTS],
 ) -> SegmentRead
-    requires { ⌜ (before .segments ≤ boxLimit) × (before .chunks ≤ chunkLimit) ⌝ }
+    requires { ⌜ (before .segments ≤ boxLimit) × (before .chunks ≤ chunkLimit) × (b .end .0 ≤ length (now file)) ⌝ }
     ensures { λ r. ⌜ Counted before r × ((h : Heading) (ss : List Segment) → mixed ≡ h .mixed
         → Searched (now (file .entry)) (boxOf last) (h .boxes) → Tops (h .boxes) (now (tops .entry))
-        → Beside (now (file .entry)) h list before (now (sizes .entry)) (now (sources .entry)) (now (lists .entry)) ss
+        → Beside (now (file .entry)) h list in_pfil before (now (sizes .entry)) (now (sources .entry)) (now (lists .entry)) ss
         → Segmented (now (file .entry)) h ss (boxOf b) numbered (now (segments .entry)) (now (segments .exit))
         (now (chunks .entry)) (now (chunks .exit)) (now (sizes .exit)) (now (sources .exit)) (now (lists .exit)) r) ⌝ }
 {
     let place = b.at;
-    match parts_of(file, b) {
+    match parts_of(file, b, in_pfil) {
         PartsRead::Refused(n) => SegmentRead::Refused(n),
         PartsRead::Given(p) => {
             let fields = p.fields;
@@ -112,7 +139,7 @@ pub(crate) fn segment_of(
                     let held = cursor.last;
                     let gathered = put_read(
                         file,
-                        list,
+                        list_of(b, p.listed, list),
                         before,
                         place,
                         p,

@@ -2,7 +2,7 @@
 -- container has the URLs of texts is determined where it lies in the file and its boxes are known, and the source of an
 -- addition where the lists of the file are.
 use Prim.Native.Nat.{_≤_}
-use mathlib.Core.List.{List}
+use mathlib.Core.List.{List, []}
 use mathlib.Core.Path.{_≡_, sym, _∙_}
 use denote.Ref.{now}
 use lib.ListN.{length}
@@ -15,6 +15,7 @@ use Rattle.partial.specs.Segments.{Segment}
 use Rattle.partial.specs.Sources.{sourceCount}
 use Rattle.sources.specs.Held.{Stands, ListsHeld}
 use Rattle.going.proofs.source.goes_to.Reads as goes-to
+use Rattle.going.proofs.source.has_list.Reads as has-list
 use Rattle.going.proofs.source.source_for.Reads as source-for
 use Rattle.going.proofs.texts.same_texts.Reads as same-texts
 
@@ -31,3 +32,6 @@ source-for-result κs args (h, ss, bs) (count, numbered, held, stands) x y after
 
 goes-to-result : OneKnown goes-to.Post (λ κs args (bs : List Box). Stands (now (args .0)) (args .1 .0) bs)
 goes-to-result κs args bs stands x y after after′ p q = p bs stands ∙ sym (q bs stands)
+
+has-list-result : OneKnown has-list.Post (λ κs args (bs : List Box). Stands (now (args .0)) (args .1 .0) bs)
+has-list-result κs args bs stands x y after after′ p q = p [] bs stands ∙ sym (q [] bs stands)

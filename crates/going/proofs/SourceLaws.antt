@@ -12,10 +12,11 @@ use Rattle.partial.specs.Heading.{Heading, urlsIn}
 use Rattle.partial.specs.ReadingDemands.{Numbered}
 use Rattle.partial.specs.Segments.{Segment}
 use Rattle.partial.specs.Sources.{urlsFor, sameUrls, sourceBeside, ofSource, ofUrls}
+use Rattle.partial.specs.Texts.{listBoxes}
 use Rattle.partial.proofs.Meaning.SameLaws.{urls-equal, urls-same}
 use Rattle.partial.proofs.Meaning.SourceLaws.{member-of, beside-there, of-urls-member}
 use Rattle.surls.specs.declared.body.Body.{Body}
-use Rattle.sources.specs.Held.{listBoxes, Stands, ListHeld}
+use Rattle.sources.specs.Held.{Stands, ListHeld}
 use Rattle.going.specs.Texts.{urlsOf}
 
 module _ (f : List ℕ) (h : Heading) (ss : List Segment) (numbered : Numbered ss) (us : List (List ℕ)) {n : ℕ} {list : Body} (held : ListHeld f h ss n list) {one : Body} {r : Bool}
@@ -52,3 +53,9 @@ unfolding urlsFor surlsOf
 some-urls texts [] us some = absurd (omega arith)
 some-urls texts (n ∷ []) us some = absurd (omega arith)
 some-urls texts (n ∷ m ∷ rest) us some = refl
+
+pub any-urls : (texts lengths : List ℕ) (us : List (List ℕ)) → 2 ≤ length lengths → 0 < length (urlsFor (urlsOf texts lengths) us)
+unfolding urlsFor surlsOf
+any-urls texts [] us some = absurd (omega arith)
+any-urls texts (n ∷ []) us some = absurd (omega arith)
+any-urls texts (n ∷ m ∷ rest) us some = omega arith

@@ -4,6 +4,8 @@ use Prim.Native.Nat.{ℕ}
 use mathlib.Core.Bool.{Bool}
 use mathlib.Core.List.{List}
 use mathlib.Core.Path.{_≡_}
+use lib.Dec.{ltb}
+use lib.ListN.{length}
 use Rattle.boxes.specs.Framing.{Box}
 use Rattle.partial.specs.Heading.{Heading, urlsIn}
 use Rattle.partial.specs.ReadingDemands.{Numbered}
@@ -27,3 +29,7 @@ SourceFor f lists many list texts lengths source =
 -- whether they go to the source of that list
 abbrev pub GoesTo : List ℕ → Body → List ℕ → List ℕ → Bool → Type 0
 GoesTo f list texts lengths own = (bs : List Box) → Stands f list bs → own ≡ sameUrls (urlsIn f bs) (urlsFor (urlsOf texts lengths) (urlsIn f bs))
+
+-- whether an addition with texts of these lengths has a list of URLs: its own, or that in a container
+abbrev pub HasList : List ℕ → Body → List ℕ → Bool → Type 0
+HasList f list lengths listed = (texts : List ℕ) (bs : List Box) → Stands f list bs → listed ≡ ltb 0 (length (urlsFor (urlsOf texts lengths) (urlsIn f bs)))

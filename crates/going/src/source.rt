@@ -4,7 +4,8 @@ use sources::find::source_of;
 use sources::lists::ALL_LISTS;
 use sources::lists::list_at;
 use surls::body::Body;
-ghost use Rattle.going.specs.Source.{SourceWith, SourceFor, GoesTo};
+use surls::first::has_surl;
+ghost use Rattle.going.specs.Source.{SourceWith, SourceFor, GoesTo, HasList};
 
 // The number of the source whose URLs are those of the texts, beside segments of so many sources: that of a source with
 // the same list, or the next one.
@@ -52,4 +53,15 @@ pub fn goes_to(file: &[u8], list: Body, texts: &[u8], lengths: &[u64]) -> bool
         return true;
     }
     same_texts(file, list, texts, lengths)
+}
+
+// Whether an addition with texts of these lengths has a list of URLs: its own, or that in a container.
+pub fn has_list(file: &[u8], list: Body, lengths: &[u64]) -> bool
+    ensures { λ r. ⌜ HasList (now (file .entry)) list (now (lengths .entry)) r ⌝ }
+{
+    if 2 <= lengths.len() {
+        true
+    } else {
+        has_surl(file, list)
+    }
 }

@@ -7,13 +7,14 @@ use borrow.Author.Tests.{le-leb, lt-leb}
 use lib.ListN.{length}
 use Rattle.boxes.specs.Answer.{refused, given}
 use Rattle.boxes.specs.Framing.{Box, boxesIn, boxOf}
-use Rattle.boxes.specs.Kinds.{surl, pseg, those, boxAt, firstOf}
+use Rattle.boxes.specs.Kinds.{pseg, those, boxAt}
 use Rattle.boxes.specs.declared.framing.Framed.{Framed}
 use Rattle.boxes.specs.declared.kinds.Container.the-variants.{File, Pfil}
 use Rattle.boxes.proofs.ToldLaws.{box-fields}
 use Rattle.partial.specs.Limits.{fileLimit}
 use Rattle.partial.specs.Heading.{ftypRight, brandRight, pfilRight, pfhdRight, surlRight, url, mime, urlsIn, fileBoxes, judged, heading}
 use Rattle.partial.specs.Index.{hasIndex}
+use Rattle.partial.specs.Tables.{firstText}
 use Rattle.surls.specs.Parts.{partOf}
 use Rattle.heading.specs.declared.answers.Head.{Head}
 use Rattle.heading.specs.declared.answers.Headed.the-variants.{Found}
@@ -77,8 +78,8 @@ module _ (f : List ℕ) where
   pub found-told : (bs is : List Box) (h : Head) → h .boxes ≡ length bs → h .segments ≡ length (those pseg bs)
       → h .indexed ≡ hasIndex is
       → h .list ≡ pfilBody bs
-      → partOf (h .url) ≡ url f (firstOf surl is)
-      → partOf (h .mime) ≡ mime f (firstOf surl is)
+      → partOf (h .url) ≡ firstText url f is
+      → partOf (h .mime) ≡ firstText mime f is
       → headedAnswer (Found h) ≡ given (factsOf f (record { boxes = bs; inner = is; urls = urlsIn f is; mixed = h .mixed }))
   unfolding headedAnswer factsOf
   found-told bs is h boxes segments indexed list url mime =

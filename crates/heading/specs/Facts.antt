@@ -5,10 +5,11 @@ use mathlib.Core.List.{List}
 use lib.ListN.{length}
 use Rattle.boxes.specs.Answer.{Answer, refused, given, _>>=_}
 use Rattle.boxes.specs.Framing.{Box}
-use Rattle.boxes.specs.Kinds.{surl, pseg, those, boxAt, firstOf}
+use Rattle.boxes.specs.Kinds.{pseg, those, boxAt}
 use Rattle.boxes.specs.declared.kinds.Container.the-variants.{Pfil}
 use Rattle.partial.specs.Heading.{Part, Heading, url, mime}
 use Rattle.partial.specs.Index.{hasIndex}
+use Rattle.partial.specs.Tables.{firstText}
 use Rattle.surls.specs.Parts.{partOf}
 use Rattle.surls.specs.declared.body.Body.{Body}
 use Rattle.heading.specs.declared.answers.Head.{Head}
@@ -16,7 +17,7 @@ use Rattle.heading.specs.declared.answers.Headed.{Headed}
 use Rattle.heading.specs.declared.answers.Headed.the-variants.{Refused, Found}
 
 -- how many boxes the file has, how many of them are `pseg`, whether it is mixed, whether its `pfil` has an index, where
--- the list of URLs in `pfil` stands, and the URL and the MIME text of the first `surl`
+-- the list of URLs in `pfil` stands, and the URL and the MIME text of the first `surl` there
 pub record Facts : Type 0 where
   pub boxes : ℕ
   pub segments : ℕ
@@ -32,15 +33,14 @@ pfilBody bs = record { container = Pfil; start = record { 0 = boxAt 1 bs .body }
 
 unfoldable pub factsOf : List ℕ → Heading → Facts
 factsOf f h =
-    let first = firstOf surl (h .inner) in
     record {
       boxes = length (h .boxes);
       segments = length (those pseg (h .boxes));
       mixed = h .mixed;
       indexed = hasIndex (h .inner);
       list = pfilBody (h .boxes);
-      url = url f first;
-      mime = mime f first;
+      url = firstText url f (h .inner);
+      mime = firstText mime f (h .inner);
     }
 
 -- what is told of a heading, or its refusal

@@ -7,29 +7,25 @@ use boxes::kinds::FIDX;
 use boxes::kinds::PFHD;
 use boxes::kinds::PFIL;
 use boxes::kinds::PSEG;
-use boxes::kinds::SURL;
 use numerals::numbers::unsigned;
-use numerals::place::Place;
 use partial::refusals::PFHD_WRONG;
 use partial::refusals::SURL_WRONG;
 use surls::body::Body;
+use surls::first::Text;
+use surls::first::first_text;
 use surls::formed::surls_formed;
-use surls::texts::mime_of;
-use surls::texts::url_of;
 use tallying::counting::tally;
 use tallying::find::first_of;
 use tallying::rules::keeps;
 use tallying::tally::Tally;
-ghost use Prim.Native.Nat.{_≤_};
 ghost use mathlib.Core.List.{List};
 ghost use mathlib.Core.Path.{_≡_};
 ghost use lib.ListN.{length};
 ghost use Rattle.boxes.specs.Answer.{given};
-ghost use Rattle.boxes.specs.Framing.{Box, boxesIn, boxOf};
+ghost use Rattle.boxes.specs.Framing.{Box, boxOf};
 ghost use Rattle.boxes.specs.Kinds.{pfhd, boxAt, firstOf};
-ghost use Rattle.boxes.specs.declared.kinds.Container.the-variants.{Pfil};
 ghost use Rattle.tallying.specs.Rules.{tallyOf};
-ghost use Rattle.partial.specs.Heading.{pfilRight, pfhdFormed, pfhdRight, surlRight, judged};
+ghost use Rattle.partial.specs.Heading.{pfilRight, pfhdFormed, pfhdRight, judged};
 ghost use Rattle.heading.specs.Facts.{told, headedAnswer};
 ghost use Rattle.surls.specs.Parts.{Within};
 ghost use Rattle.heading.specs.Steps.{Fronted};
@@ -67,17 +63,6 @@ fn pfhd_right(file: &[u8], b: Framed, inner: Tally) -> bool
     pfhd_formed(file, b)
 }
 
-// Whether `pfil` has one `surl` or more, each well-formed.
-fn surl_right(file: &[u8], start: Place, end: Place, inner: Tally) -> bool
-    requires { ⌜ end .0 ≤ length (now file) ⌝ }
-    ensures { λ r. ⌜ ((bs : List Box) → inner ≡ tallyOf (given bs) → boxesIn Pfil (now (file .entry)) (start .0) (end .0) ≡ given bs → r ≡ surlRight (now (file .entry)) bs) ⌝ }
-{
-    if !keeps(Container::Pfil, SURL, inner.of(SURL)) {
-        return false;
-    }
-    surls_formed(file, Container::Pfil, start, end)
-}
-
 // What the heading tells of a file that passed stages 1 to 9, or the refusal that its `pfil` has.
 pub(crate) fn inner_of(file: &[u8], b: Framed, boxes: Tally, mixed: bool) -> Headed
     requires { ⌜ Within (length (now file)) b ⌝ }
@@ -98,21 +83,21 @@ pub(crate) fn inner_of(file: &[u8], b: Framed, boxes: Tally, mixed: bool) -> Hea
     ) {
         return Headed::Refused(PFHD_WRONG);
     }
-    if !surl_right(file, start, end, inner) {
+    if !surls_formed(file, Container::Pfil, start, end) {
         return Headed::Refused(SURL_WRONG);
     }
-    let first = first_of(file, Container::Pfil, SURL, start, end);
+    let list = Body {
+        container: Container::Pfil,
+        start,
+        end,
+    };
     Headed::Found(Head {
         boxes: boxes.boxes,
         segments: boxes.of(PSEG),
         mixed,
         indexed: inner.of(FIDX) != 0,
-        list: Body {
-            container: Container::Pfil,
-            start,
-            end,
-        },
-        url: url_of(file, first),
-        mime: mime_of(file, first),
+        list,
+        url: first_text(file, list, Text::Url),
+        mime: first_text(file, list, Text::Mime),
     })
 }

@@ -55,14 +55,14 @@ put-lists-missing κs args _ (o, room) x y after after′ p q = one-list room (p
 list-result : OneResult list.Post
 list-result κs args x y after after′ p q = listed-told x y (p .answer ∙ sym (q .answer))
 
-list-segments : OneLeft list.Post (λ κs after. now (after .1 .0))
+list-segments : OneLeft list.Post (λ κs after. now (after .1 .1 .0))
 list-segments κs args x y after after′ p q = p .tables .segmentTable ∙ sym (q .tables .segmentTable)
 
-list-chunks : OneLeft list.Post (λ κs after. now (after .1 .1 .0))
+list-chunks : OneLeft list.Post (λ κs after. now (after .1 .1 .1 .0))
 list-chunks κs args x y after after′ p q = p .tables .chunkTable ∙ sym (q .tables .chunkTable)
 
-list-had : OneLeft list.Post (λ κs after. now (after .1 .1 .1 .0))
+list-had : OneLeft list.Post (λ κs after. now (after .1 .1 .1 .1 .0))
 list-had κs args x y after after′ p q = p .hadTable ∙ sym (q .hadTable)
 
-list-missing : OneLeft list.Post (λ κs after. now (after .1 .1 .1 .1 .0))
+list-missing : OneLeft list.Post (λ κs after. now (after .1 .1 .1 .1 .1 .0))
 list-missing κs args x y after after′ p q = p .missingTable ∙ sym (q .missingTable)

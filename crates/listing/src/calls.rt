@@ -2,7 +2,6 @@
 use crate::lists::Totals;
 use crate::lists::put_lists;
 use ends::table::ALL_SIZES;
-use ends::table::ONE_SOURCE;
 use ends::table::sizes_at;
 use fields::state::GOOD;
 use filling::rows::put_row;
@@ -117,7 +116,7 @@ fn list_kept(
 
 // Lists the ranges of positions that a source of a file has and of those that are missing, and reads the file into both
 // tables. After a refusal all four are as they were.
-fn list_source(
+pub fn list(
     file: &[u8],
     source: u64,
     segments: &mut [u64],
@@ -166,18 +165,4 @@ fn list_source(
             )
         }
     }
-}
-
-// The same of the one source that a file has.
-pub fn list(
-    file: &[u8],
-    segments: &mut [u64],
-    chunks: &mut [u64],
-    had: &mut [u64],
-    missing: &mut [u64],
-) -> Listed
-    ensures { λ r. ⌜ Listing (now (file .entry)) 0 (now (segments .entry)) (now (segments .exit)) (now (chunks .entry))
-        (now (chunks .exit)) (now (had .entry)) (now (had .exit)) (now (missing .entry)) (now (missing .exit)) r ⌝ }
-{
-    list_source(file, ONE_SOURCE, segments, chunks, had, missing)
 }

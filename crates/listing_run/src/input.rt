@@ -1,6 +1,7 @@
-// The records of standard input. Seven numbers of two bytes, most significant first: the length of the name, the length
+// The records of standard input. Eight numbers of two bytes, most significant first: the length of the name, the length
 // of the file, the numbers lent for segment rows, for chunk rows, for the list of what is had and for that of what is
-// missing, and how many positions are asked. Then the name, the file, and the positions, eight bytes each.
+// missing, how many positions are asked, and the number of a source. Then the name, the file, and the positions, eight
+// bytes each.
 use crate::lent;
 use crate::lent::Rooms;
 use libc::STDIN_FILENO;
@@ -17,6 +18,7 @@ enum Head {
         file: usize,
         rooms: Rooms,
         positions: usize,
+        source: usize,
     },
 }
 
@@ -29,17 +31,18 @@ pub fn record() -> bool {
             file,
             rooms,
             positions,
+            source,
         } => {
             records::name(name);
-            answers(file, rooms, positions);
+            answers(file, source as u64, rooms, positions);
             true
         }
     }
 }
 
 fn next() -> Head {
-    let mut bytes = [0u8; 14];
-    if io::read_full(STDIN_FILENO, &mut bytes) < 14 {
+    let mut bytes = [0u8; 16];
+    if io::read_full(STDIN_FILENO, &mut bytes) < 16 {
         return Head::End;
     }
     let rooms = Rooms {
@@ -53,30 +56,31 @@ fn next() -> Head {
         file: pair(bytes[2], bytes[3]),
         rooms,
         positions: pair(bytes[12], bytes[13]),
+        source: pair(bytes[14], bytes[15]),
     }
 }
 
-fn answers(length: usize, rooms: Rooms, positions: usize) {
+fn answers(length: usize, source: u64, rooms: Rooms, positions: usize) {
     let mut space = io::large_buffer();
-    file_in(&mut space, length, rooms, positions);
+    file_in(&mut space, length, source, rooms, positions);
 }
 
-fn file_in(space: &mut [u8], length: usize, rooms: Rooms, positions: usize) {
+fn file_in(space: &mut [u8], length: usize, source: u64, rooms: Rooms, positions: usize) {
     if length <= space.len() {
         let file = &mut space[0..length];
         io::read_full(STDIN_FILENO, file);
-        lent::listed(file, rooms);
-        asked(file, rooms, positions);
+        lent::listed(file, source, rooms);
+        asked(file, source, rooms, positions);
     }
 }
 
-// Takes so many positions, and asks of each and has it served.
-fn asked(file: &[u8], rooms: Rooms, positions: usize) {
+// Takes so many positions of the source, and asks of each and has it served.
+fn asked(file: &[u8], source: u64, rooms: Rooms, positions: usize) {
     let mut left = positions;
     while left > 0 {
         let p = Position(eight());
-        lent::asked(file, rooms, p);
-        lent::served(file, rooms, p);
+        lent::asked(file, source, rooms, p);
+        lent::served(file, source, rooms, p);
         left -= 1;
     }
 }

@@ -14,14 +14,14 @@ pub struct Rooms {
     pub missing: usize,
 }
 
-// Lists a file. The tables and lists are parts of the longest that a file can fill; a record that asks for longer ones
+// Lists a source of a file. The tables and lists are parts of the longest that a file can fill; a record that asks for longer ones
 // has no answer.
-pub fn listed(file: &[u8], rooms: Rooms) {
+pub fn listed(file: &[u8], source: u64, rooms: Rooms) {
     let segments = rooms.segments;
     let chunks = rooms.chunks;
     let had = rooms.had;
     let missing = rooms.missing;
-    let mut segment_space = [0u64; 448];
+    let mut segment_space = [0u64; 512];
     let mut chunk_space = [0u64; 6144];
     let mut had_space = [0u64; 2050];
     let mut missing_space = [0u64; 2050];
@@ -32,6 +32,7 @@ pub fn listed(file: &[u8], rooms: Rooms) {
     {
         listed_in(
             file,
+            source,
             &mut segment_space[0..segments],
             &mut chunk_space[0..chunks],
             &mut had_space[0..had],
@@ -42,6 +43,7 @@ pub fn listed(file: &[u8], rooms: Rooms) {
 
 fn listed_in(
     file: &[u8],
+    source: u64,
     segments: &mut [u64],
     chunks: &mut [u64],
     had: &mut [u64],
@@ -51,21 +53,22 @@ fn listed_in(
     mark(chunks);
     mark(had);
     mark(missing);
-    let answer = list(file, segments, chunks, had, missing);
+    let answer = list(file, source, segments, chunks, had, missing);
     report::listed(answer, had, missing);
     report::table(b"segments", segments);
     report::table(b"chunks", chunks);
 }
 
 // Asks of a position.
-pub fn asked(file: &[u8], rooms: Rooms, p: Position) {
+pub fn asked(file: &[u8], source: u64, rooms: Rooms, p: Position) {
     let segments = rooms.segments;
     let chunks = rooms.chunks;
-    let mut segment_space = [0u64; 448];
+    let mut segment_space = [0u64; 512];
     let mut chunk_space = [0u64; 6144];
     if segments <= segment_space.len() && chunks <= chunk_space.len() {
         asked_in(
             file,
+            source,
             &mut segment_space[0..segments],
             &mut chunk_space[0..chunks],
             p,
@@ -73,23 +76,24 @@ pub fn asked(file: &[u8], rooms: Rooms, p: Position) {
     }
 }
 
-fn asked_in(file: &[u8], segments: &mut [u64], chunks: &mut [u64], p: Position) {
+fn asked_in(file: &[u8], source: u64, segments: &mut [u64], chunks: &mut [u64], p: Position) {
     mark(segments);
     mark(chunks);
-    let answer = ask(file, segments, chunks, p);
+    let answer = ask(file, source, segments, chunks, p);
     report::asked(p, answer);
     report::tables(segments, chunks);
 }
 
 // Has a position served.
-pub fn served(file: &[u8], rooms: Rooms, p: Position) {
+pub fn served(file: &[u8], source: u64, rooms: Rooms, p: Position) {
     let segments = rooms.segments;
     let chunks = rooms.chunks;
-    let mut segment_space = [0u64; 448];
+    let mut segment_space = [0u64; 512];
     let mut chunk_space = [0u64; 6144];
     if segments <= segment_space.len() && chunks <= chunk_space.len() {
         served_in(
             file,
+            source,
             &mut segment_space[0..segments],
             &mut chunk_space[0..chunks],
             p,
@@ -97,10 +101,10 @@ pub fn served(file: &[u8], rooms: Rooms, p: Position) {
     }
 }
 
-fn served_in(file: &[u8], segments: &mut [u64], chunks: &mut [u64], p: Position) {
+fn served_in(file: &[u8], source: u64, segments: &mut [u64], chunks: &mut [u64], p: Position) {
     mark(segments);
     mark(chunks);
-    let part = serve(file, segments, chunks, p);
+    let part = serve(file, source, segments, chunks, p);
     report::served(p, part);
     report::tables(segments, chunks);
 }

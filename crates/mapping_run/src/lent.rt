@@ -4,6 +4,7 @@ use mapping::call::map;
 use mapping::call::missmap;
 use partial::answers::Written;
 use partial::limits::PROGRAM_LIMIT;
+use printing::lines::rest_bytes;
 use printing::lines::text;
 use printing::marks::mark_bytes;
 ghost use Prim.Native.Nat.{ℕ, _≤_};
@@ -38,12 +39,12 @@ fn written(answer: Written, buffer: &[u8])
     match answer {
         Written::Refused(n) => {
             report::answer(b"refused", n);
-            report::rest(buffer, 0);
+            rest_bytes(buffer, 0);
         }
         Written::Length(n) => {
             report::answer(b"length", n);
             text(&buffer[..n as usize]);
-            report::rest(buffer, n as usize);
+            rest_bytes(buffer, n as usize);
         }
     }
 }

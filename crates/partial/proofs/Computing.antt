@@ -15,6 +15,7 @@ use Rattle.partial.specs.Ranges
 use Rattle.partial.specs.Naming
 use Rattle.partial.specs.Memory
 use Rattle.partial.specs.Tables
+use Rattle.partial.specs.Texts
 use Rattle.partial.specs.Map
 use Rattle.partial.specs.BoxList
 
@@ -48,7 +49,8 @@ unfolding
     Memory.fits Memory.filled Memory.after Memory.textWritten
     Tables.segmentRow Tables.segmentRows Tables.chunkRow Tables.chunkRowsOf Tables.chunkRowsFrom Tables.chunkRows Tables.rangeRows
     Tables.hadRows Tables.missingRows Tables.tabled Tables.listed Tables.summary Tables.totals Tables.nowhere
-    Tables.partOf Tables.servedPart Tables.asked Tables.textOf Tables.indexTabled
+    Tables.partOf Tables.servedPart Tables.asked Tables.firstText Tables.textOf Tables.indexTabled
+    Texts.listBoxes Texts.sourceText Texts.sourceTextOf Texts.surlsIn Texts.textsFor Texts.lengthsFor Texts.segmentSurls Texts.textsTabled
     Naming.damagedAt Naming.namedClass Naming.namedRanges Naming.heldList Naming.lostList
     Map.ascii Map.decimal Map.line Map.refusedLine Map.sourceLine Map.rangeLine Map.rangeLines Map.totalLine Map.mapWord Map.sourceMap Map.missWord Map.sourceMissmap
     Map.eachSource Map.perSource Map.mapOf Map.missmapOf

@@ -4,12 +4,13 @@ use Rattle.partial.specs.Limits.{sourceLimit, programBuffer}
 use Rattle.partial.specs.Map.{mapOf, missmapOf}
 use Rattle.partial.specs.ReadingDemands.{NeverShort, Demand2OfReading}
 use Rattle.partial.proofs.Meaning.AskedLaws.{answered, absent}
-use Rattle.partial.proofs.Reading.AgreementReadLaws.{agrees, disagrees, index-refused}
+use Rattle.partial.proofs.Reading.AgreementReadLaws.{agrees, disagrees, ninth-source, index-refused}
+use Rattle.partial.proofs.Reading.RefusalLaws.{no-41}
 use Rattle.partial.proofs.Reading.IndexingLaws.{indexing}
 use Rattle.partial.proofs.Reading.PartLaws.{part-empty}
 use Rattle.partial.proofs.Reading.PrintedLaws.{printed}
 use Rattle.partial.proofs.Reading.NumberedLaws.{reading-numbered}
-use Rattle.partial.proofs.Reading.OneSourceLaws.{one-source}
+use Rattle.partial.proofs.Reading.OneSourceLaws.{listed, one-source}
 use Rattle.partial.proofs.Reading.ReadingLaws.{mapped-of}
 use Rattle.partial.proofs.Reading.TextLengthLaws.{never-short, map-fits, missmap-fits}
 
@@ -18,11 +19,14 @@ demand2-of-reading limit =
     record {
       numbered = λ f ss read. reading-numbered limit f read;
       mapped = λ f h ss head read. mapped-of limit f head read;
+      listed = λ f h ss head read. listed limit f head read;
       oneSource = λ f ss read. one-source limit f read;
+      no41 = λ f h head. no-41 limit f head;
       absent = absent;
       answered = answered;
       agrees = agrees limit;
       disagrees = disagrees limit;
+      ninthSource = ninth-source limit;
       indexRefused = index-refused limit;
       indexing = λ f h ss is _ _ e. indexing limit f h ss is e;
       partEmpty = part-empty limit;

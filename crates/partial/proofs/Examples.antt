@@ -8,6 +8,7 @@ use Rattle.partial.specs.Segments.{Segment}
 use Rattle.partial.specs.Map.{refusedLine, ascii}
 use Rattle.partial.specs.Examples.{table, AsThePaperSays, AtTheProgramLimit}
 use Rattle.partial.specs.IndexExamples.{IndexAsThePaperSays}
+use Rattle.partial.specs.SourceExamples.{SourcesAsThePaperSays}
 use Rattle.partial.proofs.Computing.{computing}
 use Rattle.partial.proofs.Reading.PrintedLaws.{printed}
 
@@ -18,6 +19,10 @@ as-the-paper-says = refl
 index-as-the-paper-says : IndexAsThePaperSays
 unfolding computing
 index-as-the-paper-says = refl
+
+sources-as-the-paper-says : SourcesAsThePaperSays
+unfolding computing
+sources-as-the-paper-says = refl
 
 refused-27 : refusedLine 27 ≡ ascii "refused\t27\n"
 unfolding computing

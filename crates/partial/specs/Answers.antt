@@ -15,11 +15,12 @@ use Rattle.partial.specs.declared.answers.Written.the-variants as Writte
 use Rattle.partial.specs.Meaning.{Reply, servedFor, missingFor, notBelow}
 use Rattle.partial.specs.Tables.{Summary, Totals}
 
--- reading: how many rows each table has, the described length, whether the size is known
+-- reading: how many rows each table has, how many sources there are, the described length of one, whether its size is
+-- known
 unfoldable pub readAnswer : Read → Answer Summary
 readAnswer (Read.Refused n) = refused n
-readAnswer (Read.Tables segments chunks described closed) =
-    given (record { segments = segments; chunks = chunks; described = described .0; closed = closed })
+readAnswer (Read.Tables segments chunks sources described closed) =
+    given (record { segments = segments; chunks = chunks; sources = sources; described = described .0; closed = closed })
 
 -- asking: served or missing, for how many positions, or not below the described length
 unfoldable pub askedAnswer : Asked → Answer Reply

@@ -216,18 +216,18 @@ rowsIn m n =
 abbrev rowsFit : Example
 rowsFit =
     record {
-      defined = rowsIn 14 18 ++ rowsIn 15 19;
+      defined = rowsIn 16 18 ++ rowsIn 17 19;
       paper =
           map pos
           (2 ∷ 3
-          ∷ 67 ∷ 0 ∷ 1 ∷ 0 ∷ 2 ∷ 83 ∷ 16
-          ∷ 134 ∷ 2 ∷ 0 ∷ 0 ∷ 1 ∷ 150 ∷ 16
+          ∷ 67 ∷ 0 ∷ 1 ∷ 0 ∷ 2 ∷ 83 ∷ 16 ∷ 0
+          ∷ 134 ∷ 2 ∷ 0 ∷ 0 ∷ 1 ∷ 150 ∷ 16 ∷ 0
           ∷ 0 ∷ 0 ∷ 0 ∷ 4 ∷ 2 ∷ 63
           ∷ 0 ∷ 1 ∷ 4 ∷ 6 ∷ 0 ∷ 0
           ∷ 1 ∷ 0 ∷ 2 ∷ 5 ∷ 2 ∷ 129
           ∷ 2 ∷ 3
-          ∷ 67 ∷ 0 ∷ 1 ∷ 0 ∷ 2 ∷ 83 ∷ 16
-          ∷ 134 ∷ 2 ∷ 0 ∷ 0 ∷ 1 ∷ 150 ∷ 16 ∷ 9
+          ∷ 67 ∷ 0 ∷ 1 ∷ 0 ∷ 2 ∷ 83 ∷ 16 ∷ 0
+          ∷ 134 ∷ 2 ∷ 0 ∷ 0 ∷ 1 ∷ 150 ∷ 16 ∷ 0 ∷ 9
           ∷ 0 ∷ 0 ∷ 0 ∷ 4 ∷ 2 ∷ 63
           ∷ 0 ∷ 1 ∷ 4 ∷ 6 ∷ 0 ∷ 0
           ∷ 1 ∷ 0 ∷ 2 ∷ 5 ∷ 2 ∷ 129 ∷ 9 ∷ []);
@@ -237,8 +237,8 @@ rowsFit =
 abbrev rowsShort : Example
 rowsShort =
     record {
-      defined = rowsIn 13 18 ++ rowsIn 14 17;
-      paper = map pos (26 ∷ (replicate 31 9 ++ (26 ∷ replicate 31 9)));
+      defined = rowsIn 15 18 ++ rowsIn 16 17;
+      paper = map pos (26 ∷ (replicate 33 9 ++ (26 ∷ replicate 33 9)));
     }
 
 -- a file with one such segment at 2, whose chunk of 2 is good, and data behind it

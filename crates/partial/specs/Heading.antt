@@ -1,4 +1,4 @@
--- Document 01, refusals 1 to 11: the file's boxes, `ftyp` and `pfil`. Boxes of other kinds are passed over.
+-- Document 01, refusals 1 to 11, and document 02, [8], for 11: the file's boxes, `ftyp` and `pfil`. Boxes of other kinds are passed over.
 use Prim.Native.Nat.{ℕ, zero, suc, _+_, _-_, _/_, _%_}
 use mathlib.Core.Bool.{Bool, not, _&&_, _||_}
 use mathlib.Core.List.{List, [], _∷_, map}
@@ -78,9 +78,9 @@ mime f b = text f (url f b .place + url f b .size + 1) (b .end)
 unfoldable pub surlFormed : List ℕ → Box → Bool
 surlFormed f b = leb (b .body + 4) (b .end) && eqb (number f (b .body) 4) 0 && eqb (mime f b .place + mime f b .size + 1) (b .end)
 
--- 11: one `surl` or more, each well-formed
+-- 11, and 16 in a segment: each `surl` of a container is well-formed; there may be none
 unfoldable pub surlRight : List ℕ → List Box → Bool
-surlRight f bs = right Pfil surl bs && allOf (surlFormed f) (those surl bs)
+surlRight f bs = allOf (surlFormed f) (those surl bs)
 
 -- the URLs of the `surl` boxes of a container, in their order
 unfoldable pub urlsIn : List ℕ → List Box → List (List ℕ)

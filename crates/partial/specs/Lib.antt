@@ -13,11 +13,13 @@ pub mod Ranges
 pub mod Naming
 pub mod Memory
 pub mod Tables
+pub mod Texts
 pub mod Map
 pub mod BoxList
 pub mod Answers
 pub mod Lesson
 pub mod Examples
 pub mod IndexExamples
+pub mod SourceExamples
 pub mod ReadingDemands
 pub mod ReadingRaised

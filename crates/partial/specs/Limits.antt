@@ -18,6 +18,10 @@ chunkLimit = 1_024
 abbrev pub sourceLimit : ℕ
 sourceLimit = 1_099_511_627_775
 
+-- document 02, [8], refusal 40: sources of a file
+abbrev pub layerLimit : ℕ
+layerLimit = 8
+
 -- bytes that the map program takes
 abbrev pub programLimit : ℕ
 programLimit = 65_536

@@ -1,20 +1,20 @@
--- Document 01, refusals 12 to 25, and document 02, [7], 36 to 39 after them: the segments of a file, each read beside
--- those before it.
+-- Document 01, refusals 12 to 25, and document 02, [8], 41 among them and 40 after them, and [7], 36 to 39 after that:
+-- the segments of a file, each read beside those before it.
 use Prim.Native.Nat.{ℕ, _+_, _-_}
 use mathlib.Core.Bool.{Bool, true, false, _&&_}
 use mathlib.Core.List.{List, [], _∷_, _++_}
 use lib.ListN.{length}
-use lib.Dec.{leb, eqb}
+use lib.Dec.{leb, ltb, eqb}
 use Rattle.boxes.specs.Answer.{Answer, given, _>>=_, hold}
 use Rattle.numerals.specs.Numbers.{number}
 use Rattle.boxes.specs.Framing.{Box, boxesIn}
 use Rattle.boxes.specs.declared.kinds.Container.the-variants.{File, Pseg}
-use Rattle.boxes.specs.Kinds.{pseg, pshd, ploc, surl, is, right, those, boxAt, firstOf}
-use Rattle.partial.specs.Limits.{segmentLimit, chunkLimit}
+use Rattle.boxes.specs.Kinds.{pseg, pshd, ploc, is, right, those, boxAt, firstOf}
+use Rattle.partial.specs.Limits.{segmentLimit, chunkLimit, layerLimit}
 use Rattle.partial.specs.Segments.{Segment, chunksOf}
-use Rattle.partial.specs.Heading.{Heading, heading, urlsIn}
+use Rattle.partial.specs.Heading.{Heading, heading, surlRight, urlsIn}
 use Rattle.partial.specs.Entries.{plocHead, chunksFrom}
-use Rattle.partial.specs.Sources.{urlsFor, sourceBeside, agreed}
+use Rattle.partial.specs.Sources.{urlsFor, sourceCount, sourceBeside, agreed}
 use Rattle.partial.specs.Index.{indexed}
 
 -- 5.1.4.2: the bytes of `source_byte_offset`, 32 bits in version 0 and 64 in every other
@@ -51,10 +51,11 @@ segment limit f h before b = do
   inner ← boxesIn Pseg f (b .body) (b .end)
   _ ← hold 14 (pshdRight f inner)
   _ ← hold 15 (right Pseg ploc inner)
-  _ ← hold 16 (eqb (length (those surl inner)) 0)
+  _ ← hold 16 (surlRight f inner)
+  let urls = urlsFor (urlsIn f inner) (h .urls)
+  _ ← hold 41 (ltb 0 (length urls))
   l ← plocHead f (firstOf ploc inner)
   _ ← hold 22 (leb (length (chunksOf before) + l .count) chunkLimit)
-  let urls = urlsFor (urlsIn f inner) (h .urls)
   let header = firstOf pshd inner
   let fields = pshdFields f header
   _ ← hold 23 (leb (fields .sourceOffset) limit)
@@ -80,16 +81,17 @@ segmentsFrom limit f h before (b ∷ bs) = do
   s ← segment limit f h before b
   segmentsFrom limit f h (before ++ (s ∷ [])) bs
 
--- stages 13 to 25
+-- stages 13 to 25, then 40: no ninth source
 unfoldable pub segments : ℕ → List ℕ → Heading → Answer (List Segment)
 segments limit f h = do
   let psegs = those pseg (h .boxes)
   _ ← hold 13 (leb (length psegs) segmentLimit)
   ss ← segmentsFrom limit f h [] psegs
   _ ← hold 25 (agreed ss)
+  _ ← hold 40 (leb (sourceCount ss) layerLimit)
   given ss
 
--- all stages: 1 to 25, then the index, which changes nothing of the segments
+-- all stages: 1 to 25 and 40, then the index, which changes nothing of the segments
 unfoldable pub reading : ℕ → List ℕ → Answer (List Segment)
 reading limit f = do
   h ← heading f

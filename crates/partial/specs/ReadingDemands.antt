@@ -11,12 +11,12 @@ use lib.Dec.{T, eqb}
 use Rattle.boxes.specs.Answer.{refused, given}
 use Rattle.boxes.specs.Faults.{FirstFault}
 use Rattle.boxes.specs.Framing.{Box, boxLimit, boxesIn}
-use Rattle.boxes.specs.Kinds.{pseg, pdat, is, those, boxAt}
+use Rattle.boxes.specs.Kinds.{pseg, pdat, surl, is, those, boxAt}
 use Rattle.boxes.specs.declared.kinds.Container.the-variants.{File}
-use Rattle.partial.specs.Limits.{fileLimit, segmentLimit}
+use Rattle.partial.specs.Limits.{fileLimit, segmentLimit, layerLimit}
 use Rattle.partial.specs.Sequences.{someOf, within}
 use Rattle.partial.specs.Segments.{Chunk, Segment, good, elsewhere, endOf, chunksOf}
-use Rattle.partial.specs.Heading.{Part, Heading, heading, bytesIn}
+use Rattle.partial.specs.Heading.{Part, Heading, heading, bytesIn, urlsIn}
 use Rattle.partial.specs.Mixed.{allowed}
 use Rattle.partial.specs.Meaning.{givesSize, describedLength, isClosed, covers, supplier, supplied, chunkNo, chunkFor, served, servedRun, missingRun}
 use Rattle.partial.specs.Meaning.{reply, servedFor, missingFor, notBelow}
@@ -27,7 +27,8 @@ use Rattle.partial.specs.Reading.{segmentsFrom, reading, earlierSegments
 use Rattle.partial.specs.Ranges.{had, rangesOf, ofClass, hadList, missingList, total, among, apart, inRow}
 use Rattle.partial.specs.Naming.{damagedAt, namedRanges, heldList, lostList}
 use Rattle.partial.specs.Memory.{after, written, textWritten}
-use Rattle.partial.specs.Tables.{rangeRows, hadRows, missingRows, tabled, listed, indexTabled, indexTable, summary, totals, partOf, servedPart, asked, textOf}
+use Rattle.partial.specs.Tables.{rangeRows, hadRows, missingRows, tabled, listed, indexTabled, indexTable, summary, totals, nowhere, partOf, servedPart, asked, textOf}
+use Rattle.partial.specs.Texts.{Surl, sourceText, sourceTextOf, textsTabled}
 use Rattle.partial.specs.Map.{decimal, line, refusedLine, textFor}
 use Rattle.partial.specs.BoxList.{each, boxLine, boxesText}
 
@@ -35,17 +36,25 @@ use Rattle.partial.specs.BoxList.{each, boxLine, boxesText}
 abbrev pub oneOf : List ℕ → ℕ → Bool
 oneOf numbers n = someOf (eqb n) numbers
 
--- the numbers of a file's stages before 25, but for 12: of 1 to 24 all but that one and 21
+-- the numbers of document 01 for a file's stages before 25, but for 12: of 1 to 24 all but that one and 21
+abbrev pub upTo24 : ℕ → Bool
+upTo24 n = within 1 11 n || (within 13 8 n || within 22 3 n)
+
+-- all of those stages: with 41 of document 02, [8]
 abbrev pub beforeAgreement : ℕ → Bool
-beforeAgreement n = within 1 11 n || (within 13 8 n || within 22 3 n)
+beforeAgreement n = upTo24 n || eqb n 41
 
 -- those of the index
 abbrev pub ofIndex : ℕ → Bool
 ofIndex n = within 36 4 n
 
--- with these and with 25 between them, all of a file's stages
+-- 25, then 40, and these
+abbrev pub fromAgreement : ℕ → Bool
+fromAgreement n = eqb n 25 || (eqb n 40 || ofIndex n)
+
+-- all of a file's stages
 abbrev pub ofStages : ℕ → Bool
-ofStages n = beforeAgreement n || (eqb n 25 || ofIndex n)
+ofStages n = beforeAgreement n || fromAgreement n
 
 -- a number that no call of reading answers, and that no line of a text tells: those of the map are the reader's, those
 -- of the box list the framing's
@@ -54,6 +63,8 @@ pub record NeverRead (limit n : ℕ) : Type 0 where
   pub ask : (f a b : List ℕ) (source p : ℕ) → asked (tabled limit f a b) source p ≡ refused n → ⊥
   pub list : (f a b h m : List ℕ) (source : ℕ) → listed limit f source a b h m ≡ refused n → ⊥
   pub index : (f t : List ℕ) → indexTabled limit f t ≡ refused n → ⊥
+  pub sourceText : (which : List ℕ → Box → Part) (f : List ℕ) (source : ℕ) → sourceTextOf which limit f source ≡ refused n → ⊥
+  pub segmentTexts : (f t u : List ℕ) (k : ℕ) → textsTabled limit f k t u ≡ refused n → ⊥
   pub text : (text buffer : List ℕ) → textWritten text buffer ≡ refused n → ⊥
   pub mapped : (input : List ℕ) → reading limit input ≡ refused n → ⊥
   pub boxes : (input : List ℕ) → boxesIn File input 0 (length input) ≡ refused n → ⊥
@@ -65,6 +76,11 @@ pub record Demand1OfReading (limit : ℕ) : Type 0 where
   pub readNumbers : (f a b : List ℕ) (n : ℕ) → tabled limit f a b ≡ refused n → T (ofStages n || oneOf (12 ∷ 26 ∷ []) n)
   pub listNumbers : (f a b h m : List ℕ) (source n : ℕ) → listed limit f source a b h m ≡ refused n → T (ofStages n || oneOf (12 ∷ 26 ∷ []) n)
   pub indexNumbers : (f t : List ℕ) (n : ℕ) → indexTabled limit f t ≡ refused n → T (ofStages n || oneOf (12 ∷ 26 ∷ []) n)
+  pub sourceTextNumbers :
+      (which : List ℕ → Box → Part) (f : List ℕ) (source n : ℕ)
+      → sourceTextOf which limit f source ≡ refused n
+      → T (ofStages n || eqb n 12)
+  pub segmentTextsNumbers : (f t u : List ℕ) (k n : ℕ) → textsTabled limit f k t u ≡ refused n → T (ofStages n || oneOf (12 ∷ 26 ∷ []) n)
   pub textNumbers : (text buffer : List ℕ) (n : ℕ) → textWritten text buffer ≡ refused n → n ≡ 33
   -- document 02, [4]: none of them is 21
   pub no21 : NeverRead limit 21
@@ -81,6 +97,10 @@ pub record Demand1OfReading (limit : ℕ) : Type 0 where
       → listed limit f source a b h m ≡ refused n
       → after rows (listed limit f source a b h m) table ≡ table
   pub indexKept : (f table : List ℕ) (n : ℕ) → indexTabled limit f table ≡ refused n → after indexTable (indexTabled limit f table) table ≡ table
+  pub segmentTextsKept :
+      (rows : List Surl → List ℕ) (f t u table : List ℕ) (k n : ℕ)
+      → textsTabled limit f k t u ≡ refused n
+      → after rows (textsTabled limit f k t u) table ≡ table
   pub textKept : (text buffer : List ℕ) (n : ℕ) → textWritten text buffer ≡ refused n → written text (textWritten text buffer) buffer ≡ buffer
 
 -- "Lists": of the segments of a source of an accepted file
@@ -190,6 +210,12 @@ pub record Numbered (ss : List Segment) : Type 0 where
   -- in order of first appearance: a segment has the number of a source before it, or the next
   pub inTurn : (before after : List Segment) (s : Segment) → ss ≡ before ++ (s ∷ after) → s .source ≤ sourceCount before
 
+-- the list of URLs by which a segment of an accepted file is told to be of its source; it is not empty
+pub record ListedBy (f : List ℕ) (h : Heading) (s : Segment) : Type 0 where
+  pub own : 0 < length (those surl (s .inner)) → s .urls ≡ urlsIn f (s .inner)
+  pub inPfil : those surl (s .inner) ≡ [] → s .urls ≡ urlsIn f (h .inner)
+  pub some : 0 < length (s .urls)
+
 -- no segment ends above, or differs from, a size that one of its source makes known
 abbrev pub InAgreement : List Segment → Type 0
 InAgreement ss = (s t : Segment) → List·Memᴰ s ss → List·Memᴰ t ss → s .source ≡ t .source → T (givesSize s) → endOf t ≤ endOf s
@@ -202,6 +228,11 @@ pub record Reaches25 (limit : ℕ) (f : List ℕ) (ss : List Segment) : Type 0 w
   pub any : 0 < length (those pseg (h .boxes))
   pub few : length (those pseg (h .boxes)) ≤ segmentLimit
   pub read : segmentsFrom limit f h [] (those pseg (h .boxes)) ≡ given ss
+
+-- segments that pass 25 and 40: their sizes agree, and there is no ninth source
+pub record Passes40 (ss : List Segment) : Type 0 where
+  pub agreed : InAgreement ss
+  pub layers : sourceCount ss ≤ layerLimit
 
 -- document 02, [7]: the boxes of an accepted file's index
 pub record Indexing (h : Heading) (ss : List Segment) (is : List SourceBox) : Type 0 where
@@ -228,6 +259,7 @@ pub record Answered (source : ℕ) (ss : List Segment) : Type 0 where
   pub told : (p : ℕ) → asked (given ss) source p ≡ given (reply (ofSource source ss) p)
   pub described : summary source ss .described ≡ describedLength (ofSource source ss)
   pub closed : summary source ss .closed ≡ isClosed (ofSource source ss)
+  pub sources : summary source ss .sources ≡ sourceCount ss
   pub had : hadRows source ss ≡ rangeRows (hadList (ofSource source ss))
   pub missing : missingRows source ss ≡ rangeRows (missingList (ofSource source ss))
   pub hadRanges : totals source ss .hadRanges ≡ length (hadList (ofSource source ss))
@@ -237,7 +269,7 @@ pub record Answered (source : ℕ) (ss : List Segment) : Type 0 where
   pub missingTotal : totals source ss .missingTotal ≡ total (missingList (ofSource source ss))
 
 -- "Every position of a source number not in the file is above its length": it has no positions, none is served, and its
--- lists are empty
+-- lists and texts are empty
 pub record Absent (source : ℕ) (ss : List Segment) : Type 0 where
   pub above : (p : ℕ) → asked (given ss) source p ≡ given notBelow
   pub unserved : (f : List ℕ) (p : ℕ) → bytesIn f (servedPart (given ss) source p) ≡ []
@@ -245,6 +277,7 @@ pub record Absent (source : ℕ) (ss : List Segment) : Type 0 where
   pub unknown : summary source ss .closed ≡ false
   pub had : hadRows source ss ≡ []
   pub missing : missingRows source ss ≡ []
+  pub textless : (which : List ℕ → Box → Part) (f : List ℕ) (h : Heading) → sourceText which f h ss source ≡ nowhere
 
 -- "The map program": what a program prints for its input that prints that of an accepted file, whatever the most is
 -- that it takes, and what the call leaves that writes this into a lent buffer
@@ -297,26 +330,45 @@ pub record BoxesPrinted (most : ℕ) (input : List ℕ) : Type 0 where
 pub record Demand2OfReading (limit : ℕ) : Type 0 where
   -- a source number is given in order of first appearance
   pub numbered : (f : List ℕ) (ss : List Segment) → reading limit f ≡ given ss → Numbered ss
-  -- of each source, of which a file has one
+  -- of each source
   pub mapped : (f : List ℕ) (h : Heading) (ss : List Segment) → heading f ≡ given h → reading limit f ≡ given ss → (n : ℕ) → Mapped f h (ofSource n ss)
-  pub oneSource : (f : List ℕ) (ss : List Segment) → reading limit f ≡ given ss → ofSource 0 ss ≡ ss
+  -- the URLs of a segment's source: its own list, and that in `pfil` where it has none
+  pub listed :
+      (f : List ℕ) (h : Heading) (ss : List Segment)
+      → heading f ≡ given h
+      → reading limit f ≡ given ss
+      → (s : Segment)
+      → List·Memᴰ s ss
+      → ListedBy f h s
+  -- a file whose segments have none has one source, number 0
+  pub oneSource :
+      (f : List ℕ) (ss : List Segment)
+      → reading limit f ≡ given ss
+      → ((s : Segment) → List·Memᴰ s ss → those surl (s .inner) ≡ [])
+      → (ofSource 0 ss ≡ ss) × (sourceCount ss ≡ 1)
+  -- 41 is for want of any: a file with a list in `pfil` has no 41
+  pub no41 : (f : List ℕ) (h : Heading) → heading f ≡ given h → 0 < length (h .urls) → reading limit f ≡ refused 41 → ⊥
   -- of a source number that is not in a file
   pub absent : (source : ℕ) (ss : List Segment) → sourceCount ss ≤ source → Absent source ss
   -- of any
   pub answered : (source : ℕ) (ss : List Segment) → Answered source ss
-  -- a file that reaches 25 is accepted exactly if its sizes agree and its index is told, and no other is; it is 25
-  -- exactly if they do not. Its segments, over which serving, lists and maps are, are those that it reaches 25 with:
-  -- the index never changes what is served
+  -- a file that reaches 25 is accepted exactly if its sizes agree, it has no ninth source and its index is told, and no
+  -- other is; it is 25 exactly if they do not agree. Its segments, over which serving, lists and maps are, are those
+  -- that it reaches 25 with: the index never changes what is served
   pub agrees :
       (f : List ℕ) (ss : List Segment)
       → (reading limit f ≡ given ss)
-      ↔ ((reached : Reaches25 limit f ss) × InAgreement ss × ((is : List SourceBox) × (indexed limit f (reached .h) ss ≡ given is)))
+      ↔ ((reached : Reaches25 limit f ss) × Passes40 ss × ((is : List SourceBox) × (indexed limit f (reached .h) ss ≡ given is)))
   pub disagrees : (f : List ℕ) → (reading limit f ≡ refused 25) ↔ ((ss : List Segment) × Reaches25 limit f ss × (InAgreement ss → ⊥))
-  -- it is 36 to 39 exactly if its sizes agree and its index has that number
+  -- it is 40 exactly if its sizes agree and it has a ninth source
+  pub ninthSource :
+      (f : List ℕ)
+      → (reading limit f ≡ refused 40) ↔ ((ss : List Segment) × Reaches25 limit f ss × InAgreement ss × (layerLimit < sourceCount ss))
+  -- it is 36 to 39 exactly if its sizes agree, it has no ninth source and its index has that number
   pub indexRefused :
       (f : List ℕ) (n : ℕ)
       → ((reading limit f ≡ refused n) × T (ofIndex n))
-      ↔ ((ss : List Segment) × (reached : Reaches25 limit f ss) × InAgreement ss × (indexed limit f (reached .h) ss ≡ refused n))
+      ↔ ((ss : List Segment) × (reached : Reaches25 limit f ss) × Passes40 ss × (indexed limit f (reached .h) ss ≡ refused n))
   -- what is told of an accepted file's index
   pub indexing :
       (f : List ℕ) (h : Heading) (ss : List Segment) (is : List SourceBox)

@@ -12,6 +12,7 @@ use Rattle.partial.specs.Segments.{Segment}
 use Rattle.partial.specs.Heading.{Part}
 use Rattle.partial.specs.Reading.{reading}
 use Rattle.partial.specs.Tables.{tabled, listed, indexTabled, servedPart, asked, textOf}
+use Rattle.partial.specs.Texts.{sourceTextOf, textsTabled}
 use Rattle.partial.specs.Map.{refusedLine, textFor}
 
 -- the numbers of refusals that judge the limit
@@ -44,6 +45,10 @@ pub record RaisedReading (low high : ℕ) : Type 0 where
       (which : List ℕ → Box → Part) (f : List ℕ) (ss : List Segment)
       → reading low f ≡ given ss
       → textOf which high f ≡ textOf which low f
+  pub sourceTexts :
+      (which : List ℕ → Box → Part) (f : List ℕ) (source : ℕ)
+      → Kept (sourceTextOf which low f source) (sourceTextOf which high f source)
+  pub segmentTexts : (f t u : List ℕ) (k : ℕ) → Kept (textsTabled low f k t u) (textsTabled high f k t u)
   -- "old files keep their maps", whatever a program prints of an accepted file and the most is that it takes; of any
   -- input, a text that is not the same was the line of a refusal for the limit
   pub maps :

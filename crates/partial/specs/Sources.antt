@@ -1,5 +1,5 @@
 -- Document 02, [8], "Segments whose lists of URLs are byte-equal in the same order belong to one source": the sources of
--- a list of segments, by their numbers. (Refusals 11 and 16 leave a file one source.)
+-- a list of segments, by their numbers.
 use Prim.Native.Nat.{ℕ, suc}
 use mathlib.Core.Bool.{Bool, true, false, _&&_}
 use mathlib.Core.List.{List, [], _∷_, map}

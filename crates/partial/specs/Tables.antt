@@ -4,14 +4,14 @@
 use Prim.Native.Nat.{ℕ, suc}
 use mathlib.Core.Bool.{Bool, true, false, _&&_}
 use mathlib.Core.List.{List, [], _∷_, _++_}
-use lib.ListN.{length, take, drop}
+use lib.ListN.{length}
 use Rattle.boxes.specs.Answer.{Answer, refused, given, _>>=_, hold}
-use Rattle.boxes.specs.Kinds.{surl, firstOf}
+use Rattle.boxes.specs.Kinds.{surl, those}
 use Rattle.boxes.specs.Framing.{Box}
 use Rattle.partial.specs.Segments.{Chunk, Segment, chunksOf}
 use Rattle.partial.specs.Heading.{Part, heading}
 use Rattle.partial.specs.Meaning.{describedLength, isClosed, supplied, placeOfByte, servedRun, Reply, reply}
-use Rattle.partial.specs.Sources.{ofSource}
+use Rattle.partial.specs.Sources.{sourceCount, ofSource}
 use Rattle.partial.specs.Reading.{reading}
 use Rattle.partial.specs.Index.{SourceBox, indexed, indexRows}
 use Rattle.partial.specs.Ranges.{Range, hadList, missingList, total}
@@ -19,7 +19,7 @@ use Rattle.partial.specs.Memory.{fits}
 
 -- how many numbers there are in the row of a segment, of a chunk and of a range
 abbrev pub segmentRowLength : ℕ
-segmentRowLength = 7
+segmentRowLength = 8
 
 abbrev pub chunkRowLength : ℕ
 chunkRowLength = 6
@@ -27,9 +27,10 @@ chunkRowLength = 6
 abbrev pub rangeRowLength : ℕ
 rangeRowLength = 2
 
--- place of the box, source offset, flags, repair time, chunk count, place and length of the `pshd` body
+-- place of the box, source offset, flags, repair time, chunk count, place and length of the `pshd` body, source number
 unfoldable pub segmentRow : Segment → List ℕ
-segmentRow s = s .place ∷ s .sourceOffset ∷ s .flags ∷ s .repairTime ∷ length (s .chunks) ∷ s .headerPlace ∷ s .headerLength ∷ []
+segmentRow s =
+    s .place ∷ s .sourceOffset ∷ s .flags ∷ s .repairTime ∷ length (s .chunks) ∷ s .headerPlace ∷ s .headerLength ∷ s .source ∷ []
 
 unfoldable pub segmentRows : List Segment → List ℕ
 segmentRows [] = []
@@ -96,11 +97,12 @@ indexTable told = indexRows (told .0) (told .1)
 abbrev pub indexCount : List Segment × List SourceBox → ℕ
 indexCount told = length (told .1)
 
--- what reading says of an accepted file: how many rows each table has; of a source the described length, and whether
--- its size is known
+-- what reading says of an accepted file: how many rows each table has, and how many sources there are; of one the
+-- described length, and whether its size is known
 pub record Summary : Type 0 where
   pub segments : ℕ
   pub chunks : ℕ
+  pub sources : ℕ
   pub described : ℕ
   pub closed : Bool
 
@@ -109,6 +111,7 @@ summary source ss =
     record {
       segments = length ss;
       chunks = length (chunksOf ss);
+      sources = sourceCount ss;
       described = describedLength (ofSource source ss);
       closed = isClosed (ofSource source ss);
     }
@@ -149,10 +152,14 @@ asked read source p = do
   ss ← read
   given (reply (ofSource source ss) p)
 
--- a text of the first `surl`, its URL or its MIME text: empty after a refusal
+-- a text of the first `surl` of a container, its URL or its MIME text: empty where there is none
+unfoldable pub firstText : (List ℕ → Box → Part) → List ℕ → List Box → Part
+firstText which f bs = elim (those surl bs) [ [] ↦ nowhere | b ∷ _ ↦ which f b ]
+
+-- that of the first `surl` in `pfil`; empty after a refusal
 unfoldable pub textOf : (List ℕ → Box → Part) → ℕ → List ℕ → Part
 textOf which limit f =
     elim (reading limit f) [
       | refused n ↦ nowhere
-      | given ss ↦ elim (heading f) [ refused n ↦ nowhere | given h ↦ which f (firstOf surl (h .inner)) ]
+      | given ss ↦ elim (heading f) [ refused n ↦ nowhere | given h ↦ firstText which f (h .inner) ]
     ]

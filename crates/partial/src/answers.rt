@@ -1,12 +1,14 @@
 // What the calls answer: a numbered refusal, or the values that document 01 names.
 use crate::position::Position;
 
-// Reading: how many rows of each table were filled, the described length, and whether the size of the source is known.
+// Reading: how many rows of each table were filled, how many sources there are, the described length of one, and
+// whether its size is known.
 pub enum Read {
     Refused(u64),
     Tables {
         segments: u64,
         chunks: u64,
+        sources: u64,
         described: Position,
         closed: bool,
     },

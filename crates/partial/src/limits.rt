@@ -8,6 +8,8 @@ pub const SEGMENT_LIMIT: u64 = 64;
 pub const CHUNK_LIMIT: u64 = 1_024;
 // The highest source position or end.
 pub const SOURCE_LIMIT: u64 = 1_099_511_627_775;
+// The most sources of a file.
+pub const LAYER_LIMIT: u64 = 8;
 // The most bytes that the map program takes.
 pub const PROGRAM_LIMIT: u64 = 65_536;
 // The most levels of indexed boxes.

@@ -10,7 +10,7 @@ pub const BRAND_MISSING: u64 = 8;
 pub const PFIL_WRONG: u64 = 9;
 // There is not exactly one well-formed `pfhd`.
 pub const PFHD_WRONG: u64 = 10;
-// There is no `surl` in `pfil`, or one is ill-formed.
+// A `surl` in `pfil` is ill-formed.
 pub const SURL_WRONG: u64 = 11;
 // There is no `pseg`.
 pub const NO_SEGMENT: u64 = 12;
@@ -20,8 +20,8 @@ pub const TOO_MANY_SEGMENTS: u64 = 13;
 pub const PSHD_WRONG: u64 = 14;
 // There is not exactly one `ploc`.
 pub const PLOC_NOT_SINGLE: u64 = 15;
-// A `surl` stands in a `pseg`.
-pub const SURL_IN_SEGMENT: u64 = 16;
+// A `surl` in a `pseg` is ill-formed.
+pub const SEGMENT_SURL_WRONG: u64 = 16;
 // The `ploc` is too short, of another version or with flags, cut short or with bytes left over.
 pub const PLOC_WRONG: u64 = 17;
 // A width of `ploc` is over 8.
@@ -44,9 +44,9 @@ pub const TABLE_TOO_SHORT: u64 = 26;
 pub const INPUT_TOO_LONG: u64 = 27;
 // The stated length of a file exceeds its lent buffer.
 pub const LENGTH_OVER_BUFFER: u64 = 30;
-// The chunk list is of odd length, or has a size 0 or a state above 3.
+// The chunk list is of odd length, or has a size 0 or a state above 3, or the list of text lengths is of odd length.
 pub const CHUNK_LIST_WRONG: u64 = 31;
-// The data bytes are not equal in number to the sizes of states 1 and 2.
+// The data bytes are not equal in number to the sizes of states 1 and 2, or the text bytes not to their lengths.
 pub const DATA_WRONG: u64 = 32;
 // The lent buffer is too short for the result.
 pub const BUFFER_TOO_SHORT: u64 = 33;
@@ -62,3 +62,7 @@ pub const NINTH_LEVEL: u64 = 37;
 pub const INDEXES_IN_BOTH: u64 = 38;
 // A size of 0 runs to an end that is not known.
 pub const END_UNKNOWN: u64 = 39;
+// There is a ninth source.
+pub const TOO_MANY_SOURCES: u64 = 40;
+// Neither a segment nor `pfil` has a `surl`.
+pub const NO_URL: u64 = 41;

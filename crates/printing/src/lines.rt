@@ -1,5 +1,6 @@
 // The parts of a line of output.
 use crate::marks::kept;
+use crate::marks::kept_bytes;
 use libc::STDOUT_FILENO;
 
 pub fn text(s: &[u8]) {
@@ -39,7 +40,7 @@ pub fn kept_of(table: &[u64], from: usize) {
 }
 
 // How many behind a place of something so long still hold their mark, and how many there are.
-pub fn kept_behind(kept: u64, length: usize, from: usize) {
+fn kept_behind(kept: u64, length: usize, from: usize) {
     text(b"kept");
     number(kept);
     text(b" of");
@@ -49,6 +50,12 @@ pub fn kept_behind(kept: u64, length: usize, from: usize) {
 // The line of what was left behind the rows.
 pub fn rest(table: &[u64], from: usize) {
     kept_of(table, from);
+    text(b"\n");
+}
+
+// The line of what was left of a buffer behind a place.
+pub fn rest_bytes(buffer: &[u8], from: usize) {
+    kept_behind(kept_bytes(buffer, from), buffer.len(), from);
     text(b"\n");
 }
 

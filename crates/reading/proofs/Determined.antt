@@ -40,6 +40,9 @@ use Rattle.reading.proofs.parts.part_of.Reads as part-of
 use Rattle.reading.proofs.tables.read.Reads as read
 use Rattle.reading.proofs.tables.read_source.Reads as read-source
 use Rattle.reading.proofs.texts.mime.Reads as mime
+use Rattle.reading.proofs.texts.source_mime.Reads as source-mime
+use Rattle.reading.proofs.texts.source_text_at.Reads as source-text-at
+use Rattle.reading.proofs.texts.source_url.Reads as source-url
 use Rattle.reading.proofs.texts.text_at.Reads as text-at
 use Rattle.reading.proofs.texts.url.Reads as url
 
@@ -72,11 +75,11 @@ judged-told (Judgement.Given j) (Judgement.Given k) e =
 read-told : Tells readAnswer
 unfolding readAnswer
 read-told (Read.Refused n) (Read.Refused m) e = cc
-read-told (Read.Refused n) (Read.Tables a b c d) e = cc
-read-told (Read.Tables a b c d) (Read.Refused m) e = cc
-read-told (Read.Tables a b c d) (Read.Tables a′ b′ c′ d′) e =
-    let same : _≡_ {A = Summary} (record { segments = a; chunks = b; described = c .0; closed = d }) (record { segments = a′; chunks = b′; described = c′ .0; closed = d′ }) = cc in
-    λ i. Read.Tables (same i .segments) (same i .chunks) (record { 0 = same i .described }) (same i .closed)
+read-told (Read.Refused n) (Read.Tables a b s c d) e = cc
+read-told (Read.Tables a b s c d) (Read.Refused m) e = cc
+read-told (Read.Tables a b s c d) (Read.Tables a′ b′ s′ c′ d′) e =
+    let same : _≡_ {A = Summary} (record { segments = a; chunks = b; sources = s; described = c .0; closed = d }) (record { segments = a′; chunks = b′; sources = s′; described = c′ .0; closed = d′ }) = cc in
+    λ i. Read.Tables (same i .segments) (same i .chunks) (same i .sources) (record { 0 = same i .described }) (same i .closed)
 
 pub counted-told : Tells countedAnswer
 unfolding countedAnswer
@@ -173,10 +176,10 @@ read-source-sources κs args ss read x y after after′ p q = p .1 ss read .numb
 read-result : OneResult read.Post
 read-result κs args x y after after′ p q = read-told x y (p .answer ∙ sym (q .answer))
 
-read-segments : OneLeft read.Post (λ κs after. now (after .1 .0))
+read-segments : OneLeft read.Post (λ κs after. now (after .1 .1 .0))
 read-segments κs args x y after after′ p q = p .tables .segmentTable ∙ sym (q .tables .segmentTable)
 
-read-chunks : OneLeft read.Post (λ κs after. now (after .1 .1 .0))
+read-chunks : OneLeft read.Post (λ κs after. now (after .1 .1 .1 .0))
 read-chunks κs args x y after after′ p q = p .tables .chunkTable ∙ sym (q .tables .chunkTable)
 
 part-of-part : OneOf part-of.Post {X = (ℕ × ℕ) × List ℕ} (λ κs r. (ptr r, now r))
@@ -184,6 +187,15 @@ part-of-part κs args x y after after′ p q = one-part p q
 
 text-at-result : OneResult text-at.Post
 text-at-result κs args x y after after′ p q = located-told x y (p ∙ sym q)
+
+source-text-at-result : OneResult source-text-at.Post
+source-text-at-result κs args x y after after′ p q = located-told x y (p ∙ sym q)
+
+source-url-part : OneOf source-url.Post {X = (ℕ × ℕ) × List ℕ} (λ κs r. (ptr r, now r))
+source-url-part κs args x y after after′ p q = one-part p q
+
+source-mime-part : OneOf source-mime.Post {X = (ℕ × ℕ) × List ℕ} (λ κs r. (ptr r, now r))
+source-mime-part κs args x y after after′ p q = one-part p q
 
 url-part : OneOf url.Post {X = (ℕ × ℕ) × List ℕ} (λ κs r. (ptr r, now r))
 url-part κs args x y after after′ p q = one-part p q

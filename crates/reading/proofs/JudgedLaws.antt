@@ -14,12 +14,13 @@ use Rattle.boxes.specs.declared.kinds.Container.the-variants.{File}
 use Rattle.boxes.proofs.AnswerLaws.{not-both, refused-same, given-same, both-given, held}
 use Rattle.partial.specs.Heading.{Heading, heading}
 use Rattle.partial.specs.Index.{SourceBox, hasIndex, indexed}
-use Rattle.partial.specs.Limits.{fileLimit, segmentLimit, sourceLimit}
-use Rattle.partial.specs.Sources.{agreed}
-use Rattle.partial.specs.Reading.{segmentsFrom, segments, reading, earlierSegments}
+use Rattle.partial.specs.Limits.{fileLimit, segmentLimit, layerLimit, sourceLimit}
+use Rattle.partial.specs.Sources.{sourceCount, agreed}
+use Rattle.partial.specs.Reading.{segments, reading, earlierSegments}
 use Rattle.partial.specs.Segments.{Segment}
 use Rattle.partial.proofs.Meaning.SequenceLaws.{which}
 use Rattle.partial.proofs.Reading.HeadingAppendLaws.{headed}
+use Rattle.partial.proofs.Reading.KeptLaws.{segmented}
 use Rattle.partial.proofs.Reading.ReadingLaws.{reading-segments}
 use Rattle.partial.proofs.Reading.RefusalLaws.{no-segments, earlier-read}
 use Rattle.heading.specs.Facts.{Facts, factsOf, factsBy, told, headedAnswer}
@@ -75,7 +76,7 @@ opened f h known e few =
     subst (λ (x : Facts). Opened f (x .mixed) (x .list) h) e
     (record { boxes = t .boxes; few = few; mix = refl; inPfil = record { within = leb-true (length f) fileLimit (t .small); stands = record { boxes = t .inner; inside = pfil-inside f h known }; urls = t .urls } })
 
--- ---- stages 13 to 25
+-- ---- stages 13 to 25, and 40
 
 module _ (f : List ℕ) (h : Heading) where
   pub gathered-crowded : segmentLimit < length (those pseg (h .boxes)) → gatheredIn f h ≡ refused 13
@@ -92,25 +93,22 @@ module _ (f : List ℕ) (h : Heading) where
       unfolding gatheredIn segments
       gathered-differ differ = rw (le-leb (length (those pseg (h .boxes))) segmentLimit few, read, differ)
 
-      pub gathered-given : agreed ss ≡ true → gatheredIn f h ≡ given (gatheredOf ss)
-      unfolding gatheredIn segments
-      gathered-given same = rw (le-leb (length (those pseg (h .boxes))) segmentLimit few, read, same)
+      module _ (same : agreed ss ≡ true) where
+        pub gathered-ninth : layerLimit < sourceCount ss → gatheredIn f h ≡ refused 40
+        unfolding gatheredIn segments
+        gathered-ninth over = rw (le-leb (length (those pseg (h .boxes))) segmentLimit few, read, same, lt-leb (sourceCount ss) layerLimit over)
+
+        pub gathered-given : sourceCount ss ≤ layerLimit → gatheredIn f h ≡ given (gatheredOf ss)
+        unfolding gatheredIn segments
+        gathered-given layers = rw (le-leb (length (those pseg (h .boxes))) segmentLimit few, read, same, le-leb (sourceCount ss) layerLimit layers)
 
 -- the segments, before they are held against each other
 pub segments-by : (f : List ℕ) (h : Heading) {ss : List Segment} → segments sourceLimit f h ≡ given ss → segmentsBy f h ≡ given ss
-unfolding segments
-segments-by f h e =
-    let (_, e) = held 13 (leb (length (those pseg (h .boxes))) segmentLimit) _ e in
-    let (ss, read, e) = both-given (segmentsFrom sourceLimit f h [] (those pseg (h .boxes))) _ e in
-    let (_, same) = held 25 (agreed ss) _ e in
-    read ∙ same
+segments-by f h e = segmented sourceLimit f h e .read
 
 -- they are not too many
 pub few-segments : (f : List ℕ) (h : Heading) {ss : List Segment} → segments sourceLimit f h ≡ given ss → length (those pseg (h .boxes)) ≤ segmentLimit
-unfolding segments
-few-segments f h e =
-    let (few, _) = held 13 (leb (length (those pseg (h .boxes))) segmentLimit) _ e in
-    leb-true (length (those pseg (h .boxes))) segmentLimit few
+few-segments f h e = leb-true (length (those pseg (h .boxes))) segmentLimit (segmented sourceLimit f h e .few)
 
 -- what the pass over them told
 module _ (f : List ℕ) (h : Heading) (t₀ t u₀ u z n l : List ℕ) (r : Passed) (gathers : Gathers f h true t₀ t u₀ u z n l r) where

@@ -77,9 +77,9 @@ module _ (f a b : List ℕ) where
 -- what is gathered of segments and what their ends say is what is answered of them
 pub answered : {g : Gathered} {x : Sizes} (source : ℕ) (ss : List Segment) → g ≡ gatheredOf ss → x ≡ sizesOf (ofSource source ss)
     → (described : Position) → described .0 ≡ describedLength (ofSource source ss)
-    → readAnswer (Read.Tables (g .segments) (g .chunks) described (x .known)) ≡ given (summary source ss)
+    → readAnswer (Read.Tables (g .segments) (g .chunks) (g .sources) described (x .known)) ≡ given (summary source ss)
 unfolding readAnswer summary gatheredOf sizesOf
-answered source ss e said described length = λ i. given (record { segments = e i .segments; chunks = e i .chunks; described = length i; closed = said i .known })
+answered source ss e said described length = λ i. given (record { segments = e i .segments; chunks = e i .chunks; sources = e i .sources; described = length i; closed = said i .known })
 
 -- rows that fit fill a table
 pub segments-filled : (ss : List Segment) {a a′ : List ℕ} → Put a 0 (segmentRows ss) a′ → segmentRowLength * length ss ≤ length a → a′ ≡ filled (segmentRows ss) a

@@ -1,5 +1,5 @@
--- Document 01, refusals 1 to 25, and document 02, [7], 36 to 39, as the calls are told of them before any table is
--- filled.
+-- Document 01, refusals 1 to 25, and document 02, [8] and [7], 40 and 36 to 39, as the calls are told of them before any
+-- table is filled.
 use Prim.Native.Nat.{ℕ}
 use mathlib.Core.Bool.{true, false}
 use mathlib.Core.List.{List, []}
@@ -33,7 +33,7 @@ pub record Judged : Type 0 where
   pub gathered : Gathered
   pub index : ℕ
 
--- what is gathered of the segments of a file with that heading: stages 13 to 25
+-- what is gathered of the segments of a file with that heading: stages 13 to 25 and 40
 unfoldable pub gatheredIn : List ℕ → Heading → Answer Gathered
 gatheredIn f h = do
   ss ← segments sourceLimit f h

@@ -11,10 +11,12 @@ use heading::answers::Head;
 use heading::answers::Headed;
 use heading::stages::heading_of;
 use partial::answers::Counted;
+use partial::limits::LAYER_LIMIT;
 use partial::limits::SEGMENT_LIMIT;
 use partial::refusals::NO_SEGMENT;
 use partial::refusals::SIZES_DIFFER;
 use partial::refusals::TOO_MANY_SEGMENTS;
+use partial::refusals::TOO_MANY_SOURCES;
 use sources::find::source_of;
 use sources::lists::ALL_LISTS;
 use sources::numbers::ALL_SOURCES;
@@ -54,7 +56,7 @@ fn has_segment(head: Head) -> bool
     keeps(Container::File, PSEG, head.segments)
 }
 
-// Stages 13 to 25 of a file of that heading; the rows of its segments and the numbers of their chunks go into tables
+// Stages 13 to 25 and 40 of a file of that heading; the rows of its segments and the numbers of their chunks go into tables
 // that have room for them all, and what their ends say, their sources and where the lists of these stand into three
 // more.
 fn segments_of(
@@ -91,12 +93,15 @@ fn segments_of(
             if !all_agree(sizes, gathered.sources) {
                 return Passed::Refused(SIZES_DIFFER);
             }
+            if LAYER_LIMIT < gathered.sources {
+                return Passed::Refused(TOO_MANY_SOURCES);
+            }
             Passed::Given(gathered)
         }
     }
 }
 
-// What a file says of which stages 1 to 25 are passed: 36 to 39 are those of its index.
+// What a file says of which stages 1 to 25 and 40 are passed: 36 to 39 are those of its index.
 fn with_index(
     file: &[u8],
     head: Head,

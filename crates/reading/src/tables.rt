@@ -2,7 +2,6 @@
 use crate::judging::Judgement;
 use crate::judging::judge;
 use ends::table::ALL_SIZES;
-use ends::table::ONE_SOURCE;
 use ends::table::sizes_at;
 use gathering::pass::pass;
 use partial::answers::Read;
@@ -20,8 +19,8 @@ ghost use Rattle.partial.specs.Tables.{tabled};
 ghost use Rattle.sources.specs.Held.{SourcesHeld};
 ghost use Rattle.reading.specs.Tables.{Reads};
 
-// Reads a file: its segments and its chunks in rows, how many there are, the described length of a source, and whether
-// the size of that is known. After a refusal both tables are as they were. The sources of the segments go into a table
+// Reads a file: its segments and its chunks in rows, how many there are, of how many sources, the described length of
+// one, and whether the size of that is known. After a refusal both tables are as they were. The sources of the segments go into a table
 // of the caller's own.
 pub fn read_source(
     file: &[u8],
@@ -61,6 +60,7 @@ pub fn read_source(
             Read::Tables {
                 segments: gathered.segments,
                 chunks: gathered.chunks,
+                sources: gathered.sources,
                 described: said.described(),
                 closed: said.known,
             }
@@ -68,10 +68,10 @@ pub fn read_source(
     }
 }
 
-// The same of the one source that a file has.
-pub fn read(file: &[u8], segments: &mut [u64], chunks: &mut [u64]) -> Read
-    ensures { λ r. ⌜ Reads (now (file .entry)) 0 (now (segments .entry)) (now (segments .exit)) (now (chunks .entry)) (now (chunks .exit)) r ⌝ }
+// The same where the sources of the segments are wanted in their rows alone.
+pub fn read(file: &[u8], source: u64, segments: &mut [u64], chunks: &mut [u64]) -> Read
+    ensures { λ r. ⌜ Reads (now (file .entry)) source (now (segments .entry)) (now (segments .exit)) (now (chunks .entry)) (now (chunks .exit)) r ⌝ }
 {
     let mut sources = [0; ALL_SOURCES];
-    read_source(file, ONE_SOURCE, segments, chunks, &mut sources)
+    read_source(file, source, segments, chunks, &mut sources)
 }

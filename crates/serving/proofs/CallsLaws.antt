@@ -50,7 +50,7 @@ module _ {f : List ℕ} {source : ℕ} {a a′ b b′ : List ℕ} {r : Read} (t 
   told-refused e = first-refused (tabled sourceLimit f a b) (summary source) (sym (t .answer) ∙ ap readAnswer e)
 
   pub told-given : {sources : List ℕ} → ((ss : List Segment) → tabled sourceLimit f a b ≡ given ss → SourcesHeld sources ss)
-      → {segments count : ℕ} {described : Position} {closed : _} → r ≡ Read.Tables segments count described closed
+      → {segments count many : ℕ} {described : Position} {closed : _} → r ≡ Read.Tables segments count many described closed
       → Told f source a b sources b′ count (described .0)
   unfolding readAnswer summary after
   told-given {sources} held e =

@@ -35,26 +35,26 @@ asked-told Asked.NotBelow Asked.NotBelow e = cc
 part-at-result : OneResult part-at.Post
 part-at-result κs args x y after after′ p q = located-told x y (p .answer ∙ sym (q .answer))
 
-part-at-segments : OneLeft part-at.Post (λ κs after. now (after .1 .0))
+part-at-segments : OneLeft part-at.Post (λ κs after. now (after .1 .1 .0))
 part-at-segments κs args x y after after′ p q = p .tables .segmentTable ∙ sym (q .tables .segmentTable)
 
-part-at-chunks : OneLeft part-at.Post (λ κs after. now (after .1 .1 .0))
+part-at-chunks : OneLeft part-at.Post (λ κs after. now (after .1 .1 .1 .0))
 part-at-chunks κs args x y after after′ p q = p .tables .chunkTable ∙ sym (q .tables .chunkTable)
 
 serve-part : OneOf serve.Post {X = (ℕ × ℕ) × List ℕ} (λ κs r. (ptr r, now r))
 serve-part κs args x y after after′ p q = one-part (p .part) (q .part)
 
-serve-segments : OneLeft serve.Post (λ κs after. now (after .1 .0))
+serve-segments : OneLeft serve.Post (λ κs after. now (after .1 .1 .0))
 serve-segments κs args x y after after′ p q = p .tables .segmentTable ∙ sym (q .tables .segmentTable)
 
-serve-chunks : OneLeft serve.Post (λ κs after. now (after .1 .1 .0))
+serve-chunks : OneLeft serve.Post (λ κs after. now (after .1 .1 .1 .0))
 serve-chunks κs args x y after after′ p q = p .tables .chunkTable ∙ sym (q .tables .chunkTable)
 
 ask-result : OneResult ask.Post
 ask-result κs args x y after after′ p q = asked-told x y (p .answer ∙ sym (q .answer))
 
-ask-segments : OneLeft ask.Post (λ κs after. now (after .1 .0))
+ask-segments : OneLeft ask.Post (λ κs after. now (after .1 .1 .0))
 ask-segments κs args x y after after′ p q = p .tables .segmentTable ∙ sym (q .tables .segmentTable)
 
-ask-chunks : OneLeft ask.Post (λ κs after. now (after .1 .1 .0))
+ask-chunks : OneLeft ask.Post (λ κs after. now (after .1 .1 .1 .0))
 ask-chunks κs args x y after after′ p q = p .tables .chunkTable ∙ sym (q .tables .chunkTable)

@@ -1,5 +1,4 @@
 // Serving and asking of a position of a source, each reading the file into the two lent tables first.
-use ends::table::ONE_SOURCE;
 use numerals::place::Place;
 use partial::answers::Asked;
 use partial::answers::Read;
@@ -21,7 +20,7 @@ const NOWHERE: Part = Part {
 
 // Where the part of the file lies that serves a position of a source and those after it, as long as the same chunk
 // supplies them; an empty part where none does.
-fn source_part_at(
+pub fn part_at(
     file: &[u8],
     source: u64,
     segments: &mut [u64],
@@ -36,6 +35,7 @@ fn source_part_at(
         Read::Tables {
             segments: _,
             chunks: count,
+            sources: _,
             described,
             closed: _,
         } => {
@@ -52,29 +52,22 @@ fn source_part_at(
     }
 }
 
-// The same of the one source that a file has.
-pub fn part_at(file: &[u8], segments: &mut [u64], chunks: &mut [u64], p: Position) -> Located
-    ensures { λ r. ⌜ Locates (now (file .entry)) 0 (now (segments .entry)) (now (segments .exit)) (now (chunks .entry)) (now (chunks .exit)) (p .0) r ⌝ }
-{
-    source_part_at(file, ONE_SOURCE, segments, chunks, p)
-}
-
-// The part of the file that serves a position and those after it; empty where none does, or after a refusal.
-pub fn serve<'a>(file: &'a [u8], segments: &mut [u64], chunks: &mut [u64], p: Position) -> &'a [u8]
-    ensures { λ r. ⌜ Serves (now (file .entry)) (ptr (file .entry)) 0 (now (segments .entry)) (now (segments .exit)) (now (chunks .entry)) (now (chunks .exit)) (p .0) (ptr r) (now r) ⌝ }
-{
-    part_of(file, part_at(file, segments, chunks, p))
-}
-
-// Whether a position of a source is served or missing, with how many in a row from there on, or not below the described
-// length.
-fn ask_source(
-    file: &[u8],
+// The part of the file that serves a position of a source and those after it; empty where none does, or after a refusal.
+pub fn serve<'a>(
+    file: &'a [u8],
     source: u64,
     segments: &mut [u64],
     chunks: &mut [u64],
     p: Position,
-) -> Asked
+) -> &'a [u8]
+    ensures { λ r. ⌜ Serves (now (file .entry)) (ptr (file .entry)) source (now (segments .entry)) (now (segments .exit)) (now (chunks .entry)) (now (chunks .exit)) (p .0) (ptr r) (now r) ⌝ }
+{
+    part_of(file, part_at(file, source, segments, chunks, p))
+}
+
+// Whether a position of a source is served or missing, with how many in a row from there on, or not below the described
+// length.
+pub fn ask(file: &[u8], source: u64, segments: &mut [u64], chunks: &mut [u64], p: Position) -> Asked
     ensures { λ r. ⌜ Asks (now (file .entry)) source (now (segments .entry)) (now (segments .exit)) (now (chunks .entry)) (now (chunks .exit)) (p .0) r ⌝ }
 {
     let mut sources = [0; ALL_SOURCES];
@@ -83,6 +76,7 @@ fn ask_source(
         Read::Tables {
             segments: _,
             chunks: count,
+            sources: _,
             described,
             closed: _,
         } => {
@@ -97,11 +91,4 @@ fn ask_source(
             }
         }
     }
-}
-
-// The same of the one source that a file has.
-pub fn ask(file: &[u8], segments: &mut [u64], chunks: &mut [u64], p: Position) -> Asked
-    ensures { λ r. ⌜ Asks (now (file .entry)) 0 (now (segments .entry)) (now (segments .exit)) (now (chunks .entry)) (now (chunks .exit)) (p .0) r ⌝ }
-{
-    ask_source(file, ONE_SOURCE, segments, chunks, p)
 }

@@ -20,8 +20,10 @@ use Rattle.partial.specs.Sequences.{largest}
 use Rattle.partial.specs.Sources.{urlsFor, sameUrls, sourceCount, sourceBeside, ofSource, ofUrls}
 use Rattle.partial.proofs.Meaning.SameLaws.{urls-equal, urls-same}
 use Rattle.partial.proofs.Meaning.SourceLaws.{of-append, member-of, of-one, of-none, source-count-more, beside-most, beside-there, of-urls-member, count-most}
+use Rattle.partial.specs.Texts.{listBoxes}
+use Rattle.partial.proofs.Reading.OneSourceLaws.{urls-own, urls-pfil}
 use Rattle.surls.specs.declared.body.Body.{Body}
-use Rattle.sources.specs.Held.{listBoxes, Stands, PfilList, SourcesHeld, ListHeld, ListsHeld, Sourced, Joins}
+use Rattle.sources.specs.Held.{Stands, PfilList, SourcesHeld, ListHeld, ListsHeld, Sourced, Joins}
 use Rattle.sources.specs.Lists.{allLists, containerNumber, containerOf, keptList, listIn, ListPut, Unlisted}
 use Rattle.sources.specs.Numbers.{sourcePut, noSources}
 use Rattle.sources.proofs.ListLaws.{container-back}
@@ -72,15 +74,27 @@ module _ (f : List ℕ) (h : Heading) {list : Body} (pfil : PfilList f h list) (
   unfolding listBoxes
   list-boxes = rw (listBoxes, none)
 
-  urls-none : urlsFor (urlsIn f (s .inner)) (h .urls) ≡ h .urls
-  unfolding urlsIn urlsFor
-  urls-none = rw none
-
   pub pfil-stands : Stands f list (listBoxes h s)
   pfil-stands = subst (Stands f list) (sym list-boxes) (pfil .stands)
 
   pub pfil-urls : s .urls ≡ urlsFor (urlsIn f (s .inner)) (h .urls) → urlsIn f (listBoxes h s) ≡ s .urls
-  pfil-urls urls = ap (urlsIn f) list-boxes ∙ sym (pfil .urls) ∙ sym (urls ∙ urls-none)
+  pfil-urls urls = ap (urlsIn f) list-boxes ∙ sym (pfil .urls) ∙ sym (urls ∙ urls-pfil f (s .inner) (h .urls) none)
+
+-- one with a `surl` has its own
+module _ (f : List ℕ) (h : Heading) (s : Segment) (own : 0 < length (those surl (s .inner))) where
+  own-boxes : listBoxes h s ≡ s .inner
+  unfolding listBoxes
+  own-boxes = go (those surl (s .inner)) refl
+    where
+      go : (bs : List Box) → those surl (s .inner) ≡ bs → listBoxes h s ≡ s .inner
+      go [] e = absurd (omega (arith, ap length e))
+      go (b ∷ bs) e = rw (listBoxes, e)
+
+  pub own-stands : {list : Body} → Stands f list (s .inner) → Stands f list (listBoxes h s)
+  own-stands {list} = subst (Stands f list) (sym own-boxes)
+
+  pub own-urls : s .urls ≡ urlsFor (urlsIn f (s .inner)) (h .urls) → urlsIn f (listBoxes h s) ≡ s .urls
+  own-urls urls = ap (urlsIn f) own-boxes ∙ sym (urls ∙ urls-own f (s .inner) (h .urls) own)
 
 -- a container stands in a file of no more bytes than it may have also as a table keeps it
 stands-kept : {f : List ℕ} {list : Body} {bs : List Box} → length f ≤ fileLimit → Stands f list bs → Stands f (keptList list) bs

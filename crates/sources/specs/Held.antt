@@ -1,24 +1,20 @@
 -- Document 02, [8], "Segments whose lists of URLs are byte-equal in the same order belong to one source; a segment
 -- without any uses the list in `pfil`": tables that hold the sources of these segments, and where their lists stand.
 use Prim.Native.Nat.{ℕ, _≤_, _<_}
-use mathlib.Core.List.{List, [], _∷_, map}
+use mathlib.Core.List.{List, _∷_, map}
 use mathlib.Core.Path.{_≡_}
 use lib.ListN.{length, take}
 use Rattle.boxes.specs.Answer.{given}
 use Rattle.boxes.specs.Framing.{Box, boxesIn}
-use Rattle.boxes.specs.Kinds.{surl, those}
 use Rattle.partial.specs.Heading.{Heading, urlsIn}
 use Rattle.partial.specs.Limits.{fileLimit, segmentLimit}
 use Rattle.partial.specs.Segments.{Segment}
 use Rattle.partial.specs.ReadingDemands.{Numbered}
 use Rattle.partial.specs.Sources.{sourceCount, sourceBeside, ofSource}
+use Rattle.partial.specs.Texts.{listBoxes}
 use Rattle.surls.specs.declared.body.Body.{Body}
 use Rattle.sources.specs.Lists.{allLists, listIn, ListPut}
 use Rattle.sources.specs.Numbers.{sourcePut}
-
--- the boxes among which the list of URLs of a segment stands: its own, or those of `pfil` where it has no `surl`
-unfoldable pub listBoxes : Heading → Segment → List Box
-listBoxes h s = elim (those surl (s .inner)) [ [] ↦ h .inner | _ ∷ _ ↦ s .inner ]
 
 -- a container that lies in the file has these boxes
 pub record Stands (f : List ℕ) (body : Body) (bs : List Box) : Type 0 where

@@ -1,6 +1,6 @@
 -- Each public call's contract determines its answer: two that it allows of the same arguments are equal. The texts of a
--- box are determined where it lies in the file, and what is said of the `surl` boxes of a container, or of two, where
--- these lie in the file and their boxes are known.
+-- box are determined where it lies in the file, and what is said of the `surl` boxes of a container, of the first of
+-- them, or of those of two, where these lie in the file and their boxes are known.
 use Prim.Native.Nat.{ℕ, _≤_}
 use mathlib.Core.List.{List}
 use mathlib.Core.Path.{_≡_, sym, _∙_}
@@ -12,6 +12,8 @@ use Rattle.boxes.specs.Framing.{Box, boxesIn}
 use Rattle.boxes.proofs.ToldLaws.{Tells}
 use Rattle.surls.specs.Parts.{partOf, Within}
 use Rattle.surls.specs.declared.body.Body.{Body}
+use Rattle.surls.proofs.first.first_text.Reads as first-text
+use Rattle.surls.proofs.first.has_surl.Reads as has-surl
 use Rattle.surls.proofs.formed.surls_formed.Reads as surls-formed
 use Rattle.surls.proofs.texts.mime_of.Reads as mime-of
 use Rattle.surls.proofs.texts.url_of.Reads as url-of
@@ -35,6 +37,12 @@ surls-formed-result κs args bs (inside, known) x y after after′ p q = p insid
 -- the container of a body lies in the file and has these boxes
 abbrev Stands : List ℕ → Body → List Box → Type 0
 Stands f body bs = (boxesIn (body .container) f (body .start .0) (body .end .0) ≡ given bs) × (body .end .0 ≤ length f)
+
+has-surl-result : OneKnown has-surl.Post (λ κs args (bs : List Box). Stands (now (args .0)) (args .1 .0) bs)
+has-surl-result κs args bs (known, inside) x y after after′ p q = p bs known ∙ sym (q bs known)
+
+first-text-result : OneKnown first-text.Post (λ κs args (bs : List Box). Stands (now (args .0)) (args .1 .0) bs)
+first-text-result κs args bs (known, inside) x y after after′ p q = part-told x y (p bs known inside ∙ sym (q bs known inside))
 
 same-urls-result : OneKnown same-urls.Post (λ κs args ((bs, cs) : List Box × List Box). Stands (now (args .0)) (args .1 .0) bs × Stands (now (args .0)) (args .1 .1 .0) cs)
 same-urls-result κs args (bs, cs) ((known, inside), (known′, inside′)) x y after after′ p q =

@@ -1,5 +1,6 @@
 pub mod BothLaws
 pub mod Determined
+pub mod FirstLaws
 pub mod FormLaws
 pub mod NextLaws
 pub mod TextLaws

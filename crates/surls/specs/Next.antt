@@ -3,7 +3,7 @@ use Prim.Native.Nat.{ℕ, _<_}
 use mathlib.Core.Bool.{Bool, true, false}
 use mathlib.Core.List.{List, [], _∷_}
 use mathlib.Core.Path.{_≡_}
-use Rattle.boxes.specs.Answer.{Answer, given}
+use Rattle.boxes.specs.Answer.{given}
 use Rattle.boxes.specs.Framing.{Box, boxesFrom, boxOf}
 use Rattle.boxes.specs.Kinds.{surl, those}
 use Rattle.boxes.specs.declared.framing.Framed.{Framed}

@@ -13,6 +13,9 @@ use Rattle.vrazhupa.proofs.reading_calls.vrazhupa_mime.Reads as mime
 use Rattle.vrazhupa.proofs.reading_calls.vrazhupa_missmap.Reads as missmap
 use Rattle.vrazhupa.proofs.reading_calls.vrazhupa_read.Reads as read
 use Rattle.vrazhupa.proofs.reading_calls.vrazhupa_serve.Reads as serve
+use Rattle.vrazhupa.proofs.reading_calls.vrazhupa_source_mime.Reads as source-mime
+use Rattle.vrazhupa.proofs.reading_calls.vrazhupa_source_url.Reads as source-url
+use Rattle.vrazhupa.proofs.reading_calls.vrazhupa_texts.Reads as texts
 use Rattle.vrazhupa.proofs.reading_calls.vrazhupa_url.Reads as url
 use Rattle.vrazhupa.proofs.writing_calls.vrazhupa_append.Reads as append
 use Rattle.vrazhupa.proofs.writing_calls.vrazhupa_begin.Reads as begin
@@ -26,7 +29,7 @@ heading-told κs args x y after after′ p q = p .said .values ∙ sym (q .said 
 read-result : OneResult read.Post
 read-result κs args x y after after′ p q = p .said .number ∙ sym (q .said .number)
 
-read-told : OneLeft read.Post (λ κs after. now (after .1 .1 .1 .0))
+read-told : OneLeft read.Post (λ κs after. now (after .1 .1 .1 .1 .0))
 read-told κs args x y after after′ p q = p .said .values ∙ sym (q .said .values)
 
 read-segments : OneLeft read.Post (λ κs after. now (after .1 .0))
@@ -47,10 +50,34 @@ mime-result κs args x y after after′ p q = p .said .number ∙ sym (q .said .
 mime-told : OneLeft mime.Post (λ κs after. now (after .1 .0))
 mime-told κs args x y after after′ p q = p .said .values ∙ sym (q .said .values)
 
+source-url-result : OneResult source-url.Post
+source-url-result κs args x y after after′ p q = p .said .number ∙ sym (q .said .number)
+
+source-url-told : OneLeft source-url.Post (λ κs after. now (after .1 .1 .0))
+source-url-told κs args x y after after′ p q = p .said .values ∙ sym (q .said .values)
+
+source-mime-result : OneResult source-mime.Post
+source-mime-result κs args x y after after′ p q = p .said .number ∙ sym (q .said .number)
+
+source-mime-told : OneLeft source-mime.Post (λ κs after. now (after .1 .1 .0))
+source-mime-told κs args x y after after′ p q = p .said .values ∙ sym (q .said .values)
+
+texts-result : OneResult texts.Post
+texts-result κs args x y after after′ p q = p .said .number ∙ sym (q .said .number)
+
+texts-told : OneLeft texts.Post (λ κs after. now (after .1 .1 .1 .1 .0))
+texts-told κs args x y after after′ p q = p .said .values ∙ sym (q .said .values)
+
+texts-bytes : OneLeft texts.Post (λ κs after. now (after .1 .1 .0))
+texts-bytes κs args x y after after′ p q = p .bytes ∙ sym (q .bytes)
+
+texts-lengths : OneLeft texts.Post (λ κs after. now (after .1 .1 .1 .0))
+texts-lengths κs args x y after after′ p q = p .numbers ∙ sym (q .numbers)
+
 serve-result : OneResult serve.Post
 serve-result κs args x y after after′ p q = p .said .number ∙ sym (q .said .number)
 
-serve-told : OneLeft serve.Post (λ κs after. now (after .1 .1 .1 .1 .0))
+serve-told : OneLeft serve.Post (λ κs after. now (after .1 .1 .1 .1 .1 .0))
 serve-told κs args x y after after′ p q = p .said .values ∙ sym (q .said .values)
 
 serve-segments : OneLeft serve.Post (λ κs after. now (after .1 .0))
@@ -62,7 +89,7 @@ serve-chunks κs args x y after after′ p q = p .tables .chunkTable ∙ sym (q 
 ask-result : OneResult ask.Post
 ask-result κs args x y after after′ p q = p .said .number ∙ sym (q .said .number)
 
-ask-told : OneLeft ask.Post (λ κs after. now (after .1 .1 .1 .1 .0))
+ask-told : OneLeft ask.Post (λ κs after. now (after .1 .1 .1 .1 .1 .0))
 ask-told κs args x y after after′ p q = p .said .values ∙ sym (q .said .values)
 
 ask-segments : OneLeft ask.Post (λ κs after. now (after .1 .0))
@@ -74,7 +101,7 @@ ask-chunks κs args x y after after′ p q = p .tables .chunkTable ∙ sym (q .t
 list-result : OneResult list.Post
 list-result κs args x y after after′ p q = p .said .number ∙ sym (q .said .number)
 
-list-told : OneLeft list.Post (λ κs after. now (after .1 .1 .1 .1 .1 .0))
+list-told : OneLeft list.Post (λ κs after. now (after .1 .1 .1 .1 .1 .1 .0))
 list-told κs args x y after after′ p q = p .said .values ∙ sym (q .said .values)
 
 list-segments : OneLeft list.Post (λ κs after. now (after .1 .0))
@@ -83,10 +110,10 @@ list-segments κs args x y after after′ p q = p .tables .segmentTable ∙ sym 
 list-chunks : OneLeft list.Post (λ κs after. now (after .1 .1 .0))
 list-chunks κs args x y after after′ p q = p .tables .chunkTable ∙ sym (q .tables .chunkTable)
 
-list-had : OneLeft list.Post (λ κs after. now (after .1 .1 .1 .0))
+list-had : OneLeft list.Post (λ κs after. now (after .1 .1 .1 .1 .0))
 list-had κs args x y after after′ p q = p .hadTable ∙ sym (q .hadTable)
 
-list-missing : OneLeft list.Post (λ κs after. now (after .1 .1 .1 .1 .0))
+list-missing : OneLeft list.Post (λ κs after. now (after .1 .1 .1 .1 .1 .0))
 list-missing κs args x y after after′ p q = p .missingTable ∙ sym (q .missingTable)
 
 index-result : OneResult index.Post
@@ -137,7 +164,7 @@ begin-bytes κs args x y after after′ p q = p .left ∙ sym (q .left)
 append-result : OneResult append.Post
 append-result κs args x y after after′ p q = p .said .number ∙ sym (q .said .number)
 
-append-told : OneLeft append.Post (λ κs after. now (after .1 .1 .1 .1 .1 .1 .1 .1 .0))
+append-told : OneLeft append.Post (λ κs after. now (after .1 .1 .1 .1 .1 .1 .1 .1 .1 .1 .0))
 append-told κs args x y after after′ p q = p .said .values ∙ sym (q .said .values)
 
 append-bytes : OneLeft append.Post (λ κs after. now (after .0))

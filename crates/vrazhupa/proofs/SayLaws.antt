@@ -1,7 +1,7 @@
 -- Laws of what an exported call says: after a refusal, of an answer, and of answers that are the same.
 use Prim.Native.Nat.{ℕ}
 use mathlib.Core.Bool.{Bool}
-use mathlib.Core.List.{List, []}
+use mathlib.Core.List.{List}
 use mathlib.Core.Path.{_≡_, subst}
 use Rattle.boxes.specs.Answer.{Answer, refused, given, _>>=_}
 use Rattle.additions.specs.Addition.{asks}
@@ -30,7 +30,8 @@ says-then numbers of (refused n) s = record { number = s .number; values = s .va
 says-then numbers of (given a) s = record { number = s .number; values = s .values }
 
 -- what is appended by a header is what is appended by an equal one
-pub appends-by : {buffer buffer′ : List ℕ} {n : ℕ} {header header′ : SegmentHeader} {r : Written} (outside : Bool) (list bytes : List ℕ) → header ≡ header′
-    → Appends buffer buffer′ n (asks header outside list bytes [] []) r
-    → Appends buffer buffer′ n (asks header′ outside list bytes [] []) r
-appends-by {buffer} {buffer′} {n} {r = r} outside list bytes e a = subst (λ (h : SegmentHeader). Appends buffer buffer′ n (asks h outside list bytes [] []) r) e a
+pub appends-by : {buffer buffer′ : List ℕ} {n : ℕ} {header header′ : SegmentHeader} {r : Written} (outside : Bool) (list bytes texts lengths : List ℕ) → header ≡ header′
+    → Appends buffer buffer′ n (asks header outside list bytes texts lengths) r
+    → Appends buffer buffer′ n (asks header′ outside list bytes texts lengths) r
+appends-by {buffer} {buffer′} {n} {r = r} outside list bytes texts lengths e a =
+    subst (λ (h : SegmentHeader). Appends buffer buffer′ n (asks h outside list bytes texts lengths) r) e a

@@ -15,8 +15,10 @@ use Rattle.partial.specs.Reading.{reading}
 use Rattle.partial.specs.declared.brand.Brand.{Brand}
 use Rattle.partial.specs.Tables.{indexTabled, indexTable, indexCount}
 use Rattle.partial.specs.Tables.{tabled, listed, summary, totals, servedPart, asked, textOf, hadRows, missingRows}
+use Rattle.partial.specs.Texts.{sourceTextOf, textsFor, lengthsFor, textsTabled}
 use Rattle.reading.specs.Tables.{Filled}
-use Rattle.vrazhupa.specs.Says.{Says, headingNumbers, summaryNumbers, totalsNumbers, replyNumbers, partNumbers, oneNumber}
+use Rattle.surltexts.specs.Calls.{amounts}
+use Rattle.vrazhupa.specs.Says.{Says, headingNumbers, summaryNumbers, totalsNumbers, replyNumbers, partNumbers, textsNumbers, oneNumber}
 
 -- the heading alone, so that a file that was only begun is told of too
 pub record SaysHeaded (f before after : List ℕ) (r : ℕ) : Type 0 where
@@ -27,9 +29,19 @@ pub record SaysRead (f : List ℕ) (source : ℕ) (segments segments′ chunks c
   pub said : Says summaryNumbers (tabled sourceLimit f segments chunks >>= λ ss. given (summary source ss)) told told′ r
   pub tables : Filled (tabled sourceLimit f segments chunks) segments segments′ chunks chunks′
 
--- one of the two texts
+-- one of the two texts of the first `surl` in `pfil`
 pub record SaysText (which : List ℕ → Box → Part) (f told told′ : List ℕ) (r : ℕ) : Type 0 where
   pub said : Says (λ ss. partNumbers (textOf which sourceLimit f)) (reading sourceLimit f) told told′ r
+
+-- one of the two first texts of a source
+pub record SaysSourceText (which : List ℕ → Box → Part) (f : List ℕ) (source : ℕ) (told told′ : List ℕ) (r : ℕ) : Type 0 where
+  pub said : Says partNumbers (sourceTextOf which sourceLimit f source) told told′ r
+
+-- how many bytes the texts of a segment have and how many lengths there are, and both in the lent memory
+pub record SaysTexts (f : List ℕ) (segment : ℕ) (texts texts′ lengths lengths′ told told′ : List ℕ) (r : ℕ) : Type 0 where
+  pub said : Says textsNumbers (textsTabled sourceLimit f segment texts lengths >>= λ surls. given (amounts surls)) told told′ r
+  pub bytes : texts′ ≡ after textsFor (textsTabled sourceLimit f segment texts lengths) texts
+  pub numbers : lengths′ ≡ after lengthsFor (textsTabled sourceLimit f segment texts lengths) lengths
 
 -- the part that serves a position: its place in the file, and its length
 pub record SaysServed (f : List ℕ) (source : ℕ) (segments segments′ chunks chunks′ : List ℕ) (p : ℕ) (told told′ : List ℕ) (r : ℕ) : Type 0 where

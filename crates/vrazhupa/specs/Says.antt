@@ -8,6 +8,7 @@ use Rattle.heading.specs.Facts.{Facts}
 use Rattle.partial.specs.Heading.{Part}
 use Rattle.partial.specs.Meaning.{Reply, servedFor, missingFor, notBelow}
 use Rattle.partial.specs.Tables.{Summary, Totals}
+use Rattle.surltexts.specs.Calls.{Amounts}
 
 -- 0, or the number of the refusal
 unfoldable pub numberOf : {A : Type 0} → Answer A → ℕ
@@ -27,9 +28,9 @@ pub record Says {A : Type 0} (numbers : A → List ℕ) (answer : Answer A) (tol
 abbrev pub flag : Bool → ℕ
 flag b = elim b [ true ↦ 1 | false ↦ 0 ]
 
--- how many rows each table has, the described length, and 1 where the size is known
+-- how many rows each table has, how many sources there are, the described length of one, and 1 where its size is known
 unfoldable pub summaryNumbers : Summary → List ℕ
-summaryNumbers s = s .segments ∷ s .chunks ∷ s .described ∷ flag (s .closed) ∷ []
+summaryNumbers s = s .segments ∷ s .chunks ∷ s .sources ∷ s .described ∷ flag (s .closed) ∷ []
 
 -- how many ranges each list has, and the totals
 unfoldable pub totalsNumbers : Totals → List ℕ
@@ -45,7 +46,11 @@ replyNumbers notBelow = 2 ∷ 0 ∷ []
 unfoldable pub partNumbers : Part → List ℕ
 partNumbers p = p .place ∷ p .size ∷ []
 
--- 1 where the file is mixed, how many boxes it has and how many of them are `pseg`, then its URL and its MIME text
+-- how many bytes texts have, and how many lengths there are
+unfoldable pub textsNumbers : Amounts → List ℕ
+textsNumbers told = told .bytes ∷ told .lengths ∷ []
+
+-- 1 where the file is mixed, how many boxes it has and how many of them are `pseg`, then the URL and the MIME text in its `pfil`
 unfoldable pub headingNumbers : Facts → List ℕ
 headingNumbers h = flag (h .mixed) ∷ h .boxes ∷ h .segments ∷ (partNumbers (h .url) ++ partNumbers (h .mime))
 

@@ -7,10 +7,12 @@ use partial::answers::Listed;
 use partial::answers::Read;
 use partial::answers::Written;
 use reading::parts::Located;
+use surltexts::calls::Told;
 ghost use Rattle.heading.specs.Facts.{headedAnswer};
 ghost use Rattle.partial.specs.Answers.{readAnswer, askedAnswer, listedAnswer, countedAnswer, writtenAnswer};
 ghost use Rattle.reading.specs.Parts.{locatedAnswer};
-ghost use Rattle.vrazhupa.specs.Says.{Says, headingNumbers, summaryNumbers, replyNumbers, partNumbers, totalsNumbers, oneNumber};
+ghost use Rattle.surltexts.specs.Calls.{toldAnswer};
+ghost use Rattle.vrazhupa.specs.Says.{Says, headingNumbers, summaryNumbers, replyNumbers, partNumbers, totalsNumbers, textsNumbers, oneNumber};
 
 // The kinds of answers about a position.
 const SERVED: u64 = 0;
@@ -42,8 +44,8 @@ pub(crate) fn say_headed(r: Headed, told: &mut [u64; 7]) -> u64
     }
 }
 
-// How many rows each table has, the described length, and 1 where the size is known.
-pub(crate) fn say_read(r: Read, told: &mut [u64; 4]) -> u64
+// How many rows each table has, how many sources there are, the described length of one, and 1 where its size is known.
+pub(crate) fn say_read(r: Read, told: &mut [u64; 5]) -> u64
     ensures { λ n. ⌜ Says summaryNumbers (readAnswer r) (now (told .entry)) (now (told .exit)) n ⌝ }
 {
     match r {
@@ -51,10 +53,11 @@ pub(crate) fn say_read(r: Read, told: &mut [u64; 4]) -> u64
         Read::Tables {
             segments,
             chunks,
+            sources,
             described,
             closed,
         } => {
-            *told = [segments, chunks, described.0, closed as u64];
+            *told = [segments, chunks, sources, described.0, closed as u64];
             0
         }
     }
@@ -120,6 +123,19 @@ pub(crate) fn say_counted(r: Counted, told: &mut [u64; 1]) -> u64
         Counted::Refused(n) => n,
         Counted::Rows(many) => {
             *told = [many];
+            0
+        }
+    }
+}
+
+// How many bytes the texts have, and how many lengths there are.
+pub(crate) fn say_texts(r: Told, told: &mut [u64; 2]) -> u64
+    ensures { λ n. ⌜ Says textsNumbers (toldAnswer r) (now (told .entry)) (now (told .exit)) n ⌝ }
+{
+    match r {
+        Told::Refused(n) => n,
+        Told::Texts { bytes, lengths } => {
+            *told = [bytes, lengths];
             0
         }
     }

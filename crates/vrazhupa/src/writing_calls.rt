@@ -6,7 +6,6 @@ use partial::position::Position;
 use writing::append::append;
 use writing::begin::begin;
 ghost use mathlib.Core.Path.{_≡_};
-ghost use mathlib.Core.List.{[]};
 ghost use Rattle.additions.specs.Addition.{asks, writable};
 ghost use Rattle.additions.specs.Begin.{brandFor};
 ghost use Rattle.vrazhupa.specs.Calls.{SaysBegun, SaysAppended};
@@ -32,7 +31,8 @@ pub extern "C" fn vrazhupa_begin(
     say_written(begin(buffer, brand_for(mixed), url, mime), told)
 }
 
-// Appends a segment at a source offset, the last of its source or not, with its good chunks outside `pdat` or not.
+// Appends a segment at a source offset, the last of its source or not, with its good chunks outside `pdat` or not, and
+// with `surl` boxes of these texts.
 #[no_mangle]
 pub extern "C" fn vrazhupa_append(
     buffer: &mut [u8],
@@ -43,12 +43,17 @@ pub extern "C" fn vrazhupa_append(
     outside: bool,
     list: &[u64],
     bytes: &[u8],
+    texts: &[u8],
+    lengths: &[u64],
     told: &mut [u64; 1],
 ) -> u64
     ensures { λ r. ⌜ SaysAppended (now (buffer .entry)) (now (buffer .exit)) length
-        (asks (writable (record { 0 = offset }) repair last) outside (now (list .entry)) (now (bytes .entry)) [] [])
+        (asks (writable (record { 0 = offset }) repair last) outside (now (list .entry)) (now (bytes .entry)) (now (texts .entry)) (now (lengths .entry)))
         (now (told .entry)) (now (told .exit)) r ⌝ }
 {
     let header = SegmentHeader::writable(Position(offset), repair, last);
-    say_written(append(buffer, length, header, outside, list, bytes), told)
+    say_written(
+        append(buffer, length, header, outside, list, bytes, texts, lengths),
+        told,
+    )
 }

@@ -1,6 +1,6 @@
 -- Laws of what append adds: the parts that it is put in, and how long they are.
 use Prim.Native.Nat.{ℕ, _+_}
-use mathlib.Core.Bool.{Bool, true, not}
+use mathlib.Core.Bool.{Bool, not}
 use mathlib.Core.List.{List, [], _++_, append-assoc}
 use mathlib.Core.Logic.{inl, inr}
 use mathlib.Core.Path.{_≡_, sym, ap, _∙_}

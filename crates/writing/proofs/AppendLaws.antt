@@ -1,12 +1,12 @@
 -- Laws of appending a segment: what each test decides, and what the call leaves.
 use Prim.Native.Nat.{ℕ, _+_, _%_, _^_, _≤_, _<_}
 use mathlib.Core.Bool.{Bool, true, false, not, _&&_, and-false}
-use mathlib.Core.List.{List, [], _∷_, _++_, append-assoc}
+use mathlib.Core.List.{List, [], _++_, append-assoc}
 use mathlib.Core.Logic.{inl, inr}
 use mathlib.Core.Path.{_≡_, refl, sym, ap, subst, _∙_}
 use native.Mathlib.Omega.{arith}
 use borrow.Author.Tests.{leb-true, le-leb, lt-leb, eq-eqb, ne-eqb}
-use lib.Dec.{leb, eqb}
+use lib.Dec.{leb, ltb, eqb}
 use lib.ListN.{length, take, drop, length-append}
 use lib.Seq.{length-take-le}
 use Rattle.boxes.specs.Answer.{Answer, refused, given, _>>=_, hold}
@@ -46,18 +46,18 @@ use Rattle.reading.specs.Judged.{judgedBy, earlierTold, SizedIn, SourcedIn}
 use Rattle.reading.specs.declared.judging.Judged.{Judged}
 use Rattle.reading.proofs.JudgedLaws.{earlier-cases, accepted, read-refused, read-given}
 use Rattle.reading.proofs.JudgedLaws.{earlier-headless as told-headless}
-use Rattle.outside.specs.declared.chunks.Outside.{Outside}
 use Rattle.surls.specs.declared.body.Body.{Body}
 use Rattle.sources.specs.Held.{PfilList}
-use Rattle.going.specs.Source.{SourceFor, GoesTo}
+use Rattle.ends.specs.Table.{sizesIn}
+use Rattle.going.specs.Source.{SourceFor, GoesTo, HasList}
 use Rattle.going.specs.Texts.{urlsOf}
 use Rattle.gathering.specs.declared.gathered.Gathered.{Gathered}
-use Rattle.adding.specs.Admission.{Beside, Goes, Asked, admittedLength}
+use Rattle.adding.specs.Admission.{Beside, Goes, AskedBy, admittedLength}
 use Rattle.adding.specs.Counts.{countsOf, Counted}
 use Rattle.adding.specs.Texts.{textsOf}
+use Rattle.adding.specs.declared.admission.Asked.{Asked}
 use Rattle.adding.specs.declared.admission.Target.{Target}
 use Rattle.adding.specs.declared.counts.Counts.{Counts}
-use Rattle.adding.specs.declared.layout.Layout.{Layout}
 use Rattle.adding.specs.declared.texts.Texts.{Texts}
 use Rattle.adding.proofs.CountLaws.{counted-bytes}
 use Rattle.adding.proofs.OutsideLaws.{data-counted}
@@ -240,10 +240,13 @@ headed-mixed file head = file .mixed ∙ ap (λ (h : Heading). h .mixed) (given-
 pub going-of : (f : List ℕ) (a : Addition) (j : Judged) → Earlier f j → {z n l : List ℕ} → SizedIn (earlierSegments sourceLimit f) z
     → SourcedIn f (earlierSegments sourceLimit f) n l
     → {target : Target}
-    → SourceFor f l (j .gathered .sources) (j .head .list) (a .texts) (a .lengths) (target .source) × GoesTo f (j .head .list) (a .texts) (a .lengths) (target .«in_pfil»)
-    → Going f a z target
+    → SourceFor f l (j .gathered .sources) (j .head .list) (a .texts) (a .lengths) (target .source)
+    × (target .sizes ≡ sizesIn z (target .source))
+    × GoesTo f (j .head .list) (a .texts) (a .lengths) (target .«in_pfil»)
+    × HasList f (j .head .list) (a .lengths) (target .listed)
+    → Going f a target
 unfolding newUrls surls gatheredOf
-going-of f a j file sized sourced {target} (told, goes) h ss head read =
+going-of f a j file sized sourced {target} (told, said, goes, lists) h ss head read =
     let same-head : file .h ≡ h = given-same (sym (file .head) ∙ head) in
     let same : file .ss ≡ ss = given-same (sym (file .read) ∙ read) in
     let pfil = subst (λ (h : Heading). PfilList f h (j .head .list)) same-head (file .inPfil) in
@@ -252,9 +255,11 @@ going-of f a j file sized sourced {target} (told, goes) h ss head read =
     record {
       number = told h ss (h .inner) count numbered (sourced ss read h head .lists) (pfil .stands)
           ∙ ap (λ (us : List (List ℕ)). sourceBeside ss (urlsFor (urlsOf (a .texts) (a .lengths)) us)) (sym (pfil .urls));
-      sizes = sized ss read .said (target .source);
+      sizes = said ∙ sized ss read .said (target .source);
       list = goes (h .inner) (pfil .stands)
           ∙ ap (λ (us : List (List ℕ)). sameUrls us (urlsFor (urlsOf (a .texts) (a .lengths)) us)) (sym (pfil .urls));
+      listed = lists (a .texts) (h .inner) (pfil .stands)
+          ∙ ap (λ (us : List (List ℕ)). ltb 0 (length (urlsFor (urlsOf (a .texts) (a .lengths)) us))) (sym (pfil .urls));
     }
 
 -- ---- the tests, in their order
@@ -275,8 +280,7 @@ module _ (buffer : List ℕ) (n : ℕ) (a : Addition) (fits : n ≤ length buffe
       wrong-texts outer wrong = texts-wrong sourceLimit buffer n a fits (file .head) (file .read) lists bytes outer wrong
 
   module _ (list : listRight (a .list) ≡ true) (outer : outsideRight (file .h) a ≡ true) (plain : isText (a .texts) ≡ true)
-      {header : SegmentHeader} {c : Counts} {x : Outside} {t : Texts} {l : Layout} (asked : Asked a header c x t l)
-      {z : List ℕ} {target : Target} (going : Going (take n buffer) a z target) where
+      {x : Asked} (asked : AskedBy a x) {target : Target} (going : Going (take n buffer) a target) where
     offered : Offered sourceLimit (take n buffer) (file .h) (file .ss) a
     offered =
         record {
@@ -296,7 +300,7 @@ module _ (buffer : List ℕ) (n : ℕ) (a : Addition) (fits : n ≤ length buffe
     by-admission = appended-offered sourceLimit buffer n a (file .h) (file .ss) fits offered
 
     module _ (r : Written)
-        (answer : (h : Heading) (ss : List Segment) (a : Addition) → Beside (take n buffer) h ss j → Goes h ss a z target → Asked a header c x t l
+        (answer : (h : Heading) (ss : List Segment) (a : Addition) → Beside (take n buffer) h ss j → Goes h ss (newUrls h a) target → AskedBy a x
         → writtenAnswer r ≡ admittedLength (take n buffer) h ss n a) where
       told : writtenAnswer r ≡ admittedLength (take n buffer) (file .h) (file .ss) n a
       told = answer (file .h) (file .ss) a (file .beside) (going (file .h) (file .ss) (file .head) (file .read)) asked

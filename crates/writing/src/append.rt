@@ -1,19 +1,21 @@
 // Appending a segment to a file in a lent buffer.
+use adding::admission::Asked;
+use adding::admission::Onto;
 use adding::admission::Target;
 use adding::admission::admission;
 use adding::admission::outside_right;
 use adding::counts::Counts;
 use adding::counts::counts_of;
-use adding::layout::Layout;
 use adding::layout::layout_of;
 use adding::texts::Texts;
 use adding::texts::texts_of;
 use additions::header::SegmentHeader;
 use ends::table::ALL_SIZES;
+use ends::table::sizes_at;
 use going::source::goes_to;
+use going::source::has_list;
 use going::source::source_for;
 use numerals::place::Place;
-use outside::chunks::Outside;
 use outside::chunks::outside_of;
 use partial::answers::Written;
 use partial::refusals::BUFFER_TOO_SHORT;
@@ -32,7 +34,6 @@ use sources::lists::ALL_LISTS;
 use sources::numbers::ALL_SOURCES;
 ghost use Prim.Native.Nat.{_≤_};
 ghost use mathlib.Core.Bool.{true};
-ghost use mathlib.Core.List.{[]};
 ghost use mathlib.Core.Path.{_≡_};
 ghost use lib.ListN.{length, take};
 ghost use Rattle.boxes.specs.Answer.{given};
@@ -41,34 +42,34 @@ ghost use Rattle.additions.specs.Append.{added};
 ghost use Rattle.additions.specs.Begin.{isText};
 ghost use Rattle.partial.specs.Heading.{Heading, heading};
 ghost use Rattle.partial.specs.Limits.{fileLimit};
-ghost use Rattle.reading.specs.Judged.{judgedBy, earlierTold};
+ghost use Rattle.ends.specs.Table.{sizesIn};
+ghost use Rattle.adding.specs.Admission.{AskedBy};
 ghost use Rattle.adding.specs.Counts.{Counted, Sorted};
 ghost use Rattle.adding.specs.Texts.{Texted};
 ghost use Rattle.adding.specs.Layout.{Laid};
-ghost use Rattle.going.specs.Source.{SourceFor, GoesTo};
+ghost use Rattle.going.specs.Source.{SourceFor, GoesTo, HasList};
 ghost use Rattle.puts.specs.Entries.{Fits};
 ghost use Rattle.puts.specs.Pieces.{PutsPieces};
-ghost use Rattle.writing.specs.Append.{Going, Appends};
+ghost use Rattle.writing.specs.Append.{Ready, Appends};
 
 // Puts all that append adds: the `pdat`, if any chunk's data goes there, the chunks outside, and the `pseg`.
 fn put_added(
     buffer: &mut [u8],
     at: Place,
-    header: SegmentHeader,
+    asked: Asked,
     outside: bool,
-    counts: Counts,
-    stored: Outside,
-    layout: Layout,
     list: &[u64],
     bytes: &[u8],
     texts: &[u8],
     lengths: &[u64],
 ) -> Place
-    requires { ⌜ Sorted (asks header outside (now list) (now bytes) (now texts) (now lengths)) counts stored
-        × Laid (asks header outside (now list) (now bytes) (now texts) (now lengths)) layout × Fits (items (now list))
-        × (length (added (asks header outside (now list) (now bytes) (now texts) (now lengths))) ≤ fileLimit) ⌝ }
-    ensures { λ r. ⌜ PutsPieces (now (buffer .entry)) (at .0) (added (asks header outside (now (list .entry)) (now (bytes .entry)) (now (texts .entry)) (now (lengths .entry)))) (now (buffer .exit)) (r .0) ⌝ }
+    requires { ⌜ Sorted (asks (asked .header) outside (now list) (now bytes) (now texts) (now lengths)) (asked .counts) (asked .outside)
+        × Laid (asks (asked .header) outside (now list) (now bytes) (now texts) (now lengths)) (asked .layout) × Fits (items (now list))
+        × (length (added (asks (asked .header) outside (now list) (now bytes) (now texts) (now lengths))) ≤ fileLimit) ⌝ }
+    ensures { λ r. ⌜ PutsPieces (now (buffer .entry)) (at .0) (added (asks (asked .header) outside (now (list .entry)) (now (bytes .entry)) (now (texts .entry)) (now (lengths .entry)))) (now (buffer .exit)) (r .0) ⌝ }
 {
+    let counts = asked.counts;
+    let stored = asked.outside;
     let there = counts.present != stored.chunks;
     let size = counts.bytes - stored.bytes;
     let outer = put_pdat(buffer, at, outside, there, size, list, bytes);
@@ -76,9 +77,9 @@ fn put_added(
     put_pseg(
         buffer,
         pseg,
-        header,
+        asked.header,
         counts,
-        layout,
+        asked.layout,
         outside,
         stored.bytes,
         list,
@@ -90,61 +91,29 @@ fn put_added(
 // Appends what is right in itself, if the result is a file and has room.
 fn append_right(
     buffer: &mut [u8],
-    n: u64,
-    judged: Judged,
-    sizes: &[u64; ALL_SIZES],
-    target: Target,
-    header: SegmentHeader,
+    onto: Onto,
+    asked: Asked,
     outside: bool,
-    counts: Counts,
-    stored: Outside,
-    said: Texts,
     list: &[u64],
     bytes: &[u8],
     texts: &[u8],
     lengths: &[u64],
 ) -> Written
-    requires { ⌜ (n ≤ length (now buffer))
-        × (earlierTold (take n (now buffer)) ≡ given (judgedBy judged))
-        × Going (take n (now buffer)) (asks header outside (now list) (now bytes) (now texts) (now lengths)) (now sizes) target
-        × (listRight (now list) ≡ true) × Sorted (asks header outside (now list) (now bytes) (now texts) (now lengths)) counts stored
-        × Texted (asks header outside (now list) (now bytes) (now texts) (now lengths)) said × (isText (now texts) ≡ true)
-        × ((h : Heading) → heading (take n (now buffer)) ≡ given h
-        → outsideRight h (asks header outside (now list) (now bytes) (now texts) (now lengths)) ≡ true) ⌝ }
-    ensures { λ r. ⌜ Appends (now (buffer .entry)) (now (buffer .exit)) n (asks header outside (now (list .entry)) (now (bytes .entry)) (now (texts .entry)) (now (lengths .entry))) r ⌝ }
+    requires { ⌜ Ready (now buffer) (asks (asked .header) outside (now list) (now bytes) (now texts) (now lengths)) onto
+        × (listRight (now list) ≡ true) × AskedBy (asks (asked .header) outside (now list) (now bytes) (now texts) (now lengths)) asked × (isText (now texts) ≡ true)
+        × ((h : Heading) → heading (take (onto .length) (now buffer)) ≡ given h
+        → outsideRight h (asks (asked .header) outside (now list) (now bytes) (now texts) (now lengths)) ≡ true) ⌝ }
+    ensures { λ r. ⌜ Appends (now (buffer .entry)) (now (buffer .exit)) (onto .length) (asks (asked .header) outside (now (list .entry)) (now (bytes .entry)) (now (texts .entry)) (now (lengths .entry))) r ⌝ }
 {
-    let layout = layout_of(counts, stored, said, header.offset);
-    match admission(
-        &buffer[..n as usize],
-        judged,
-        sizes,
-        target,
-        n,
-        header,
-        counts,
-        stored,
-        said,
-        layout,
-    ) {
+    let n = onto.length;
+    match admission(&buffer[..n as usize], onto, asked) {
         Written::Refused(k) => Written::Refused(k),
         Written::Length(size) => {
             if (buffer.len() as u64) < size {
                 return Written::Refused(BUFFER_TOO_SHORT);
             }
             let at = Place(n);
-            let end = put_added(
-                buffer,
-                at,
-                header,
-                outside,
-                counts,
-                stored,
-                layout,
-                list,
-                bytes,
-                texts,
-                lengths,
-            );
+            let end = put_added(buffer, at, asked, outside, list, bytes, texts, lengths);
             Written::Length(end.0)
         }
     }
@@ -153,10 +122,7 @@ fn append_right(
 // Appends what is counted, and right by its counts: 35 and 34, and then what is right in itself.
 fn append_counted(
     buffer: &mut [u8],
-    n: u64,
-    judged: Judged,
-    sizes: &[u64; ALL_SIZES],
-    target: Target,
+    onto: Onto,
     header: SegmentHeader,
     outside: bool,
     counts: Counts,
@@ -166,12 +132,12 @@ fn append_counted(
     texts: &[u8],
     lengths: &[u64],
 ) -> Written
-    requires { ⌜ (n ≤ length (now buffer)) × (earlierTold (take n (now buffer)) ≡ given (judgedBy judged))
-        × Going (take n (now buffer)) (asks header outside (now list) (now bytes) (now texts) (now lengths)) (now sizes) target
+    requires { ⌜ Ready (now buffer) (asks header outside (now list) (now bytes) (now texts) (now lengths)) onto
         × (listRight (now list) ≡ true) × Counted (asks header outside (now list) (now bytes) (now texts) (now lengths)) counts
         × Texted (asks header outside (now list) (now bytes) (now texts) (now lengths)) said ⌝ }
-    ensures { λ r. ⌜ Appends (now (buffer .entry)) (now (buffer .exit)) n (asks header outside (now (list .entry)) (now (bytes .entry)) (now (texts .entry)) (now (lengths .entry))) r ⌝ }
+    ensures { λ r. ⌜ Appends (now (buffer .entry)) (now (buffer .exit)) (onto .length) (asks header outside (now (list .entry)) (now (bytes .entry)) (now (texts .entry)) (now (lengths .entry))) r ⌝ }
 {
+    let judged = onto.judged;
     let head = judged.head;
     let stored = outside_of(outside, list, bytes);
     if !outside_right(head.mixed, stored) {
@@ -180,32 +146,22 @@ fn append_counted(
     if !said.plain {
         return Written::Refused(ZERO_IN_TEXT);
     }
-    append_right(
-        buffer,
-        n,
-        judged,
-        sizes,
-        target,
+    let layout = layout_of(counts, stored, said, header.offset);
+    let asked = Asked {
         header,
-        outside,
         counts,
-        stored,
-        said,
-        list,
-        bytes,
-        texts,
-        lengths,
-    )
+        outside: stored,
+        texts: said,
+        layout,
+    };
+    append_right(buffer, onto, asked, outside, list, bytes, texts, lengths)
 }
 
-// Appends to the file in the first n bytes of the buffer, by what was read of it and the source that the addition goes
-// to: 31 and 32 of the chunk list and of the texts, and then what is right by its counts.
+// Appends to a file by what was read of it and the source that the addition goes to: 31 and 32 of the chunk list and of
+// the texts, and then what is right by its counts.
 fn append_to(
     buffer: &mut [u8],
-    n: u64,
-    judged: Judged,
-    sizes: &[u64; ALL_SIZES],
-    target: Target,
+    onto: Onto,
     header: SegmentHeader,
     outside: bool,
     list: &[u64],
@@ -213,9 +169,8 @@ fn append_to(
     texts: &[u8],
     lengths: &[u64],
 ) -> Written
-    requires { ⌜ (n ≤ length (now buffer)) × (earlierTold (take n (now buffer)) ≡ given (judgedBy judged))
-        × Going (take n (now buffer)) (asks header outside (now list) (now bytes) (now texts) (now lengths)) (now sizes) target ⌝ }
-    ensures { λ r. ⌜ Appends (now (buffer .entry)) (now (buffer .exit)) n (asks header outside (now (list .entry)) (now (bytes .entry)) (now (texts .entry)) (now (lengths .entry))) r ⌝ }
+    requires { ⌜ Ready (now buffer) (asks header outside (now list) (now bytes) (now texts) (now lengths)) onto ⌝ }
+    ensures { λ r. ⌜ Appends (now (buffer .entry)) (now (buffer .exit)) (onto .length) (asks header outside (now (list .entry)) (now (bytes .entry)) (now (texts .entry)) (now (lengths .entry))) r ⌝ }
 {
     let counts = counts_of(list);
     let said = texts_of(texts, lengths);
@@ -236,10 +191,7 @@ fn append_to(
     }
     append_counted(
         buffer,
-        n,
-        judged,
-        sizes,
-        target,
+        onto,
         header,
         outside,
         counts,
@@ -251,38 +203,49 @@ fn append_to(
     )
 }
 
-// The source that an addition with these texts goes to, by the lists of the file.
+// The source that an addition with these texts goes to, by the tables of a file.
 fn target_of(
     file: &[u8],
     judged: Judged,
+    sizes: &[u64; ALL_SIZES],
     lists: &[u64; ALL_LISTS],
     texts: &[u8],
     lengths: &[u64],
 ) -> Target
     ensures { λ r. ⌜ SourceFor (now (file .entry)) (now (lists .entry)) (judged .gathered .sources) (judged .head .list) (now (texts .entry)) (now (lengths .entry)) (r .source)
-        × GoesTo (now (file .entry)) (judged .head .list) (now (texts .entry)) (now (lengths .entry)) (r .«in_pfil») ⌝ }
+        × (r .sizes ≡ sizesIn (now (sizes .entry)) (r .source))
+        × GoesTo (now (file .entry)) (judged .head .list) (now (texts .entry)) (now (lengths .entry)) (r .«in_pfil»)
+        × HasList (now (file .entry)) (judged .head .list) (now (lengths .entry)) (r .listed) ⌝ }
 {
     let head = judged.head;
     let gathered = judged.gathered;
     let list = head.list;
     let source = source_for(file, lists, gathered.sources, list, texts, lengths);
+    let said = sizes_at(sizes, source);
     let in_pfil = goes_to(file, list, texts, lengths);
-    Target { source, in_pfil }
+    let listed = has_list(file, list, lengths);
+    Target {
+        source,
+        sizes: said,
+        in_pfil,
+        listed,
+    }
 }
 
-// Appends a segment, with the `surl` boxes of texts that a list of their lengths cuts, to the file in the first bytes
-// of the buffer.
-fn append_with(
+// Appends a segment to the file in the first bytes of the buffer: the data of its chunks, the good ones outside `pdat`
+// or all in one, and a `pseg` with the `surl` boxes of texts, which a list of their lengths cuts, URL and MIME by turns.
+// Answers the new length; after a refusal the buffer is as it was.
+pub fn append(
     buffer: &mut [u8],
     length: u64,
     header: SegmentHeader,
     outside: bool,
     list: &[u64],
-    data: &[u8],
+    bytes: &[u8],
     texts: &[u8],
     lengths: &[u64],
 ) -> Written
-    ensures { λ r. ⌜ Appends (now (buffer .entry)) (now (buffer .exit)) length (asks header outside (now (list .entry)) (now («data» .entry)) (now (texts .entry)) (now (lengths .entry))) r ⌝ }
+    ensures { λ r. ⌜ Appends (now (buffer .entry)) (now (buffer .exit)) length (asks header outside (now (list .entry)) (now (bytes .entry)) (now (texts .entry)) (now (lengths .entry))) r ⌝ }
 {
     if (buffer.len() as u64) < length {
         return Written::Refused(LENGTH_OVER_BUFFER);
@@ -290,52 +253,17 @@ fn append_with(
     let mut sizes = [0; ALL_SIZES];
     let mut sources = [0; ALL_SOURCES];
     let mut lists = [0; ALL_LISTS];
-    match earlier_of(
-        &buffer[..length as usize],
-        &mut sizes,
-        &mut sources,
-        &mut lists,
-    ) {
+    let file = &buffer[..length as usize];
+    match earlier_of(file, &mut sizes, &mut sources, &mut lists) {
         Judgement::Refused(n) => Written::Refused(n),
         Judgement::Given(judged) => {
-            let target = target_of(&buffer[..length as usize], judged, &lists, texts, lengths);
-            append_to(
-                buffer,
+            let target = target_of(file, judged, &sizes, &lists, texts, lengths);
+            let onto = Onto {
                 length,
                 judged,
-                &sizes,
                 target,
-                header,
-                outside,
-                list,
-                data,
-                texts,
-                lengths,
-            )
+            };
+            append_to(buffer, onto, header, outside, list, bytes, texts, lengths)
         }
     }
-}
-
-// Appends a segment to the file in the first bytes of the buffer: the data of its chunks, the good ones outside `pdat`
-// or all in one, and a `pseg`. Answers the new length; after a refusal the buffer is as it was.
-pub fn append(
-    buffer: &mut [u8],
-    length: u64,
-    header: SegmentHeader,
-    outside: bool,
-    list: &[u64],
-    data: &[u8],
-) -> Written
-    ensures { λ r. ⌜ Appends (now (buffer .entry)) (now (buffer .exit)) length (asks header outside (now (list .entry)) (now («data» .entry)) [] []) r ⌝ }
-{
-    append_with(
-        buffer,
-        length,
-        header,
-        outside,
-        list,
-        data,
-        &data[..0],
-        &list[..0],
-    )
 }

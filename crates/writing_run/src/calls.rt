@@ -1,8 +1,9 @@
 // The calls of a run. A begin is four numbers of two bytes, 0, the brand (0 is `paff`, 1 `pmff`) and the lengths of the
 // URL and of the MIME text, and the two texts. An append is 1, whether its good chunks go outside (1 where they do),
-// how many numbers of its chunk list are given, and the length of its data; then five numbers of eight bytes, the
-// stated length of the file, source offset, repair time, flags, and the length of the list; then those numbers and the
-// data.
+// how many numbers of its chunk list are given, and the length of its data; then eight numbers of eight bytes, the
+// stated length of the file, source offset, repair time, flags, the length of the list, how many text lengths are given,
+// the length of that list, and how many text bytes there are; then the numbers of the chunk list, the data, the text
+// lengths and the text bytes.
 use crate::list;
 use crate::report;
 use additions::header::SegmentHeader;
@@ -14,6 +15,11 @@ use printing::records::eight;
 use printing::records::pair;
 use writing::append::append;
 use writing::begin::begin;
+
+// The longest list of text lengths, and the most text bytes.
+const MOST_LENGTHS: usize = 1_300;
+
+const MOST_TEXTS: usize = 65_536;
 
 // Makes so many calls on the buffer, in which a file of some length stands. The length of the file that they leave.
 pub fn all(buffer: &mut [u8], list: &mut [u64], bytes: &mut [u8], count: usize, file: u64) -> u64 {
@@ -75,17 +81,26 @@ fn appends(
     let stated = eight();
     let header = header();
     let count = eight() as usize;
-    if count > list.len() {
+    let lengths_given = eight() as usize;
+    let length_count = eight() as usize;
+    let text_size = eight() as usize;
+    let mut lengths = [0u64; MOST_LENGTHS];
+    let mut texts = [0u8; MOST_TEXTS];
+    if count > list.len() || size > bytes.len() {
         return length;
     }
-    if size > bytes.len() {
+    if length_count > lengths.len() || text_size > texts.len() {
         return length;
     }
     let list = &mut list[0..count];
-    list::fill(list, given);
     let data = &mut bytes[0..size];
+    let lengths = &mut lengths[0..length_count];
+    let texts = &mut texts[0..text_size];
+    list::fill(list, given);
     io::read_full(STDIN_FILENO, data);
-    let answer = append(buffer, stated, header, outside, list, data);
+    list::fill(lengths, lengths_given);
+    io::read_full(STDIN_FILENO, texts);
+    let answer = append(buffer, stated, header, outside, list, data, texts, lengths);
     report::written(b"append", buffer, stated, answer);
     after(answer, length)
 }

@@ -52,21 +52,23 @@ fn next() -> Head {
     }
 }
 
-// Marks the buffer, puts the file into it, makes the calls, and reads the file that they leave.
+// Marks the buffer, puts the file into it, makes the calls, and reads the file that they leave, with the first source
+// and with the second.
 fn run(buffer: &mut [u8], list: &mut [u64], bytes: &mut [u8], file: usize, count: usize) {
     mark_bytes(buffer);
     if file <= buffer.len() {
         io::read_full(STDIN_FILENO, &mut buffer[0..file]);
         let length = calls::all(buffer, list, bytes, count, file as u64);
         if length <= buffer.len() as u64 {
-            read_back(&buffer[0..length as usize]);
+            read_back(&buffer[0..length as usize], 0);
+            read_back(&buffer[0..length as usize], 1);
         }
     }
 }
 
-// Reads a file into tables that are long enough for any.
-fn read_back(file: &[u8]) {
-    let mut segments = [0u64; 448];
+// Reads a file into tables that are long enough for any, and tells of that source.
+fn read_back(file: &[u8], source: u64) {
+    let mut segments = [0u64; 512];
     let mut chunks = [0u64; 6144];
-    report::read(read(file, &mut segments, &mut chunks));
+    report::read(read(file, source, &mut segments, &mut chunks));
 }

@@ -1,5 +1,5 @@
-// The chunk list of an append: the numbers given, and the same again and again up to its length, so that a list of many
-// pairs is a short record.
+// A list of an append, of chunks or of text lengths: the numbers given, and the same again and again up to its length, so
+// that a list of many pairs is a short record.
 use printing::records::eight;
 
 pub fn fill(list: &mut [u64], given: usize) {

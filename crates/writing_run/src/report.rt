@@ -42,20 +42,22 @@ fn new_bytes(buffer: &[u8], from: u64, end: u64) {
     }
 }
 
-// What is read of the file after the calls: a refusal, or the counts, the described length, and whether it is the size
-// of the source.
+// What is read of the file after the calls: a refusal, or the counts, the described length of a source, and whether it
+// is its size.
 pub fn read(r: Read) {
     match r {
         Read::Refused(n) => refused(n),
         Read::Tables {
             segments,
             chunks,
+            sources,
             described,
             closed,
         } => {
             text(b"read");
             number(segments);
             number(chunks);
+            number(sources);
             number(described.0);
             known(closed);
         }

@@ -12,6 +12,7 @@ use Rattle.partial.specs.Meaning.{knownSize, describedLength, isClosed, 
 use Rattle.partial.specs.Sources.{sourceCount, ofSource}
 use Rattle.partial.specs.Ranges.{ranges, rangesOf, ofClass, hadList, missingList}
 use Rattle.partial.specs.Tables.{rangeRows, hadRows, missingRows, summary, totals, nowhere, partOf, servedPart, asked}
+use Rattle.partial.specs.Texts.{sourceText}
 use Rattle.partial.specs.ReadingDemands.{Answered, Absent}
 use Rattle.partial.proofs.Meaning.ServingLaws.{beyond}
 use Rattle.partial.proofs.Meaning.SourceLaws.{of-none}
@@ -25,6 +26,7 @@ module _ (source : ℕ) (ss : List Segment) where
         told = λ p. refl;
         described = refl;
         closed = refl;
+        sources = refl;
         had = refl;
         missing = refl;
         hadRanges = refl;
@@ -36,7 +38,7 @@ module _ (source : ℕ) (ss : List Segment) where
   pub absent : sourceCount ss ≤ source → Absent source ss
   unfolding
       largest knownSize describedLength isClosed chunksOf supplier supplied ranges rangesOf ofClass hadList missingList rangeRows hadRows missingRows summary
-      bytesIn nowhere partOf servedPart asked
+      bytesIn nowhere partOf servedPart asked sourceText
   absent over =
       let none = of-none source ss over in
       record {
@@ -46,4 +48,5 @@ module _ (source : ℕ) (ss : List Segment) where
         unknown = rw none;
         had = rw none;
         missing = rw none;
+        textless = λ which f h. rw (sourceText, none);
       }

@@ -130,8 +130,7 @@ module _ (f g : List ℕ) where
   pub surlRight-kept : (bs : List Box) → surlRight f bs ≡ true → allOf (lies (length f)) bs ≡ true → surlRight (f ++ g) bs ≡ true
   unfolding surlRight
   surlRight-kept bs h l =
-      let (some, formed) = both (right Pfil surl bs) (allOf (surlFormed f) (those surl bs)) h in
-      rw (some, all-kept (surlFormed f) (lies (length f)) (surlFormed (f ++ g)) (surl-kept f g) (those surl bs) formed (those-all surl (lies (length f)) bs l))
+      all-kept (surlFormed f) (lies (length f)) (surlFormed (f ++ g)) (surl-kept f g) (those surl bs) h (those-all surl (lies (length f)) bs l)
 
   -- of a container: its URLs
   url-most : (b : Box) → url f b .place + url f b .size ≤ max (url f b .place) (b .end)

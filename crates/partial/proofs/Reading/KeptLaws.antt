@@ -12,28 +12,29 @@ use lib.ListN.{length, getD, List·getD-append}
 use Rattle.boxes.specs.Answer.{Answer, refused, given, _>>=_, hold}
 use Rattle.numerals.specs.Numbers.{number}
 use Rattle.boxes.specs.Framing.{Box, boxesIn}
-use Rattle.boxes.specs.Kinds.{pshd, ploc, surl, is, right, those, boxAt, firstOf}
+use Rattle.boxes.specs.Kinds.{pseg, pshd, ploc, is, right, those, boxAt, firstOf}
 use Rattle.boxes.specs.declared.kinds.Container.the-variants.{Pseg}
 use Rattle.boxes.proofs.AnswerLaws.{both-given, held, given-same}
 use Rattle.boxes.proofs.ContainerLaws.{boxes-kept}
 use Rattle.numerals.proofs.NumberLaws.{number-append}
 use Rattle.boxes.proofs.KindLaws.{is-there, right-one, first-is}
-use Rattle.partial.specs.Limits.{chunkLimit}
+use Rattle.partial.specs.Limits.{segmentLimit, chunkLimit, layerLimit}
 use Rattle.partial.specs.Sequences.{allOf}
 use Rattle.partial.specs.Segments.{Chunk, Segment, present, chunksOf, hasPlace}
-use Rattle.partial.specs.Heading.{Heading, urlsIn}
+use Rattle.partial.specs.Heading.{Heading, surlRight, urlsIn}
 use Rattle.partial.specs.Entries.{Ploc, Entry, plocHead, stateOf, entry, mayLie, offsetPlace, placeOf, chunksFrom, chunkStep, Cursor}
-use Rattle.partial.specs.Sources.{urlsFor, sourceBeside}
-use Rattle.partial.specs.Reading.{offsetWidth, pshdFields, pshdRight, segment, segmentsFrom}
+use Rattle.partial.specs.Sources.{urlsFor, sourceCount, sourceBeside, agreed}
+use Rattle.partial.specs.Reading.{offsetWidth, pshdFields, pshdRight, segment, segmentsFrom, segments}
 use Rattle.partial.proofs.Meaning.SequenceLaws.{both, all-append}
-use Rattle.partial.proofs.Reading.HeadingAppendLaws.{lies, lies-ends, boxes-lie, all-boxAt, further-lie, first-lies, urls-kept}
+use Rattle.partial.proofs.Reading.HeadingAppendLaws.{lies, lies-ends, boxes-lie, all-boxAt, further-lie, first-lies, surlRight-kept, urls-kept}
 
 -- what the step tests, of the boxes, the `ploc` and the chunks that it finds
 pub record Stepped (limit : ℕ) (f : List ℕ) (h : Heading) (before : List Segment) (b : Box) (inner : List Box) (l : Ploc) (cs : List Chunk) : Type 0 where
   pub boxes : boxesIn Pseg f (b .body) (b .end) ≡ given inner
   pub header : pshdRight f inner ≡ true
   pub single : right Pseg ploc inner ≡ true
-  pub sourceless : eqb (length (those surl inner)) 0 ≡ true
+  pub formed : surlRight f inner ≡ true
+  pub listed : ltb 0 (length (urlsFor (urlsIn f inner) (h .urls))) ≡ true
   pub head : plocHead f (firstOf ploc inner) ≡ given l
   pub few : leb (length (chunksOf before) + l .count) chunkLimit ≡ true
   pub low : leb (pshdFields f (firstOf pshd inner) .sourceOffset) limit ≡ true
@@ -58,7 +59,7 @@ found f h before b inner cs =
 module _ (limit : ℕ) (f : List ℕ) (h : Heading) (before : List Segment) (b : Box) where
   pub segment-of : {inner : List Box} {l : Ploc} {cs : List Chunk} → Stepped limit f h before b inner l cs → segment limit f h before b ≡ given (found f h before b inner cs)
   unfolding segment
-  segment-of t = rw (t .boxes, t .header, t .single, t .sourceless, t .head, t .few, t .low, t .chunks)
+  segment-of t = rw (t .boxes, t .header, t .single, t .formed, t .listed, t .head, t .few, t .low, t .chunks)
 
   pub stepped : {s : Segment} → segment limit f h before b ≡ given s
       → (inner : List Box) × (l : Ploc) × (cs : List Chunk) × Stepped limit f h before b inner l cs × (found f h before b inner cs ≡ s)
@@ -67,13 +68,35 @@ module _ (limit : ℕ) (f : List ℕ) (h : Heading) (before : List Segment) (b :
       let (inner, boxes, e1) = both-given (boxesIn Pseg f (b .body) (b .end)) _ e in
       let (header, e2) = held 14 (pshdRight f inner) _ e1 in
       let (single, e3) = held 15 (right Pseg ploc inner) _ e2 in
-      let (sourceless, e4) = held 16 (eqb (length (those surl inner)) 0) _ e3 in
-      let (l, head, e5) = both-given (plocHead f (firstOf ploc inner)) _ e4 in
-      let (few, e6) = held 22 (leb (length (chunksOf before) + l .count) chunkLimit) _ e5 in
+      let (formed, e4) = held 16 (surlRight f inner) _ e3 in
+      let (listed, e5) = held 41 (ltb 0 (length (urlsFor (urlsIn f inner) (h .urls)))) _ e4 in
+      let (l, head, e6) = both-given (plocHead f (firstOf ploc inner)) _ e5 in
+      let (few, e7) = held 22 (leb (length (chunksOf before) + l .count) chunkLimit) _ e6 in
       let start = pshdFields f (firstOf pshd inner) .sourceOffset in
-      let (low, e7) = held 23 (leb start limit) _ e6 in
-      let (cs, chunks, e8) = both-given (chunksFrom limit f h (b .at) l (l .count) (record { at = l .first; start = start })) _ e7 in
-      (inner, l, cs, record { boxes = boxes; header = header; single = single; sourceless = sourceless; head = head; few = few; low = low; chunks = chunks }, given-same {a = found f h before b inner cs} e8)
+      let (low, e8) = held 23 (leb start limit) _ e7 in
+      let (cs, chunks, e9) = both-given (chunksFrom limit f h (b .at) l (l .count) (record { at = l .first; start = start })) _ e8 in
+      (inner, l, cs, record { boxes = boxes; header = header; single = single; formed = formed; listed = listed; head = head; few = few; low = low; chunks = chunks }, given-same {a = found f h before b inner cs} e9)
+
+-- what stages 13 to 25 and 40 test, of the segments that they give
+pub record Segmented (limit : ℕ) (f : List ℕ) (h : Heading) (ss : List Segment) : Type 0 where
+  pub few : leb (length (those pseg (h .boxes))) segmentLimit ≡ true
+  pub read : segmentsFrom limit f h [] (those pseg (h .boxes)) ≡ given ss
+  pub agree : agreed ss ≡ true
+  pub layers : leb (sourceCount ss) layerLimit ≡ true
+
+module _ (limit : ℕ) (f : List ℕ) (h : Heading) where
+  pub segments-of : {ss : List Segment} → Segmented limit f h ss → segments limit f h ≡ given ss
+  unfolding segments
+  segments-of t = rw (t .few, t .read, t .agree, t .layers)
+
+  pub segmented : {ss : List Segment} → segments limit f h ≡ given ss → Segmented limit f h ss
+  unfolding segments
+  segmented e =
+      let (few, e1) = held 13 (leb (length (those pseg (h .boxes))) segmentLimit) _ e in
+      let (ss, read, e2) = both-given (segmentsFrom limit f h [] (those pseg (h .boxes))) _ e1 in
+      let (agree, e3) = held 25 (agreed ss) _ e2 in
+      let (layers, same) = held 40 (leb (sourceCount ss) layerLimit) _ e3 in
+      subst (Segmented limit f h) (given-same same) (record { few = few; read = read; agree = agree; layers = layers })
 
 module _ (f g : List ℕ) where
   -- the fields of a `pshd`
@@ -190,7 +213,8 @@ module _ (f g : List ℕ) where
           boxes = boxes-kept f g (b .end) ends Pseg (b .body) ∙ t .boxes;
           header = header;
           single = t .single;
-          sourceless = t .sourceless;
+          formed = surlRight-kept f g inner (t .formed) lie;
+          listed = rw (urls-kept f g inner lie, urls-same) (t .listed);
           head = head;
           few = t .few;
           low = rw same-fields (t .low);

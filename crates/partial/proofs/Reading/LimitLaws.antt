@@ -19,14 +19,14 @@ use Rattle.partial.specs.Entries.{Ploc, Cursor, entry, placeOf, chunkSte
 use Rattle.partial.specs.Heading.{Heading}
 use Rattle.partial.specs.Limits.{segmentLimit, chunkLimit}
 use Rattle.partial.specs.Meaning.{givesSize, knownSize, describedLength, isClosed}
-use Rattle.partial.specs.Sources.{ofSource, agreed}
+use Rattle.partial.specs.Sources.{ofSource}
 use Rattle.partial.specs.Reading.{segment, segmentsFrom, segments}
 use Rattle.partial.specs.Segments.{Chunk, Segment, chunksOf, endOf}
 use Rattle.partial.specs.Sequences.{largest, sum}
 use Rattle.partial.proofs.Meaning.KnownLaws.{largest-both, described-open, described-closed}
 use Rattle.partial.proofs.Meaning.SequenceLaws.{which}
 use Rattle.partial.proofs.Meaning.SupplyLaws.{chunks-append}
-use Rattle.partial.proofs.Reading.KeptLaws.{stepped}
+use Rattle.partial.proofs.Reading.KeptLaws.{stepped, segmented}
 
 -- there are as many segments as boxes
 module _ (limit : ℕ) (f : List ℕ) (h : Heading) where
@@ -40,12 +40,9 @@ module _ (limit : ℕ) (f : List ℕ) (h : Heading) where
       omega (arith, length-append before (s ∷ []))
 
   pub segments-limited : {ss : List Segment} → segments limit f h ≡ given ss → length ss ≤ segmentLimit
-  unfolding segments
   segments-limited e =
-      let (few, e) = held 13 (leb (length (those pseg (h .boxes))) segmentLimit) _ e in
-      let (ss, read, e) = both-given (segmentsFrom limit f h [] (those pseg (h .boxes))) _ e in
-      let (_, same) = held 25 (agreed ss) _ e in
-      omega (arith, leb-true (length (those pseg (h .boxes))) segmentLimit few, segments-many (those pseg (h .boxes)) [] read, ap length (given-same same))
+      let t = segmented limit f h e in
+      omega (arith, leb-true (length (those pseg (h .boxes))) segmentLimit (t .few), segments-many (those pseg (h .boxes)) [] (t .read))
 
 -- there are as many chunks as entries
 chunks-many : (limit : ℕ) (f : List ℕ) (h : Heading) (from : ℕ) (l : Ploc) (n : ℕ) (c : Cursor) {cs : List Chunk} → chunksFrom limit f h from l n c ≡ given cs → length cs ≡ n
@@ -78,12 +75,8 @@ segments-few limit f h before (b ∷ bs) few e =
     segments-few limit f h (before ++ (s ∷ [])) bs (omega arith) e
 
 pub chunks-few : (limit : ℕ) (f : List ℕ) (h : Heading) {ss : List Segment} → segments limit f h ≡ given ss → length (chunksOf ss) ≤ chunkLimit
-unfolding segments chunksOf
-chunks-few limit f h e =
-    let (_, e) = held 13 (leb (length (those pseg (h .boxes))) segmentLimit) _ e in
-    let (ss, read, e) = both-given (segmentsFrom limit f h [] (those pseg (h .boxes))) _ e in
-    let (_, same) = held 25 (agreed ss) _ e in
-    omega (arith, segments-few limit f h [] (those pseg (h .boxes)) (omega arith) read, ap (λ (ss : List Segment). length (chunksOf ss)) (given-same same))
+unfolding chunksOf
+chunks-few limit f h e = segments-few limit f h [] (those pseg (h .boxes)) (omega arith) (segmented limit f h e .read)
 
 -- ---- no end is higher than the limit
 
@@ -155,10 +148,7 @@ ends-of n (s ∷ ss) =
     ]
 
 pub described-low : (limit : ℕ) (f : List ℕ) (h : Heading) {ss : List Segment} → segments limit f h ≡ given ss → (n : ℕ) → describedLength (ofSource n ss) ≤ limit
-unfolding segments largest
-described-low limit f h {ss = all} e n =
-    let (_, e) = held 13 (leb (length (those pseg (h .boxes))) segmentLimit) _ e in
-    let (ss, read, e) = both-given (segmentsFrom limit f h [] (those pseg (h .boxes))) _ e in
-    let (_, same) = held 25 (agreed ss) _ e in
-    let low = segments-low limit f h [] (those pseg (h .boxes)) (omega arith) read in
-    omega (arith, low, described-most (ofSource n all), ends-of n all, ap (λ (ss : List Segment). largest (map endOf ss)) (given-same same))
+unfolding largest
+described-low limit f h {ss} e n =
+    let low = segments-low limit f h [] (those pseg (h .boxes)) (omega arith) (segmented limit f h e .read) in
+    omega (arith, low, described-most (ofSource n ss), ends-of n ss)

@@ -3,20 +3,17 @@
 use Prim.Native.Nat.{ℕ}
 use mathlib.Core.List.{List, [], _∷_, _++_}
 use mathlib.Core.Path.{_≡_, refl, subst}
-use lib.Dec.{leb}
-use lib.ListN.{length}
 use Rattle.boxes.specs.Answer.{given}
 use Rattle.boxes.specs.Framing.{Box}
 use Rattle.boxes.specs.Kinds.{pseg, those}
-use Rattle.boxes.proofs.AnswerLaws.{both-given, held, given-same}
-use Rattle.partial.specs.Limits.{segmentLimit}
+use Rattle.boxes.proofs.AnswerLaws.{both-given, given-same}
 use Rattle.partial.specs.Segments.{Segment}
 use Rattle.partial.specs.Heading.{Heading}
-use Rattle.partial.specs.Sources.{sourceBeside, agreed}
+use Rattle.partial.specs.Sources.{sourceBeside}
 use Rattle.partial.specs.Reading.{segment, segmentsFrom, segments, reading}
 use Rattle.partial.specs.ReadingDemands.{Numbered}
 use Rattle.partial.proofs.Meaning.SourceLaws.{numbered-none, numbered-more}
-use Rattle.partial.proofs.Reading.KeptLaws.{stepped}
+use Rattle.partial.proofs.Reading.KeptLaws.{stepped, segmented}
 use Rattle.partial.proofs.Reading.ReadingLaws.{reading-read}
 
 module _ (limit : ℕ) (f : List ℕ) (h : Heading) where
@@ -34,12 +31,7 @@ module _ (limit : ℕ) (f : List ℕ) (h : Heading) where
       from-numbered bs (before ++ (s ∷ [])) (numbered-more before numbered s (segment-beside before b read)) e1
 
   pub segments-numbered : {ss : List Segment} → segments limit f h ≡ given ss → Numbered ss
-  unfolding segments
-  segments-numbered e =
-      let (_, e1) = held 13 (leb (length (those pseg (h .boxes))) segmentLimit) _ e in
-      let (ss, read, e2) = both-given (segmentsFrom limit f h [] (those pseg (h .boxes))) _ e1 in
-      let (_, same) = held 25 (agreed ss) _ e2 in
-      subst Numbered (given-same same) (from-numbered (those pseg (h .boxes)) [] numbered-none read)
+  segments-numbered e = from-numbered (those pseg (h .boxes)) [] numbered-none (segmented limit f h e .read)
 
 pub reading-numbered : (limit : ℕ) (f : List ℕ) {ss : List Segment} → reading limit f ≡ given ss → Numbered ss
 reading-numbered limit f e = let (h, is, r) = reading-read limit f e in segments-numbered limit f h (r .segmented)

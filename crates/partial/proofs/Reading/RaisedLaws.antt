@@ -6,20 +6,22 @@ use mathlib.Core.Logic.{_⊎_, inl, inr, ⊎-elim}
 use mathlib.Core.Path.{_≡_, refl, sym, ap, _∙_}
 use native.Mathlib.Omega.{arith}
 use borrow.Author.Tests.{leb-true, le-leb}
-use lib.Dec.{T, leb, eqb}
+use lib.Dec.{T, leb, ltb}
 use lib.ListN.{length}
 use Rattle.boxes.specs.Answer.{Answer, refused, given, _>>=_, hold}
 use Rattle.boxes.specs.Framing.{Box, boxesIn}
-use Rattle.boxes.specs.Kinds.{pseg, pshd, ploc, surl, right, those, firstOf}
+use Rattle.boxes.specs.Kinds.{pseg, pshd, ploc, right, those, firstOf}
 use Rattle.boxes.specs.declared.kinds.Container.the-variants.{File, Pseg}
 use Rattle.boxes.proofs.AnswerLaws.{not-both}
 use Rattle.partial.specs.Limits.{segmentLimit, chunkLimit}
 use Rattle.partial.specs.Segments.{Segment, chunksOf}
-use Rattle.partial.specs.Heading.{Heading, heading, Part}
+use Rattle.partial.specs.Heading.{Heading, heading, surlRight, urlsIn, Part}
+use Rattle.partial.specs.Sources.{urlsFor}
 use Rattle.partial.specs.Entries.{Ploc, Cursor, plocHead, entry, chunkStep, chunksFrom}
 use Rattle.partial.specs.Reading.{pshdFields, pshdRight, segment, segmentsFrom, segments, reading, earlierSegments}
 use Rattle.partial.specs.Index.{SourceBox, indexOf, indexed}
 use Rattle.partial.specs.Tables.{tabled, listed, indexTabled, servedPart, asked, textOf}
+use Rattle.partial.specs.Texts.{sourceTextOf, textsTabled}
 use Rattle.partial.specs.Map.{refusedLine, textFor}
 use Rattle.partial.specs.ReadingRaised.{Kept, judgesLimit, RaisedReading}
 use Rattle.partial.proofs.Meaning.SequenceLaws.{which}
@@ -79,7 +81,9 @@ module _ (low high : ℕ) (raised : low ≤ high) where
         (λ _.
         same-after (hold 15 (right Pseg ploc inner)) _ _
         (λ _.
-        same-after (hold 16 (eqb (length (those surl inner)) 0)) _ _
+        same-after (hold 16 (surlRight f inner)) _ _
+        (λ _.
+        same-after (hold 41 (ltb 0 (length (urlsFor (urlsIn f inner) (h .urls))))) _ _
         (λ _.
         same-after (plocHead f (firstOf ploc inner)) _ _
         (λ l.
@@ -89,7 +93,7 @@ module _ (low high : ℕ) (raised : low ≤ high) where
         same-held offset _ _
         (same-then (chunksFrom low f h (b .at) l (l .count) first) (chunksFrom high f h (b .at) l (l .count) first) _ _
         (chunks-same (b .at) l (l .count) first)
-        (λ chunks. inl refl))))))))
+        (λ chunks. inl refl)))))))))
 
     segments-from-same : (before : List Segment) (bs : List Box) → Same (segmentsFrom low f h before bs) (segmentsFrom high f h before bs)
     unfolding segmentsFrom
@@ -155,6 +159,14 @@ module _ (low high : ℕ) (raised : low ≤ high) where
   unfolding textOf
   texts-same text f ss e = rw (textOf, e, kept _ _ (reading-same f) .accepted ss e)
 
+  source-text-same : (text : List ℕ → Box → Part) (f : List ℕ) (source : ℕ) → Same (sourceTextOf text low f source) (sourceTextOf text high f source)
+  unfolding sourceTextOf
+  source-text-same text f source = same-then (reading low f) (reading high f) _ _ (reading-same f) (λ ss. inl refl)
+
+  texts-tabled-same : (f t u : List ℕ) (k : ℕ) → Same (textsTabled low f k t u) (textsTabled high f k t u)
+  unfolding textsTabled
+  texts-tabled-same f t u k = same-then (reading low f) (reading high f) _ _ (reading-same f) (λ ss. inl refl)
+
   -- what is printed of an accepted file: an over-long input has one text, and any other its text by what is read
   module _ (of : List Segment → List ℕ) (most : ℕ) (input : List ℕ) where
     text-over : leb (length input) most ≡ false → textFor of high most input ≡ textFor of low most input
@@ -191,6 +203,8 @@ module _ (low high : ℕ) (raised : low ≤ high) where
         asks = λ f a b source p. kept _ _ (asked-same f a b source p);
         serves = λ f a b source p ss e. ap (λ r. servedPart r source p) (kept _ _ (tabled-same f a b) .accepted ss e ∙ sym e);
         texts = texts-same;
+        sourceTexts = λ which f source. kept _ _ (source-text-same which f source);
+        segmentTexts = λ f t u k. kept _ _ (texts-tabled-same f t u k);
         maps = maps-accepted;
         mapElseOver = maps-same;
       }

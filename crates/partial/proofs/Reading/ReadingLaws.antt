@@ -14,17 +14,16 @@ use Rattle.boxes.specs.Kinds.{pseg, right, those, boxAt}
 use Rattle.boxes.specs.declared.kinds.Container.the-variants.{File}
 use Rattle.boxes.proofs.AnswerLaws.{not-both, given-same, both-given, held}
 use Rattle.boxes.proofs.ContainerLaws.{boxes-standing}
-use Rattle.partial.specs.Limits.{segmentLimit}
 use Rattle.partial.specs.Sequences.{allOf}
 use Rattle.partial.specs.Segments.{Chunk, Segment, chunksOf, hasPlace}
 use Rattle.partial.specs.Heading.{Heading, heading}
 use Rattle.partial.specs.Entries.{Ploc, Entry, entry, mayLie, offsetPlace, placeOf, chunksFrom, chunkStep, Cursor}
-use Rattle.partial.specs.Sources.{ofSource, agreed}
+use Rattle.partial.specs.Sources.{ofSource}
 use Rattle.partial.specs.Index.{SourceBox, indexed}
 use Rattle.partial.specs.Reading.{segment, segmentsFrom, segments, reading}
 use Rattle.partial.specs.ReadingDemands.{Mapped}
 use Rattle.partial.proofs.Reading.HeadingAppendLaws.{headed}
-use Rattle.partial.proofs.Reading.KeptLaws.{stepped}
+use Rattle.partial.proofs.Reading.KeptLaws.{stepped, segmented}
 use Rattle.partial.proofs.Meaning.SequenceLaws.{which, all-append}
 use Rattle.partial.proofs.Meaning.SupplyLaws.{chunks-append}
 use Rattle.partial.proofs.Meaning.DescribedLaws.{Follow, InOrder, in-order-append}
@@ -108,19 +107,16 @@ module _ (limit : ℕ) (f : List ℕ) (h : Heading) where
 
   -- the segments that reading and appending go by, of each source
   pub accepted-of : {ss : List Segment} → heading f ≡ given h → segments limit f h ≡ given ss → (n : ℕ) → Accepted f h (ofSource n ss)
-  unfolding segments allOf chunksOf
-  accepted-of head g n =
-      let (_, g) = held 13 (leb (length (those pseg (h .boxes))) segmentLimit) _ g in
-      let (ss, read, g) = both-given (segmentsFrom limit f h [] (those pseg (h .boxes))) _ g in
-      let (agree, g) = held 25 (agreed ss) _ g in
-      let all = segments-told [] (those pseg (h .boxes)) (record { order = tt; lie = refl }) read in
-      subst (λ us. Accepted f h (ofSource n us)) (given-same g)
-      (record {
-        agreed = agreed-of ss agree n;
+  unfolding allOf chunksOf
+  accepted-of {ss} head g n =
+      let t = segmented limit f h g in
+      let all = segments-told [] (those pseg (h .boxes)) (record { order = tt; lie = refl }) (t .read) in
+      record {
+        agreed = agreed-of ss (t .agree) n;
         order = in-order-of n ss (all .order);
         lie = chunks-of n (lies h) ss (all .lie);
         inside = heading-inside f head;
-      })
+      }
 
 -- what reading tests of an accepted file
 pub record Read (limit : ℕ) (f : List ℕ) (h : Heading) (ss : List Segment) (is : List SourceBox) : Type 0 where

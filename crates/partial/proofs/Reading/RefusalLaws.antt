@@ -1,50 +1,52 @@
 -- Demand 1, of reading: every refusal has a number that the paper has for the call, and after it all lent memory holds
 -- what it held.
-use Prim.Native.Nat.{ℕ, zero, suc, _+_, _/_, _%_}
+use Prim.Native.Nat.{ℕ, zero, suc, _+_, _/_, _%_, _<_}
 use mathlib.Core.Bool.{Bool, true, false, _&&_, _||_, true≢false}
 use mathlib.Core.List.{List, [], _∷_, _++_}
 use mathlib.Core.Logic.{_⊎_, inl, inr, ⊎-elim}
 use mathlib.Core.Option.{Option, none, some}
-use mathlib.Core.Path.{_≡_, refl, sym, ap, _∙_}
+use mathlib.Core.Path.{_≡_, refl, sym, ap, subst, _∙_}
 use native.Mathlib.Omega.{arith}
 use native.Mathlib.Decide.{decLe}
+use borrow.Author.Tests.{lt-ltb}
 use lib.Dec.{T, leb, ltb, eqb}
 use lib.ListN.{length, getD, drop-of-length-le}
 use Rattle.boxes.specs.Answer.{Answer, refused, given, _>>=_, hold}
 use Rattle.numerals.specs.Numbers.{number}
 use Rattle.boxes.specs.Framing.{Box, boxesIn}
-use Rattle.boxes.specs.Kinds.{pseg, pshd, ploc, surl, right, those, boxAt, firstOf}
+use Rattle.boxes.specs.Kinds.{pseg, pshd, ploc, right, those, boxAt, firstOf}
 use Rattle.boxes.specs.declared.kinds.Container.{Container}
 use Rattle.boxes.specs.declared.kinds.Container.the-variants.{File, Pfil, Pseg}
 use Rattle.boxes.proofs.AnswerLaws.{not-both, both-given, Only, refused-same, only-then, only-held, only-given, only-refused, only-either}
 use Rattle.boxes.proofs.ContainerLaws.{boxes-numbers}
 use Rattle.boxes.proofs.KindLaws.{some-right}
-use Rattle.partial.specs.Limits.{fileLimit, segmentLimit, chunkLimit}
-use Rattle.partial.specs.Sequences.{someOf, within, allOf}
+use Rattle.partial.specs.Limits.{fileLimit, segmentLimit, chunkLimit, layerLimit}
+use Rattle.partial.specs.Sequences.{someOf, within, allOf, largest}
 use Rattle.partial.specs.Segments.{Segment, present, chunksOf, hasPlace}
-use Rattle.partial.specs.Heading.{Heading, heading, ftypRight, brandRight, pfilRight, pfhdRight, surlRight, fileBoxes, judged, Part, bytesIn}
+use Rattle.partial.specs.Heading.{Heading, heading, ftypRight, brandRight, pfilRight, pfhdRight, surlRight, urlsIn, fileBoxes, judged, Part, bytesIn}
 use Rattle.partial.specs.Entries.{Ploc, plocHead, stateOf, Entry, entry, mayLie, offsetPlace, placeOf, chunksFrom, chunkStep}
 use Rattle.partial.specs.Entries.{Cursor}
-use Rattle.partial.specs.Sources.{agreed}
+use Rattle.partial.specs.Sources.{urlsFor, sourceCount, agreed}
 use Rattle.partial.specs.Reading.{pshdFields, pshdRight, segment, segmentsFrom, segments, reading, earlierSegments}
 use Rattle.partial.specs.Index.{indexed, indexRows}
 use Rattle.partial.specs.Memory.{fits, after, textWritten}
 use Rattle.partial.specs.Tables.{segmentRows, chunkRows, hadRows, missingRows, tabled, listed, indexTabled, indexTable, asked, textOf, nowhere}
-use Rattle.partial.specs.ReadingDemands.{beforeAgreement, ofIndex, ofStages, NeverRead, Demand1OfReading, Takes}
+use Rattle.partial.specs.Texts.{Surl, sourceTextOf, segmentSurls, textsFor, lengthsFor, textsTabled}
+use Rattle.partial.specs.ReadingDemands.{upTo24, beforeAgreement, fromAgreement, ofStages, NeverRead, Demand1OfReading, Takes}
 use Rattle.partial.proofs.Meaning.SequenceLaws.{inside, which}
 use Rattle.partial.proofs.Reading.ReadingLaws.{laterStages, reading-headless, reading-none, reading-some, reading-segments}
 use Rattle.partial.proofs.Reading.IndexGivenLaws.{indexed-only}
 
--- stages 1 to 11 and 13 to 24, by a kind that has their numbers, then 25 and 36 to 39
-module _ (P : ℕ → Type 0) (known : (n : ℕ) → T (beforeAgreement n) → P n) where
+-- stages 1 to 11 and 13 to 24, by a kind that has their numbers
+module _ (P : ℕ → Type 0) (known : (n : ℕ) → T (upTo24 n) → P n) where
   boxes-only : (c : Container) (s : List ℕ) (start end : ℕ) → Only P (boxesIn c s start end)
   boxes-only c s start end n e =
       let (low, high) = boxes-numbers c s start end n e in
       known n (rw (inside 1 11 n (omega arith) (omega arith)) tt)
 
-  pub heading-only : (f : List ℕ) → Only P (heading f)
+  head-only : (f : List ℕ) → Only P (heading f)
   unfolding heading fileBoxes judged within
-  heading-only f =
+  head-only f =
       only-then P (fileBoxes f) _
       (only-held P 1 (leb (length f) fileLimit) _ (known 1 tt) (boxes-only File f 0 (length f)))
       (λ boxes.
@@ -98,70 +100,97 @@ module _ (P : ℕ → Type 0) (known : (n : ℕ) → T (beforeAgreement n) → P
       only-then P (chunkStep limit f h from l c) _ (step-only limit f h from l c)
       (λ met. only-then P (chunksFrom limit f h from l n (met .1)) _ (chunks-only limit f h from l n (met .1)) (λ rest. only-given P _))
 
-  segment-only : (limit : ℕ) (f : List ℕ) (h : Heading) (before : List Segment) (b : Box) → Only P (segment limit f h before b)
+  -- a segment, by what is known of 41
+  abbrev Unlisted : List ℕ → Heading → Type 0
+  Unlisted f h = (inner : List Box) → Only P (hold 41 (ltb 0 (length (urlsFor (urlsIn f inner) (h .urls)))))
+
+  segment-only : (limit : ℕ) (f : List ℕ) (h : Heading) → Unlisted f h → (before : List Segment) (b : Box) → Only P (segment limit f h before b)
   unfolding segment within
-  segment-only limit f h before b =
+  segment-only limit f h unlisted before b =
       only-then P (boxesIn Pseg f (b .body) (b .end)) _ (boxes-only Pseg f (b .body) (b .end))
       (λ inner.
       let offset = pshdFields f (firstOf pshd inner) .sourceOffset in
       only-held P 14 (pshdRight f inner) _ (known 14 tt)
       (only-held P 15 (right Pseg ploc inner) _ (known 15 tt)
-      (only-held P 16 (eqb (length (those surl inner)) 0) _ (known 16 tt)
-      (only-then P (plocHead f (firstOf ploc inner)) _ (ploc-only f (firstOf ploc inner))
+      (only-held P 16 (surlRight f inner) _ (known 16 tt)
+      (only-then P (hold 41 (ltb 0 (length (urlsFor (urlsIn f inner) (h .urls))))) _ (unlisted inner)
+      (λ _. only-then P (plocHead f (firstOf ploc inner)) _ (ploc-only f (firstOf ploc inner))
       (λ l.
       only-held P 22 (leb (length (chunksOf before) + l .count) chunkLimit) _ (known 22 tt)
       (only-held P 23 (leb offset limit) _ (known 23 tt)
       (only-then P (chunksFrom limit f h (b .at) l (l .count) (record { at = l .first; start = offset })) _
       (chunks-only limit f h (b .at) l (l .count) (record { at = l .first; start = offset }))
-      (λ chunks. only-given P _))))))))
+      (λ chunks. only-given P _)))))))))
 
-  pub segments-from-only : (limit : ℕ) (f : List ℕ) (h : Heading) (before : List Segment) (bs : List Box) → Only P (segmentsFrom limit f h before bs)
+  segments-known : (limit : ℕ) (f : List ℕ) (h : Heading) → Unlisted f h → (before : List Segment) (bs : List Box) → Only P (segmentsFrom limit f h before bs)
   unfolding segmentsFrom
-  segments-from-only limit f h before [] = only-given P before
-  segments-from-only limit f h before (b ∷ bs) =
-      only-then P (segment limit f h before b) _ (segment-only limit f h before b)
-      (λ s. segments-from-only limit f h (before ++ (s ∷ [])) bs)
+  segments-known limit f h unlisted before [] = only-given P before
+  segments-known limit f h unlisted before (b ∷ bs) =
+      only-then P (segment limit f h before b) _ (segment-only limit f h unlisted before b)
+      (λ s. segments-known limit f h unlisted (before ++ (s ∷ [])) bs)
 
-  pub segments-only : P 25 → (limit : ℕ) (f : List ℕ) (h : Heading) → Only P (segments limit f h)
+  all-known : (limit : ℕ) (f : List ℕ) (h : Heading) → Unlisted f h → P 25 → P 40 → Only P (segments limit f h)
   unfolding segments within
-  segments-only last limit f h =
+  all-known limit f h unlisted apart ninth =
       only-held P 13 (leb (length (those pseg (h .boxes))) segmentLimit) _ (known 13 tt)
-      (only-then P (segmentsFrom limit f h [] (those pseg (h .boxes))) _ (segments-from-only limit f h [] (those pseg (h .boxes)))
-      (λ ss. only-held P 25 (agreed ss) _ last (only-given P ss)))
-
-  -- and those of the index
-  module _ (rest : (n : ℕ) → T (eqb n 25 || ofIndex n) → P n) where
-    pub told-only : (limit : ℕ) (f : List ℕ) (h : Heading) (ss : List Segment) → Only P (indexed limit f h ss)
-    unfolding within
-    told-only limit f h ss = indexed-only P (rest 36 tt) limit f (rest 37 tt) (rest 38 tt) (rest 39 tt) h ss
-
-    later-only : (limit : ℕ) (f : List ℕ) (h : Heading) → Only P (laterStages limit f h)
-    later-only limit f h =
-        only-then P (segments limit f h) _ (segments-only (rest 25 tt) limit f h)
-        (λ ss. only-then P (indexed limit f h ss) _ (told-only limit f h ss) (λ _. only-given P ss))
+      (only-then P (segmentsFrom limit f h [] (those pseg (h .boxes))) _ (segments-known limit f h unlisted [] (those pseg (h .boxes)))
+      (λ ss. only-held P 25 (agreed ss) _ apart (only-held P 40 (leb (sourceCount ss) layerLimit) _ ninth (only-given P ss))))
 
 -- a test that passes beside another
 pub beside : (b c : Bool) → T b → T (b || c)
 beside true c t = tt
-
-abbrev OfFile : ℕ → Type 0
-OfFile n = T (ofStages n)
-
-pub known-file : (n : ℕ) → T (beforeAgreement n) → OfFile n
-known-file n = beside (beforeAgreement n) (eqb n 25 || ofIndex n)
 
 -- or is the other
 behind : (b c : Bool) → T c → T (b || c)
 behind true c t = tt
 behind false c t = t
 
-pub rest-file : (n : ℕ) → T (eqb n 25 || ofIndex n) → OfFile n
-rest-file n = behind (beforeAgreement n) (eqb n 25 || ofIndex n)
+-- the same with 41, then 25, 40 and 36 to 39
+module _ (P : ℕ → Type 0) (known : (n : ℕ) → T (beforeAgreement n) → P n) where
+  narrow : (n : ℕ) → T (upTo24 n) → P n
+  narrow n t = known n (beside (upTo24 n) (eqb n 41) t)
+
+  pub heading-only : (f : List ℕ) → Only P (heading f)
+  heading-only = head-only P narrow
+
+  unlisted-known : (f : List ℕ) (h : Heading) → Unlisted P narrow f h
+  unfolding within
+  unlisted-known f h inner = go (ltb 0 (length (urlsFor (urlsIn f inner) (h .urls))))
+    where
+      go : (t : Bool) → Only P (hold 41 t)
+      go true = only-given P tt
+      go false = only-refused P 41 (known 41 tt)
+
+  pub segments-from-only : (limit : ℕ) (f : List ℕ) (h : Heading) (before : List Segment) (bs : List Box) → Only P (segmentsFrom limit f h before bs)
+  segments-from-only limit f h = segments-known P narrow limit f h (unlisted-known f h)
+
+  pub segments-only : P 25 → P 40 → (limit : ℕ) (f : List ℕ) (h : Heading) → Only P (segments limit f h)
+  segments-only apart ninth limit f h = all-known P narrow limit f h (unlisted-known f h) apart ninth
+
+  -- and those of the index
+  module _ (rest : (n : ℕ) → T (fromAgreement n) → P n) where
+    pub told-only : (limit : ℕ) (f : List ℕ) (h : Heading) (ss : List Segment) → Only P (indexed limit f h ss)
+    unfolding within
+    told-only limit f h ss = indexed-only P (rest 36 tt) limit f (rest 37 tt) (rest 38 tt) (rest 39 tt) h ss
+
+    later-only : (limit : ℕ) (f : List ℕ) (h : Heading) → Only P (laterStages limit f h)
+    later-only limit f h =
+        only-then P (segments limit f h) _ (segments-only (rest 25 tt) (rest 40 tt) limit f h)
+        (λ ss. only-then P (indexed limit f h ss) _ (told-only limit f h ss) (λ _. only-given P ss))
+
+abbrev OfFile : ℕ → Type 0
+OfFile n = T (ofStages n)
+
+pub known-file : (n : ℕ) → T (beforeAgreement n) → OfFile n
+known-file n = beside (beforeAgreement n) (fromAgreement n)
+
+pub rest-file : (n : ℕ) → T (fromAgreement n) → OfFile n
+rest-file n = behind (beforeAgreement n) (fromAgreement n)
 
 -- append takes an acceptable file, or one whose only refusal is 12
 module _ (limit : ℕ) (f : List ℕ) where
   pub no-segments : (h : Heading) → right File pseg (h .boxes) ≡ false → segments limit f h ≡ given []
-  unfolding segments segmentsFrom agreed allOf
+  unfolding segments segmentsFrom agreed allOf sourceCount largest
   no-segments h lacks =
       elim (decLe 1 (length (those pseg (h .boxes)))) [
         | yes there ↦ absurd (true≢false (sym (some-right File pseg (h .boxes) refl there) ∙ lacks))
@@ -213,7 +242,7 @@ module _ (limit : ℕ) (f : List ℕ) where
       let (h, head, _) = both-given (heading f) _ e in
       (h, head)
 
-  module _ (P : ℕ → Type 0) (known : (n : ℕ) → T (beforeAgreement n) → P n) (rest : (n : ℕ) → T (eqb n 25 || ofIndex n) → P n) where
+  module _ (P : ℕ → Type 0) (known : (n : ℕ) → T (beforeAgreement n) → P n) (rest : (n : ℕ) → T (fromAgreement n) → P n) where
     pub earlier-only : Only P (earlierSegments limit f)
     earlier-only n e = go (heading f) refl
       where
@@ -242,7 +271,7 @@ module _ (limit : ℕ) where
   known-read : (n : ℕ) → T (beforeAgreement n) → OfReading n
   known-read n before = beside (ofStages n) (someOf (eqb n) (12 ∷ 26 ∷ [])) (known-file n before)
 
-  rest-read : (n : ℕ) → T (eqb n 25 || ofIndex n) → OfReading n
+  rest-read : (n : ℕ) → T (fromAgreement n) → OfReading n
   rest-read n other = beside (ofStages n) (someOf (eqb n) (12 ∷ 26 ∷ [])) (rest-file n other)
 
   pub reading-only : (f : List ℕ) → Only OfReading (reading limit f)
@@ -272,6 +301,32 @@ module _ (limit : ℕ) where
       (λ h.
       only-then OfReading (indexed limit f h ss) _ (told-only OfReading known-read rest-read limit f h ss)
       (λ is. only-held OfReading 26 (fits (indexRows ss is) t) _ tt (only-given OfReading (ss, is)))))
+
+  -- a call that is lent no table has no 26
+  abbrev OfTexts : ℕ → Type 0
+  OfTexts n = T (ofStages n || eqb n 12)
+
+  known-text : (n : ℕ) → T (beforeAgreement n) → OfTexts n
+  known-text n before = beside (ofStages n) (eqb n 12) (known-file n before)
+
+  rest-text : (n : ℕ) → T (fromAgreement n) → OfTexts n
+  rest-text n other = beside (ofStages n) (eqb n 12) (rest-file n other)
+
+  source-text-only : (which : List ℕ → Box → Part) (f : List ℕ) (source : ℕ) → Only OfTexts (sourceTextOf which limit f source)
+  unfolding sourceTextOf reading within
+  source-text-only which f source =
+      only-then OfTexts (reading limit f) _
+      (only-then OfTexts (heading f) _ (heading-only OfTexts known-text f)
+      (λ h. only-held OfTexts 12 (right File pseg (h .boxes)) _ tt (later-only OfTexts known-text rest-text limit f h)))
+      (λ ss. only-then OfTexts (heading f) _ (heading-only OfTexts known-text f) (λ h. only-given OfTexts _))
+
+  texts-tabled-only : (f texts lengths : List ℕ) (k : ℕ) → Only OfReading (textsTabled limit f k texts lengths)
+  unfolding textsTabled within someOf
+  texts-tabled-only f texts lengths k =
+      only-then OfReading (reading limit f) _ (reading-only f)
+      (λ ss.
+      let told = segmentSurls f ss k in
+      only-held OfReading 26 (fits (textsFor told) texts && fits (lengthsFor told) lengths) _ tt (only-given OfReading told))
 
 text-only : (text buffer : List ℕ) → Only (λ n. n ≡ 33) (textWritten text buffer)
 unfolding textWritten
@@ -306,10 +361,35 @@ module _ (limit : ℕ) where
         ask = λ f a b source p e. tabled-only limit f a b 21 (ask-told (tabled limit f a b) source p 21 e);
         list = λ f a b h m source e. listed-only limit f a b h m source 21 e;
         index = λ f t e. index-tabled-only limit f t 21 e;
+        sourceText = λ which f source e. source-text-only limit which f source 21 e;
+        segmentTexts = λ f t u k e. texts-tabled-only limit f t u k 21 e;
         text = λ text buffer e. omega (arith, text-only text buffer 21 e);
         mapped = λ input e. reading-only limit input 21 e;
-        boxes = λ input e. boxes-only OfFile known-file File input 0 (length input) 21 e;
+        boxes = λ input e. boxes-only OfFile (narrow OfFile known-file) File input 0 (length input) 21 e;
       }
+
+-- a file with a list in `pfil` has no 41
+pub no-41 : (limit : ℕ) (f : List ℕ) {h : Heading} → heading f ≡ given h → 0 < length (h .urls) → reading limit f ≡ refused 41 → ⊥
+unfolding within urlsFor
+no-41 limit f {h} head there e =
+    let P : ℕ → Type 0 = λ k. k ≡ 41 → ⊥ in
+    let known : (n : ℕ) → T (upTo24 n) → P n = λ n low same. subst (λ k. T (upTo24 k)) same low in
+    let listed : (inner : List Box) → Only P (hold 41 (ltb 0 (length (urlsFor (urlsIn f inner) (h .urls))))) =
+    λ inner. rw (lt-ltb 0 (length (urlsFor (urlsIn f inner) (h .urls))) (urls-some (urlsIn f inner) (h .urls) there)) (only-given P tt) in
+    let later : Only P (laterStages limit f h) =
+    only-then P (segments limit f h) _ (all-known P known limit f h listed (λ z. omega arith) (λ z. omega arith))
+    (λ ss.
+    only-then P (indexed limit f h ss) _
+    (indexed-only P (λ z. omega arith) limit f (λ z. omega arith) (λ z. omega arith) (λ z. omega arith) h ss)
+    (λ _. only-given P ss)) in
+    elim (which (right File pseg (h .boxes))) [
+      | inl any ↦ later 41 (sym (reading-some limit f head any) ∙ e) refl
+      | inr lacks ↦ let z = refused-same (sym (reading-none limit f head lacks) ∙ e) in omega arith
+    ]
+  where
+    urls-some : (own inPfil : List (List ℕ)) → 0 < length inPfil → 0 < length (urlsFor own inPfil)
+    urls-some [] inPfil there = there
+    urls-some (u ∷ us) inPfil there = omega arith
 
 pub demand1 : (limit : ℕ) → Demand1OfReading limit
 demand1 limit =
@@ -317,6 +397,8 @@ demand1 limit =
       readNumbers = tabled-only limit;
       listNumbers = listed-only limit;
       indexNumbers = index-tabled-only limit;
+      sourceTextNumbers = source-text-only limit;
+      segmentTextsNumbers = texts-tabled-only limit;
       textNumbers = text-only;
       no21 = never-21 limit;
       askNumbers = λ f a b. ask-refused (tabled limit f a b);
@@ -324,5 +406,6 @@ demand1 limit =
       tablesKept = λ rows f a b. memory-kept rows (tabled limit f a b);
       listsKept = λ rows f a b h m table source. memory-kept rows (listed limit f source a b h m) table;
       indexKept = λ f table. memory-kept indexTable (indexTabled limit f table) table;
+      segmentTextsKept = λ rows f t u table k. memory-kept rows (textsTabled limit f k t u) table;
       textKept = λ text buffer. memory-kept (λ _. text) (textWritten text buffer) buffer;
     }

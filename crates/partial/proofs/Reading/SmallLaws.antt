@@ -18,13 +18,12 @@ use Rattle.boxes.proofs.ContainerLaws.{boxes-standing}
 use Rattle.partial.specs.ReadingDemands.{InData, Whole}
 use Rattle.partial.specs.Entries.{Ploc, Entry, state, stateOf, entry, placeOf, Cursor, chunkStep, chunksFrom}
 use Rattle.partial.specs.Heading.{Heading, heading}
-use Rattle.partial.specs.Limits.{fileLimit, segmentLimit}
-use Rattle.partial.specs.Sources.{agreed}
+use Rattle.partial.specs.Limits.{fileLimit}
 use Rattle.partial.specs.Reading.{segment, segmentsFrom, segments}
 use Rattle.partial.specs.Segments.{Chunk, Segment, elsewhere, hasPlace, present}
 use Rattle.partial.proofs.Meaning.MappedLaws.{lies, may-be}
 use Rattle.partial.proofs.Reading.HeadingAppendLaws.{headed}
-use Rattle.partial.proofs.Reading.KeptLaws.{stepped}
+use Rattle.partial.proofs.Reading.KeptLaws.{stepped, segmented}
 use Rattle.partial.proofs.Reading.ReadingLaws.{step-told}
 
 -- a chunk of a file in which the source may have so many positions
@@ -117,9 +116,4 @@ module _ (limit : ℕ) (f : List ℕ) (h : Heading) (known : heading f ≡ given
       segments-small (before ++ (s ∷ [])) bs (all-append limit before (s ∷ []) all (segment-small before b read, tt)) g
 
   pub all-small : {ss : List Segment} → segments limit f h ≡ given ss → AllSmall limit ss
-  unfolding segments
-  all-small g =
-      let (_, g) = held 13 (leb (length (those pseg (h .boxes))) segmentLimit) _ g in
-      let (ss, read, g) = both-given (segmentsFrom limit f h [] (those pseg (h .boxes))) _ g in
-      let (_, same) = held 25 (agreed ss) _ g in
-      subst (AllSmall limit) (given-same same) (segments-small [] (those pseg (h .boxes)) tt read)
+  all-small g = segments-small [] (those pseg (h .boxes)) tt (segmented limit f h g .read)

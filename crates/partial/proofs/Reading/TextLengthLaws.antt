@@ -121,18 +121,18 @@ module _ (end : ℕ) (low : end < 10 ^ 13) where
       go (rs ∷ lists) (here, rest) = (number-most (total rs) here, go lists rest)
 
 -- the numbers that reading refuses with have two digits at most
-two-digits : (n : ℕ) → T (ofStages n || someOf (eqb n) (12 ∷ 26 ∷ [])) → n ≤ 39
+two-digits : (n : ℕ) → T (ofStages n || someOf (eqb n) (12 ∷ 26 ∷ [])) → n ≤ 41
 unfolding someOf
 two-digits n known =
-    elim (decLe n 39) [
+    elim (decLe n 41) [
       | yes low ↦ low
       | no over ↦
           let stages : ofStages n ≡ false =
-          simp (past 1 11 n (omega arith), past 13 8 n (omega arith), past 22 3 n (omega arith), ne-eqb n 25 (λ e. omega arith), past 36 4 n (omega arith)) in
+          simp (past 1 11 n (omega arith), past 13 8 n (omega arith), past 22 3 n (omega arith), ne-eqb n 41 (λ e. omega arith), ne-eqb n 25 (λ e. omega arith), ne-eqb n 40 (λ e. omega arith), past 36 4 n (omega arith)) in
           absurd (simp (stages, ne-eqb n 12 (λ e. omega arith), ne-eqb n 26 (λ e. omega arith)) at known)
     ]
 
-refused-most : (n : ℕ) → n ≤ 39 → length (refusedLine n) ≤ programBuffer
+refused-most : (n : ℕ) → n ≤ 41 → length (refusedLine n) ≤ programBuffer
 unfolding refusedLine ascii
 refused-most n low = omega (arith, line-most 2 (ascii "refused") (decimal n ∷ []) (decimal-most n 2 (omega arith) (omega arith), tt))
 

@@ -9,7 +9,7 @@ use Rattle.gathering.specs.Chunks.{Chunked}
 use Rattle.gathering.specs.Parts.{partsAnswer}
 use Rattle.gathering.specs.Step.{Counted, Segmented}
 use Rattle.gathering.proofs.GatheredLaws.{gathered-chunks}
-use Rattle.gathering.proofs.StepLaws.{header-whole, segment-fault, segment-crowded, segment-far, segment-cut, segment-told}
+use Rattle.gathering.proofs.StepLaws.{header-whole, segment-fault, segment-crowded, segment-far, segment-cut, segment-told, any-told}
 use Rattle.gathering.proofs.step.segment_of.Statement.{statement}
 use Rattle.gathering.proofs.step.segment_of.Tie as tie
 
@@ -37,14 +37,14 @@ unfolding Counted Segmented partsAnswer
 returns c =
     let met = c .before .before .before .before .before .before .before in
     let parts = sym (met .before .before .parts-of .ensures) ∙ ap partsAnswer (met .p .given .1) in
-    (tt, λ h ss mix known listed beside. segment-crowded _ h ss _ _ parts (omega (arith, gathered-chunks ss (beside .gathered))))
+    (tt, λ h ss mix known listed beside. segment-crowded _ h ss _ (any-told _ h beside) _ parts (omega (arith, gathered-chunks ss (beside .gathered))))
 
 returns-2 : tie.Need-returns-2
 unfolding Counted Segmented partsAnswer
 returns-2 c =
     let met = c .before .before .before .before .before .before .before .before .before in
     let parts = sym (met .before .before .parts-of .ensures) ∙ ap partsAnswer (met .p .given .1) in
-    (tt, λ h ss mix known listed beside. segment-far _ h ss _ _ parts (omega (arith, gathered-chunks ss (beside .gathered))) (omega arith))
+    (tt, λ h ss mix known listed beside. segment-far _ h ss _ (any-told _ h beside) _ parts (omega (arith, gathered-chunks ss (beside .gathered))) (omega arith))
 
 chunks-of-requires : tie.Need-chunks-of-requires
 chunks-of-requires c κs = search needs
@@ -55,18 +55,21 @@ enum-known-n-2 c = search needs
 enum-known-cursor : tie.Need-enum-known-cursor
 enum-known-cursor c = search needs
 
+list-of-requires : tie.Need-list-of-requires
+list-of-requires c κs = search needs
+
 put-read-requires : tie.Need-put-read-requires
 unfolding partsAnswer
 put-read-requires c κs =
-    let near = c .before .before .before .before .before .before .before .before .before .before .before .before .before in
+    let near = c .before .before .before .before .before .before .before .before .before .before .before .before .before .before in
     let met = at-parts near in
     let parts = sym (met .before .before .parts-of .ensures) ∙ ap partsAnswer (met .p .given .1) in
-    (search needs, few near, rw (box-fields _) at (header-whole _ _ parts))
+    (search needs, few near, rw (box-fields _) at (header-whole _ _ _ parts))
 
 returns-3 : tie.Need-returns-3
 unfolding Counted Segmented partsAnswer
 returns-3 c =
-    (tt, λ h ss mix known listed beside. segment-fault _ h ss _ (sym (c .before .before .before .parts-of .ensures) ∙ ap partsAnswer (c .before .n .given .1)))
+    (tt, λ h ss mix known listed beside. segment-fault _ h ss _ (any-told _ h beside) (sym (c .before .before .before .parts-of .ensures) ∙ ap partsAnswer (c .before .n .given .1)))
 
 same-length : tie.Need-same-length
 same-length c = search needs
@@ -80,7 +83,7 @@ returns-4 c =
     let ran = c .before .before .before .before .before .chunks-of .ensures in (
       tt,
       λ h ss mix known listed beside.
-          segment-cut _ h ss _ _ parts (omega (arith, few near, gathered-chunks ss (beside .gathered))) (omega arith) (met .before .before .before .before .before .before .before .args .last)
+          segment-cut _ h ss _ (any-told _ h beside) _ parts (omega (arith, few near, gathered-chunks ss (beside .gathered))) (omega arith) (met .before .before .before .before .before .before .before .args .last)
           (subst (Chunked _ h _ _ _ _ _ _ _) (c .before .n2 .given .1) (ran h mix known listed)),
     )
 
@@ -93,16 +96,17 @@ same-length-3 c = search needs
 returns-5 : tie.Need-returns-5
 unfolding Counted Segmented Chunked partsAnswer
 returns-5 c =
-    let read = c .before .before .before .before .before .before .before .before .before .before in
+    let read = c .before .before .before .before .before .before .before .before .before .before .before in
     let near = read .before .before .before .before .before .before in
     let met = at-parts near in
     let parts = sym (met .before .before .parts-of .ensures) ∙ ap partsAnswer (met .p .given .1) in
     let ran = read .before .before .before .before .chunks-of .ensures in
+    let start = met .before .before .before .before .before .before .before in
     let entered = c .before .before .put-read .ensures in (
       (entered .segments, subst (λ (n : ℕ). n ≤ chunkLimit) (sym (entered .chunks)) (few near)),
       λ h ss mix known listed beside.
           let (cs, e, many, here) = subst (Chunked _ h _ _ _ _ _ _ _) (read .cursor .given .1) (ran h mix known listed) in
-          segment-told _ h ss _ _ parts (omega (arith, few near, gathered-chunks ss (beside .gathered))) (omega arith) (met .before .before .before .before .before .before .before .args .last) beside e many here entered,
+          segment-told _ h ss _ (any-told _ h beside) _ parts (omega (arith, few near, gathered-chunks ss (beside .gathered))) (omega arith) (start .args .last) (start .pre .2) beside e many here (rw (c .before .before .before .before .before .before .before .list-of .ensures) at entered),
     )
 
 pub segment-of-spec : {M : Type 1} → statement M
@@ -118,6 +122,7 @@ segment-of-spec =
     chunks-of-requires
     enum-known-n-2
     enum-known-cursor
+    list-of-requires
     put-read-requires
     returns-3
     same-length

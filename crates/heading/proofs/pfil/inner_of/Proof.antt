@@ -1,22 +1,20 @@
 -- `heading::pfil::inner_of` meets its contract: the framing of `pfil`, then each test is a stage's, and what is told is
 -- read at the first `surl`.
 use mathlib.Core.List.{List}
-use mathlib.Core.Path.{_≡_, refl, ap, _∙_}
+use mathlib.Core.Path.{_≡_, refl, _∙_}
 use borrow.Author.Needs.{needs}
-use lib.ListN.{length}
 use Rattle.boxes.specs.Answer.{given}
 use Rattle.boxes.specs.Framing.{Box, boxesIn}
-use Rattle.boxes.specs.Kinds.{pfhd, surl, pseg, fidx}
+use Rattle.boxes.specs.Kinds.{pfhd, pseg, fidx}
 use Rattle.boxes.specs.declared.kinds.Container.the-variants.{Pfil}
 use Rattle.tallying.specs.Rules.{tallyOf}
 use Rattle.tallying.proofs.RuleLaws.{tally-fault, tally-given, tally-known}
-use Rattle.partial.specs.Heading.{pfhdRight, surlRight, url, mime}
+use Rattle.partial.specs.Heading.{pfhdRight, surlRight}
 use Rattle.partial.proofs.Reading.IndexedLaws.{has-counted}
-use Rattle.surls.specs.Parts.{Within}
+use Rattle.surls.specs.First.{textIn}
 use Rattle.surls.proofs.FormLaws.{refuted, upheld}
-use Rattle.surls.proofs.WithinLaws.{further-within}
+use Rattle.surls.proofs.WithinLaws.{further-within, first-within}
 use Rattle.heading.specs.Facts.{headedAnswer}
-use Rattle.heading.proofs.FoundLaws.{first-within}
 use Rattle.heading.proofs.StageLaws.{inner-refused, pfhd-refused, surl-refused, all-right, body-told, found-told}
 use Rattle.heading.proofs.pfil.inner_of.Statement.{statement}
 use Rattle.heading.proofs.pfil.inner_of.Tie as tie
@@ -37,21 +35,14 @@ pfhd-told c =
     let (is, known, counted) = boxes-known (c .before .before) in
     c .pfhd-right .ensures is counted (c .before .first-of .ensures is known)
 
-surl-told : (c : tie.After-surl-right)
+surl-told : (c : tie.After-surls-formed)
     → let else1 = c .before .before .before .before in
-    c .surl-right .result ≡ surlRight (else1 .before .before .before .before .before .before .args .file .now) (boxes-known else1 .0)
+    c .surls-formed .result ≡ surlRight (else1 .before .before .before .before .before .before .args .file .now) (boxes-known else1 .0)
+unfolding surlRight
 surl-told c =
-    let (is, known, counted) = boxes-known (c .before .before .before .before) in
-    c .surl-right .ensures is counted known
-
--- the first `surl` lies in the file
-first-surl : (c : tie.After-first-of2)
-    → let start = c .before .before .before .before .before .before .before .before .before .before .before .before in
-    Within (length (start .args .file .now)) (c .first-of2 .result)
-first-surl c =
-    let else1 = c .before .before .before .before .before .before in
+    let else1 = c .before .before .before .before in
     let (is, known, counted) = boxes-known else1 in
-    further-within (else1 .before .before .before .before .before .before .pre .ends) (first-within Pfil _ _ _ known _ surl (c .first-of2 .ensures is known))
+    c .surls-formed .ensures (else1 .before .before .before .before .before .before .pre .ends) is known
 
 tally-requires : tie.Need-tally-requires
 tally-requires c κs = search needs
@@ -82,8 +73,8 @@ returns-2 c bs tallied same front =
     let wrong = refuted (pfhd-told (c .before)) (c .if2 .taken) in
     rw (pfhd-refused (start .args .file .now) bs front (start .args .b) same known wrong)
 
-surl-right-requires : tie.Need-surl-right-requires
-surl-right-requires c κs = search needs
+surls-formed-requires : tie.Need-surls-formed-requires
+surls-formed-requires c κs = search needs
 
 returns-3 : tie.Need-returns-3
 unfolding headedAnswer
@@ -96,40 +87,38 @@ returns-3 c bs tallied same front =
     let wrong = refuted (surl-told after-surl) (c .if3 .taken) in
     rw (surl-refused (start .args .file .now) bs front (start .args .b) same known right wrong)
 
-first-of-requires-2 : tie.Need-first-of-requires-2
-first-of-requires-2 c κs = search needs
-
 of-requires : tie.Need-of-requires
 of-requires c κs = search needs
 
 of-requires-2 : tie.Need-of-requires-2
 of-requires-2 c κs = search needs
 
-url-of-requires : tie.Need-url-of-requires
-url-of-requires c κs = search needs
+first-text-requires : tie.Need-first-text-requires
+first-text-requires c κs = search needs
 
-mime-of-requires : tie.Need-mime-of-requires
-mime-of-requires c κs = search needs
+first-text-requires-2 : tie.Need-first-text-requires-2
+first-text-requires-2 c κs = search needs
 
 returns-4 : tie.Need-returns-4
+unfolding textIn
 returns-4 c bs tallied same front =
     let after-index = c .before .before in
     let after-of = after-index .before in
-    let after-first = after-of .before in
-    let after-surl = after-first .before .before in
+    let else3 = after-of .before in
+    let after-surl = else3 .before in
     let else1 = after-surl .before .before .before .before in
     let start = else1 .before .before .before .before .before .before in
     let (is, known, counted) = boxes-known else1 in
     let right = upheld (pfhd-told (after-surl .before .before)) (after-surl .before .if2 .left) in
-    let formed = upheld (surl-told after-surl) (after-first .before .if3 .left) in
-    let first = after-first .first-of2 .ensures is known in
+    let formed = upheld (surl-told after-surl) (else3 .if3 .left) in
+    let inside = start .pre .ends in
     let all = tally-given tallied refl in
     rw (all-right (start .args .file .now) bs front (start .args .b) same known right formed)
     (found-told (start .args .file .now) bs is _ (all .number) (after-of .of .ensures ∙ all .of pseg refl)
     (has-counted is (after-index .of2 .ensures ∙ tally-given counted refl .of fidx refl))
     (body-told (start .args .file .now) bs (start .args .b) same)
-    (c .before .url-of .ensures (first-surl after-first) ∙ ap (url _) first)
-    (c .mime-of .ensures (first-surl after-first) ∙ ap (mime _) first))
+    (c .before .first-text .ensures is known inside)
+    (c .first-text2 .ensures is known inside))
 
 pub inner-of-spec : {M : Type 1} → statement M
 inner-of-spec =
@@ -140,11 +129,10 @@ inner-of-spec =
     first-of-requires
     pfhd-right-requires
     returns-2
-    surl-right-requires
+    surls-formed-requires
     returns-3
-    first-of-requires-2
     of-requires
     of-requires-2
-    url-of-requires
-    mime-of-requires
+    first-text-requires
+    first-text-requires-2
     returns-4)

@@ -12,7 +12,7 @@ use Rattle.partial.specs.Heading.{ftypRight, branded, pmff, brandRight, pfilRig
 use Rattle.surls.specs.Parts.{Within}
 use Rattle.surls.proofs.FormLaws.{refuted, upheld}
 use Rattle.heading.specs.Facts.{headedAnswer}
-use Rattle.heading.proofs.FoundLaws.{number-within}
+use Rattle.surls.proofs.WithinLaws.{number-within}
 use Rattle.heading.proofs.StageLaws.{too-long, ill-framed, framed, ftyp-refused, brand-refused, pfil-refused}
 use Rattle.heading.proofs.stages.heading_of.Statement.{statement}
 use Rattle.heading.proofs.stages.heading_of.Tie as tie

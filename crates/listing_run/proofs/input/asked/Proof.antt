@@ -4,10 +4,10 @@ use Rattle.listing_run.proofs.input.asked.Statement.{statement}
 use Rattle.listing_run.proofs.input.asked.Tie as tie
 
 abbrev Inv-loop : tie.InvT-loop
-Inv-loop file rooms positions left₀ left = Unit {0}
+Inv-loop file source rooms positions left₀ left = Unit {0}
 
 abbrev μ-loop : tie.MeasureT-loop
-μ-loop file rooms positions left₀ left = left
+μ-loop file source rooms positions left₀ left = left
 
 loop-holds : tie.Need-loop-holds Inv-loop μ-loop
 loop-holds c = search needs

@@ -14,8 +14,8 @@ slice-aggregate-answer c = search needs
 answer-requires : tie.Need-answer-requires
 answer-requires c κs = search needs
 
-rest-requires : tie.Need-rest-requires
-rest-requires c κs = search needs
+rest-bytes-requires : tie.Need-rest-bytes-requires
+rest-bytes-requires c κs = search needs
 
 enum-known-answer-2 : tie.Need-enum-known-answer-2
 enum-known-answer-2 c = search needs
@@ -33,8 +33,8 @@ slice-aggregate-text c =
 text-requires : tie.Need-text-requires
 text-requires c κs = search needs
 
-rest-requires-2 : tie.Need-rest-requires-2
-rest-requires-2 c κs = search needs
+rest-bytes-requires-2 : tie.Need-rest-bytes-requires-2
+rest-bytes-requires-2 c κs = search needs
 
 returns : tie.Need-returns
 returns c = search needs
@@ -49,12 +49,12 @@ written-spec =
     enum-known-answer
     slice-aggregate-answer
     answer-requires
-    rest-requires
+    rest-bytes-requires
     enum-known-answer-2
     slice-aggregate-answer-2
     answer-requires-2
     slice-aggregate-text
     text-requires
-    rest-requires-2
+    rest-bytes-requires-2
     returns
     returns-2)

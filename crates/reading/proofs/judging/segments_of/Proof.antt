@@ -1,12 +1,16 @@
--- `reading::judging::segments_of` meets its contract: 13, then the pass, then 25.
+-- `reading::judging::segments_of` meets its contract: 13, then the pass, then 25 and 40.
+use Prim.Native.Nat.{_≤_}
 use mathlib.Core.Path.{sym, ap, _∙_}
 use native.Mathlib.Omega.{arith}
 use borrow.Author.Needs.{needs}
 use borrow.Author.Tests.{not-true, not-false}
+use lib.ListN.{length}
 use Rattle.boxes.specs.Answer.{given}
+use Rattle.boxes.specs.Kinds.{pseg, those}
+use Rattle.partial.specs.Limits.{segmentLimit}
 use Rattle.gathering.proofs.GatheredLaws.{gathered-sources}
 use Rattle.reading.specs.Judged.{gatheredAnswer}
-use Rattle.reading.proofs.JudgedLaws.{facts-segments, opened, gathered-crowded, gathered-refused, gathered-differ, gathered-given, kept-ungathered}
+use Rattle.reading.proofs.JudgedLaws.{facts-segments, opened, gathered-crowded, gathered-refused, gathered-differ, gathered-ninth, gathered-given, kept-ungathered}
 use Rattle.reading.proofs.JudgedLaws.{passed-refused, passed-given, passed-kept, passed-noted}
 use Rattle.reading.proofs.judging.segments_of.Statement.{statement}
 use Rattle.reading.proofs.judging.segments_of.Tie as tie
@@ -53,9 +57,16 @@ same-length-4 c = search needs
 returns-3 : tie.Need-returns-3
 unfolding gatheredAnswer
 returns-3 c = λ h known same.
-    let gathers = c .before .before .before .before .before .before .before .pass .ensures h (opened _ h known same (omega (arith, facts-segments _ h _ same))) in
-    let refused = passed-refused _ h _ _ _ _ _ _ _ _ gathers (c .before .n .given .1) in
-    (sym (gathered-refused _ h (omega (arith, facts-segments _ h _ same)) refused), passed-kept _ h _ _ _ _ _ _ _ _ gathers, passed-noted _ h _ _ _ _ _ _ _ _ gathers)
+    let else2 = c .before .before in
+    let judged = else2 .before in
+    let met = judged .before .before .before in
+    let passed = met .before .before .before .before .before .before in
+    let few : length (those pseg (h .boxes)) ≤ segmentLimit = omega (arith, passed .before .before .before .before .before .before .if1 .left, facts-segments _ h _ same) in
+    let gathers = passed .pass .ensures h (opened _ h known same few) in
+    let (ss, read, of, noted) = passed-given _ h _ _ _ _ _ _ _ _ gathers (met .gathered .given .1) in
+    let agrees = sym (judged .all-agree .ensures ss (gathered-sources ss of) (noted .sizes)) ∙ not-false _ (else2 .if2 .left) in
+    let ninth = gathered-ninth _ h few read agrees (omega (arith, gathered-sources ss of)) in
+    (sym ninth, passed-kept _ h _ _ _ _ _ _ _ _ gathers, passed-noted _ h _ _ _ _ _ _ _ _ gathers)
 
 same-length-5 : tie.Need-same-length-5
 same-length-5 c = search needs
@@ -66,11 +77,29 @@ same-length-6 c = search needs
 returns-4 : tie.Need-returns-4
 unfolding gatheredAnswer
 returns-4 c = λ h known same.
-    let met = c .before .before .before .before in
-    let gathers = met .before .before .before .before .before .before .pass .ensures h (opened _ h known same (omega (arith, facts-segments _ h _ same))) in
+    let gathers = c .before .before .before .before .before .before .before .pass .ensures h (opened _ h known same (omega (arith, facts-segments _ h _ same))) in
+    let refused = passed-refused _ h _ _ _ _ _ _ _ _ gathers (c .before .n .given .1) in
+    (sym (gathered-refused _ h (omega (arith, facts-segments _ h _ same)) refused), passed-kept _ h _ _ _ _ _ _ _ _ gathers, passed-noted _ h _ _ _ _ _ _ _ _ gathers)
+
+same-length-7 : tie.Need-same-length-7
+same-length-7 c = search needs
+
+same-length-8 : tie.Need-same-length-8
+same-length-8 c = search needs
+
+returns-5 : tie.Need-returns-5
+unfolding gatheredAnswer
+returns-5 c = λ h known same.
+    let else2 = c .before .before in
+    let judged = else2 .before in
+    let met = judged .before .before .before in
+    let passed = met .before .before .before .before .before .before in
+    let few : length (those pseg (h .boxes)) ≤ segmentLimit = omega (arith, passed .before .before .before .before .before .before .if1 .left, facts-segments _ h _ same) in
+    let gathers = passed .pass .ensures h (opened _ h known same few) in
     let (ss, read, of, noted) = passed-given _ h _ _ _ _ _ _ _ _ gathers (met .gathered .given .1) in
-    let agrees = sym (c .before .all-agree .ensures ss (gathered-sources ss of) (noted .sizes)) ∙ not-false _ (c .if2 .left) in
-    (ap given of ∙ sym (gathered-given _ h (omega (arith, facts-segments _ h _ same)) read agrees), passed-kept _ h _ _ _ _ _ _ _ _ gathers, passed-noted _ h _ _ _ _ _ _ _ _ gathers)
+    let agrees = sym (judged .all-agree .ensures ss (gathered-sources ss of) (noted .sizes)) ∙ not-false _ (else2 .if2 .left) in
+    let all = gathered-given _ h few read agrees (omega (arith, gathered-sources ss of)) in
+    (ap given of ∙ sym all, passed-kept _ h _ _ _ _ _ _ _ _ gathers, passed-noted _ h _ _ _ _ _ _ _ _ gathers)
 
 pub segments-of-spec : {M : Type 1} → statement M
 segments-of-spec =
@@ -89,4 +118,7 @@ segments-of-spec =
     returns-3
     same-length-5
     same-length-6
-    returns-4)
+    returns-4
+    same-length-7
+    same-length-8
+    returns-5)

@@ -1,7 +1,7 @@
 -- `reading::texts::text_at` meets its contract: the judgement, then what the heading tells of that text.
 use borrow.Author.Needs.{needs}
 use Rattle.reading.specs.Parts.{locatedAnswer}
-use Rattle.reading.specs.declared.texts.Text.the-variants.{Url, Mime}
+use Rattle.surls.specs.declared.first.Text.the-variants.{Url, Mime}
 use Rattle.reading.proofs.JudgedLaws.{accepted, read-refused, judgement-refused, judgement-given}
 use Rattle.reading.proofs.TextLaws.{text-refused, text-given, url-there, mime-there}
 use Rattle.reading.proofs.texts.text_at.Statement.{statement}

@@ -13,8 +13,8 @@ enum-known-r c = search needs
 enum-known-r-2 : tie.Need-enum-known-r-2
 enum-known-r-2 c = search needs
 
-cast-t9 : tie.Need-cast-t9
-cast-t9 c = search needs
+cast-t10 : tie.Need-cast-t10
+cast-t10 c = search needs
 
 returns : tie.Need-returns
 unfolding readAnswer
@@ -25,4 +25,4 @@ unfolding readAnswer summaryNumbers
 returns-2 c = says-given _ (ap readAnswer (c .before .before .r2 .given .1)) refl
 
 pub say-read-spec : {M : Type 1} → statement M
-say-read-spec = tie.close (tie.spec enum-known-r enum-known-r-2 cast-t9 returns returns-2)
+say-read-spec = tie.close (tie.spec enum-known-r enum-known-r-2 cast-t10 returns returns-2)

@@ -18,7 +18,7 @@ same-length c = search needs
 
 returns : tie.Need-returns
 returns c =
-    let met = appends-by _ _ _ (c .before .before .before .before .before .before .writable .ensures) (c .before .before .before .before .append .ensures) in
+    let met = appends-by _ _ _ _ _ (c .before .before .before .before .before .before .writable .ensures) (c .before .before .before .before .append .ensures) in
     record { said = says-same _ (met .answer) (c .say-written .ensures); left = met .left }
 
 pub vrazhupa-append-spec : {M : Type 1} → statement M

@@ -20,22 +20,22 @@ texts-of-requires c κs = search needs
 returns : tie.Need-returns
 unfolding asks
 returns c =
-    let (fits, told, going) = c .before .before .before .before .before .before .before .before .pre in
-    appends-refused _ _ _ (wrong-lists _ _ _ fits _ (earlier _ _ told) (list-first _ (list-odd _ (c .if1 .taken))))
+    let ready = c .before .before .before .before .before .before .before .before .pre in
+    appends-refused _ _ _ (wrong-lists _ _ _ (ready .enough) _ (earlier _ _ (ready .told)) (list-first _ (list-odd _ (c .if1 .taken))))
 
 returns-2 : tie.Need-returns-2
 unfolding asks
 returns-2 c =
-    let (fits, told, going) = c .before .before .before .before .before .before .before .before .before .before .pre in
+    let ready = c .before .before .before .before .before .before .before .before .before .before .pre in
     let counts = c .before .before .before .before .counts-of .ensures in
-    appends-refused _ _ _ (wrong-lists _ _ _ fits _ (earlier _ _ told) (list-first _ (list-unright _ counts (not-true _ (c .if2 .taken)))))
+    appends-refused _ _ _ (wrong-lists _ _ _ (ready .enough) _ (earlier _ _ (ready .told)) (list-first _ (list-unright _ counts (not-true _ (c .if2 .taken)))))
 
 returns-3 : tie.Need-returns-3
 unfolding asks
 returns-3 c =
-    let (fits, told, going) = c .before .before .before .before .before .before .before .before .before .before .before .before .pre in
+    let ready = c .before .before .before .before .before .before .before .before .before .before .before .before .pre in
     let uneven = sym (even-told _ _ (c .before .before .before .before .before .texts-of .ensures)) ∙ not-true _ (c .if3 .taken) in
-    appends-refused _ _ _ (wrong-lists _ _ _ fits _ (earlier _ _ told) (lengths-second _ uneven))
+    appends-refused _ _ _ (wrong-lists _ _ _ (ready .enough) _ (earlier _ _ (ready .told)) (lengths-second _ uneven))
 
 -- past 31 both lists are right
 list-is-right : (c : tie.Else2) → listRight (c .before .before .before .before .before .before .before .before .before .before .args .list .now) ≡ true
@@ -49,18 +49,18 @@ returns-4 : tie.Need-returns-4
 returns-4 c =
     let listed = c .before .before in
     let start = listed .before .before .before .before .before .before .before .before .before .before .before .before in
-    let (fits, told, going) = start .pre in
+    let ready = start .pre in
     let differ = data-differs (start .args .header) (start .args .outside) (start .args .list .now) (start .args .bytes .now) (start .args .texts .now) (start .args .lengths .now) (listed .before .before .before .before .before .before .counts-of .ensures) (omega (arith, start .good)) (c .if4 .taken) in
-    appends-refused _ _ _ (wrong-bytes _ _ _ fits _ (earlier _ _ told) (lists-are-right listed) (data-first _ differ))
+    appends-refused _ _ _ (wrong-bytes _ _ _ (ready .enough) _ (earlier _ _ (ready .told)) (lists-are-right listed) (data-first _ differ))
 
 returns-5 : tie.Need-returns-5
 unfolding asks
 returns-5 c =
     let listed = c .before .before .before .before in
     let start = listed .before .before .before .before .before .before .before .before .before .before .before .before in
-    let (fits, told, going) = start .pre in
+    let ready = start .pre in
     let differ = sym (whole-told _ _ (listed .before .before .before .before .before .texts-of .ensures) (start .args .header) (start .args .outside) (start .args .list .now) (start .args .bytes .now)) ∙ not-true _ (c .if5 .taken) in
-    appends-refused _ _ _ (wrong-bytes _ _ _ fits _ (earlier _ _ told) (lists-are-right listed) (texts-second _ differ))
+    appends-refused _ _ _ (wrong-bytes _ _ _ (ready .enough) _ (earlier _ _ (ready .told)) (lists-are-right listed) (texts-second _ differ))
 
 append-counted-requires : tie.Need-append-counted-requires
 unfolding asks
@@ -68,11 +68,9 @@ append-counted-requires c κs =
     let carried = c .before .before .before in
     let listed = c .before .before .before .before .before in
     let start = listed .before .before .before .before .before .before .before .before .before .before .before .before in
-    let (fits, told, going) = start .pre in
+    let ready = start .pre in
     let texts = listed .before .before .before .before .before .texts-of .ensures in (
-      fits,
-      told,
-      going,
+      ready,
       list-is-right (listed .before .before),
       counted-of (start .args .header) (start .args .outside) (start .args .list .now) (start .args .bytes .now) (start .args .texts .now) (start .args .lengths .now) (listed .before .before .before .before .before .before .counts-of .ensures) (omega (arith, start .good)) (carried .if4 .left),
       record {

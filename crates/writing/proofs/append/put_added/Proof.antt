@@ -7,7 +7,7 @@ use Rattle.writing.proofs.append.put_added.Statement.{statement}
 use Rattle.writing.proofs.append.put_added.Tie as tie
 
 sub-size : tie.Need-sub-size
-sub-size c = omega (arith, in-size _ _ _ _ _ _ (c .before .before .before .before .before .before .before .before .before .pre .0))
+sub-size c = omega (arith, in-size _ _ _ _ _ _ (c .before .before .before .before .before .before .before .before .before .before .before .pre .0))
 
 put-pdat-requires : tie.Need-put-pdat-requires
 put-pdat-requires c κs = search needs
@@ -26,7 +26,7 @@ returns c =
     let last = c .before .before in
     let outer = last .before .before .before .before in
     let inner = outer .before .before .before .before in
-    let start = inner .before .before .before .before .before .before .before .before .before .before .before in
+    let start = inner .before .before .before .before .before .before .before .before .before .before .before .before .before in
     let (sorted, laid, fits, small) = start .pre in
     let long = added-long _ _ _ _ _ _ sorted in
     let pdat = inner .put-pdat .ensures (omega (arith, in-size _ _ _ _ _ _ sorted)) (omega arith) in

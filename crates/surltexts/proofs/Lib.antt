@@ -1,0 +1,4 @@
+pub mod CallsLaws
+pub mod Determined
+pub mod FindLaws
+pub mod PuttingLaws
