@@ -1,0 +1,1 @@
+-- Boxes that were carried to another place say there what they said: their texts, fields and counts.

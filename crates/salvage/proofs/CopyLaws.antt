@@ -1,0 +1,1 @@
+-- The copy is the pieces of the boxes that stay, each where its new place is.

@@ -1,0 +1,1 @@
+-- The first two boxes read back in the copy as they were.

@@ -1,0 +1,11 @@
+-- Laws of salvage: the copy reads back as the segments that are kept.
+pub mod CarriedLaws
+pub mod CopyLaws
+pub mod HeadingLaws
+pub mod PieceLaws
+pub mod PlaceLaws
+pub mod PlocLaws
+pub mod ReadingLaws
+pub mod SameLaws
+pub mod SegmentLaws
+pub mod Shapes

@@ -1,0 +1,1 @@
+-- Pieces of a copy of which each is one box: how its header reads, and that the boxes fill what the pieces make.

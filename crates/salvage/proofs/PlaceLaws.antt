@@ -1,0 +1,1 @@
+-- New places: where a place of a box that stays is in the copy, in the old order and no further apart.

@@ -1,0 +1,1 @@
+-- A ploc with new offsets reads back: its head as it was, its chunks at their new places.

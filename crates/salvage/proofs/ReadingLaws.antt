@@ -1,0 +1,1 @@
+-- The copy is acceptable or has only refusal 12: it reads back as the segments that are kept.

@@ -1,0 +1,1 @@
+-- A file of which nothing goes is its own copy.

@@ -1,0 +1,1 @@
+-- A kept pseg reads back in the copy as its segment at its new place.

@@ -1,0 +1,3 @@
+pub mod Kept
+pub mod Copy
+pub mod Lines
