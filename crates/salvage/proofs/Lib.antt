@@ -1,7 +1,9 @@
 -- Laws of salvage: the copy reads back as the segments that are kept.
 pub mod CarriedLaws
 pub mod CopyLaws
+pub mod FateLaws
 pub mod HeadingLaws
+pub mod LieLaws
 pub mod PieceLaws
 pub mod PlaceLaws
 pub mod PlocLaws
@@ -9,3 +11,4 @@ pub mod ReadingLaws
 pub mod SameLaws
 pub mod SegmentLaws
 pub mod Shapes
+pub mod WholeLaws
