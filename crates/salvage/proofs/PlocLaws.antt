@@ -133,6 +133,7 @@ module _ (l : Ploc) where
   abbrev wide : ℕ → ℕ
   wide s = elim (present s) [ true ↦ l .offsetSize | false ↦ 0 ]
 
+  -- how many bytes an entry has
   entry-long : (p : Placed) (ps : List Placed)
       → length (entryBytes (l .lengthSize) (l .offsetSize) (p ∷ ps)) ≡ 1 + l .lengthSize + wide (p .state) + length (entryBytes (l .lengthSize) (l .offsetSize) ps)
   unfolding entryBytes
@@ -181,7 +182,7 @@ module _ (l : Ploc) where
         by-offset (some there) e = ap some (given-same (held 24 (mayLie h (x .state) there (x .size)) _ e .1))
 
     module _ (new : ℕ → ℕ) where
-      -- a chunk with its new offset tells of itself
+      -- the new offset of a chunk, and the place that it gives
       offset-has : (c : Chunk) → hasPlace (c .state) (c .size) ≡ true → placedAnew new pseg c .offset ≡ offsetTo (new pseg) (new (c .place))
       unfolding placedAnew
       offset-has c has = rw (placedAnew, has)
@@ -198,6 +199,7 @@ module _ (l : Ploc) where
             | inr empty ↦ rw (chunkAnew, empty)
           ]
 
+      -- a chunk with it tells of itself, and the old width holds it
       chunk-tells : (h′ : Heading) (c : Chunk) → isState (c .state) ≡ true → Lies new pseg h′ c → Tells h′ (new pseg) (placedAnew new pseg c)
       unfolding placedAnew hasPlace
       chunk-tells h′ c known lies =
@@ -236,6 +238,7 @@ module _ (l : Ploc) where
             → Each (Tells h′ (new pseg)) (anew cs) × (allOf (λ p. holdsOffset (l .offsetSize) (p .offset)) (anew cs) ≡ true)
 
       module _ (limit : ℕ) (f : List ℕ) (bytes : (k : ℕ) → getD f k 0 < 256) (h : Heading) where
+        -- an entry more, and as what a cursor meets
         entry-more : (more : ℕ) (c : Cursor) (x : Entry) (place : ℕ) (cs : List Chunk) → Told (c .at) x → placeOf h pseg x ≡ given place
             → Entries limit more (record { at = x .next; start = c .start + x .size }) cs
             → Entries limit (suc more) c (record { start = c .start; size = x .size; state = x .state; place = place } ∷ cs)
@@ -277,12 +280,16 @@ module _ (l : Ploc) where
             let (rest, others, e2) = both-given (chunksFrom limit f h pseg l more (met .1)) _ e1 in
             subst (Entries limit (suc more) c) (given-same e2) (step-more more c met rest step (λ further. entries-read more (met .1) rest further others))
 
--- the head of a `ploc` that was read
+-- what is known of the head of a `ploc` that was read
 module _ (f : List ℕ) (b : Box) where
   record Headed (l : Ploc) : Type 0 where
     room : b .body + 9 ≤ b .end
+    zeros : eqb (number f (b .body) 4) 0 ≡ true
+    narrow : (leb (l .lengthSize) 8 && leb (l .offsetSize) 8) ≡ true
+    own : eqb (number f (b .body + 5) 2) 0 ≡ true
     sizes : number f (b .body + 4) 1 / 16 ≡ l .lengthSize
     offsets : number f (b .body + 4) 1 % 16 ≡ l .offsetSize
+    count : number f (b .body + 7) 2 ≡ l .count
     first : l .first ≡ b .body + 9
     ends : l .end ≡ b .end
 
@@ -290,19 +297,24 @@ module _ (f : List ℕ) (b : Box) where
   unfolding plocHead
   headed l e =
       let (whole, e1) = held 17 (leb (b .body + 9) (b .end) && eqb (number f (b .body) 4) 0) _ e in
+      let (room, zeros) = both (leb (b .body + 9) (b .end)) (eqb (number f (b .body) 4) 0) whole in
       let widths = number f (b .body + 4) 1 in
-      let (known, e2) = held 18 (leb (widths / 16) 8 && leb (widths % 16) 8) _ e1 in
+      let (narrow, e2) = held 18 (leb (widths / 16) 8 && leb (widths % 16) 8) _ e1 in
       let (own, e3) = held 19 (eqb (number f (b .body + 5) 2) 0) _ e2 in
       subst Headed (given-same e3)
       (record {
-        room = leb-true (b .body + 9) (b .end) (both (leb (b .body + 9) (b .end)) (eqb (number f (b .body) 4) 0) whole .0);
+        room = leb-true (b .body + 9) (b .end) room;
+        zeros = zeros;
+        narrow = narrow;
+        own = own;
         sizes = refl;
         offsets = refl;
+        count = refl;
         first = refl;
         ends = refl;
       })
 
--- the `ploc` of a segment that was read
+-- the `ploc` of a segment that was read; its sizes fit their width, since a file is bytes
 module _ (limit : ℕ) (f : List ℕ) (h : Heading) (s : Segment) (b : Box) (l : Ploc)
     (typed : b .at ≤ b .body) (inside : b .end ≤ length f)
     (bytes : (k : ℕ) → getD f k 0 < 256)
@@ -310,6 +322,7 @@ module _ (limit : ℕ) (f : List ℕ) (h : Heading) (s : Segment) (b : Box) (l :
     (start : ℕ) (low : start ≤ limit)
     (read : chunksFrom limit f h (s .place) l (l .count) (record { at = l .first; start = start }) ≡ given (s .chunks))
     (new : ℕ → ℕ) where
+  -- its parts: what is copied, and what is written
   abbrev front : List ℕ
   front = bytesIn f (record { place = b .at; size = b .body + 9 - b .at })
 
@@ -362,22 +375,21 @@ module _ (limit : ℕ) (f : List ℕ) (h : Heading) (s : Segment) (b : Box) (l :
     pub head-back : plocHead g (resized at (b .end - b .at) b) ≡ given headAnew
     unfolding plocHead
     head-back =
-        let (whole, e1) = held 17 (leb (b .body + 9) (b .end) && eqb (number f (b .body) 4) 0) _ head in
-        let widths = number f (b .body + 4) 1 in
-        let (known, e2) = held 18 (leb (widths / 16) 8 && leb (widths % 16) 8) _ e1 in
-        let (own, e3) = held 19 (eqb (number f (b .body + 5) 2) 0) _ e2 in
-        let (room, zeros) = both (leb (b .body + 9) (b .end)) (eqb (number f (b .body) 4) 0) whole in
+        let t = headed f b l head in
         let place : ℕ = at + (b .body - b .at) in
         rw (
-          le-leb (place + 9) (at + (b .end - b .at)) (omega (arith, leb-true (b .body + 9) (b .end) room)),
+          le-leb (place + 9) (at + (b .end - b .at)) (omega arith),
           number-here place (b .body) 4 (omega arith) (omega arith) (omega arith),
-          zeros,
+          t .zeros,
           number-here (place + 4) (b .body + 4) 1 (omega arith) (omega arith) (omega arith),
-          known,
+          t .sizes,
+          t .offsets,
+          t .narrow,
           number-here (place + 5) (b .body + 5) 2 (omega arith) (omega arith) (omega arith),
-          own,
+          t .own,
           number-here (place + 7) (b .body + 7) 2 (omega arith) (omega arith) (omega arith),
-        ) (ap (λ (p : Ploc). given (record { lengthSize = p .lengthSize; offsetSize = p .offsetSize; count = p .count; first = place + 9; end = at + (b .end - b .at) })) (given-same e3))
+          t .count,
+        )
 
     pub chunks-anew : chunksFrom limit g h′ (new (s .place)) headAnew (l .count) (record { at = headAnew .first; start = start }) ≡ given (map (chunkAnew new) (s .chunks))
     chunks-anew =
