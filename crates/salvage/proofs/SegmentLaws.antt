@@ -10,7 +10,7 @@ use borrow.Author.Tests.{leb-true, eqb-true}
 use lib.ListN.{length, getD, length-append}
 use lib.Dec.{eqb, lit<}
 use Rattle.boxes.specs.Answer.{given}
-use Rattle.boxes.specs.Framing.{Box, uuid, header, boxesIn, boxLimit}
+use Rattle.boxes.specs.Framing.{Box, uuid, header, boxesIn}
 use Rattle.boxes.specs.Kinds.{pseg, ploc, pshd, fidx, is, those, firstOf, boxAt}
 use Rattle.boxes.specs.declared.kinds.Container.{Container}
 use Rattle.boxes.specs.declared.kinds.Container.the-variants.{File, Pseg}
