@@ -1,22 +1,26 @@
 -- The copy is the pieces of the boxes that stay, each where its new place is.
-use Prim.Native.Nat.{ℕ, _+_, _≤_}
+use Prim.Native.Nat.{ℕ, _+_, _-_, _≤_}
 use mathlib.Core.Bool.{Bool, true, false}
 use mathlib.Core.List.{List, [], _∷_, _++_}
 use mathlib.Core.Logic.{_⊎_, inl, inr}
 use mathlib.Core.Path.{_≡_, refl, ap, _∙_}
 use native.Mathlib.Nat.{add-assoc, add-zero, zero-add}
 use native.Mathlib.Omega.{arith}
-use lib.ListN.{length, length-append, List·getD-append}
-use lib.Seq.{getD-append-add}
+use lib.ListN.{length, take, drop, length-append, length-take, length-drop, List·getD-append}
+use lib.Seq.{getD-append-add, getD-take, getD-drop}
+use Rattle.boxes.specs.Kinds.{is, those}
+use Rattle.boxes.specs.declared.kinds.Kind.{Kind}
 use Rattle.boxes.specs.declared.kinds.Container.the-variants.{File}
 use Rattle.boxes.proofs.ContainerLaws.{Filled}
+use Rattle.boxes.proofs.KindLaws.{those-nil, those-other}
 use Rattle.partial.specs.BoxList.{each}
+use Rattle.partial.specs.Heading.{bytesIn}
 use Rattle.partial.specs.Sequences.{sum}
 use Rattle.partial.proofs.Meaning.SequenceLaws.{Each}
 use Rattle.additions.proofs.StandsLaws.{Stands}
 use Rattle.salvage.specs.Kept.{Fate, dropped, whole, ofPfil, ofPseg, Fated}
-use Rattle.salvage.specs.Copy.{copyOf, copySize}
-use Rattle.salvage.proofs.Shapes.{resized, boxesAnew}
+use Rattle.salvage.specs.Copy.{boxBytes, copyOf, copySize}
+use Rattle.salvage.proofs.Shapes.{Alike, resized, boxesAnew}
 use Rattle.salvage.proofs.PieceLaws.{OneBox, rowOf, pieces-filled}
 use Rattle.salvage.proofs.PlaceLaws.{sizes}
 
@@ -104,6 +108,17 @@ module _ (f : List ℕ) (new : ℕ → ℕ) where
       rw (← ready .0 .long, add-assoc)
       (getD-append-add (copyOf f new y) (each (copyOf f new) (ys ++ (x ∷ behind))) (sizes ys + i) 0 ∙ copy-stands ys x behind (ready .1) i h)
 
+  -- the bytes of a box that stays whole are in the copy what they were
+  pub copy-alike : (before : List Fated) (x : Fated) (behind : List Fated) → Each (Ready f new) (before ++ (x ∷ behind))
+      → x .fate ≡ whole → x .box .at ≤ x .box .end → x .box .end ≤ length f
+      → Alike f (x .box .at) (each (copyOf f new) (before ++ (x ∷ behind))) (sizes before) (x .box .end - x .box .at)
+  unfolding copyOf boxBytes bytesIn
+  copy-alike before x behind ready kept order inside i less =
+      let b = x .box in
+      let same : copyOf f new x ≡ take (b .end - b .at) (drop (b .at) f) = rw (copyOf, kept) in
+      copy-stands before x behind ready i (rw (same, length-take, length-drop) (omega arith))
+      ∙ rw (same, getD-take, getD-drop)
+
 -- the boxes of the copy, of boxes before and behind one
 pub boxes-anew-split : (at : ℕ) (before behind : List Fated) → boxesAnew at (before ++ behind) ≡ boxesAnew at before ++ boxesAnew (at + sizes before) behind
 unfolding boxesAnew sum
@@ -122,4 +137,14 @@ boxes-anew-few at (x ∷ xs) =
     elim (by-fate x) [
       | inl gone ↦ rw (gone .anew at xs) (omega (arith, boxes-anew-few at xs))
       | inr there ↦ rw (there .anew at xs) (omega (arith, boxes-anew-few (at + copySize x) xs))
+    ]
+
+-- a kind that no box that stays has, no box of the copy has
+pub kinds-anew : (k : Kind) (at : ℕ) (xs : List Fated) → Each (λ x. staying (x .fate) ≡ true → is k (x .box) ≡ false) xs → those k (boxesAnew at xs) ≡ []
+unfolding boxesAnew is
+kinds-anew k at [] others = those-nil k
+kinds-anew k at (x ∷ xs) others =
+    elim (by-fate x) [
+      | inl gone ↦ rw (gone .anew at xs) (kinds-anew k at xs (others .1))
+      | inr there ↦ rw (there .anew at xs) (those-other k _ _ (others .0 (there .stays)) ∙ kinds-anew k (at + copySize x) xs (others .1))
     ]
