@@ -1,23 +1,184 @@
 -- The first two boxes read back in the copy as they were.
-use Prim.Native.Nat.{ℕ, _+_, _-_, _<_, _≤_}
-use mathlib.Core.Bool.{Bool, true, false}
+use Prim.Native.Nat.{ℕ, zero, suc, _+_, _-_, _%_, _<_, _≤_}
+use mathlib.Core.Bool.{Bool, true, false, _&&_, _||_}
 use mathlib.Core.List.{List, [], _∷_, _++_}
-use mathlib.Core.Path.{_≡_}
-use lib.ListN.{length}
-use Rattle.boxes.specs.Answer.{given}
-use Rattle.boxes.specs.Framing.{Box, boxLimit}
-use Rattle.boxes.specs.Kinds.{ftyp, pfil, is, those, boxAt}
-use Rattle.boxes.specs.declared.kinds.Container.the-variants.{File}
-use Rattle.boxes.proofs.ContainerLaws.{Filled}
+use mathlib.Core.Path.{_≡_, refl, sym, ap, subst, _∙_}
+use native.Mathlib.Decide.{decLe}
+use native.Mathlib.Nat.{zero-add, add-zero, le-refl}
+use native.Mathlib.Omega.{arith}
+use borrow.Author.Tests.{le-leb, lt-leb, leb-true}
+use lib.Dec.{leb, eqb, lit<}
+use lib.ListN.{length, take, drop, take-append-drop}
+use lib.Seq.{length-take-le, getD-take}
+use Rattle.boxes.specs.Answer.{Answer, refused, given}
+use Rattle.boxes.specs.Framing.{Box, Walked, header, broken, followed, walked, walkedIn, boxesIn, boxLimit}
+use Rattle.boxes.specs.Kinds.{ftyp, pfil, is, right, those, boxAt}
+use Rattle.boxes.specs.declared.kinds.Container.the-variants.{File, Pfil}
+use Rattle.boxes.specs.declared.kinds.Container.{Container}
+use Rattle.boxes.proofs.ContainerLaws.{Filled, full, next, walked-end, walked-over, walked-next, header-same, boxes-standing, boxes-kept, filled-boxes}
+use Rattle.boxes.proofs.FaultLaws.{no-fault}
+use Rattle.boxes.proofs.AnswerLaws.{both-given, held, given-same}
+use Rattle.boxes.proofs.KindLaws.{is-there}
+use Rattle.boxes.proofs.HeaderLaws.{header-inside, header-further, header-moved, moved}
 use Rattle.partial.specs.Limits.{fileLimit}
-use Rattle.partial.specs.Heading.{Heading, heading}
+use Rattle.partial.specs.Heading.{Heading, heading, ftypRight, brands, branded, paff, pmff, brandRight, pfilRight, pfhdRight, surlRight, urlsIn}
+use Rattle.partial.specs.Sequences.{someOf}
+use Rattle.partial.proofs.Meaning.SequenceLaws.{both}
 use Rattle.partial.specs.Index.{hasIndex}
-use Rattle.partial.proofs.Reading.HeadingAppendLaws.{withBoxes}
+use Rattle.partial.proofs.Reading.HeadingAppendLaws.{Headed, headed, brand-kept, inner-lie, pfhdRight-kept, surlRight-kept, urls-kept}
 use Rattle.additions.proofs.StandsLaws.{Stands}
-use Rattle.salvage.specs.Kept.{whole, ofPfil, Fated, walkOf, opening}
-use Rattle.salvage.specs.Copy.{copyOf, copySize, unindexed}
+use Rattle.salvage.specs.Kept.{whole, ofPfil, Fated, walkOf, firstTwo, opening}
+use Rattle.salvage.specs.Copy.{boxBytes, copyOf, copySize, unindexed}
 use Rattle.salvage.proofs.Shapes.{resized, row}
-use Rattle.salvage.proofs.PieceLaws.{OneBox}
+use Rattle.salvage.proofs.PieceLaws.{OneBox, length-boxBytes, bytes-alike, whole-alone}
+
+-- ---- the boxes that a walk met
+
+-- a box at the start of its own bytes, moved to its place
+box-back : (b : Box) (n : ℕ) → b .at ≤ b .user → b .at ≤ b .body → b .at + n ≡ b .end → moved (b .at) (resized 0 n b) ≡ b
+box-back b n typed headed ends =
+    let at : b .at + 0 ≡ b .at = omega arith in
+    let user : b .at + (0 + (b .user - b .at)) ≡ b .user = omega arith in
+    let body : b .at + (0 + (b .body - b .at)) ≡ b .body = omega arith in
+    let end : b .at + (0 + n) ≡ b .end = omega arith in
+    rw (at, user, body, end)
+
+-- a box is read the same wherever its container ends behind it
+header-nearer : (c : Container) (f : List ℕ) (at end end′ : ℕ) {b : Box} → header c f at end ≡ given b → b .end ≤ length f → b .end ≤ end′
+    → header c f at end′ ≡ given b
+header-nearer c f at end end′ {b} known inside on =
+    let i = header-inside c f at end known in
+    let read : header c f (b .at) end ≡ given b = subst (λ (n : ℕ). header c f n end ≡ given b) (sym (i .starts)) known in
+    let p : List ℕ = boxBytes f b in
+    let long = length-boxBytes c f end read inside in
+    let ends : b .at + length p ≡ b .end = omega arith in
+    let alone = header-moved p f (b .at) 0 (length p) (λ k less. sym (rw zero-add at (bytes-alike c f end read inside k (omega arith)))) c in
+    subst (λ (n : ℕ). header c f n end′ ≡ given b) (i .starts)
+    (header-further f (b .at) (b .end) end′ on c
+    (rw (add-zero, ends) at alone ∙ rw (whole-alone c f end read inside, box-back b (length p) (omega arith) (omega arith) ends)))
+
+-- where the boxes that a walk met end, and that they fill what lies before
+record Met (c : Container) (s : List ℕ) (end more at : ℕ) (bs : List Box) : Type 0 where
+  to : ℕ
+  low : at ≤ to
+  inside : to ≤ end
+  filled : Filled c s to at bs
+  few : length bs ≤ more
+
+module _ (c : Container) (s : List ℕ) (end : ℕ) (within : end ≤ length s) where
+  met-none : (more at : ℕ) → at ≤ end → Met c s end more at []
+  met-none more at h = record { to = at; low = le-refl at; inside = h; filled = full (le-refl at); few = omega arith }
+
+  met : (more at : ℕ) → at ≤ end → Met c s end more at (walked c s end more at .boxes)
+  met zero at h =
+      elim (decLe end at) [
+        | yes e ↦ rw (walked-end c s end at zero e) (met-none zero at h)
+        | no short ↦ rw (walked-over c s end at (omega arith)) (met-none zero at h)
+      ]
+  met (suc more) at h =
+      elim (decLe end at) [
+        | yes e ↦ rw (walked-end c s end at (suc more) e) (met-none (suc more) at h)
+        | no short ↦ rw (walked-next c s end at (omega arith) more) (go (met more) (header c s at end) refl)
+      ]
+    where
+      go : ((at : ℕ) → at ≤ end → Met c s end more at (walked c s end more at .boxes)) → (x : Answer Box) → header c s at end ≡ x
+          → Met c s end (suc more) at ((elim x as (λ _. Walked) [ refused n ↦ broken at n | given b ↦ followed b (walked c s end more (b .end)) ]) .boxes)
+      go rest (refused n) e = met-none (suc more) at h
+      go rest (given b) e =
+          let i = header-inside c s at end e in
+          let m = rest (b .end) (i .ends) in
+          record {
+            to = m .to;
+            low = omega arith;
+            inside = m .inside;
+            filled = next {at = at} (omega arith) (header-nearer c s at end (m .to) e (omega arith) (m .low)) (m .filled);
+            few = omega arith;
+          }
+
+-- ---- the file cut behind its second box
+
+-- its boxes are the first two
+cut-filled : (f : List ℕ) {to : ℕ} {bs : List Box} → Filled File f to 0 bs → to ≤ length f → 2 ≤ length bs
+    → Filled File (take (boxAt 1 bs .end) f) (boxAt 1 bs .end) 0 (boxAt 0 bs ∷ boxAt 1 bs ∷ [])
+unfolding boxAt
+cut-filled f (full e) inside two = absurd (omega arith)
+cut-filled f (next short read (full e)) inside two = absurd (omega arith)
+cut-filled f {to} (next {b = a} short read (next {b = b} short′ read′ rest)) inside two =
+    let one = header-inside File f 0 to read in
+    let other = header-inside File f (a .end) to read′ in
+    let same = header-same f (take (b .end) f) (b .end) (λ i less. getD-take (b .end) f i 0 less) File in
+    next {at = 0} (omega arith) (same 0 ∙ header-nearer File f 0 to (b .end) read (omega arith) (omega arith))
+    (next {at = a .end} (omega arith) (same (a .end) ∙ header-nearer File f (a .end) to (b .end) read′ (omega arith) (omega arith))
+    (full {at = b .end} (le-refl (b .end))))
+
+-- what the first two boxes of a file say
+record Says (f : List ℕ) (a b : Box) (bs : List Box) (us : List (List ℕ)) (mix : Bool) : Type 0 where
+  first : is ftyp a ≡ true
+  room : a .body + 8 ≤ a .end
+  fours : eqb ((a .end - a .body) % 4) 0 ≡ true
+  brand : (someOf (eqb paff) (brands f a) || someOf (eqb pmff) (brands f a)) ≡ true
+  mixed : mix ≡ someOf (eqb pmff) (brands f a)
+  second : is pfil b ≡ true
+  inner : boxesIn Pfil f (b .body) (b .end) ≡ given bs
+  pfhd : pfhdRight f bs ≡ true
+  surl : surlRight f bs ≡ true
+  urls : us ≡ urlsIn f bs
+
+-- also with more behind it
+says : (f g : List ℕ) (h : Heading) → Headed f h → Says (f ++ g) (boxAt 0 (h .boxes)) (boxAt 1 (h .boxes)) (h .inner) (h .urls) (h .mixed)
+unfolding ftypRight brandRight branded pfilRight
+says f g h t =
+    let a = boxAt 0 (h .boxes) in
+    let b = boxAt 1 (h .boxes) in
+    let (three, _) = both (is ftyp a && leb (a .body + 8) (a .end) && eqb ((a .end - a .body) % 4) 0) (right File ftyp (h .boxes)) (t .ftyp) in
+    let (two, fours) = both (is ftyp a && leb (a .body + 8) (a .end)) (eqb ((a .end - a .body) % 4) 0) three in
+    let (first, room) = both (is ftyp a) (leb (a .body + 8) (a .end)) two in
+    let (second, _) = both (is pfil b) (right File pfil (h .boxes)) (t .pfil) in
+    let wide : a .body + 8 ≤ a .end = leb-true (a .body + 8) (a .end) room in
+    let standing = boxes-standing File f 0 (length f) (t .boxes) in
+    let one = standing 0 (is-there ftyp (lit< tt) 0 (h .boxes) first) .inside in
+    let other = standing 1 (is-there pfil (lit< tt) 1 (h .boxes) second) .inside in
+    let kept = brand-kept f g a wide (one .ends) in
+    let lie = inner-lie f h t in
+    record {
+      first = first;
+      room = wide;
+      fours = fours;
+      brand = rw kept (t .brand);
+      mixed = rw kept (t .mixed);
+      second = second;
+      inner = boxes-kept f g (b .end) (other .ends) Pfil (b .body) ∙ t .inner;
+      pfhd = pfhdRight-kept f g (h .inner) (t .pfhd) lie;
+      surl = surlRight-kept f g (h .inner) (t .surl) lie;
+      urls = t .urls ∙ sym (urls-kept f g (h .inner) lie);
+    }
+
+cut-says : (f : List ℕ) {to : ℕ} {bs : List Box} → Filled File f to 0 bs → to ≤ length f → length bs ≤ boxLimit → 2 ≤ length bs → (h : Heading)
+    → heading (firstTwo f bs) ≡ given h
+    → Says f (boxAt 0 bs) (boxAt 1 bs) (h .inner) (h .urls) (h .mixed)
+unfolding boxAt boxLimit firstTwo
+cut-says f {to} {bs} filled inside few two h known =
+    let m : ℕ = boxAt 1 bs .end in
+    let other = boxes-standing File f 0 to (filled-boxes File filled few) 1 (omega arith) .inside in
+    let long = length-take-le m f (omega arith) in
+    let t = headed (take m f) h (rw (le-leb 2 (length bs) two, firstTwo) at known) in
+    let boxes : h .boxes ≡ boxAt 0 bs ∷ boxAt 1 bs ∷ [] = given-same (sym (t .boxes) ∙ rw long (filled-boxes File (cut-filled f filled inside two) (omega arith))) in
+    rw (take-append-drop m f, boxes) at (says (take m f) (drop m f) h t)
+
+-- a file of fewer has no heading
+two-whole : (f : List ℕ) (h : Heading) → heading (firstTwo f (walkOf f .boxes)) ≡ given h → 2 ≤ length (walkOf f .boxes)
+unfolding walkOf firstTwo boxesIn pfilRight
+two-whole f h known =
+    let bs : List Box = walkOf f .boxes in
+    elim (decLe 2 (length bs)) [
+      | yes two ↦ two
+      | no fewer ↦
+          let t = headed f h (rw (lt-leb 2 (length bs) (omega arith), firstTwo) at known) in
+          let all = no-fault (walkedIn File f 0 (length f)) (t .boxes) in
+          let (second, _) = both (is pfil (boxAt 1 (h .boxes))) (right File pfil (h .boxes)) (t .pfil) in
+          let there = is-there pfil (lit< tt) 1 (h .boxes) second in
+          absurd (omega (arith, ap (λ (w : Walked). length (w .boxes)) all))
+    ]
 
 -- what is known of a file whose first two boxes are right
 pub record Opened (f : List ℕ) (h : Heading) : Type 0 where
@@ -32,9 +193,34 @@ pub record Opened (f : List ℕ) (h : Heading) : Type 0 where
   pub first : is ftyp (boxAt 0 (h .boxes)) ≡ true
   pub second : is pfil (boxAt 1 (h .boxes)) ≡ true
 
+-- that file is one of at least two whole boxes, and they say what the heading says
+opened-says : (f : List ℕ) (h : Heading) → opening f ≡ given h → Opened f h × Says f (boxAt 0 (h .boxes)) (boxAt 1 (h .boxes)) (h .inner) (h .urls) (h .mixed)
+unfolding opening walkOf walkedIn
+opened-says f h opens =
+    let (small, e) = held 1 (leb (length f) fileLimit) _ opens in
+    let bs : List Box = walkOf f .boxes in
+    let (k, known, same) = both-given (heading (firstTwo f bs)) _ e in
+    let m : Met File f (length f) boxLimit 0 bs = met File f (length f) (le-refl (length f)) boxLimit 0 (omega arith) in
+    let two = two-whole f k known in
+    let said = cut-says f (m .filled) (m .inside) (m .few) two k known in
+    subst (λ (h : Heading). Opened f h × Says f (boxAt 0 (h .boxes)) (boxAt 1 (h .boxes)) (h .inner) (h .urls) (h .mixed)) (given-same same) (
+      record {
+        small = leb-true (length f) fileLimit small;
+        boxes = refl;
+        end = m .to;
+        inside = m .inside;
+        filled = m .filled;
+        few = m .few;
+        two = two;
+        first = said .first;
+        second = said .second;
+      },
+      said,
+    )
+
 module _ (f : List ℕ) (h : Heading) (opens : opening f ≡ given h) where
   pub opened : Opened f h
-  opened = ?
+  opened = opened-says f h opens .0
 
   -- what stands in the copy for the first two boxes
   abbrev pub firstFated : Fated
