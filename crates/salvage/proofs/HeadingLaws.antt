@@ -1,36 +1,39 @@
 -- The first two boxes read back in the copy as they were.
-use Prim.Native.Nat.{ℕ, zero, suc, _+_, _-_, _%_, _<_, _≤_}
+use Prim.Native.Nat.{ℕ, zero, suc, _+_, _-_, _*_, _/_, _%_, _<_, _≤_}
 use mathlib.Core.Bool.{Bool, true, false, _&&_, _||_}
 use mathlib.Core.List.{List, [], _∷_, _++_}
-use mathlib.Core.Path.{_≡_, refl, sym, ap, subst, _∙_}
+use mathlib.Core.Path.{_≡_, refl, sym, ap, ap₂, subst, _∙_}
 use native.Mathlib.Decide.{decLe}
-use native.Mathlib.Nat.{zero-add, add-zero, le-refl}
+use native.Mathlib.Nat.{zero-add, add-zero, add-assoc, le-refl}
 use native.Mathlib.Omega.{arith}
-use borrow.Author.Tests.{le-leb, lt-leb, leb-true}
+use borrow.Author.Tests.{le-leb, lt-leb, leb-true, eqb-true}
 use lib.Dec.{leb, eqb, lit<}
-use lib.ListN.{length, take, drop, take-append-drop}
+use lib.ListN.{length, take, drop, length-append, take-append-drop}
 use lib.Seq.{length-take-le, getD-take}
 use Rattle.boxes.specs.Answer.{Answer, refused, given}
 use Rattle.boxes.specs.Framing.{Box, Walked, header, broken, followed, walked, walkedIn, boxesIn, boxLimit}
-use Rattle.boxes.specs.Kinds.{ftyp, pfil, is, right, those, boxAt}
+use Rattle.boxes.specs.Kinds.{ftyp, pfil, fidx, is, right, those, boxAt}
 use Rattle.boxes.specs.declared.kinds.Container.the-variants.{File, Pfil}
 use Rattle.boxes.specs.declared.kinds.Container.{Container}
+use Rattle.boxes.specs.declared.kinds.Kind.{Kind}
+use Rattle.numerals.proofs.NumberLaws.{number-same}
 use Rattle.boxes.proofs.ContainerLaws.{Filled, full, next, walked-end, walked-over, walked-next, header-same, boxes-standing, boxes-kept, filled-boxes}
 use Rattle.boxes.proofs.FaultLaws.{no-fault}
 use Rattle.boxes.proofs.AnswerLaws.{both-given, held, given-same}
 use Rattle.boxes.proofs.KindLaws.{is-there}
 use Rattle.boxes.proofs.HeaderLaws.{header-inside, header-further, header-moved, moved}
 use Rattle.partial.specs.Limits.{fileLimit}
-use Rattle.partial.specs.Heading.{Heading, heading, ftypRight, brands, branded, paff, pmff, brandRight, pfilRight, pfhdRight, surlRight, urlsIn}
+use Rattle.partial.specs.Heading.{Heading, heading, ftypRight, brandsFrom, brands, branded, paff, pmff, brandRight, pfilRight, pfhdRight, surlRight, urlsIn}
+use Rattle.partial.specs.BoxList.{each}
 use Rattle.partial.specs.Sequences.{someOf}
-use Rattle.partial.proofs.Meaning.SequenceLaws.{both}
+use Rattle.partial.proofs.Meaning.SequenceLaws.{both, Each}
 use Rattle.partial.specs.Index.{hasIndex}
 use Rattle.partial.proofs.Reading.HeadingAppendLaws.{Headed, headed, brand-kept, inner-lie, pfhdRight-kept, surlRight-kept, urls-kept}
-use Rattle.additions.proofs.StandsLaws.{Stands}
+use Rattle.additions.proofs.StandsLaws.{Stands, stands-left, stands-right}
 use Rattle.salvage.specs.Kept.{whole, ofPfil, Fated, walkOf, firstTwo, opening}
-use Rattle.salvage.specs.Copy.{boxBytes, copyOf, copySize, unindexed}
-use Rattle.salvage.proofs.Shapes.{resized, row}
-use Rattle.salvage.proofs.PieceLaws.{OneBox, length-boxBytes, bytes-alike, whole-alone}
+use Rattle.salvage.specs.Copy.{boxBytes, copyOf, copySize, unindexed, sizeOf}
+use Rattle.salvage.proofs.Shapes.{Alike, resized, row, Paired}
+use Rattle.salvage.proofs.PieceLaws.{OneBox, length-boxBytes, bytes-alike, whole-alone, rowOf}
 
 -- ---- the boxes that a walk met
 
@@ -179,6 +182,98 @@ two-whole f h known =
           let there = is-there pfil (lit< tt) 1 (h .boxes) second in
           absurd (omega (arith, ap (λ (w : Walked). length (w .boxes)) all))
     ]
+
+-- ---- boxes without an index, where they stand and carried
+
+-- what holds of them, by whether the first is one
+by-index : (P : List Box → Type 0) (b : Box) (bs : List Box) → P (unindexed bs) → (is fidx b ≡ false → P (b ∷ unindexed bs)) → P (unindexed (b ∷ bs))
+unfolding unindexed
+by-index P b bs gone stays = go (is fidx b) refl
+  where
+    go : (t : Bool) → is fidx b ≡ t → P (elim t as (λ _. List Box) [ true ↦ unindexed bs | false ↦ b ∷ unindexed bs ])
+    go true e = gone
+    go false e = stays e
+
+module _ (c : Container) (f : List ℕ) (end : ℕ) where
+  -- a box that is read in f, and lies there
+  abbrev Read : Box → Type 0
+  Read b = (header c f (b .at) end ≡ given b) × (b .end ≤ length f)
+
+  filled-read : {at : ℕ} {bs : List Box} → end ≤ length f → Filled c f end at bs → Each Read (unindexed bs)
+  unfolding unindexed
+  filled-read inside (full e) = tt
+  filled-read inside (next {at = at} {b = b} {bs = bs} short read rest) =
+      let i = header-inside c f at end read in
+      let others = filled-read inside rest in
+      by-index (Each Read) b bs others (λ _. ((subst (λ (n : ℕ). header c f n end ≡ given b) (sym (i .starts)) read, omega arith), others))
+
+  -- they have no more bytes than all
+  filled-size : {at : ℕ} {bs : List Box} → at ≤ end → Filled c f end at bs → at + sizeOf (unindexed bs) ≤ end
+  unfolding unindexed sizeOf
+  filled-size low (full e) = omega arith
+  filled-size low (next {at = at} {b = b} {bs = bs} short read rest) =
+      let i = header-inside c f at end read in
+      let others = filled-size (i .ends) rest in
+      by-index (λ l. at + sizeOf l ≤ end) b bs (omega arith) (λ _. omega arith)
+
+  -- each is a piece
+  read-size : (bs : List Box) → Each Read bs → length (each (boxBytes f) bs) ≡ sizeOf bs
+  unfolding each sizeOf
+  read-size [] reads = refl
+  read-size (b ∷ bs) ((read, inside), reads) = rw (length-append, length-boxBytes c f end read inside, read-size bs reads)
+
+  read-ones : (bs : List Box) → Each Read bs → Each (λ b. OneBox c (boxBytes f b) b) bs
+  read-ones [] reads = tt
+  read-ones (b ∷ bs) ((read, inside), reads) = (whole-alone c f end read inside, read-ones bs reads)
+
+  read-row : (bs : List Box) → Each Read bs → (at : ℕ) → rowOf (boxBytes f) (λ b. b) at bs ≡ row at bs
+  unfolding rowOf row
+  read-row [] reads at = refl
+  read-row (b ∷ bs) ((read, inside), reads) at = rw (length-boxBytes c f end read inside, read-row bs reads (at + (b .end - b .at)))
+
+  -- and carried where the pieces stand
+  read-paired : (g : List ℕ) (bs : List Box) → Each Read bs → (at : ℕ) → Stands g at (each (boxBytes f) bs) → Paired f g bs (row at bs)
+  unfolding each row
+  read-paired g [] reads at stands = tt
+  read-paired g (b ∷ bs) ((read, inside), reads) at stands =
+      let i = header-inside c f (b .at) end read in
+      let long = length-boxBytes c f end read inside in
+      let here = stands-left g at (boxBytes f b) (each (boxBytes f) bs) stands in
+      let there = stands-right g at (boxBytes f b) (each (boxBytes f) bs) stands in (
+        record {
+          typed = omega arith;
+          headed = omega arith;
+          ended = i .whole;
+          same = refl;
+          bytes = λ _ k less. here k (omega arith) ∙ rw zero-add at (bytes-alike c f end read inside k less);
+        },
+        read-paired g bs reads (at + (b .end - b .at)) (rw long at there),
+      )
+
+-- brands are read the same where a box was carried
+brands-alike : (f g : List ℕ) (n at to : ℕ) → Alike f at g to (4 * n) → brandsFrom g n to ≡ brandsFrom f n at
+unfolding brandsFrom
+brands-alike f g zero at to same = refl
+brands-alike f g (suc n) at to same =
+    ap₂ (λ (m : ℕ) (ms : List ℕ). m ∷ ms) (number-same g f to at 4 (λ k less. same k (omega arith)))
+    (brands-alike f g n (at + 4) (to + 4) (λ i less. rw (add-assoc to 4 i, add-assoc at 4 i) (same (4 + i) (omega arith))))
+
+brand-carried : (f g : List ℕ) (a : Box) (to : ℕ) → a .at ≤ a .body → a .body + 8 ≤ a .end → Alike f (a .at) g to (a .end - a .at)
+    → brands g (resized to (a .end - a .at) a) ≡ brands f a
+unfolding brands
+brand-carried f g a to headed room same =
+    let many : to + (a .end - a .at) - (to + (a .body - a .at)) - 8 ≡ a .end - a .body - 8 = omega arith in
+    rw many
+    (brands-alike f g ((a .end - a .body - 8) / 4) (a .body + 8) (to + (a .body - a .at) + 8)
+    (λ i less.
+    let from : a .body + 8 + i ≡ a .at + (a .body - a .at + 8 + i) = omega arith in
+    let on : to + (a .body - a .at) + 8 + i ≡ to + (a .body - a .at + 8 + i) = omega arith in
+    rw (from, on) (same (a .body - a .at + 8 + i) (omega arith))))
+
+-- a box of one kind is of no other
+other-kind : (k l : Kind) (b : Box) → eqb (k .code) (l .code) ≡ false → is k b ≡ true → is l b ≡ false
+unfolding is
+other-kind k l b apart h = rw (eqb-true (b .kind) (k .code) h) apart
 
 -- what is known of a file whose first two boxes are right
 pub record Opened (f : List ℕ) (h : Heading) : Type 0 where
