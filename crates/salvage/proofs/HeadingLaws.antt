@@ -11,16 +11,16 @@ use lib.Dec.{leb, eqb, lit<}
 use lib.ListN.{length, take, drop, length-append, take-append-drop}
 use lib.Seq.{length-take-le, getD-take}
 use Rattle.boxes.specs.Answer.{Answer, refused, given}
-use Rattle.boxes.specs.Framing.{Box, Walked, header, broken, followed, walked, walkedIn, boxesIn, boxLimit}
+use Rattle.boxes.specs.Framing.{Box, Walked, header, broken, followed, walked, walkedIn, boxesIn, boxLimit, uuid}
 use Rattle.boxes.specs.Kinds.{ftyp, pfil, fidx, is, right, those, boxAt}
 use Rattle.boxes.specs.declared.kinds.Container.the-variants.{File, Pfil}
 use Rattle.boxes.specs.declared.kinds.Container.{Container}
 use Rattle.boxes.specs.declared.kinds.Kind.{Kind}
 use Rattle.numerals.proofs.NumberLaws.{number-same}
-use Rattle.boxes.proofs.ContainerLaws.{Filled, full, next, walked-end, walked-over, walked-next, header-same, boxes-standing, boxes-kept, filled-boxes}
+use Rattle.boxes.proofs.ContainerLaws.{Filled, full, next, walked-end, walked-over, walked-next, header-same, boxes-standing, boxes-kept, filled-boxes, boxes-filled, boxes-few, Standing}
 use Rattle.boxes.proofs.FaultLaws.{no-fault}
 use Rattle.boxes.proofs.AnswerLaws.{both-given, held, given-same}
-use Rattle.boxes.proofs.KindLaws.{is-there}
+use Rattle.boxes.proofs.KindLaws.{is-there, those-nil, those-one, those-other, one-right}
 use Rattle.boxes.proofs.HeaderLaws.{header-inside, header-further, header-moved, moved}
 use Rattle.partial.specs.Limits.{fileLimit}
 use Rattle.partial.specs.Heading.{Heading, heading, ftypRight, brandsFrom, brands, branded, paff, pmff, brandRight, pfilRight, pfhdRight, surlRight, urlsIn}
@@ -28,12 +28,13 @@ use Rattle.partial.specs.BoxList.{each}
 use Rattle.partial.specs.Sequences.{someOf}
 use Rattle.partial.proofs.Meaning.SequenceLaws.{both, Each}
 use Rattle.partial.specs.Index.{hasIndex}
-use Rattle.partial.proofs.Reading.HeadingAppendLaws.{Headed, headed, brand-kept, inner-lie, pfhdRight-kept, surlRight-kept, urls-kept}
+use Rattle.partial.proofs.Reading.HeadingAppendLaws.{Headed, headed, heading-of, brand-kept, inner-lie, pfhdRight-kept, surlRight-kept, urls-kept}
 use Rattle.additions.proofs.StandsLaws.{Stands, stands-left, stands-right}
 use Rattle.salvage.specs.Kept.{whole, ofPfil, Fated, walkOf, firstTwo, opening}
 use Rattle.salvage.specs.Copy.{boxBytes, copyOf, copySize, unindexed, sizeOf}
 use Rattle.salvage.proofs.Shapes.{Alike, resized, row, Paired}
-use Rattle.salvage.proofs.PieceLaws.{OneBox, length-boxBytes, bytes-alike, whole-alone, rowOf}
+use Rattle.salvage.proofs.PieceLaws.{OneBox, length-boxBytes, bytes-alike, whole-alone, length-reheaded, reheaded-alone, reheaded-body, rowOf, pieces-stand}
+use Rattle.salvage.proofs.CarriedLaws.{paired-pfhd, paired-surls, paired-urls, unindexed-pfhd, unindexed-surls, unindexed-urls, unindexed-few, paired-many}
 
 -- ---- the boxes that a walk met
 
@@ -194,6 +195,13 @@ by-index P b bs gone stays = go (is fidx b) refl
     go true e = gone
     go false e = stays e
 
+row-unindexed : (bs : List Box) (at : ℕ) → those fidx (row at (unindexed bs)) ≡ []
+unfolding unindexed row is
+row-unindexed [] at = those-nil fidx
+row-unindexed (b ∷ bs) at =
+    by-index (λ l. those fidx (row at l) ≡ []) b bs (row-unindexed bs at)
+    (λ other. those-other fidx (resized at (b .end - b .at) b) (row (at + (b .end - b .at)) (unindexed bs)) other ∙ row-unindexed bs (at + (b .end - b .at)))
+
 module _ (c : Container) (f : List ℕ) (end : ℕ) where
   -- a box that is read in f, and lies there
   abbrev Read : Box → Type 0
@@ -250,6 +258,14 @@ module _ (c : Container) (f : List ℕ) (end : ℕ) where
         read-paired g bs reads (at + (b .end - b .at)) (rw long at there),
       )
 
+  -- where they are the boxes
+  read-boxes : (g : List ℕ) (bs : List Box) → Each Read bs → length bs ≤ boxLimit → (at : ℕ) → Stands g at (each (boxBytes f) bs)
+      → boxesIn c g at (at + sizeOf bs) ≡ given (row at bs)
+  read-boxes g bs reads few at stands =
+      filled-boxes c
+      (rw (read-row bs reads at, read-size bs reads) at (pieces-stand (boxBytes f) (λ b. b) c g at bs (read-ones bs reads) stands))
+      (rw (paired-many f g bs (row at bs) (read-paired g bs reads at stands)) few)
+
 -- brands are read the same where a box was carried
 brands-alike : (f g : List ℕ) (n at to : ℕ) → Alike f at g to (4 * n) → brandsFrom g n to ≡ brandsFrom f n at
 unfolding brandsFrom
@@ -274,6 +290,21 @@ brand-carried f g a to headed room same =
 other-kind : (k l : Kind) (b : Box) → eqb (k .code) (l .code) ≡ false → is k b ≡ true → is l b ≡ false
 unfolding is
 other-kind k l b apart h = rw (eqb-true (b .kind) (k .code) h) apart
+
+-- the first two boxes keep their rules before others of other kinds
+module _ (a b : Box) (rest : List Box) where
+  ftyp-right : is ftyp a ≡ true → is ftyp b ≡ false → those ftyp rest ≡ [] → a .body + 8 ≤ a .end → eqb ((a .end - a .body) % 4) 0 ≡ true
+      → ftypRight (a ∷ b ∷ rest) ≡ true
+  unfolding ftypRight boxAt
+  ftyp-right first other none room fours =
+      let one = one-right File ftyp (a ∷ b ∷ rest) refl (rw (those-one ftyp a (b ∷ rest) first, those-other ftyp b rest other, none)) in
+      rw (first, le-leb (a .body + 8) (a .end) room, fours, one)
+
+  pfil-right : is pfil a ≡ false → is pfil b ≡ true → those pfil rest ≡ [] → pfilRight (a ∷ b ∷ rest) ≡ true
+  unfolding pfilRight boxAt
+  pfil-right other second none =
+      let one = one-right File pfil (a ∷ b ∷ rest) refl (rw (those-other pfil a (b ∷ rest) other, those-one pfil b rest second, none)) in
+      rw (second, one)
 
 -- what is known of a file whose first two boxes are right
 pub record Opened (f : List ℕ) (h : Heading) : Type 0 where
@@ -317,6 +348,31 @@ module _ (f : List ℕ) (h : Heading) (opens : opening f ≡ given h) where
   pub opened : Opened f h
   opened = opened-says f h opens .0
 
+  said : Says f (boxAt 0 (h .boxes)) (boxAt 1 (h .boxes)) (h .inner) (h .urls) (h .mixed)
+  said = opened-says f h opens .1
+
+  -- both stand in the file
+  standing : (k : ℕ) → k < 2 → Standing File f 0 (opened .end) (boxAt k (h .boxes))
+  standing k less = let o = opened in boxes-standing File f 0 (o .end) (filled-boxes File (o .filled) (o .few)) k (omega arith)
+
+  within-file : (k : ℕ) → k < 2 → boxAt k (h .boxes) .end ≤ length f
+  within-file k less = omega (arith, standing k less .inside .ends, opened .inside)
+
+  no-uuid : eqb (boxAt 1 (h .boxes) .kind) uuid ≡ false
+  unfolding is
+  no-uuid = rw (eqb-true (boxAt 1 (h .boxes) .kind) (pfil .code) (said .second))
+
+  -- and so do the boxes in `pfil`
+  inner-read : Each (Read Pfil f (boxAt 1 (h .boxes) .end)) (unindexed (h .inner))
+  inner-read =
+      let b = boxAt 1 (h .boxes) in
+      filled-read Pfil f (b .end) (within-file 1 (lit< tt)) (boxes-filled Pfil f (b .body) (b .end) (said .inner))
+
+  inner-size : boxAt 1 (h .boxes) .body + sizeOf (unindexed (h .inner)) ≤ boxAt 1 (h .boxes) .end
+  inner-size =
+      let b = boxAt 1 (h .boxes) in
+      filled-size Pfil f (b .end) (standing 1 (lit< tt) .inside .whole) (boxes-filled Pfil f (b .body) (b .end) (said .inner))
+
   -- what stands in the copy for the first two boxes
   abbrev pub firstFated : Fated
   firstFated = record { box = boxAt 0 (h .boxes); fate = whole }
@@ -326,19 +382,35 @@ module _ (f : List ℕ) (h : Heading) (opens : opening f ≡ given h) where
 
   module _ (new : ℕ → ℕ) where
     pub first-long : length (copyOf f new firstFated) ≡ copySize firstFated
-    first-long = ?
+    unfolding copyOf copySize
+    first-long = length-boxBytes File f (opened .end) (standing 0 (lit< tt) .read) (within-file 0 (lit< tt))
 
     pub first-alone : OneBox File (copyOf f new firstFated) (boxAt 0 (h .boxes))
-    first-alone = ?
+    unfolding copyOf
+    first-alone = whole-alone File f (opened .end) (standing 0 (lit< tt) .read) (within-file 0 (lit< tt))
 
     pub second-long : length (copyOf f new secondFated) ≡ copySize secondFated
-    second-long = ?
+    unfolding copyOf copySize
+    second-long =
+        let b = boxAt 1 (h .boxes) in
+        length-reheaded File f (opened .end) (standing 1 (lit< tt) .read) no-uuid (each (boxBytes f) (unindexed (h .inner)))
+        ∙ ap (λ (n : ℕ). b .body - b .at + n) (read-size Pfil f (b .end) (unindexed (h .inner)) inner-read)
 
     pub second-shorter : copySize secondFated ≤ boxAt 1 (h .boxes) .end - boxAt 1 (h .boxes) .at
-    second-shorter = ?
+    unfolding copySize
+    second-shorter = let i = standing 1 (lit< tt) .inside in omega (arith, inner-size)
 
     pub second-alone : OneBox File (copyOf f new secondFated) (boxAt 1 (h .boxes))
-    second-alone = ?
+    unfolding copyOf is
+    second-alone =
+        let b = boxAt 1 (h .boxes) in
+        let bs : List Box = unindexed (h .inner) in
+        let known : b .kind ≡ pfil .code = eqb-true (b .kind) (pfil .code) (said .second) in
+        let room = inner-size in
+        let small = opened .small in
+        reheaded-alone File f (opened .end) (standing 1 (lit< tt) .read) no-uuid (each (boxBytes f) bs) (omega arith)
+        (omega (arith, within-file 1 (lit< tt)))
+        (rw (read-size Pfil f (b .end) bs inner-read) (omega arith))
 
   -- the boxes in `pfil` at their new places
   abbrev pub pfilAnew : List Box
@@ -363,7 +435,40 @@ module _ (f : List ℕ) (h : Heading) (opens : opening f ≡ given h) where
         → those ftyp rest ≡ []
         → those pfil rest ≡ []
         → heading g ≡ given (headingAnew allAnew)
-    heading-back small filled few first second noFtyp noPfil = ?
+    unfolding copyOf copySize is boxAt brandRight branded
+    heading-back small filled few first second noFtyp noPfil =
+        let a = boxAt 0 (h .boxes) in
+        let b = boxAt 1 (h .boxes) in
+        let bs : List Box = unindexed (h .inner) in
+        let one = standing 0 (lit< tt) in
+        let other = standing 1 (lit< tt) in
+        let long = length-boxBytes File f (opened .end) (one .read) (within-file 0 (lit< tt)) in
+        let alike : Alike f (a .at) g 0 (a .end - a .at) = λ i less.
+        first i (omega arith) ∙ rw zero-add at (bytes-alike File f (opened .end) (one .read) (within-file 0 (lit< tt)) i less) in
+        let kept = brand-carried f g a 0 (omega (arith, one .inside)) (said .room) alike in
+        let pieces = reheaded-body File f (opened .end) (other .read) no-uuid (each (boxBytes f) bs) g (a .end - a .at) second in
+        let paired = read-paired Pfil f (b .end) g bs inner-read (a .end - a .at + (b .body - b .at)) pieces in
+        let place : ℕ = a .end - a .at + (b .body - b .at) in
+        let firstAnew : Box = resized 0 (a .end - a .at) a in
+        let secondAnew : Box = resized (a .end - a .at) (copySize secondFated) b in
+        let span : 0 + (a .end - a .at) - (0 + (a .body - a .at)) ≡ a .end - a .body = omega (arith, one .inside) in
+        let most = boxes-few Pfil f (b .body) (b .end) (said .inner) in
+        let inside = read-boxes Pfil f (b .end) g bs inner-read (omega (arith, unindexed-few (h .inner))) place pieces in
+        heading-of g (headingAnew allAnew)
+        (record {
+          small = le-leb (length g) fileLimit small;
+          boxes = filled-boxes File filled few;
+          ftyp =
+              ftyp-right (firstAnew) (secondAnew) rest (said .first) (other-kind pfil ftyp b refl (said .second)) noFtyp (omega (arith, said .room)) (rw span (said .fours));
+          brand = rw kept (said .brand);
+          pfil = pfil-right (firstAnew) (secondAnew) rest (other-kind ftyp pfil a refl (said .first)) (said .second) noPfil;
+          inner = rw (add-assoc (a .end - a .at) (b .body - b .at) (sizeOf bs)) at inside;
+          pfhd = paired-pfhd f g bs pfilAnew paired (unindexed-pfhd f (h .inner) (said .pfhd));
+          surl = paired-surls f g bs pfilAnew paired (unindexed-surls f (h .inner) ∙ said .surl);
+          urls = said .urls ∙ sym (paired-urls f g bs pfilAnew paired (unindexed-surls f (h .inner) ∙ said .surl) ∙ unindexed-urls f (h .inner));
+          mixed = rw kept (said .mixed);
+        })
 
   pub pfil-unindexed : hasIndex pfilAnew ≡ false
-  pfil-unindexed = ?
+  unfolding hasIndex
+  pfil-unindexed = rw (row-unindexed (h .inner) (copySize firstFated + (boxAt 1 (h .boxes) .body - boxAt 1 (h .boxes) .at)))
