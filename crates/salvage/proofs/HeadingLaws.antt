@@ -16,18 +16,18 @@ use Rattle.boxes.specs.Kinds.{ftyp, pfil, fidx, is, right, those, boxAt}
 use Rattle.boxes.specs.declared.kinds.Container.the-variants.{File, Pfil}
 use Rattle.boxes.specs.declared.kinds.Container.{Container}
 use Rattle.boxes.specs.declared.kinds.Kind.{Kind}
-use Rattle.numerals.proofs.NumberLaws.{number-same}
 use Rattle.boxes.proofs.ContainerLaws.{Filled, full, next, walked-end, walked-over, walked-next, header-same, boxes-standing, boxes-kept, filled-boxes, boxes-filled, boxes-few, Standing}
 use Rattle.boxes.proofs.FaultLaws.{no-fault}
 use Rattle.boxes.proofs.AnswerLaws.{both-given, held, given-same}
 use Rattle.boxes.proofs.KindLaws.{is-there, those-nil, those-one, those-other, one-right}
 use Rattle.boxes.proofs.HeaderLaws.{header-inside, header-further, header-moved, moved}
+use Rattle.numerals.proofs.NumberLaws.{number-same}
 use Rattle.partial.specs.Limits.{fileLimit}
 use Rattle.partial.specs.Heading.{Heading, heading, ftypRight, brandsFrom, brands, branded, paff, pmff, brandRight, pfilRight, pfhdRight, surlRight, urlsIn}
 use Rattle.partial.specs.BoxList.{each}
 use Rattle.partial.specs.Sequences.{someOf}
-use Rattle.partial.proofs.Meaning.SequenceLaws.{both, Each}
 use Rattle.partial.specs.Index.{hasIndex}
+use Rattle.partial.proofs.Meaning.SequenceLaws.{both, Each}
 use Rattle.partial.proofs.Reading.HeadingAppendLaws.{Headed, headed, heading-of, brand-kept, inner-lie, pfhdRight-kept, surlRight-kept, urls-kept}
 use Rattle.additions.proofs.StandsLaws.{Stands, stands-left, stands-right}
 use Rattle.salvage.specs.Kept.{whole, ofPfil, Fated, walkOf, firstTwo, opening}
@@ -157,6 +157,7 @@ says f g h t =
       urls = t .urls ∙ sym (urls-kept f g (h .inner) lie);
     }
 
+-- so the file says what it says cut there
 cut-says : (f : List ℕ) {to : ℕ} {bs : List Box} → Filled File f to 0 bs → to ≤ length f → length bs ≤ boxLimit → 2 ≤ length bs → (h : Heading)
     → heading (firstTwo f bs) ≡ given h
     → Says f (boxAt 0 bs) (boxAt 1 bs) (h .inner) (h .urls) (h .mixed)
@@ -442,30 +443,32 @@ module _ (f : List ℕ) (h : Heading) (opens : opening f ≡ given h) where
         let bs : List Box = unindexed (h .inner) in
         let one = standing 0 (lit< tt) in
         let other = standing 1 (lit< tt) in
-        let long = length-boxBytes File f (opened .end) (one .read) (within-file 0 (lit< tt)) in
+        let ends = within-file 0 (lit< tt) in
+        let long = length-boxBytes File f (opened .end) (one .read) ends in
         let alike : Alike f (a .at) g 0 (a .end - a .at) = λ i less.
-        first i (omega arith) ∙ rw zero-add at (bytes-alike File f (opened .end) (one .read) (within-file 0 (lit< tt)) i less) in
+        first i (omega arith) ∙ rw zero-add at (bytes-alike File f (opened .end) (one .read) ends i less) in
         let kept = brand-carried f g a 0 (omega (arith, one .inside)) (said .room) alike in
         let pieces = reheaded-body File f (opened .end) (other .read) no-uuid (each (boxBytes f) bs) g (a .end - a .at) second in
-        let paired = read-paired Pfil f (b .end) g bs inner-read (a .end - a .at + (b .body - b .at)) pieces in
         let place : ℕ = a .end - a .at + (b .body - b .at) in
+        let paired = read-paired Pfil f (b .end) g bs inner-read place pieces in
         let firstAnew : Box = resized 0 (a .end - a .at) a in
         let secondAnew : Box = resized (a .end - a .at) (copySize secondFated) b in
         let span : 0 + (a .end - a .at) - (0 + (a .body - a .at)) ≡ a .end - a .body = omega (arith, one .inside) in
         let most = boxes-few Pfil f (b .body) (b .end) (said .inner) in
+        let surls = unindexed-surls f (h .inner) ∙ said .surl in
         let inside = read-boxes Pfil f (b .end) g bs inner-read (omega (arith, unindexed-few (h .inner))) place pieces in
         heading-of g (headingAnew allAnew)
         (record {
           small = le-leb (length g) fileLimit small;
           boxes = filled-boxes File filled few;
           ftyp =
-              ftyp-right (firstAnew) (secondAnew) rest (said .first) (other-kind pfil ftyp b refl (said .second)) noFtyp (omega (arith, said .room)) (rw span (said .fours));
+              ftyp-right firstAnew secondAnew rest (said .first) (other-kind pfil ftyp b refl (said .second)) noFtyp (omega (arith, said .room)) (rw span (said .fours));
           brand = rw kept (said .brand);
-          pfil = pfil-right (firstAnew) (secondAnew) rest (other-kind ftyp pfil a refl (said .first)) (said .second) noPfil;
+          pfil = pfil-right firstAnew secondAnew rest (other-kind ftyp pfil a refl (said .first)) (said .second) noPfil;
           inner = rw (add-assoc (a .end - a .at) (b .body - b .at) (sizeOf bs)) at inside;
           pfhd = paired-pfhd f g bs pfilAnew paired (unindexed-pfhd f (h .inner) (said .pfhd));
-          surl = paired-surls f g bs pfilAnew paired (unindexed-surls f (h .inner) ∙ said .surl);
-          urls = said .urls ∙ sym (paired-urls f g bs pfilAnew paired (unindexed-surls f (h .inner) ∙ said .surl) ∙ unindexed-urls f (h .inner));
+          surl = paired-surls f g bs pfilAnew paired surls;
+          urls = said .urls ∙ sym (paired-urls f g bs pfilAnew paired surls ∙ unindexed-urls f (h .inner));
           mixed = rw kept (said .mixed);
         })
 
