@@ -1,3 +1,4 @@
 pub mod Kept
 pub mod Copy
 pub mod Lines
+pub mod Table
