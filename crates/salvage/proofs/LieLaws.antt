@@ -1,21 +1,21 @@
 -- The data of each kept chunk lies in the copy where it may, no further from its `pseg`, and is what it was.
 use Prim.Native.Nat.{ℕ, zero, suc, _+_, _-_, _^_, _<_, _≤_}
-use mathlib.Core.Bool.{Bool, true, false, _&&_, _||_, or-true, true≢false}
+use mathlib.Core.Bool.{Bool, true, false, _&&_, or-true, true≢false}
 use mathlib.Core.List.{List, [], _∷_, _++_, map, append-assoc, List·Memᴰ, List·Memᴰ·head, List·Memᴰ·tail, List·Memᴰ·not-nil, List·Memᴰ·cases-cons}
 use mathlib.Core.Logic.{inl, inr, ⊎-elim}
 use mathlib.Core.Path.{_≡_, refl, sym, ap, subst, _∙_}
 use native.Mathlib.Decide.{decLe}
-use native.Mathlib.Nat.{zero-add, add-zero, add-assoc, le-refl}
+use native.Mathlib.Nat.{zero-add, add-assoc}
 use native.Mathlib.Omega.{arith}
-use borrow.Author.Tests.{leb-true, le-leb, ltb-true, ltb-false, eqb-true, eq-eqb}
+use borrow.Author.Tests.{leb-true, le-leb, ltb-true, eqb-true}
 use lib.Dec.{leb, ltb, eqb}
 use lib.ListN.{length, getD, drop}
 use Rattle.boxes.specs.Answer.{given}
 use Rattle.boxes.specs.Framing.{Box}
-use Rattle.boxes.specs.Kinds.{ftyp, pfil, pseg, pdat, is, boxAt}
+use Rattle.boxes.specs.Kinds.{pfil, pseg, pdat, is, boxAt}
 use Rattle.boxes.specs.declared.kinds.Container.the-variants.{File}
 use Rattle.boxes.proofs.AnswerLaws.{given-same, both-given, held}
-use Rattle.boxes.proofs.HeaderLaws.{Inside, header-inside}
+use Rattle.boxes.proofs.HeaderLaws.{header-inside}
 use Rattle.partial.specs.BoxList.{each}
 use Rattle.partial.specs.Sequences.{someOf, allOf, sum}
 use Rattle.partial.specs.Segments.{Chunk, Segment, good, present, chunksOf, hasPlace}
@@ -31,13 +31,13 @@ use Rattle.additions.proofs.WholeLaws.{Row, filled-row, row-starts, starts, who
 use Rattle.salvage.specs.Kept.{Fate, dropped, whole, ofPfil, ofPseg, Fated, opening, liesIn, keptWith, keptOf, fatesFrom, fates}
 use Rattle.salvage.specs.Copy.{copyOf, copySize, newPlace, copied}
 use Rattle.salvage.proofs.Shapes.{Alike, resized, boxesAnew}
-use Rattle.salvage.proofs.PlaceLaws.{Chained, ends, sizes, chained-behind, new-in, new-at, Copied, new-nearer, AsLong, new-run, new-along}
+use Rattle.salvage.proofs.PlaceLaws.{Chained, ends, sizes, chained-behind, new-in, Copied, new-nearer, AsLong, new-run, new-along}
 use Rattle.salvage.proofs.PlocLaws.{Lies}
 use Rattle.salvage.proofs.CopyLaws.{Ready, pieces-long, copy-filled, copy-alike, boxes-anew-split}
 use Rattle.salvage.proofs.FateLaws.{segmentsOf, kept-all, fate-pseg, fate-data, fate-lain, beside-given}
 use Rattle.salvage.proofs.HeadingLaws.{Opened, opened}
 use Rattle.salvage.proofs.SegmentLaws.{segment-place, segment-header}
-use Rattle.salvage.proofs.WholeLaws.{Stood, fates-all, fates-stood, fates-ready, fates-chained, boxesBack, headingBack}
+use Rattle.salvage.proofs.WholeLaws.{Stood, fates-all, fates-stood, fates-ready, fates-chained, headingBack}
 
 -- ---- lists
 
@@ -326,8 +326,8 @@ module _ (limit : ℕ) (f : List ℕ) (h : Heading) where
 
   -- what is known of a box by its fate
   record Known (x : Fated) : Type 0 where
-    held : is pdat (x .box) ≡ true → Stays x
-    lain : Free x → h .mixed ≡ true → someOf (liesIn (x .box)) (chunksOf (keptOf limit f h)) ≡ true → Stays x
+    data-stays : is pdat (x .box) ≡ true → Stays x
+    lain-stays : Free x → h .mixed ≡ true → someOf (liesIn (x .box)) (chunksOf (keptOf limit f h)) ≡ true → Stays x
     read : (s : Segment) → x .fate ≡ ofPseg s → (is pseg (x .box) ≡ true) × (before : List Segment) × (segment limit f h before (x .box) ≡ given s)
 
   known-from : (kept : List Segment) (bs : List Box) → Each Known (fatesFrom limit f h kept bs)
@@ -335,8 +335,8 @@ module _ (limit : ℕ) (f : List ℕ) (h : Heading) where
   known-from kept [] = tt
   known-from kept (b ∷ bs) = (
     record {
-      held = fate-data limit f h kept b;
-      lain = fate-lain limit f h kept b;
+      data-stays = fate-data limit f h kept b;
+      lain-stays = fate-lain limit f h kept b;
       read = λ s e. let (kind, taken) = fate-pseg limit f h kept b e in (kind, kept, beside-given limit f h kept b taken .1);
     },
     known-from (keptWith limit f h kept b) bs,
@@ -348,11 +348,11 @@ module _ (limit : ℕ) (f : List ℕ) (h : Heading) where
       let b = boxAt 1 (h .boxes) in
       let second : Known (record { box = b; fate = ofPfil (h .inner) }) =
       record {
-        held = λ kind. absurd (omega (arith, eqb-true (b .kind) (pdat .code) kind, eqb-true (b .kind) (pfil .code) (o .second)));
-        lain = λ free. absurd (true≢false (sym (o .second) ∙ allowed-other b free .1));
+        data-stays = λ kind. absurd (omega (arith, eqb-true (b .kind) (pdat .code) kind, eqb-true (b .kind) (pfil .code) (o .second)));
+        lain-stays = λ free. absurd (true≢false (sym (o .second) ∙ allowed-other b free .1));
         read = λ s e. let z : _≡_ {A = ℕ} 0 1 = cc in absurd (omega arith);
       } in (
-        record { held = λ _. refl; lain = λ _ _ _. refl; read = λ s e. let z : _≡_ {A = ℕ} 0 1 = cc in absurd (omega arith) },
+        record { data-stays = λ _. refl; lain-stays = λ _ _ _. refl; read = λ s e. let z : _≡_ {A = ℕ} 0 1 = cc in absurd (omega arith) },
         (second, known-from [] (drop 2 (h .boxes))),
       )
 
@@ -360,34 +360,34 @@ module _ (limit : ℕ) (f : List ℕ) (h : Heading) (opens : opening f ≡ given
   abbrev pub newPlaces : ℕ → ℕ
   newPlaces = newPlace 0 (fates limit f h)
 
-  abbrev xs : List Fated
-  xs = fates limit f h
+  abbrev fated : List Fated
+  fated = fates limit f h
 
-  chained : Chained 0 xs
+  chained : Chained 0 fated
   chained = fates-chained limit f h opens bytes
 
-  stood : Each (Stood f) xs
+  stood : Each (Stood f) fated
   stood = fates-stood limit f h opens bytes
 
-  all-known : Each (Known limit f h) xs
+  all-known : Each (Known limit f h) fated
   all-known = known limit f h (opened f h opens)
 
   -- where the data lies of a chunk
   module _ (c : Chunk) (some : 0 < c .size) where
     abbrev Carried : (List Box → ℕ → Bool) → Type 0
-    Carried test = Run xs (c .place) (c .size) × (test (boxesAnew 0 xs) (newPlaces (c .place)) ≡ true)
+    Carried test = Run fated (c .place) (c .size) × (test (boxesAnew 0 fated) (newPlaces (c .place)) ≡ true)
 
     -- in one `pdat` body
     data-carried : inData (h .boxes) (c .place) (c .size) ≡ true → Carried (λ bs place. inData bs place (c .size))
     unfolding inData
     data-carried may =
-        let a = box-at _ xs (rw (← fates-all limit f h opens bytes) at may) in
+        let a = box-at _ fated (rw (← fates-all limit f h opens bytes) at may) in
         let b = a .x .box in
         let (front, fits) = both (is pdat b && leb (b .body) (c .place)) (leb (c .place + c .size) (b .end)) (a .here) in
         let (kind, from) = both (is pdat b) (leb (b .body) (c .place)) front in
         let low = leb-true (b .body) (c .place) from in
         let high = leb-true (c .place + c .size) (b .end) fits in
-        let stays = at-known a (Known limit f h) all-known .held kind in
+        let stays = at-known a (Known limit f h) all-known .data-stays kind in
         let there = at-known a (Stood f) stood in
         let inside = header-inside File f (b .at) (there .end) (there .read) in
         let onward = rw (a .all) at chained in
@@ -397,17 +397,17 @@ module _ (limit : ℕ) (f : List ℕ) (h : Heading) (opens : opening f ≡ given
         )
 
     -- or as whole boxes
-    boxes-carried : Each (Lain (c .place) (c .place + c .size)) xs → wholeBoxes (h .boxes) (c .place) (c .place + c .size) ≡ true
+    boxes-carried : Each (Lain (c .place) (c .place + c .size)) fated → wholeBoxes (h .boxes) (c .place) (c .place + c .size) ≡ true
         → Carried (λ bs place. wholeBoxes bs place (place + c .size))
     boxes-carried lain may =
-        let (before, rest, all, from, r) = whole-run (c .place) (c .place + c .size) xs 0 chained lain (rw (← fates-all limit f h opens bytes) at may) in
-        let split : xs ≡ before ++ (r .run ++ r .behind) = all ∙ ap (λ (l : List Fated). before ++ l) (r .all) in
-        let run : Run xs (c .place) (c .size) =
+        let (before, rest, all, from, r) = whole-run (c .place) (c .place + c .size) fated 0 chained lain (rw (← fates-all limit f h opens bytes) at may) in
+        let split : fated ≡ before ++ (r .run ++ r .behind) = all ∙ ap (λ (l : List Fated). before ++ l) (r .all) in
+        let run : Run fated (c .place) (c .size) =
         record { before = before; run = r .run; behind = r .behind; all = split; stay = r .stay; low = omega arith; to = rw from (omega (arith, r .to)) } in
-        let row = chained-first (ends 0 before) (r .run) (r .behind) (chained-run xs chained (c .place) (c .size) run) in
+        let row = chained-first (ends 0 before) (r .run) (r .behind) (chained-run fated chained (c .place) (c .size) run) in
         let long : c .place + sizes (r .run) ≡ c .place + c .size = rw from at (new-run (ends 0 before) (r .run) row (all-long (r .run) (r .stay))) ∙ r .to in
         let many : sizes (r .run) ≡ c .size = omega arith in
-        let place : sizes before ≡ newPlaces (c .place) = omega (arith, run-place xs chained (c .place) (c .size) run) in
+        let place : sizes before ≡ newPlaces (c .place) = omega (arith, run-place fated chained (c .place) (c .size) run) in
         let new : ℕ → ℕ = λ p. p in
         let after = rw split at (fates-ready limit f h opens bytes new) in
         let standing = each-first (Stood f) (r .run) (r .behind) (each-second (Stood f) before (r .run ++ r .behind) (rw split at stood)) in
@@ -415,10 +415,10 @@ module _ (limit : ℕ) (f : List ℕ) (h : Heading) (opens : opening f ≡ given
 
   -- a kept segment: its box, and what was read of its chunks
   module _ (s : Segment) (kept : List·Memᴰ s (keptOf limit f h)) where
-    own : At xs (λ x. x .fate ≡ ofPseg s)
-    own = segment-at s xs (rw (kept-all limit f h) at kept)
+    own : At fated (λ x. x .fate ≡ ofPseg s)
+    own = segment-at s fated (rw (kept-all limit f h) at kept)
 
-    pseg-copied : Copied xs (s .place)
+    pseg-copied : Copied fated (s .place)
     pseg-copied =
         let x = own .x in
         let (kind, before, read) = at-known own (Known limit f h) all-known .read s (own .here) in
@@ -443,17 +443,17 @@ module _ (limit : ℕ) (f : List ℕ) (h : Heading) (opens : opening f ≡ given
           rw placed at (member-passes (lies h) (s .chunks) (segment-lies limit f h before (own .x .box) s read) c chunk)
 
       -- each box that it covers stays whole
-      all-lain : h .mixed ≡ true → eqb (c .state) good ≡ true → Each (Lain (c .place) (c .place + c .size)) xs
+      all-lain : h .mixed ≡ true → eqb (c .state) good ≡ true → Each (Lain (c .place) (c .place + c .size)) fated
       unfolding liesIn
       all-lain mixed is-good =
-          each-by (Lain (c .place) (c .place + c .size)) xs
+          each-by (Lain (c .place) (c .place + c .size)) fated
           (λ x there free low high.
-          each-member (Known limit f h) xs all-known x there .lain free mixed
+          each-member (Known limit f h) fated all-known x there .lain-stays free mixed
           (some-chunk (liesIn (x .box)) (keptOf limit f h) s kept
           (some-member (liesIn (x .box)) (s .chunks) c chunk
           (rw (is-good, le-leb (c .place) (x .box .at) low, le-leb (x .box .end) (c .place + c .size) high)))))
 
-      chunk-carried : Run xs (c .place) (c .size) × (mayLie (headingBack limit f h opens bytes) (c .state) (newPlaces (c .place)) (c .size) ≡ true)
+      chunk-carried : Run fated (c .place) (c .size) × (mayLie (headingBack limit f h opens bytes) (c .state) (newPlaces (c .place)) (c .size) ≡ true)
       unfolding mayLie
       chunk-carried =
           elim (which (inData (h .boxes) (c .place) (c .size))) [
@@ -470,12 +470,12 @@ module _ (limit : ℕ) (f : List ℕ) (h : Heading) (opens : opening f ≡ given
       each-by (Lies newPlaces (s .place) (headingBack limit f h opens bytes)) (s .chunks)
       (λ c chunk placed.
       let (run, lie) = chunk-carried s kept c chunk placed in
-      let other = run-copied xs chained (c .place) (c .size) run (some-bytes s kept c chunk placed) in
-      (new-nearer 0 0 xs chained (s .place) (c .place) (pseg-copied s kept) other, lie))
+      let other = run-copied fated chained (c .place) (c .size) run (some-bytes s kept c chunk placed) in
+      (new-nearer 0 0 fated chained (s .place) (c .place) (pseg-copied s kept) other, lie))
 
   -- the bytes of a chunk
   pub kept-alike : (s : Segment) → List·Memᴰ s (keptOf limit f h) → (c : Chunk) → List·Memᴰ c (s .chunks) → hasPlace (c .state) (c .size) ≡ true
       → Alike f (c .place) (copied f (fates limit f h)) (newPlaces (c .place)) (c .size)
   unfolding copied
   kept-alike s kept c chunk placed =
-      run-bytes xs chained (c .place) (c .size) (chunk-carried s kept c chunk placed .0) f newPlaces (fates-ready limit f h opens bytes newPlaces) stood
+      run-bytes fated chained (c .place) (c .size) (chunk-carried s kept c chunk placed .0) f newPlaces (fates-ready limit f h opens bytes newPlaces) stood
