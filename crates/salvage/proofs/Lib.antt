@@ -2,6 +2,7 @@
 pub mod CarriedLaws
 pub mod CopyLaws
 pub mod FateLaws
+pub mod FramedLaws
 pub mod HeadingLaws
 pub mod LieLaws
 pub mod PieceLaws

@@ -15,7 +15,7 @@ use Rattle.partial.specs.Heading.{Heading, bytesIn}
 use Rattle.partial.specs.Memory.{fits}
 use Rattle.partial.specs.Segments.{Chunk, Segment, hasPlace}
 use Rattle.additions.specs.Append.{Placed, entryBytes}
-use Rattle.salvage.specs.Kept.{Fate, dropped, whole, ofPfil, ofPseg, Fated, opening, fates}
+use Rattle.salvage.specs.Kept.{Fate, dropped, whole, ofPfil, ofPseg, Fated, framed, opening, fates}
 
 -- the bytes of a box as they are
 unfoldable pub boxBytes : List ℕ → Box → List ℕ
@@ -94,11 +94,11 @@ copyOf f new x =
 unfoldable pub copied : List ℕ → List Fated → List ℕ
 copied f xs = each (copyOf f (newPlace 0 xs)) xs
 
--- the copy of a file, or its refusal
+-- the copy of a file, of its whole boxes before the first framing error; or its refusal
 unfoldable pub salvage : ℕ → List ℕ → Answer (List ℕ)
 salvage limit f = do
   h ← opening f
-  given (copied f (fates limit f h))
+  given (copied (framed f) (fates limit (framed f) h))
 
 -- what the call gives that writes it into a lent buffer, which is filled with it
 unfoldable pub salvaged : ℕ → List ℕ → List ℕ → Answer (List ℕ)

@@ -2,6 +2,7 @@
 use Prim.Native.Nat.{ℕ, _+_}
 use mathlib.Core.Bool.{Bool, true, false, not, _&&_, _||_}
 use mathlib.Core.List.{List, [], _∷_, _++_}
+use mathlib.Core.Option.{none, some}
 use lib.ListN.{length, take, drop}
 use lib.Dec.{leb, eqb}
 use Rattle.boxes.specs.Answer.{Answer, refused, given, _>>=_, hold}
@@ -19,7 +20,11 @@ use Rattle.partial.specs.Reading.{segment}
 unfoldable pub walkOf : List ℕ → Walked
 walkOf f = walkedIn File f 0 (length f)
 
--- the first two of these boxes alone, as a file; all of it where it has fewer
+-- these boxes alone, as a file
+unfoldable pub framed : List ℕ → List ℕ
+framed f = elim (walkOf f .fault) [ none ↦ f | some x ↦ take (x .at) f ]
+
+-- the first two of them alone, as a file; all of it where it has fewer
 unfoldable pub firstTwo : List ℕ → List Box → List ℕ
 firstTwo f boxes = elim (leb 2 (length boxes)) [ true ↦ take (boxAt 1 boxes .end) f | false ↦ f ]
 

@@ -8,7 +8,7 @@ use Rattle.boxes.specs.Answer.{refused, given, _>>=_, hold}
 use Rattle.boxes.specs.Framing.{Fault}
 use Rattle.partial.specs.BoxList.{each, faultLine}
 use Rattle.partial.specs.Map.{refusedLine}
-use Rattle.salvage.specs.Kept.{Fate, dropped, whole, ofPfil, ofPseg, Fated, walkOf, opening, fates}
+use Rattle.salvage.specs.Kept.{Fate, dropped, whole, ofPfil, ofPseg, Fated, walkOf, framed, opening, fates}
 
 -- the line of a dropped box: its place, a tab and its number; none of one that stays
 unfoldable pub droppedLine : Fated → List ℕ
@@ -29,5 +29,5 @@ unfoldable pub salvageText : ℕ → ℕ → List ℕ → List ℕ
 salvageText limit most input =
     elim (hold 27 (leb (length input) most) >>= λ _. opening input) [
       | refused n ↦ refusedLine n
-      | given h ↦ droppedLines (fates limit input h) (walkOf input .fault)
+      | given h ↦ droppedLines (fates limit (framed input) h) (walkOf input .fault)
     ]
