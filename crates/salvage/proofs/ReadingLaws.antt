@@ -1,28 +1,42 @@
 -- The copy is acceptable or has only refusal 12: it reads back as the segments that are kept, with their bytes.
-use Prim.Native.Nat.{ℕ, suc, _+_, _-_, _<_, _≤_, max}
+use Prim.Native.Nat.{ℕ, suc, _+_, _-_, _^_, _<_, _≤_, max}
 use mathlib.Core.Bool.{Bool, true, false, not, _&&_, _||_}
-use mathlib.Core.List.{List, [], _∷_, _++_, map, map-map, List·Memᴰ, List·Memᴰ·head, List·Memᴰ·tail, Memᴰ·append-right}
+use mathlib.Core.List.{List, [], _∷_, _++_, map, map-map, append-nil, append-assoc, List·Memᴰ, List·Memᴰ·head, List·Memᴰ·tail, Memᴰ·append-right}
 use mathlib.Core.Logic.{inl, inr}
 use mathlib.Core.Option.{Option, none, some}
 use mathlib.Core.Path.{_≡_, refl, sym, ap, subst, _∙_}
+use native.Mathlib.Nat.{add-zero, zero-add}
 use native.Mathlib.Omega.{arith}
+use borrow.Author.Tests.{eqb-true}
 use lib.Dec.{leb, eqb}
-use lib.ListN.{length, getD, length-append, length-map}
+use lib.ListN.{length, getD, drop, length-append, length-map}
 use Rattle.boxes.specs.Answer.{refused, given}
 use Rattle.boxes.specs.Framing.{Box}
+use Rattle.boxes.specs.Kinds.{ftyp, pfil, pseg, is, right, those, boxAt}
+use Rattle.boxes.specs.declared.kinds.Container.the-variants.{File}
+use Rattle.boxes.proofs.KindLaws.{those-one, those-other, right-some, some-right}
+use Rattle.partial.specs.BoxList.{each}
 use Rattle.partial.specs.Sequences.{allOf, sum, largest}
 use Rattle.partial.specs.Segments.{Chunk, Segment, isOpen, isLast, endOf, chunksOf}
 use Rattle.partial.specs.Heading.{Heading}
+use Rattle.partial.specs.Index.{hasIndex}
 use Rattle.partial.specs.Meaning.{givesSize, knownSize, agree, served}
-use Rattle.partial.specs.Reading.{reading}
+use Rattle.partial.specs.Reading.{segment, segmentsFrom, reading}
 use Rattle.partial.specs.Sources.{sameUrls, sourceCount, sourceAmong, sourceBeside, ofSource, agreed}
-use Rattle.partial.proofs.Meaning.SequenceLaws.{which}
-use Rattle.salvage.specs.Kept.{Fate, dropped, whole, ofPfil, ofPseg, Fated, opening, keptOf, fates}
-use Rattle.salvage.specs.Copy.{copied, copySize}
-use Rattle.salvage.proofs.Shapes.{chunkAnew, segmentAnew, segmentsAnew}
-use Rattle.salvage.proofs.PlaceLaws.{sizes}
-use Rattle.salvage.proofs.FateLaws.{segmentsOf}
-use Rattle.salvage.proofs.LieLaws.{newPlaces}
+use Rattle.partial.proofs.Meaning.SequenceLaws.{which, Each, each-member}
+use Rattle.partial.proofs.Reading.LimitLaws.{segments-many}
+use Rattle.partial.proofs.Reading.ReadingLaws.{reading-none}
+use Rattle.additions.proofs.StandsLaws.{Stands}
+use Rattle.salvage.specs.Kept.{Fate, dropped, whole, ofPfil, ofPseg, Fated, opening, keptOf, fateOf, fatesFrom, fates}
+use Rattle.salvage.specs.Copy.{copyOf, copied, copySize}
+use Rattle.salvage.proofs.Shapes.{resized, chunkAnew, innerAnew, segmentAnew, segmentsAnew, boxesAnew}
+use Rattle.salvage.proofs.PlaceLaws.{sizes, new-at}
+use Rattle.salvage.proofs.CopyLaws.{copy-stands}
+use Rattle.salvage.proofs.FateLaws.{segmentsOf, segments-split, kept-all, fate-at, fate-pseg, fate-whole, fate-no-pfil, beside-given, kept-sound}
+use Rattle.salvage.proofs.HeadingLaws.{opened, firstFated, secondFated, pfil-unindexed}
+use Rattle.salvage.proofs.SegmentLaws.{segment-place, segment-back, segment-unindexed}
+use Rattle.salvage.proofs.WholeLaws.{Stood, fates-stood, fates-ready, fates-chained, headingBack, heading-copied}
+use Rattle.salvage.proofs.LieLaws.{newPlaces, kept-lie, kept-alike}
 
 -- ---- what the places of segments do not change
 
@@ -146,11 +160,117 @@ module _ (limit : ℕ) (f : List ℕ) (h : Heading) (opens : opening f ≡ given
   abbrev pub segmentsBack : List Segment
   segmentsBack = segmentsAnew (newPlaces limit f h opens bytes) (fates limit f h)
 
+  abbrev new : ℕ → ℕ
+  new = newPlaces limit f h opens bytes
+
+  abbrev copy : List ℕ
+  copy = copied f (fates limit f h)
+
+  abbrev back : Heading
+  back = headingBack limit f h opens bytes
+
+  -- the boxes behind the first two
+  abbrev others : List Fated
+  others = fatesFrom limit f h [] (drop 2 (h .boxes))
+
+  abbrev front : List Fated → List Fated
+  front before = firstFated f h opens ∷ secondFated f h opens ∷ before
+
+  -- ---- each of them reads back
+
+  module _ (before : List Fated) (x : Fated) (behind : List Fated) (split : others ≡ before ++ (x ∷ behind)) where
+    all-split : fates limit f h ≡ front before ++ (x ∷ behind)
+    unfolding fates
+    all-split = rw split
+
+    stands-new : (places : ℕ → ℕ) → Stands (each (copyOf f places) (fates limit f h)) (sizes (front before)) (copyOf f places x)
+    stands-new places = rw all-split (copy-stands f places (front before) x behind (rw all-split at (fates-ready limit f h opens bytes places)))
+
+    new-there : new (x .box .at) ≡ sizes (front before)
+    new-there = rw all-split (new-at 0 0 (front before) x behind (rw all-split at (fates-chained limit f h opens bytes)) ∙ zero-add (sizes (front before)))
+
+    stood-there : Stood f x
+    stood-there = each-member (Stood f) (fates limit f h) (fates-stood limit f h opens bytes) x (rw all-split (Memᴰ·append-right (front before) (List·Memᴰ·head refl)))
+
+    fate-there : fateOf limit f h (segmentsOf before) (x .box) ≡ x .fate
+    fate-there = sym (fate-at limit f h [] (drop 2 (h .boxes)) before x behind split)
+
+    kept-there : (s : Segment) → x .fate ≡ ofPseg s → List·Memᴰ s (keptOf limit f h)
+    unfolding segmentsOf
+    kept-there s e = rw (kept-all limit f h, all-split, segments-split, e) (Memᴰ·append-right (segmentsOf (front before)) (List·Memᴰ·head refl))
+
+  segment-there : (before : List Fated) (b : Box) (s : Segment) (behind : List Fated) → others ≡ before ++ (record { box = b; fate = ofPseg s } ∷ behind)
+      → (at : ℕ) → at ≡ sizes (front before)
+      → (segment limit copy back (segmentsAnew new before) (resized at (copySize (record { box = b; fate = ofPseg s })) b) ≡ given (segmentAnew new b s)) × (hasIndex (innerAnew new b s) ≡ false)
+  unfolding copied
+  segment-there before b s behind split at here =
+      let x : Fated = record { box = b; fate = ofPseg s } in
+      let stood = stood-there before x behind split in
+      let (kind, kept) = fate-pseg limit f h (segmentsOf before) b (fate-there before x behind split) in
+      let read = beside-given limit f h (segmentsOf before) b kept .1 in
+      let low : length f < 2 ^ 32 = omega (arith, opened f h opens .small) in
+      let place = segment-place limit f h (segmentsOf before) b s (stood .end) (stood .read) kind (stood .inside) low bytes read new in
+      let put : new (s .place) ≡ at = rw place (new-there before x behind split ∙ sym here) in
+      let stands : Stands copy (new (s .place)) (copyOf f new x) = rw (put, here) (stands-new before x behind split new) in
+      let anew = anew-fates new before in
+      let lie = kept-lie limit f h opens bytes s (kept-there before x behind split s refl) in (
+        rw (← put) (segment-back limit f h (segmentsOf before) b s (stood .end) (stood .read) kind (stood .inside) low bytes read new copy back (segmentsAnew new before) stands refl (anew-many anew) (anew-beside anew) lie),
+        segment-unindexed limit f h (segmentsOf before) b s (stood .end) (stood .read) kind (stood .inside) low bytes read new copy back (segmentsAnew new before) stands refl (anew-many anew) (anew-beside anew) lie,
+      )
+
+  -- the copies of boxes read on as their segments, none of which has an index
+  abbrev ReadsOn : List Segment → List Fated → ℕ → Type 0
+  ReadsOn ts behind at =
+      (segmentsFrom limit copy back ts (those pseg (boxesAnew at behind)) ≡ given (ts ++ segmentsAnew new behind))
+      × Each (λ s. hasIndex (s .inner) ≡ false) (segmentsAnew new behind)
+
+  one-more : (before : List Fated) (b : Box) (fate : Fate) (behind : List Fated) → others ≡ before ++ (record { box = b; fate = fate } ∷ behind)
+      → (at : ℕ) → at ≡ sizes (front before)
+      → ReadsOn (segmentsAnew new before ++ segmentsAnew new (record { box = b; fate = fate } ∷ [])) behind (at + copySize (record { box = b; fate = fate }))
+      → ReadsOn (segmentsAnew new before) (record { box = b; fate = fate } ∷ behind) at
+  unfolding segmentsAnew boxesAnew segmentsFrom copySize is
+  one-more before b (dropped n) behind split at here rest = rw (append-nil, add-zero) at rest
+  one-more before b whole behind split at here rest =
+      let kind = fate-whole limit f h (segmentsOf before) b (fate-there before (record { box = b; fate = whole }) behind split) .0 in
+      rw (those-other pseg _ _ kind) (rw append-nil at rest)
+  one-more before b (ofPfil inner) behind split at here rest =
+      absurd (fate-no-pfil limit f h (segmentsOf before) b (fate-there before (record { box = b; fate = ofPfil inner }) behind split))
+  one-more before b (ofPseg s) behind split at here rest =
+      let (kind, _) = fate-pseg limit f h (segmentsOf before) b (fate-there before (record { box = b; fate = ofPseg s }) behind split) in
+      let (back-there, bare) = segment-there before b s behind split at here in
+      (rw (those-one pseg _ _ kind, back-there) (rest .0 ∙ ap given (append-assoc (segmentsAnew new before) (segmentAnew new b s ∷ []) (segmentsAnew new behind))), (bare, rest .1))
+
+  reads-on : (behind before : List Fated) → others ≡ before ++ behind → (at : ℕ) → at ≡ sizes (front before) → ReadsOn (segmentsAnew new before) behind at
+  unfolding segmentsAnew boxesAnew segmentsFrom those
+  reads-on [] before split at here = (rw append-nil, tt)
+  reads-on (x ∷ behind) before split at here =
+      one-more before (x .box) (x .fate) behind split at here
+      (rw (anew-split new before (x ∷ [])) at (reads-on behind (before ++ (x ∷ [])) (split ∙ sym (append-assoc before (x ∷ []) behind)) (at + copySize x) (unfold sum in omega (arith, sizes-more before x))))
+
+  all-read : ReadsOn [] (fates limit f h) 0
+  unfolding fates segmentsAnew boxesAnew is
+  all-read =
+      let first : boxAt 0 (h .boxes) .kind ≡ ftyp .code = eqb-true _ _ (opened f h opens .first) in
+      let second : boxAt 1 (h .boxes) .kind ≡ pfil .code = eqb-true _ _ (opened f h opens .second) in
+      let not-first : is pseg (boxAt 0 (h .boxes)) ≡ false = rw first in
+      let not-second : is pseg (boxAt 1 (h .boxes)) ≡ false = rw second in
+      rw (those-other pseg _ _ not-first, those-other pseg _ _ not-second) (reads-on others [] refl _ (unfold sum in omega arith))
+
+  -- as many as there are
+  psegs-back : length (those pseg (back .boxes)) ≡ length (keptOf limit f h)
+  psegs-back =
+      omega (arith, segments-many limit copy back (those pseg (back .boxes)) [] (all-read .0), anew-long (anew-fates new (fates limit f h)), ap length (kept-all limit f h))
+
   pub reads-back : 0 < length (keptOf limit f h) → reading limit (copied f (fates limit f h)) ≡ given segmentsBack
   reads-back there = ?
 
   pub only-12 : keptOf limit f h ≡ [] → reading limit (copied f (fates limit f h)) ≡ refused 12
-  only-12 empty = ?
+  only-12 empty =
+      reading-none limit copy (heading-copied limit f h opens bytes)
+      (elim (which (right File pseg (back .boxes))) [
+        | inl there ↦ absurd (omega (arith, right-some File pseg (back .boxes) refl there, psegs-back, ap length empty))
+        | inr lacks ↦ lacks
+      ])
 
   -- what the copy supplies is what the kept segments supply, with its old bytes
   pub served-back : (source p : ℕ) → served (copied f (fates limit f h)) (ofSource source segmentsBack) p ≡ served f (ofSource source (keptOf limit f h)) p
