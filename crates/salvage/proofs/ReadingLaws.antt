@@ -7,25 +7,30 @@ use mathlib.Core.Option.{Option, none, some}
 use mathlib.Core.Path.{_≡_, refl, sym, ap, subst, _∙_}
 use native.Mathlib.Nat.{add-zero, zero-add}
 use native.Mathlib.Omega.{arith}
-use borrow.Author.Tests.{eqb-true}
+use borrow.Author.Tests.{eqb-true, le-leb, ltb-false}
 use lib.Dec.{leb, eqb}
 use lib.ListN.{length, getD, drop, length-append, length-map}
 use Rattle.boxes.specs.Answer.{refused, given}
 use Rattle.boxes.specs.Framing.{Box}
-use Rattle.boxes.specs.Kinds.{ftyp, pfil, pseg, is, right, those, boxAt}
-use Rattle.boxes.specs.declared.kinds.Container.the-variants.{File}
-use Rattle.boxes.proofs.KindLaws.{those-one, those-other, right-some, some-right}
+use Rattle.boxes.specs.Kinds.{ftyp, pfil, pseg, fidx, rules, is, ruleIn, right, those, boxAt}
+use Rattle.boxes.specs.declared.kinds.Container.{Container}
+use Rattle.boxes.specs.declared.kinds.Container.the-variants.{File, Pfil, Pseg}
+use Rattle.boxes.specs.declared.kinds.Count.the-variants.{AtMostOne}
+use Rattle.boxes.proofs.KindLaws.{those-one, those-other, right-some, some-right, few-right}
 use Rattle.partial.specs.BoxList.{each}
+use Rattle.partial.specs.Limits.{segmentLimit, layerLimit}
 use Rattle.partial.specs.Sequences.{allOf, sum, largest}
 use Rattle.partial.specs.Segments.{Chunk, Segment, isOpen, isLast, endOf, chunksOf}
 use Rattle.partial.specs.Heading.{Heading}
-use Rattle.partial.specs.Index.{hasIndex}
+use Rattle.partial.specs.Index.{boxesAlone, belonging, sizeFor, indexFor, indexOfSegments, hasIndex, indexed}
 use Rattle.partial.specs.Meaning.{givesSize, knownSize, agree, served}
 use Rattle.partial.specs.Reading.{segment, segmentsFrom, reading}
 use Rattle.partial.specs.Sources.{sameUrls, sourceCount, sourceAmong, sourceBeside, ofSource, agreed}
 use Rattle.partial.proofs.Meaning.SequenceLaws.{which, Each, each-member}
+use Rattle.partial.proofs.Reading.IndexedLaws.{index-none, whole-indexed}
+use Rattle.partial.proofs.Reading.KeptLaws.{segments-of}
 use Rattle.partial.proofs.Reading.LimitLaws.{segments-many}
-use Rattle.partial.proofs.Reading.ReadingLaws.{reading-none}
+use Rattle.partial.proofs.Reading.ReadingLaws.{read-reading, reading-none}
 use Rattle.additions.proofs.StandsLaws.{Stands}
 use Rattle.salvage.specs.Kept.{Fate, dropped, whole, ofPfil, ofPseg, Fated, opening, keptOf, fateOf, fatesFrom, fates}
 use Rattle.salvage.specs.Copy.{copyOf, copied, copySize}
@@ -123,6 +128,44 @@ module _ {new : ℕ → ℕ} where
   anew-agreed : {ss ts : List Segment} → Anew new ss ts → agreed ts ≡ agreed ss
   unfolding agreed
   anew-agreed {ss} {ts} a = anew-all (λ s. agree (ofSource (s .source) ss)) (λ s. agree (ofSource (s .source) ts)) (λ b s. anew-agree (anew-of a (s .source))) a
+
+-- ---- a file without an index
+
+module _ (limit : ℕ) (f : List ℕ) where
+  lacks-index : (bs : List Box) → hasIndex bs ≡ false → those fidx bs ≡ []
+  unfolding hasIndex
+  lacks-index bs e = go (those fidx bs) (ltb-false 0 (length (those fidx bs)) e)
+    where
+      go : (cs : List Box) → length cs ≤ 0 → cs ≡ []
+      go [] few = refl
+      go (c ∷ cs) few = absurd (omega arith)
+
+  index-less : (size : List (List ℕ) → Option ℕ) (us : List (List ℕ)) (c : Container) (bs : List Box) (start : ℕ)
+      → ruleIn rules c fidx ≡ AtMostOne → hasIndex bs ≡ false → indexFor limit f size us c bs start ≡ given []
+  unfolding indexFor belonging
+  index-less size us c bs start rule e =
+      let lacks = lacks-index bs e in
+      rw (index-none limit f bs lacks c (size us) start (few-right c fidx bs rule (rw lacks (omega arith))))
+
+  segments-index-less : (size : List (List ℕ) → Option ℕ) (ss : List Segment) → Each (λ s. hasIndex (s .inner) ≡ false) ss
+      → indexOfSegments limit f size ss ≡ given []
+  unfolding indexOfSegments
+  segments-index-less size [] less = refl
+  segments-index-less size (s ∷ ss) (here, there) =
+      rw (index-less size (s .urls) Pseg (s .inner) (s .sourceOffset) refl here, segments-index-less size ss there)
+
+  unindexed-file : (h : Heading) (ss : List Segment) → hasIndex (h .inner) ≡ false → Each (λ s. hasIndex (s .inner) ≡ false) ss
+      → indexed limit f h ss ≡ given []
+  unfolding boxesAlone allOf
+  unindexed-file h ss here there =
+      whole-indexed limit f h ss
+      (record {
+        inPfil = index-less (sizeFor ss) (h .urls) Pfil (h .inner) 0 refl here;
+        inSegments = segments-index-less (sizeFor ss) ss there;
+        shallow = refl;
+        apart = rw here;
+        ended = refl;
+      })
 
 -- ---- the segments of boxes, and of their copies
 
@@ -262,7 +305,23 @@ module _ (limit : ℕ) (f : List ℕ) (h : Heading) (opens : opening f ≡ given
       omega (arith, segments-many limit copy back (those pseg (back .boxes)) [] (all-read .0), anew-long (anew-fates new (fates limit f h)), ap length (kept-all limit f h))
 
   pub reads-back : 0 < length (keptOf limit f h) → reading limit (copied f (fates limit f h)) ≡ given segmentsBack
-  reads-back there = ?
+  reads-back there =
+      let anew : Anew new (keptOf limit f h) segmentsBack = rw (kept-all limit f h) (anew-fates new (fates limit f h)) in
+      let (few, agree, layers) = kept-sound limit f h in
+      read-reading limit copy
+      (record {
+        headed = heading-copied limit f h opens bytes;
+        there = some-right File pseg (back .boxes) refl (omega (arith, psegs-back));
+        segmented =
+            segments-of limit copy back
+            (record {
+              few = le-leb (length (those pseg (back .boxes))) segmentLimit (omega (arith, psegs-back));
+              read = all-read .0;
+              agree = anew-agreed anew ∙ agree;
+              layers = le-leb (sourceCount segmentsBack) layerLimit (omega (arith, anew-count anew));
+            });
+        told = unindexed-file limit copy back segmentsBack (pfil-unindexed f h opens) (all-read .1);
+      })
 
   pub only-12 : keptOf limit f h ≡ [] → reading limit (copied f (fates limit f h)) ≡ refused 12
   only-12 empty =
