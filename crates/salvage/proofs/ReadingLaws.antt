@@ -7,7 +7,7 @@ use mathlib.Core.Option.{Option, none, some}
 use mathlib.Core.Path.{_≡_, refl, sym, ap, subst, _∙_}
 use native.Mathlib.Nat.{add-zero, zero-add}
 use native.Mathlib.Omega.{arith}
-use borrow.Author.Tests.{eqb-true, le-leb, ltb-false}
+use borrow.Author.Tests.{eqb-true, le-leb, lt-ltb, ltb-false}
 use lib.Dec.{leb, eqb}
 use lib.ListN.{length, getD, drop, length-append, length-map}
 use Rattle.boxes.specs.Answer.{refused, given}
@@ -20,13 +20,15 @@ use Rattle.boxes.proofs.KindLaws.{those-one, those-other, right-some, some-righ
 use Rattle.partial.specs.BoxList.{each}
 use Rattle.partial.specs.Limits.{segmentLimit, layerLimit}
 use Rattle.partial.specs.Sequences.{allOf, sum, largest}
-use Rattle.partial.specs.Segments.{Chunk, Segment, isOpen, isLast, endOf, chunksOf}
+use Rattle.partial.specs.Segments.{Chunk, Segment, good, present, hasPlace, isOpen, isLast, endOf, chunksOf}
 use Rattle.partial.specs.Heading.{Heading}
 use Rattle.partial.specs.Index.{boxesAlone, belonging, sizeFor, indexFor, indexOfSegments, hasIndex, indexed}
-use Rattle.partial.specs.Meaning.{givesSize, knownSize, agree, served}
+use Rattle.partial.specs.Meaning.{givesSize, knownSize, agree, covers, supplies, served}
 use Rattle.partial.specs.Reading.{segment, segmentsFrom, reading}
 use Rattle.partial.specs.Sources.{sameUrls, sourceCount, sourceAmong, sourceBeside, ofSource, agreed}
-use Rattle.partial.proofs.Meaning.SequenceLaws.{which, Each, each-member}
+use Rattle.partial.proofs.Meaning.SequenceLaws.{which, both, within-true, Each, each-member}
+use Rattle.partial.proofs.Meaning.SourceLaws.{member-of}
+use Rattle.partial.proofs.Meaning.SupplyLaws.{byteFrom, served-from}
 use Rattle.partial.proofs.Reading.IndexedLaws.{index-none, whole-indexed}
 use Rattle.partial.proofs.Reading.KeptLaws.{segments-of}
 use Rattle.partial.proofs.Reading.LimitLaws.{segments-many}
@@ -34,7 +36,7 @@ use Rattle.partial.proofs.Reading.ReadingLaws.{read-reading, reading-none}
 use Rattle.additions.proofs.StandsLaws.{Stands}
 use Rattle.salvage.specs.Kept.{Fate, dropped, whole, ofPfil, ofPseg, Fated, opening, keptOf, fateOf, fatesFrom, fates}
 use Rattle.salvage.specs.Copy.{copyOf, copied, copySize}
-use Rattle.salvage.proofs.Shapes.{resized, chunkAnew, innerAnew, segmentAnew, segmentsAnew, boxesAnew}
+use Rattle.salvage.proofs.Shapes.{Alike, resized, chunkAnew, innerAnew, segmentAnew, segmentsAnew, boxesAnew}
 use Rattle.salvage.proofs.PlaceLaws.{sizes, new-at}
 use Rattle.salvage.proofs.CopyLaws.{copy-stands}
 use Rattle.salvage.proofs.FateLaws.{segmentsOf, segments-split, kept-all, fate-at, fate-pseg, fate-whole, fate-no-pfil, beside-given, kept-sound}
@@ -128,6 +130,34 @@ module _ {new : ℕ → ℕ} where
   anew-agreed : {ss ts : List Segment} → Anew new ss ts → agreed ts ≡ agreed ss
   unfolding agreed
   anew-agreed {ss} {ts} a = anew-all (λ s. agree (ofSource (s .source) ss)) (λ s. agree (ofSource (s .source) ts)) (λ b s. anew-agree (anew-of a (s .source))) a
+
+-- ---- the bytes that they supply
+
+module _ (f g : List ℕ) (new : ℕ → ℕ) (p : ℕ) where
+  -- the bytes of a chunk were carried to its new place
+  abbrev Carried : Chunk → Type 0
+  Carried c = hasPlace (c .state) (c .size) ≡ true → Alike f (c .place) g (new (c .place)) (c .size)
+
+  chunks-anew : (cs ds es : List Chunk) → ((c : Chunk) → List·Memᴰ c cs → Carried c) → byteFrom g es p ≡ byteFrom f ds p
+      → byteFrom g (map (chunkAnew new) cs ++ es) p ≡ byteFrom f (cs ++ ds) p
+  unfolding byteFrom covers
+  chunks-anew [] ds es carried rest = rest
+  chunks-anew (c ∷ cs) ds es carried rest =
+      elim (which (supplies p c)) [
+        | inl e ↦
+            let (is-good, covered) = both (eqb (c .state) good) (covers p c) e in
+            let (low, high) = within-true (c .start) (c .size) p covered in
+            let placed : hasPlace (c .state) (c .size) ≡ true = unfold hasPlace present in rw (eqb-true (c .state) good is-good, lt-ltb 0 (c .size) (omega arith)) in
+            rw (byteFrom, e, chunkAnew, placed) (ap some (carried c (List·Memᴰ·head refl) placed (p - c .start) (omega arith)))
+        | inr e ↦ rw (byteFrom, e) (chunks-anew cs ds es (λ d there. carried d (List·Memᴰ·tail there)) rest)
+      ]
+
+  bytes-anew : {ss ts : List Segment} → Anew new ss ts → ((s : Segment) → List·Memᴰ s ss → (c : Chunk) → List·Memᴰ c (s .chunks) → Carried c)
+      → byteFrom g (chunksOf ts) p ≡ byteFrom f (chunksOf ss) p
+  unfolding chunksOf byteFrom
+  bytes-anew none-anew carried = refl
+  bytes-anew (one-anew {ss} {ts} b s rest) carried =
+      chunks-anew (s .chunks) (chunksOf ss) (chunksOf ts) (carried s (List·Memᴰ·head refl)) (bytes-anew rest (λ t there. carried t (List·Memᴰ·tail there)))
 
 -- ---- a file without an index
 
@@ -299,14 +329,15 @@ module _ (limit : ℕ) (f : List ℕ) (h : Heading) (opens : opening f ≡ given
       let not-second : is pseg (boxAt 1 (h .boxes)) ≡ false = rw second in
       rw (those-other pseg _ _ not-first, those-other pseg _ _ not-second) (reads-on others [] refl _ (unfold sum in omega arith))
 
+  kept-anew : Anew new (keptOf limit f h) segmentsBack
+  kept-anew = rw (kept-all limit f h) (anew-fates new (fates limit f h))
+
   -- as many as there are
   psegs-back : length (those pseg (back .boxes)) ≡ length (keptOf limit f h)
-  psegs-back =
-      omega (arith, segments-many limit copy back (those pseg (back .boxes)) [] (all-read .0), anew-long (anew-fates new (fates limit f h)), ap length (kept-all limit f h))
+  psegs-back = omega (arith, segments-many limit copy back (those pseg (back .boxes)) [] (all-read .0), anew-long kept-anew)
 
   pub reads-back : 0 < length (keptOf limit f h) → reading limit (copied f (fates limit f h)) ≡ given segmentsBack
   reads-back there =
-      let anew : Anew new (keptOf limit f h) segmentsBack = rw (kept-all limit f h) (anew-fates new (fates limit f h)) in
       let (few, agree, layers) = kept-sound limit f h in
       read-reading limit copy
       (record {
@@ -317,8 +348,8 @@ module _ (limit : ℕ) (f : List ℕ) (h : Heading) (opens : opening f ≡ given
             (record {
               few = le-leb (length (those pseg (back .boxes))) segmentLimit (omega (arith, psegs-back));
               read = all-read .0;
-              agree = anew-agreed anew ∙ agree;
-              layers = le-leb (sourceCount segmentsBack) layerLimit (omega (arith, anew-count anew));
+              agree = anew-agreed kept-anew ∙ agree;
+              layers = le-leb (sourceCount segmentsBack) layerLimit (omega (arith, anew-count kept-anew));
             });
         told = unindexed-file limit copy back segmentsBack (pfil-unindexed f h opens) (all-read .1);
       })
@@ -333,4 +364,8 @@ module _ (limit : ℕ) (f : List ℕ) (h : Heading) (opens : opening f ≡ given
 
   -- what the copy supplies is what the kept segments supply, with its old bytes
   pub served-back : (source p : ℕ) → served (copied f (fates limit f h)) (ofSource source segmentsBack) p ≡ served f (ofSource source (keptOf limit f h)) p
-  served-back source p = ?
+  served-back source p =
+      let kept = ofSource source (keptOf limit f h) in
+      served-from copy (ofSource source segmentsBack) p
+      ∙ bytes-anew f copy new p (anew-of kept-anew source) (λ s there. kept-alike limit f h opens bytes s (member-of source (keptOf limit f h) s there .0))
+      ∙ sym (served-from f kept p)
