@@ -48,7 +48,7 @@ box-back b n typed headed ends =
     rw (at, user, body, end)
 
 -- a box is read the same wherever its container ends behind it
-header-nearer : (c : Container) (f : List ℕ) (at end end′ : ℕ) {b : Box} → header c f at end ≡ given b → b .end ≤ length f → b .end ≤ end′
+pub header-nearer : (c : Container) (f : List ℕ) (at end end′ : ℕ) {b : Box} → header c f at end ≡ given b → b .end ≤ length f → b .end ≤ end′
     → header c f at end′ ≡ given b
 header-nearer c f at end end′ {b} known inside on =
     let i = header-inside c f at end known in

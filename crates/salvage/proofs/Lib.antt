@@ -5,6 +5,7 @@ pub mod FateLaws
 pub mod FramedLaws
 pub mod HeadingLaws
 pub mod LieLaws
+pub mod LineLaws
 pub mod PieceLaws
 pub mod PlaceLaws
 pub mod PlocLaws
