@@ -13,4 +13,5 @@ pub mod ReadingLaws
 pub mod SameLaws
 pub mod SegmentLaws
 pub mod Shapes
+pub mod TwiceLaws
 pub mod WholeLaws
