@@ -48,7 +48,7 @@ use Rattle.salvage.proofs.LieLaws.{newPlaces, kept-lie, kept-alike}
 -- ---- what the places of segments do not change
 
 -- segments, and those of the copy
-data Anew (new : ℕ → ℕ) : List Segment → List Segment → Type 0 where
+pub data Anew (new : ℕ → ℕ) : List Segment → List Segment → Type 0 where
   none-anew : Anew new [] []
   one-anew : {ss ts : List Segment} (b : Box) (s : Segment) → Anew new ss ts → Anew new (s ∷ ss) (segmentAnew new b s ∷ ts)
 
@@ -200,7 +200,7 @@ module _ (limit : ℕ) (f : List ℕ) where
 -- ---- the segments of boxes, and of their copies
 
 module _ (new : ℕ → ℕ) where
-  anew-fates : (xs : List Fated) → Anew new (segmentsOf xs) (segmentsAnew new xs)
+  pub anew-fates : (xs : List Fated) → Anew new (segmentsOf xs) (segmentsAnew new xs)
   unfolding segmentsOf segmentsAnew
   anew-fates [] = none-anew
   anew-fates (x ∷ xs) = go (x .fate) (anew-fates xs)
