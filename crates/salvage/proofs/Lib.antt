@@ -2,6 +2,7 @@
 pub mod AcceptedLaws
 pub mod CarriedLaws
 pub mod CopyLaws
+pub mod Demands
 pub mod FateLaws
 pub mod FramedLaws
 pub mod HeadingLaws
