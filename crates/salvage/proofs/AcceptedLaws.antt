@@ -1,10 +1,10 @@
 -- Every segment of an acceptable file is kept, and where nothing else is in it, it is its own copy.
 use Prim.Native.Nat.{ℕ, zero, suc, _+_, _-_, _%_, _<_, _≤_}
-use mathlib.Core.Bool.{Bool, true, false, not, _&&_, _||_, true≢false}
-use mathlib.Core.List.{List, [], _∷_, _++_, append-nil, append-assoc, List·Memᴰ, Memᴰ·append-left}
-use mathlib.Core.Logic.{_⊎_, inl, inr, ⊎-elim}
+use mathlib.Core.Bool.{Bool, true, false, _&&_, true≢false}
+use mathlib.Core.List.{List, [], _∷_, _++_, append-nil, append-assoc, Memᴰ·append-left}
+use mathlib.Core.Logic.{inl, inr, ⊎-elim}
 use mathlib.Core.Option.{none}
-use mathlib.Core.Path.{_≡_, refl, sym, ap, subst, _∙_}
+use mathlib.Core.Path.{_≡_, refl, sym, ap, _∙_}
 use native.Mathlib.Decide.{decLe}
 use native.Mathlib.Omega.{arith}
 use borrow.Author.Tests.{le-leb, leb-true, lt-ltb, eqb-true}
@@ -12,37 +12,37 @@ use lib.Dec.{leb, eqb, lit<}
 use lib.ListN.{length, getD, take, drop, take-append-drop, length-append, length-drop}
 use lib.Seq.{length-take-le, getD-take, getD-drop}
 use Rattle.boxes.specs.Answer.{given}
+use Rattle.boxes.specs.declared.kinds.Container.the-variants.{File, Pfil}
+use Rattle.boxes.specs.declared.kinds.Container.{Container}
+use Rattle.boxes.specs.declared.kinds.Kind.{Kind}
 use Rattle.boxes.specs.Framing.{Box, Walked, boxesIn, boxLimit}
 use Rattle.boxes.specs.Kinds.{ftyp, pfil, pseg, pdat, is, right, those, noBox, boxAt}
-use Rattle.boxes.specs.declared.kinds.Container.{Container}
-use Rattle.boxes.specs.declared.kinds.Container.the-variants.{File, Pfil}
 use Rattle.boxes.proofs.AnswerLaws.{both-given, given-same}
 use Rattle.boxes.proofs.ContainerLaws.{Filled, full, next, boxes-filled, filled-boxes, boxes-same, boxes-standing, boxes-apart}
 use Rattle.boxes.proofs.FaultLaws.{no-fault}
 use Rattle.boxes.proofs.HeaderLaws.{header-inside}
-use Rattle.boxes.specs.declared.kinds.Kind.{Kind}
 use Rattle.boxes.proofs.KindLaws.{is-there, those-nil, those-one, those-other, right-one}
-use Rattle.partial.specs.Limits.{fileLimit, segmentLimit, layerLimit}
+use Rattle.partial.specs.Entries.{Ploc}
 use Rattle.partial.specs.Heading.{Heading, heading, ftypRight, brandRight, branded, pfilRight}
+use Rattle.partial.specs.Limits.{fileLimit, segmentLimit, layerLimit}
 use Rattle.partial.specs.Mixed.{allowed}
-use Rattle.partial.specs.Reading.{segment, segmentsFrom, segments, earlierSegments}
+use Rattle.partial.specs.Reading.{segment, segmentsFrom, earlierSegments}
+use Rattle.partial.specs.ReadingDemands.{InData}
 use Rattle.partial.specs.Segments.{Chunk, Segment, good, present, hasPlace, chunksOf}
 use Rattle.partial.specs.Sequences.{someOf, allOf}
-use Rattle.partial.specs.Entries.{Ploc, mayLie}
-use Rattle.partial.specs.ReadingDemands.{InData}
-use Rattle.partial.proofs.Meaning.MappedLaws.{lies, may-be}
 use Rattle.partial.specs.Sources.{sourceCount, agreed}
+use Rattle.partial.proofs.Meaning.MappedLaws.{lies, may-be}
 use Rattle.partial.proofs.Meaning.SequenceLaws.{which, both, passes, Each, all-append, all-members, none-by, largest-append}
 use Rattle.partial.proofs.Meaning.SourceLaws.{in-agreement, agreement}
+use Rattle.partial.proofs.Reading.HeadingAppendLaws.{Headed, headed, heading-of, brand-kept}
 use Rattle.partial.proofs.Reading.KeptLaws.{segmented}
 use Rattle.partial.proofs.Reading.LimitLaws.{segments-limited}
 use Rattle.partial.proofs.Reading.RefusalLaws.{earlier-read}
-use Rattle.partial.proofs.Reading.HeadingAppendLaws.{Headed, headed, heading-of, brand-kept}
 use Rattle.salvage.specs.Kept.{whole, ofPseg, liesIn, walkOf, framed, firstTwo, opening, beside, keptWith, keptFrom, keptOf, fateOf, fatesFrom, fates}
 use Rattle.salvage.specs.Copy.{salvage}
 use Rattle.salvage.specs.Lines.{salvageText}
-use Rattle.salvage.specs.Demands.{ZeroOffsets, Bare}
-use Rattle.salvage.proofs.Shapes.{resized, Carries, Paired}
+use Rattle.salvage.specs.Demands.{ZeroOffsets, OnlyData, Bare}
+use Rattle.salvage.proofs.Shapes.{Paired}
 use Rattle.salvage.proofs.CarriedLaws.{paired-pfhd, paired-surls, paired-urls}
 use Rattle.salvage.proofs.CopyLaws.{staying}
 use Rattle.salvage.proofs.FateLaws.{fate-data, fate-lain}
@@ -66,14 +66,21 @@ filled-paired c f g end same (next {at = at} {b = b} short read rest) =
       filled-paired c f g end same rest,
     )
 
+-- a file without a framing error is all whole boxes
+faultless-framed : (f : List ℕ) → walkOf f .fault ≡ none → framed f ≡ f
+unfolding framed
+faultless-framed f faultless = rw (framed, faultless)
+
 module _ (f : List ℕ) (h : Heading) (head : heading f ≡ given h) where
   accepted-walk : walkOf f ≡ record { boxes = h .boxes; fault = none }
   unfolding walkOf boxesIn
   accepted-walk = no-fault (walkOf f) (headed f h head .boxes)
 
+  accepted-faultless : walkOf f .fault ≡ none
+  accepted-faultless = ap (λ (w : Walked). w .fault) accepted-walk
+
   pub accepted-framed : framed f ≡ f
-  unfolding framed
-  accepted-framed = rw (framed, accepted-walk)
+  accepted-framed = faultless-framed f accepted-faultless
 
   accepted-says : Says f (boxAt 0 (h .boxes)) (boxAt 1 (h .boxes)) (h .inner) (h .urls) (h .mixed)
   accepted-says = rw append-nil at (says f [] h (headed f h head))
@@ -237,19 +244,17 @@ module _ (f : List ℕ) (h : Heading) (boxes : boxesIn File f 0 (length f) ≡ g
 
 -- ---- nothing goes of a bare one
 
--- a file of which nothing goes is salvaged as it is, and no line is printed
-module _ (limit : ℕ) (f : List ℕ) (h : Heading) (opens : opening f ≡ given h) (clean : Clean limit f h) where
-  clean-framed : framed f ≡ f
-  unfolding framed
-  clean-framed = rw (framed, clean .faultless)
-
-  pub clean-same : ((k : ℕ) → getD f k 0 < 256) → salvage limit f ≡ given f
-  unfolding salvage
-  clean-same bytes = rw (opens, clean-framed) (ap given (copy-same limit f h opens bytes clean))
-
-  pub clean-silent : (most : ℕ) → length f ≤ most → salvageText limit most f ≡ []
+-- a file whose boxes all stay prints no line, and one of which nothing goes is salvaged as it is
+module _ (limit : ℕ) (f : List ℕ) (h : Heading) (opens : opening f ≡ given h) where
+  pub stay-silent : walkOf f .fault ≡ none → Each (λ x. staying (x .fate) ≡ true) (fates limit f h) → (most : ℕ) → length f ≤ most
+      → salvageText limit most f ≡ []
   unfolding salvageText
-  clean-silent most few = rw (salvageText, le-leb (length f) most few, opens, clean-framed, clean .faultless) (lines-none (fates limit f h) (clean .stay))
+  stay-silent faultless stay most few =
+      rw (salvageText, le-leb (length f) most few, opens, faultless-framed f faultless, faultless) (lines-none (fates limit f h) stay)
+
+  pub clean-same : ((k : ℕ) → getD f k 0 < 256) → Clean limit f h → salvage limit f ≡ given f
+  unfolding salvage
+  clean-same bytes clean = rw (opens, faultless-framed f (clean .faultless)) (ap given (copy-same limit f h opens bytes clean))
 
 -- what holds of each box by its number
 each-at : (P : Box → Type 0) (bs : List Box) → ((n : ℕ) → n < length bs → P (boxAt n bs)) → Each P bs
@@ -321,7 +326,7 @@ module _ (limit : ℕ) (f : List ℕ) (h : Heading) (ss : List Segment) (head : 
   unfolding keptOf
   accepted-kept = kept-and-stay .0
 
-  module _ (bytes : (k : ℕ) → getD f k 0 < 256) (bare : Bare f h ss) where
+  module _ (bytes : (k : ℕ) → getD f k 0 < 256) (only : OnlyData h ss) where
     -- a box that is no `pseg` is a `pdat`, or data of a mixed file, and none of the first two kinds
     held : (n : ℕ) → n < length others → Held limit f h (boxAt n others)
     unfolding boxAt allowed
@@ -333,7 +338,7 @@ module _ (limit : ℕ) (f : List ℕ) (h : Heading) (ss : List Segment) (head : 
         elim (which (is pdat b)) [
           | inl e ↦ fate-data limit f h kept b e
           | inr e ↦
-              let lain : someOf (liesIn b) (chunksOf ss) ≡ true = passes (someOf (liesIn b) (chunksOf ss)) (rw (same, e, no-pseg) at (bare .boxes k (omega arith) there)) in
+              let lain : someOf (liesIn b) (chunksOf ss) ≡ true = passes (someOf (liesIn b) (chunksOf ss)) (rw (same, e, no-pseg) at (only k (omega arith) there)) in
               let lie = rw accepted-kept at (kept-lies limit f h (accepted-opens f h head) bytes) in
               let free : allowed b ≡ true = rw (no-ftyp n less, no-pfil n less, no-pseg, e) in
               fate-lain limit f h kept b free
@@ -344,19 +349,20 @@ module _ (limit : ℕ) (f : List ℕ) (h : Heading) (ss : List Segment) (head : 
               (rw accepted-kept lain)
         ]
 
-    pub bare-clean : Clean limit f h
+    accepted-stay : Each (λ x. staying (x .fate) ≡ true) (fates limit f h)
     unfolding fates
-    bare-clean =
-        record {
-          faultless = ap (λ (w : Walked). w .fault) (accepted-walk f h head);
-          stay = (refl, (refl, kept-and-stay .1 (each-at (Held limit f h) others held)));
-          pfil = bare .pfil;
-          segments = rw accepted-kept (each-by _ ss (bare .segments));
-          zeros = rw accepted-kept (each-by _ ss (λ s there l e. zeroed f l (l .count) (l .first) (bare .zeros s there l e)));
-        }
-
-    pub accepted-same : salvage limit f ≡ given f
-    accepted-same = clean-same limit f h (accepted-opens f h head) bare-clean bytes
+    accepted-stay = (refl, (refl, kept-and-stay .1 (each-at (Held limit f h) others held)))
 
     pub accepted-silent : (most : ℕ) → length f ≤ most → salvageText limit most f ≡ []
-    accepted-silent = clean-silent limit f h (accepted-opens f h head) bare-clean
+    accepted-silent = stay-silent limit f h (accepted-opens f h head) (accepted-faultless f h head) accepted-stay
+
+  pub accepted-same : ((k : ℕ) → getD f k 0 < 256) → Bare f h ss → salvage limit f ≡ given f
+  accepted-same bytes bare =
+      clean-same limit f h (accepted-opens f h head) bytes
+      (record {
+        faultless = accepted-faultless f h head;
+        stay = accepted-stay bytes (bare .boxes);
+        pfil = bare .pfil;
+        segments = rw accepted-kept (each-by _ ss (bare .segments));
+        zeros = rw accepted-kept (each-by _ ss (λ s there l e. zeroed f l (l .count) (l .first) (bare .zeros s there l e)));
+      })

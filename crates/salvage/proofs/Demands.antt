@@ -1,7 +1,7 @@
 -- Document 02, [9]: salvage keeps what it promises.
-use Prim.Native.Nat.{ℕ, _+_, _-_, _^_, _<_, _≤_}
-use mathlib.Core.Bool.{true, false}
-use mathlib.Core.List.{List, [], _∷_, _++_, map, map-map}
+use Prim.Native.Nat.{ℕ, _+_, _^_, _<_, _≤_}
+use mathlib.Core.Bool.{true}
+use mathlib.Core.List.{List, [], _∷_, map-map}
 use mathlib.Core.Logic.{_↔_, inl, inr, ⊎-elim}
 use mathlib.Core.Option.{Option, none, some}
 use mathlib.Core.Path.{_≡_, refl, sym, ap, subst, _∙_}
@@ -11,12 +11,12 @@ use borrow.Author.Tests.{le-leb, lt-leb, ltb-true, lt-ltb}
 use lib.Dec.{T, leb}
 use lib.ListN.{length, getD, take, length-take, List·getD-eq-default}
 use lib.Seq.{getD-take, take-length}
-use Rattle.boxes.specs.Answer.{Answer, refused, given, _>>=_, hold}
+use Rattle.boxes.specs.Answer.{Answer, refused, given, _>>=_}
 use Rattle.boxes.specs.Framing.{Box, Fault, boxesIn}
 use Rattle.boxes.specs.Kinds.{boxAt}
 use Rattle.boxes.specs.declared.kinds.Container.{Container}
 use Rattle.boxes.specs.declared.kinds.Container.the-variants.{File, Pfil}
-use Rattle.boxes.proofs.AnswerLaws.{not-both, refused-same, given-same, both-given, Only, only-given, only-then, only-held}
+use Rattle.boxes.proofs.AnswerLaws.{not-both, refused-same, given-same, Only, only-given, only-then, only-held}
 use Rattle.boxes.proofs.ContainerLaws.{boxes-numbers, boxes-standing}
 use Rattle.partial.specs.Heading.{Heading, heading, ftypRight, brandRight, pfilRight, pfhdRight, surlRight, fileBoxes, judged}
 use Rattle.partial.specs.Limits.{fileLimit}
@@ -32,16 +32,15 @@ use Rattle.partial.proofs.Meaning.SequenceLaws.{which, inside, within-true, all
 use Rattle.partial.proofs.Meaning.SourceLaws.{chunks-of}
 use Rattle.partial.proofs.Meaning.SupplyLaws.{supplier-good, supplier-covers}
 use Rattle.partial.proofs.Reading.RefusalLaws.{takes}
-use Rattle.salvage.specs.Kept.{walkOf, framed, firstTwo, opening, keptOf, fates}
+use Rattle.salvage.specs.Kept.{walkOf, framed, firstTwo, opening, fates}
 use Rattle.salvage.specs.Copy.{copied, salvage, salvaged}
 use Rattle.salvage.specs.Lines.{salvageText}
-use Rattle.salvage.specs.Demands.{Bytes, rescuedOf, SameSegment, SameSegments, Rescued, Salvage}
-use Rattle.salvage.proofs.Shapes.{chunkAnew, segmentAnew}
+use Rattle.salvage.specs.Demands.{Bytes, rescuedOf, SameSegments, Rescued, Salvage}
+use Rattle.salvage.proofs.Shapes.{chunkAnew}
 use Rattle.salvage.proofs.FateLaws.{kept-all}
 use Rattle.salvage.proofs.FramedLaws.{framed-shorter, framed-boxes, framed-opens}
 use Rattle.salvage.proofs.HeadingLaws.{opened}
 use Rattle.salvage.proofs.WholeLaws.{copy-shorter}
-use Rattle.salvage.proofs.LieLaws.{newPlaces}
 use Rattle.salvage.proofs.LineLaws.{text-named, ascending}
 use Rattle.salvage.proofs.ReadingLaws.{Anew, none-anew, one-anew, anew-fates, segmentsBack, reads-back, only-12, served-back}
 use Rattle.salvage.proofs.AcceptedLaws.{accepted-opens, accepted-framed, accepted-kept, accepted-same, accepted-silent, kept-lies}
@@ -211,6 +210,10 @@ module _ (limit : ℕ) (f : List ℕ) where
   unfolding salvageText
   text-refused most n small e = rw (salvageText, le-leb (length f) most small, e)
 
+  handed-on : (buffer : List ℕ) (n : ℕ) → salvage limit f ≡ refused n → salvaged limit f buffer ≡ refused n
+  unfolding salvaged
+  handed-on buffer n e = rw e
+
   module _ (buffer g : List ℕ) (e : salvage limit f ≡ given g) where
     enough : length g ≤ length buffer → salvaged limit f buffer ≡ given g
     unfolding salvaged fits
@@ -231,14 +234,15 @@ salvage-demands limit low =
       firstTwo = λ f n small. (λ e. two-refuse limit f n small .0 (salvage-refuses limit f n .0 e), λ e. salvage-refuses limit f n .1 (two-refuse limit f n small .1 e));
       keeps = λ f h ss head read. (accepted-opens f h head, accepted-framed f h head, rw (accepted-framed f h head) (accepted-kept limit f h ss head read));
       unchanged = λ f h ss bytes head read bare. accepted-same limit f h ss head read bytes bare;
-      nothingDropped = λ f h ss most bytes head read bare few. accepted-silent limit f h ss head read bytes bare most few;
+      nothingDropped = λ f h ss most bytes head read only few. accepted-silent limit f h ss head read bytes only most few;
       made = ?;
-      twice = λ f g bytes once. salvage-twice limit f g bytes once;
+      twice = salvage-twice limit;
       noLine = λ f g most bytes once few. lines-twice limit f g bytes once most few;
       overLong = λ most input over. text-long limit input most over;
       refusal = λ most input n small e. text-refused limit input most n small e;
       lines = λ most input h small opens. text-named limit input h opens most small;
       ascending = λ input h opens. ascending limit input h opens;
+      first = λ f buffer n e. handed-on limit f buffer n e;
       room = λ f buffer g e fit. enough limit f buffer g e fit;
       noRoom = λ f buffer g e over. short limit f buffer g e over;
     }

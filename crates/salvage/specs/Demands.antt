@@ -73,11 +73,15 @@ abbrev pub ZeroOffsets : List ℕ → Ploc → ℕ → ℕ → Type 0
 ZeroOffsets f l zero at = Unit {0}
 ZeroOffsets f l (suc more) at = (e : Entry) → entry f l at ≡ given e → (hasPlace (e .state) (e .size) ≡ false → e .offset ≡ Ahead 0) × ZeroOffsets f l more (e .next)
 
--- a file has no index and, behind the first two, no boxes but `pdat`, `pseg` and, mixed, such as good chunks lie in; its
--- empty chunks have offset 0
+-- behind the first two boxes are none but `pdat`, `pseg` and, mixed, such as good chunks lie in
+abbrev pub OnlyData : Heading → List Segment → Type 0
+OnlyData h ss =
+    (k : ℕ) → 2 ≤ k → k < length (h .boxes)
+    → T (is pdat (boxAt k (h .boxes)) || (is pseg (boxAt k (h .boxes)) || someOf (liesIn (boxAt k (h .boxes))) (chunksOf ss)))
+
+-- a file has no other boxes and no index, and its empty chunks have offset 0
 pub record Bare (f : List ℕ) (h : Heading) (ss : List Segment) : Type 0 where
-  pub boxes : (k : ℕ) → 2 ≤ k → k < length (h .boxes)
-      → T (is pdat (boxAt k (h .boxes)) || (is pseg (boxAt k (h .boxes)) || someOf (liesIn (boxAt k (h .boxes))) (chunksOf ss)))
+  pub boxes : OnlyData h ss
   pub pfil : hasIndex (h .inner) ≡ false
   pub segments : (s : Segment) → List·Memᴰ s ss → hasIndex (s .inner) ≡ false
   pub zeros : (s : Segment) → List·Memᴰ s ss → (l : Ploc) → plocHead f (firstOf ploc (s .inner)) ≡ given l → ZeroOffsets f l (l .count) (l .first)
@@ -116,11 +120,11 @@ pub record Salvage (limit : ℕ) : Type 0 where
   -- every segment of an acceptable file is kept, and of one whose only refusal is 12 nothing is
   pub keeps : (f : List ℕ) (h : Heading) (ss : List Segment) → heading f ≡ given h → earlierSegments limit f ≡ given ss
       → (opening f ≡ given h) × (framed f ≡ f) × (rescuedOf limit f h ≡ ss)
-  -- of an acceptable file with no index and no other top-level boxes nothing is dropped, and the bytes are the same but
-  -- for offsets of empty chunks, which become 0
+  -- of an acceptable file with no other top-level boxes nothing is dropped, and if it has no index the bytes are the same
+  -- but for offsets of empty chunks, which become 0
   pub unchanged : (f : List ℕ) (h : Heading) (ss : List Segment) → Bytes f → heading f ≡ given h → earlierSegments limit f ≡ given ss → Bare f h ss
       → salvage limit f ≡ given f
-  pub nothingDropped : (f : List ℕ) (h : Heading) (ss : List Segment) (most : ℕ) → Bytes f → heading f ≡ given h → earlierSegments limit f ≡ given ss → Bare f h ss
+  pub nothingDropped : (f : List ℕ) (h : Heading) (ss : List Segment) (most : ℕ) → Bytes f → heading f ≡ given h → earlierSegments limit f ≡ given ss → OnlyData h ss
       → length f ≤ most
       → salvageText limit most f ≡ []
   -- so of a file that begin and append alone made
@@ -143,6 +147,7 @@ pub record Salvage (limit : ℕ) : Type 0 where
   -- in file order, each once
   pub ascending : (input : List ℕ) (h : Heading) → opening input ≡ given h
       → Ascending (λ y. y .at) 0 (droppedOf (fates limit (framed input) h) ++ faultOf (walkOf input .fault))
-  -- 33 where the buffer is too short for the copy
+  -- 33 where the buffer is too short for the copy, after its refusals
+  pub first : (f buffer : List ℕ) (n : ℕ) → salvage limit f ≡ refused n → salvaged limit f buffer ≡ refused n
   pub room : (f buffer g : List ℕ) → salvage limit f ≡ given g → length g ≤ length buffer → salvaged limit f buffer ≡ given g
   pub noRoom : (f buffer g : List ℕ) → salvage limit f ≡ given g → length buffer < length g → salvaged limit f buffer ≡ refused 33
