@@ -13,5 +13,6 @@ pub mod ReadingLaws
 pub mod SameLaws
 pub mod SegmentLaws
 pub mod Shapes
+pub mod TableLaws
 pub mod TwiceLaws
 pub mod WholeLaws
