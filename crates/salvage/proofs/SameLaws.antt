@@ -3,32 +3,51 @@ use Prim.Native.Nat.{ℕ, zero, suc, _+_, _-_, _*_, _/_, _%_, _^_, _<_, _≤_}
 use mathlib.Core.Bool.{Bool, true, false}
 use mathlib.Core.List.{List, [], _∷_, _++_, map, append-assoc}
 use mathlib.Core.Logic.{inl, inr}
-use mathlib.Core.Option.{none}
+use mathlib.Core.Option.{Option, none, some}
 use mathlib.Core.Path.{_≡_, refl, sym, ap, subst, _∙_}
+use native.Mathlib.Nat.{add-zero}
+use native.Mathlib.Numerals.{add-one}
 use native.Mathlib.Omega.{arith}
-use borrow.Author.Tests.{leb-true, ltb-true, eqb-true, eqb-false, eq-eqb, ne-eqb}
+use borrow.Author.Tests.{le-leb, lt-leb, leb-true, ltb-true, eqb-true, eqb-false, eq-eqb, ne-eqb}
 use lib.Arith.{digits-div, digits-mod}
 use lib.Dec.{leb, ltb, eqb}
 use lib.ListN.{length, getD, take, drop, length-take, length-drop}
-use lib.Seq.{take-suc, take-add, drop-drop, getD-drop}
-use Rattle.boxes.specs.Answer.{given}
+use lib.Seq.{take-suc, drop-cons, take-add, drop-drop, getD-drop}
+use Rattle.boxes.specs.Answer.{Answer, refused, given, _>>=_, hold}
 use Rattle.boxes.specs.Framing.{Box, uuid, userSize, sized, large, header, frontSize, front}
-use Rattle.boxes.specs.Kinds.{ploc, firstOf}
+use Rattle.boxes.specs.Kinds.{ploc, boxAt, firstOf}
 use Rattle.boxes.specs.declared.kinds.Container.{Container}
-use Rattle.boxes.proofs.AnswerLaws.{given-same, both-given, held}
+use Rattle.boxes.proofs.AnswerLaws.{not-both, given-same, both-given, held}
 use Rattle.boxes.proofs.HeaderLaws.{Inside, header-inside, user-none, sized-given, by-form}
 use Rattle.boxes.proofs.ContainerLaws.{Filled, full, next}
-use Rattle.numerals.specs.Numbers.{number, bytesOf}
-use Rattle.numerals.specs.declared.numbers.Offset.the-variants.{Ahead}
+use Rattle.numerals.specs.Numbers.{number, bytesOf, signed, twosComplement}
+use Rattle.numerals.specs.declared.numbers.Offset.{Offset}
+use Rattle.numerals.specs.declared.numbers.Offset.the-variants.{Ahead, Back}
+use Rattle.numerals.proofs.NumberLaws.{number-below}
 use Rattle.partial.specs.BoxList.{each}
-use Rattle.partial.specs.Entries.{Ploc, Entry, plocHead, entry}
+use Rattle.partial.specs.Entries.{Ploc, Entry, Cursor, plocHead, state, stateOf, entry, mayLie, offsetPlace, placeOf, chunkStep, chunksFrom}
 use Rattle.partial.specs.Heading.{Heading, bytesIn}
 use Rattle.partial.specs.Index.{hasIndex}
-use Rattle.partial.specs.Segments.{Segment, hasPlace}
-use Rattle.partial.proofs.Meaning.SequenceLaws.{Each}
+use Rattle.partial.specs.Segments.{Chunk, Segment, present, corrupted, hasPlace}
+use Rattle.partial.proofs.Meaning.MappedLaws.{may-be}
+use Rattle.partial.proofs.Meaning.SequenceLaws.{which, both, Each}
+use Rattle.additions.specs.Append.{Placed, flagByte, entryBytes}
 use Rattle.salvage.specs.Kept.{walkOf, opening, keptOf, fates}
-use Rattle.salvage.specs.Copy.{boxBytes, reheaded, copied}
+use Rattle.salvage.specs.Copy.{boxBytes, reheaded, offsetTo, placedAnew, copied}
 use Rattle.salvage.proofs.CopyLaws.{staying}
+
+-- of so many entries from a place on those without data have offset 0
+abbrev pub Zeroed : List ℕ → Ploc → ℕ → ℕ → Type 0
+Zeroed f l zero at = Unit {0}
+Zeroed f l (suc more) at = (e : Entry) → entry f l at ≡ given e → (hasPlace (e .state) (e .size) ≡ false → e .offset ≡ Ahead 0) × Zeroed f l more (e .next)
+
+-- of a file nothing goes: it has no framing error, every box stays, there is no index, and empty chunks have offset 0
+pub record Clean (limit : ℕ) (f : List ℕ) (h : Heading) : Type 0 where
+  pub faultless : walkOf f .fault ≡ none
+  pub stay : Each (λ x. staying (x .fate) ≡ true) (fates limit f h)
+  pub pfil : hasIndex (h .inner) ≡ false
+  pub segments : Each (λ s. hasIndex (s .inner) ≡ false) (keptOf limit f h)
+  pub zeros : Each (λ s. (l : Ploc) → plocHead f (firstOf ploc (s .inner)) ≡ given l → Zeroed f l (l .count) (l .first)) (keptOf limit f h)
 
 -- ---- parts of a file, from one place to another
 
@@ -126,18 +145,167 @@ module _ (c : Container) (f : List ℕ) (end : ℕ) {b : Box} (read : header c f
             field (b .at + 4) (b .body) 4 (b .kind) (sym kind) (omega (arith, short)) (i .whole),
           ) (field (b .at) (b .at + 4) 4 (8 + length body) (omega (arith, short, long)) refl (omega arith))
 
--- of so many entries from a place on those without data have offset 0
-abbrev pub Zeroed : List ℕ → Ploc → ℕ → ℕ → Type 0
-Zeroed f l zero at = Unit {0}
-Zeroed f l (suc more) at = (e : Entry) → entry f l at ≡ given e → (hasPlace (e .state) (e .size) ≡ false → e .offset ≡ Ahead 0) × Zeroed f l more (e .next)
+-- ---- the entries of a `ploc`
 
--- of a file nothing goes: it has no framing error, every box stays, there is no index, and empty chunks have offset 0
-pub record Clean (limit : ℕ) (f : List ℕ) (h : Heading) : Type 0 where
-  pub faultless : walkOf f .fault ≡ none
-  pub stay : Each (λ x. staying (x .fate) ≡ true) (fates limit f h)
-  pub pfil : hasIndex (h .inner) ≡ false
-  pub segments : Each (λ s. hasIndex (s .inner) ≡ false) (keptOf limit f h)
-  pub zeros : Each (λ s. (l : Ploc) → plocHead f (firstOf ploc (s .inner)) ≡ given l → Zeroed f l (l .count) (l .first)) (keptOf limit f h)
+-- a flag byte is told back by the state that it says
+flag-back : (b s : ℕ) → b < 256 → stateOf b ≡ given s → flagByte s ≡ b
+unfolding stateOf state flagByte present corrupted
+flag-back b s low e =
+    let (zeros, e1) = held 20 (eqb (b % 64) 0) _ e in
+    subst (λ (s : ℕ). flagByte s ≡ b) (given-same e1) (go (eqb (b / 128) 1) (eqb (b / 64 % 2) 1) refl refl (eqb-true (b % 64) 0 zeros))
+  where
+    go : (spoiled there : Bool) → eqb (b / 128) 1 ≡ spoiled → eqb (b / 64 % 2) 1 ≡ there → b % 64 ≡ 0 → flagByte (state spoiled there) ≡ b
+    go false false e g zeros = omega (arith, eqb-false (b / 128) 1 e, eqb-false (b / 64 % 2) 1 g)
+    go false true e g zeros = omega (arith, eqb-false (b / 128) 1 e, eqb-true (b / 64 % 2) 1 g)
+    go true false e g zeros = omega (arith, eqb-true (b / 128) 1 e, eqb-false (b / 64 % 2) 1 g)
+    go true true e g zeros = omega (arith, eqb-true (b / 128) 1 e, eqb-true (b / 64 % 2) 1 g)
+
+-- a number by the offset that it says, which is never the second name of 0
+module _ (w n : ℕ) (low : n < 256 ^ w) where
+  signed-number : twosComplement w (signed w n) ≡ n
+  unfolding signed twosComplement
+  signed-number =
+      elim (which (ltb (2 * n) (256 ^ w))) [
+        | inl e ↦ rw (signed, e)
+        | inr e ↦ rw (signed, e) (omega arith)
+      ]
+
+  signed-some : signed w n ≡ Back 0 → ⊥
+  unfolding signed
+  signed-some same =
+      elim (which (ltb (2 * n) (256 ^ w))) [
+        | inl e ↦ let ahead : Ahead n ≡ Back 0 = rw (signed, e) at same in let z : _≡_ {A = ℕ} 0 1 = cc in omega arith
+        | inr e ↦ let back : Back (256 ^ w - n) ≡ Back 0 = rw (signed, e) at same in let z : 256 ^ w - n ≡ 0 = cc in omega arith
+      ]
+
+-- an offset by the place that it gives
+offset-told : (z : Offset) (pseg place : ℕ) → offsetPlace pseg z ≡ some place → (z ≡ Back 0 → ⊥) → offsetTo pseg place ≡ z
+unfolding offsetPlace offsetTo
+offset-told (Ahead n) pseg place e not-none =
+    let there : pseg + n ≡ place = cc in
+    rw (offsetTo, le-leb pseg place (omega arith)) (ap Ahead (omega arith))
+offset-told (Back zero) pseg place e not-none = absurd (not-none refl)
+offset-told (Back (suc n)) pseg place e not-none =
+    elim (which (leb (suc n) pseg)) [
+      | inl fits ↦
+          let here : some (pseg - suc n) ≡ some place = rw (offsetPlace, fits) at e in
+          let there : pseg - suc n ≡ place = cc in
+          let low = leb-true (suc n) pseg fits in
+          rw (offsetTo, lt-leb pseg place (omega arith)) (ap Back (omega arith))
+      | inr over ↦
+          let nowhere : none ≡ some place = rw (offsetPlace, over) at e in
+          let z : _≡_ {A = ℕ} 0 1 = cc in
+          absurd (omega arith)
+    ]
+
+-- a byte and what stands behind it
+byte-back : (f : List ℕ) (at end : ℕ) → at < end → end ≤ length f → getD f at 0 ∷ part f (at + 1) end ≡ part f at end
+byte-back f at end short inside =
+    let size : end - at ≡ suc (end - (at + 1)) = omega arith in
+    rw (size, drop-cons f at 0 (omega arith), add-one)
+
+module _ (f : List ℕ) (bytes : (k : ℕ) → getD f k 0 < 256) (l : Ploc) (inside : l .end ≤ length f) where
+  -- how many bytes the offset of an entry has, where a bit is set
+  abbrev wide : Bool → ℕ
+  wide set = elim set [ true ↦ l .offsetSize | false ↦ 0 ]
+
+  -- its bytes, and those behind it
+  offset-back : (set : Bool) (at : ℕ) (z : Offset) (behind : List ℕ) → z ≡ signed (wide set) (number f at (wide set)) → at + wide set ≤ l .end
+      → behind ≡ part f (at + wide set) (l .end)
+      → (elim set [ true ↦ bytesOf (l .offsetSize) (twosComplement (l .offsetSize) z) | false ↦ [] ]) ++ behind ≡ part f at (l .end)
+  offset-back true at z behind read fits same =
+      let w = l .offsetSize in
+      rw (same, read) (field-back f at (at + w) (l .end) w _ bytes (signed-number w (number f at w) (number-below f at w bytes)) refl fits inside)
+  offset-back false at z behind read fits same = rw add-zero at same
+
+  abbrev written : List Placed → List ℕ
+  written ps = entryBytes (l .lengthSize) (l .offsetSize) ps
+
+  -- an entry as it says itself
+  abbrev told : Entry → Placed
+  told x = record { size = x .size; state = x .state; offset = x .offset }
+
+  entry-back : (at : ℕ) (x : Entry) (ps : List Placed) → entry f l at ≡ given x → written ps ≡ part f (x .next) (l .end) → written (told x ∷ ps) ≡ part f at (l .end)
+  unfolding entry entryBytes
+  entry-back at x ps e =
+      let (more, e1) = held 17 (ltb at (l .end)) _ e in
+      let (s, read, e2) = both-given (stateOf (getD f at 0)) _ e1 in
+      let rest : ℕ = at + 1 + l .lengthSize in
+      let (fits, e3) = held 17 (leb (rest + wide (present s)) (l .end)) _ e2 in
+      let room = leb-true (rest + wide (present s)) (l .end) fits in
+      let size = field-back f (at + 1) rest (l .end) (l .lengthSize) _ bytes refl refl (omega arith) inside in
+      subst (λ (x : Entry). written ps ≡ part f (x .next) (l .end) → written (told x ∷ ps) ≡ part f at (l .end)) (given-same e3)
+      (λ behind. rw (flag-back (getD f at 0) s (bytes at) read, offset-back (present s) rest _ (written ps) refl room behind, size)
+      (byte-back f at (l .end) (omega (arith, ltb-true at (l .end) more)) inside))
+
+  entry-some : (at : ℕ) (x : Entry) → entry f l at ≡ given x → x .offset ≡ Back 0 → ⊥
+  unfolding entry
+  entry-some at x e =
+      let (more, e1) = held 17 (ltb at (l .end)) _ e in
+      let (s, read, e2) = both-given (stateOf (getD f at 0)) _ e1 in
+      let w = wide (present s) in
+      let rest : ℕ = at + 1 + l .lengthSize in
+      let (fits, e3) = held 17 (leb (rest + w) (l .end)) _ e2 in
+      subst (λ (x : Entry). x .offset ≡ Back 0 → ⊥) (given-same e3) (signed-some w (number f rest w) (number-below f rest w bytes))
+
+  -- where no place of the file changes
+  module _ (h : Heading) (pseg : ℕ) (new : ℕ → ℕ) (same : (place : ℕ) → place ≤ length f → new place ≡ place) (from : pseg ≤ length f)
+      (ends : (k : ℕ) → k < length (h .boxes) → boxAt k (h .boxes) .end ≤ length f) where
+    -- what may lie in the file starts in it
+    lie-inside : (c : Chunk) → mayLie h (c .state) (c .place) (c .size) ≡ true → c .place ≤ length f
+    lie-inside c may =
+        elim (may-be h c may) [
+          | inl d ↦ omega (arith, ends (d .number) (d .there), d .to)
+          | inr w ↦ omega (arith, ends (w .first + w .more) (w .there), w .ends)
+        ]
+
+    place-told : (x : Entry) (place : ℕ) → placeOf h pseg x ≡ given place → hasPlace (x .state) (x .size) ≡ true
+        → (offsetPlace pseg (x .offset) ≡ some place) × (mayLie h (x .state) place (x .size) ≡ true)
+    unfolding placeOf
+    place-told x place e has = go (offsetPlace pseg (x .offset)) (rw (placeOf, has) at e)
+      where
+        go : (o : Option ℕ)
+            → _≡_ {A = Answer ℕ} (elim o [ none ↦ refused 24 | some place ↦ hold 24 (mayLie h (x .state) place (x .size)) >>= λ _. given place ]) (given place)
+            → (o ≡ some place) × (mayLie h (x .state) place (x .size) ≡ true)
+        go none e = absurd (not-both e)
+        go (some there) e =
+            let (may, here) = held 24 (mayLie h (x .state) there (x .size)) _ e in
+            let found = given-same here in
+            (ap some found, rw found at may)
+
+    -- an entry's chunk has its old offset
+    offset-kept : (at start place : ℕ) (x : Entry) → entry f l at ≡ given x → placeOf h pseg x ≡ given place
+        → (hasPlace (x .state) (x .size) ≡ false → x .offset ≡ Ahead 0)
+        → placedAnew new pseg (record { start = start; size = x .size; state = x .state; place = place }) ≡ told x
+    unfolding placedAnew
+    offset-kept at start place x read e none-there =
+        elim (which (hasPlace (x .state) (x .size))) [
+          | inl has ↦
+              let (gives, may) = place-told x place e has in
+              let low = lie-inside (record { start = start; size = x .size; state = x .state; place = place }) may in
+              rw (placedAnew, has, same pseg from, same place low, offset-told (x .offset) pseg place gives (entry-some at x read))
+          | inr empty ↦ rw (placedAnew, empty, none-there empty)
+        ]
+
+    entries-back : (limit more : ℕ) (c : Cursor) (cs : List Chunk) → chunksFrom limit f h pseg l more c ≡ given cs → Zeroed f l more (c .at)
+        → written (map (placedAnew new pseg) cs) ≡ part f (c .at) (l .end)
+    unfolding chunksFrom chunkStep entryBytes
+    entries-back limit zero c cs e zeroed =
+        let (ended, e1) = held 17 (eqb (c .at) (l .end)) _ e in
+        let none : l .end - c .at ≡ 0 = omega (arith, eqb-true (c .at) (l .end) ended) in
+        subst (λ (cs : List Chunk). written (map (placedAnew new pseg) cs) ≡ part f (c .at) (l .end)) (given-same e1) (rw none)
+    entries-back limit (suc more) c cs e zeroed =
+        let (met, step, e1) = both-given (chunkStep limit f h pseg l c) _ e in
+        let (rest, others, e2) = both-given (chunksFrom limit f h pseg l more (met .1)) _ e1 in
+        let (x, read, s1) = both-given (entry f l (c .at)) _ step in
+        let (fits, s2) = held 23 (leb (c .start + x .size) limit) _ s1 in
+        let (place, there, s3) = both-given (placeOf h pseg x) _ s2 in
+        let (none-there, zeros) = zeroed x read in
+        let kept = offset-kept (c .at) (c .start) place x read there none-there in
+        subst (λ (cs : List Chunk). written (map (placedAnew new pseg) cs) ≡ part f (c .at) (l .end)) (given-same e2)
+        (subst (λ (m : Chunk × Cursor). chunksFrom limit f h pseg l more (m .1) ≡ given rest → written (map (placedAnew new pseg) (m .0 ∷ rest)) ≡ part f (c .at) (l .end)) (given-same s3)
+        (λ behind. ap (λ (p : Placed). written (p ∷ map (placedAnew new pseg) rest)) kept
+        ∙ entry-back (c .at) x (map (placedAnew new pseg) rest) read (entries-back limit more (record { at = x .next; start = c .start + x .size }) rest behind zeros)) others)
 
 pub copy-same : (limit : ℕ) (f : List ℕ) (h : Heading) → opening f ≡ given h → ((k : ℕ) → getD f k 0 < 256) → Clean limit f h → copied f (fates limit f h) ≡ f
 copy-same limit f h opens bytes clean = ?
