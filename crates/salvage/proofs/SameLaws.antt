@@ -1,25 +1,28 @@
 -- A file of which nothing goes is its own copy.
 use Prim.Native.Nat.{ℕ, zero, suc, _+_, _-_, _*_, _/_, _%_, _^_, _<_, _≤_}
-use mathlib.Core.Bool.{Bool, true, false}
-use mathlib.Core.List.{List, [], _∷_, _++_, map, append-assoc}
+use mathlib.Core.Bool.{Bool, true, false, false≢true, _&&_}
+use mathlib.Core.List.{List, [], _∷_, _++_, map, map-id, append-assoc}
 use mathlib.Core.Logic.{inl, inr}
 use mathlib.Core.Option.{Option, none, some}
 use mathlib.Core.Path.{_≡_, refl, sym, ap, subst, _∙_}
 use native.Mathlib.Nat.{add-zero}
 use native.Mathlib.Numerals.{add-one}
 use native.Mathlib.Omega.{arith}
-use borrow.Author.Tests.{le-leb, lt-leb, leb-true, ltb-true, eqb-true, eqb-false, eq-eqb, ne-eqb}
+use borrow.Author.Tests.{le-leb, lt-leb, leb-true, ltb-true, ltb-false, eqb-true, eqb-false, eq-eqb, ne-eqb}
 use lib.Arith.{digits-div, digits-mod}
 use lib.Dec.{leb, ltb, eqb}
 use lib.ListN.{length, getD, take, drop, length-take, length-drop}
 use lib.Seq.{take-suc, drop-cons, take-add, drop-drop, getD-drop}
 use Rattle.boxes.specs.Answer.{Answer, refused, given, _>>=_, hold}
-use Rattle.boxes.specs.Framing.{Box, uuid, userSize, sized, large, header, frontSize, front}
-use Rattle.boxes.specs.Kinds.{ploc, boxAt, firstOf}
+use Rattle.boxes.specs.Framing.{Box, uuid, userSize, sized, large, header, boxesIn, frontSize, front}
+use Rattle.boxes.specs.Kinds.{pfil, pseg, ploc, fidx, is, those, boxAt, firstOf}
+use Rattle.boxes.specs.declared.kinds.Kind.{Kind}
 use Rattle.boxes.specs.declared.kinds.Container.{Container}
+use Rattle.boxes.specs.declared.kinds.Container.the-variants.{File, Pfil, Pseg}
 use Rattle.boxes.proofs.AnswerLaws.{not-both, given-same, both-given, held}
 use Rattle.boxes.proofs.HeaderLaws.{Inside, header-inside, user-none, sized-given, by-form}
-use Rattle.boxes.proofs.ContainerLaws.{Filled, full, next}
+use Rattle.boxes.proofs.ContainerLaws.{Filled, full, next, boxes-filled}
+use Rattle.boxes.proofs.KindLaws.{those-one, those-other, firstOf-those, right-one}
 use Rattle.numerals.specs.Numbers.{number, bytesOf, signed, twosComplement}
 use Rattle.numerals.specs.declared.numbers.Offset.{Offset}
 use Rattle.numerals.specs.declared.numbers.Offset.the-variants.{Ahead, Back}
@@ -28,13 +31,17 @@ use Rattle.partial.specs.BoxList.{each}
 use Rattle.partial.specs.Entries.{Ploc, Entry, Cursor, plocHead, state, stateOf, entry, mayLie, offsetPlace, placeOf, chunkStep, chunksFrom}
 use Rattle.partial.specs.Heading.{Heading, bytesIn}
 use Rattle.partial.specs.Index.{hasIndex}
+use Rattle.partial.specs.Reading.{segment}
 use Rattle.partial.specs.Segments.{Chunk, Segment, present, corrupted, hasPlace}
 use Rattle.partial.proofs.Meaning.MappedLaws.{may-be}
 use Rattle.partial.proofs.Meaning.SequenceLaws.{which, both, Each}
+use Rattle.partial.proofs.Reading.KeptLaws.{found, stepped}
 use Rattle.additions.specs.Append.{Placed, flagByte, entryBytes}
-use Rattle.salvage.specs.Kept.{walkOf, opening, keptOf, fates}
-use Rattle.salvage.specs.Copy.{boxBytes, reheaded, offsetTo, placedAnew, copied}
+use Rattle.salvage.specs.Kept.{Fate, dropped, whole, ofPfil, ofPseg, Fated, walkOf, opening, keptWith, keptOf, fateOf, fatesFrom, fates}
+use Rattle.salvage.specs.Copy.{boxBytes, unindexed, reheaded, offsetTo, placedAnew, plocBytes, innerBytes, copyOf, copySize, newPlace, copied}
 use Rattle.salvage.proofs.CopyLaws.{staying}
+use Rattle.salvage.proofs.FateLaws.{segmentsOf, fate-pseg, fate-no-pfil, beside-given}
+use Rattle.salvage.proofs.WholeLaws.{Stood}
 
 -- of so many entries from a place on those without data have offset 0
 abbrev pub Zeroed : List ℕ → Ploc → ℕ → ℕ → Type 0
@@ -92,6 +99,10 @@ module _ {A : Type 0} (text : A → List ℕ) (box : A → Box) (c : Container) 
   pieces-back (x ∷ xs) (next {at = at} short read rest) (here, there) =
       let i = header-inside c f at end read in
       rw (here, i .starts, pieces-back xs rest there) (part-join f at (box x .end) end (omega arith) (i .ends))
+
+boxes-back : (text : Box → List ℕ) (c : Container) (f : List ℕ) (at end : ℕ) (bs : List Box) → Filled c f end at bs → Each (λ b. text b ≡ boxBytes f b) bs
+    → each text bs ≡ part f at end
+boxes-back text c f at end bs filled same = pieces-back text (λ b. b) c f end {at = at} bs (rw map-id filled) same
 
 -- a container with its own body is what it was: what stands before it was read from there
 module _ (c : Container) (f : List ℕ) (end : ℕ) {b : Box} (read : header c f (b .at) end ≡ given b) (inside : b .end ≤ length f)
@@ -306,6 +317,147 @@ module _ (f : List ℕ) (bytes : (k : ℕ) → getD f k 0 < 256) (l : Ploc) (ins
         (subst (λ (m : Chunk × Cursor). chunksFrom limit f h pseg l more (m .1) ≡ given rest → written (map (placedAnew new pseg) (m .0 ∷ rest)) ≡ part f (c .at) (l .end)) (given-same s3)
         (λ behind. ap (λ (p : Placed). written (p ∷ map (placedAnew new pseg) rest)) kept
         ∙ entry-back (c .at) x (map (placedAnew new pseg) rest) read (entries-back limit more (record { at = x .next; start = c .start + x .size }) rest behind zeros)) others)
+
+-- ---- boxes with others inside
+
+-- without an index there is nothing to leave out
+unindexed-same : (bs : List Box) → hasIndex bs ≡ false → unindexed bs ≡ bs
+unfolding hasIndex unindexed
+unindexed-same bs no-index = go bs (ltb-false 0 (length (those fidx bs)) no-index)
+  where
+    go : (bs : List Box) → length (those fidx bs) ≤ 0 → unindexed bs ≡ bs
+    go [] few = refl
+    go (b ∷ bs) few =
+        elim (which (is fidx b)) [
+          | inl e ↦ absurd (omega (arith, ap length (those-one fidx b bs e)))
+          | inr e ↦ rw (unindexed, e, go bs (omega (arith, ap length (those-other fidx b bs e))))
+        ]
+
+-- what holds of the only box of a kind holds of each that is of it
+of-kind : (P : Box → Type 0) (k : Kind) (bs : List Box) → length (those k bs) ≡ 1 → P (firstOf k bs) → Each (λ b. is k b ≡ true → P b) bs
+unfolding boxAt
+of-kind P k bs one first = go bs (only (those k bs) one (subst P (firstOf-those k bs) first))
+  where
+    only : (cs : List Box) → length cs ≡ 1 → P (boxAt 0 cs) → Each P cs
+    only [] one p = tt
+    only (c ∷ []) one p = (p, tt)
+    only (c ∷ d ∷ cs) one p = absurd (omega arith)
+
+    go : (bs : List Box) → Each P (those k bs) → Each (λ b. is k b ≡ true → P b) bs
+    go [] all = tt
+    go (b ∷ bs) all =
+        elim (which (is k b)) [
+          | inl e ↦ let (here, there) = subst (Each P) (those-one k b bs e) all in (λ _. here, go bs there)
+          | inr e ↦ (λ e′. absurd (false≢true (sym e ∙ e′)), go bs (subst (Each P) (those-other k b bs e) all))
+        ]
+
+-- where no place of the file changes
+module _ (limit : ℕ) (f : List ℕ) (h : Heading) (bytes : (k : ℕ) → getD f k 0 < 256)
+    (ends : (k : ℕ) → k < length (h .boxes) → boxAt k (h .boxes) .end ≤ length f)
+    (new : ℕ → ℕ)
+    (same : (place : ℕ) → place ≤ length f → new place ≡ place) where
+  -- what stands in the copy for a box is that box
+  abbrev Same : Fated → Type 0
+  Same x = copyOf f new x ≡ boxBytes f (x .box)
+
+  -- a segment without an index whose empty chunks have offset 0
+  abbrev Unchanged : Segment → Type 0
+  Unchanged s = (hasIndex (s .inner) ≡ false) × ((l : Ploc) → plocHead f (firstOf ploc (s .inner)) ≡ given l → Zeroed f l (l .count) (l .first))
+
+  ploc-back : (s : Segment) (b : Box) (l : Ploc) (start : ℕ) → b .at ≤ b .body → b .end ≤ length f → s .place ≤ length f → plocHead f b ≡ given l
+      → chunksFrom limit f h (s .place) l (l .count) (record { at = l .first; start = start }) ≡ given (s .chunks)
+      → Zeroed f l (l .count) (l .first)
+      → plocBytes f new s b ≡ boxBytes f b
+  unfolding plocHead plocBytes boxBytes bytesIn
+  ploc-back s b l start low inside from head =
+      let (room, e1) = held 17 (leb (b .body + 9) (b .end) && eqb (number f (b .body) 4) 0) _ head in
+      let (fits, _) = both (leb (b .body + 9) (b .end)) (eqb (number f (b .body) 4) 0) room in
+      let widths = number f (b .body + 4) 1 in
+      let (_, e2) = held 18 (leb (widths / 16) 8 && leb (widths % 16) 8) _ e1 in
+      let (_, e3) = held 19 (eqb (number f (b .body + 5) 2) 0) _ e2 in
+      subst (λ (l : Ploc). chunksFrom limit f h (s .place) l (l .count) (record { at = l .first; start = start }) ≡ given (s .chunks)
+      → Zeroed f l (l .count) (l .first)
+      → plocBytes f new s b ≡ boxBytes f b) (given-same e3)
+      (λ read zeroed.
+      rw (entries-back f bytes _ inside h (s .place) new same from ends limit _ _ (s .chunks) read zeroed)
+      (part-join f (b .at) (b .body + 9) (b .end) (omega arith) (leb-true (b .body + 9) (b .end) fits)))
+
+  -- the boxes inside a `pseg` whose `ploc` has that head
+  inner-back : (s : Segment) (l : Ploc) (start end : ℕ) → s .place ≤ length f → end ≤ length f
+      → chunksFrom limit f h (s .place) l (l .count) (record { at = l .first; start = start }) ≡ given (s .chunks)
+      → Zeroed f l (l .count) (l .first)
+      → {at : ℕ} {bs : List Box} → Filled Pseg f end at bs → Each (λ b. is ploc b ≡ true → plocHead f b ≡ given l) bs
+      → Each (λ b. innerBytes f new s b ≡ boxBytes f b) bs
+  unfolding innerBytes
+  inner-back s l start end from inside read zeroed (full e) heads = tt
+  inner-back s l start end from inside read zeroed (next {at = at} {b = b} short stood rest) (head, heads) =
+      let i = header-inside Pseg f at end stood in
+      let here : innerBytes f new s b ≡ boxBytes f b =
+      elim (which (is ploc b)) [
+        | inl e ↦ rw (innerBytes, e) (ploc-back s b l start (omega arith) (omega arith) from (head e) read zeroed)
+        | inr e ↦ rw (innerBytes, e)
+      ] in
+      (here, inner-back s l start end from inside read zeroed rest heads)
+
+  -- a `pseg` whose segment was read beside some others
+  segment-back : (before : List Segment) (b : Box) (s : Segment) (end : ℕ) → header File f (b .at) end ≡ given b → is pseg b ≡ true → b .end ≤ length f
+      → segment limit f h before b ≡ given s
+      → Unchanged s
+      → Same (record { box = b; fate = ofPseg s })
+  unfolding copyOf is
+  segment-back before b s end stood kind inside read =
+      let i = header-inside File f (b .at) end stood in
+      let typed = eqb-true (b .kind) (pseg .code) kind in
+      let (inner, l, cs, t, same-segment) = stepped limit f h before b read in
+      subst (λ (s : Segment). Unchanged s → Same (record { box = b; fate = ofPseg s })) same-segment
+      (λ (no-index, zeros).
+      let heads = of-kind (λ c. plocHead f c ≡ given l) ploc inner (right-one Pseg ploc inner refl (t .single)) (t .head) in
+      let filled = boxes-filled Pseg f (b .body) (b .end) (t .boxes) in
+      let pieces = inner-back (found f h before b inner cs) l _ (b .end) (omega arith) inside (t .chunks) (zeros l (t .head)) filled heads in
+      rw (
+        unindexed-same inner no-index,
+        boxes-back (innerBytes f new (found f h before b inner cs)) Pseg f (b .body) (b .end) inner filled pieces,
+      ) (reheaded-back File f end stood inside bytes (rw typed)))
+
+  -- the `pfil`, whose inner boxes stay as they are
+  pfil-back : (b : Box) (inner : List Box) (end : ℕ) → header File f (b .at) end ≡ given b → is pfil b ≡ true → b .end ≤ length f
+      → boxesIn Pfil f (b .body) (b .end) ≡ given inner
+      → hasIndex inner ≡ false
+      → Same (record { box = b; fate = ofPfil inner })
+  unfolding copyOf is
+  pfil-back b inner end stood kind inside known no-index =
+      let typed = eqb-true (b .kind) (pfil .code) kind in
+      rw (
+        unindexed-same inner no-index,
+        boxes-back (boxBytes f) Pfil f (b .body) (b .end) inner (boxes-filled Pfil f (b .body) (b .end) known) (all inner),
+      ) (reheaded-back File f end stood inside bytes (rw typed))
+    where
+      all : (bs : List Box) → Each (λ b. boxBytes f b ≡ boxBytes f b) bs
+      all [] = tt
+      all (b ∷ bs) = (refl, all bs)
+
+  -- boxes behind the first two that all stay
+  fates-back : (kept : List Segment) (bs : List Box) → Each (Stood f) (fatesFrom limit f h kept bs)
+      → Each (λ x. staying (x .fate) ≡ true) (fatesFrom limit f h kept bs)
+      → Each Unchanged (segmentsOf (fatesFrom limit f h kept bs))
+      → Each Same (fatesFrom limit f h kept bs)
+  unfolding fatesFrom segmentsOf copyOf
+  fates-back kept [] stood stay plain = tt
+  fates-back kept (b ∷ bs) (here, there) (stays, stay) plain =
+      let (one, others) = go (fateOf limit f h kept b) refl stays plain in
+      (one, fates-back (keptWith limit f h kept b) bs there stay others)
+    where
+      xs : List Fated
+      xs = fatesFrom limit f h (keptWith limit f h kept b) bs
+
+      go : (t : Fate) → fateOf limit f h kept b ≡ t → staying t ≡ true → Each Unchanged (segmentsOf (record { box = b; fate = t } ∷ xs))
+          → Same (record { box = b; fate = t }) × Each Unchanged (segmentsOf xs)
+      go (dropped n) e stays plain = absurd (false≢true stays)
+      go whole e stays plain = (refl, plain)
+      go (ofPfil inner) e stays plain = absurd (fate-no-pfil limit f h kept b e)
+      go (ofPseg s) e stays (plain, others) =
+          let (kind, found) = fate-pseg limit f h kept b e in
+          (segment-back kept b s (here .end) (here .read) kind (here .inside) (beside-given limit f h kept b found .1) plain, others)
 
 pub copy-same : (limit : ℕ) (f : List ℕ) (h : Heading) → opening f ≡ given h → ((k : ℕ) → getD f k 0 < 256) → Clean limit f h → copied f (fates limit f h) ≡ f
 copy-same limit f h opens bytes clean = ?
