@@ -1,27 +1,27 @@
 -- A file of which nothing goes is its own copy.
 use Prim.Native.Nat.{ℕ, zero, suc, _+_, _-_, _*_, _/_, _%_, _^_, _<_, _≤_}
 use mathlib.Core.Bool.{Bool, true, false, false≢true, _&&_}
-use mathlib.Core.List.{List, [], _∷_, _++_, map, map-id, append-assoc}
+use mathlib.Core.List.{List, [], _∷_, _++_, map, map-id, append-nil, append-assoc}
 use mathlib.Core.Logic.{inl, inr}
 use mathlib.Core.Option.{Option, none, some}
 use mathlib.Core.Path.{_≡_, refl, sym, ap, subst, _∙_}
-use native.Mathlib.Nat.{add-zero}
+use native.Mathlib.Nat.{add-zero, sub-zero, le-refl}
 use native.Mathlib.Numerals.{add-one}
 use native.Mathlib.Omega.{arith}
 use borrow.Author.Tests.{le-leb, lt-leb, leb-true, ltb-true, ltb-false, eqb-true, eqb-false, eq-eqb, ne-eqb}
 use lib.Arith.{digits-div, digits-mod}
 use lib.Dec.{leb, ltb, eqb}
 use lib.ListN.{length, getD, take, drop, length-take, length-drop}
-use lib.Seq.{take-suc, drop-cons, take-add, drop-drop, getD-drop}
+use lib.Seq.{take-length, length-take-le, getD-take, take-suc, drop-cons, take-add, drop-drop, getD-drop}
 use Rattle.boxes.specs.Answer.{Answer, refused, given, _>>=_, hold}
-use Rattle.boxes.specs.Framing.{Box, uuid, userSize, sized, large, header, boxesIn, frontSize, front}
+use Rattle.boxes.specs.Framing.{Box, uuid, userSize, sized, large, header, boxesIn, boxLimit, frontSize, front}
 use Rattle.boxes.specs.Kinds.{pfil, pseg, ploc, fidx, is, those, boxAt, firstOf}
 use Rattle.boxes.specs.declared.kinds.Kind.{Kind}
 use Rattle.boxes.specs.declared.kinds.Container.{Container}
 use Rattle.boxes.specs.declared.kinds.Container.the-variants.{File, Pfil, Pseg}
 use Rattle.boxes.proofs.AnswerLaws.{not-both, given-same, both-given, held}
 use Rattle.boxes.proofs.HeaderLaws.{Inside, header-inside, user-none, sized-given, by-form}
-use Rattle.boxes.proofs.ContainerLaws.{Filled, full, next, boxes-filled}
+use Rattle.boxes.proofs.ContainerLaws.{Filled, full, next, header-same, filled-boxes, boxes-filled, boxes-same, boxes-standing}
 use Rattle.boxes.proofs.KindLaws.{those-one, those-other, firstOf-those, right-one}
 use Rattle.numerals.specs.Numbers.{number, bytesOf, signed, twosComplement}
 use Rattle.numerals.specs.declared.numbers.Offset.{Offset}
@@ -29,19 +29,26 @@ use Rattle.numerals.specs.declared.numbers.Offset.the-variants.{Ahead, Back}
 use Rattle.numerals.proofs.NumberLaws.{number-below}
 use Rattle.partial.specs.BoxList.{each}
 use Rattle.partial.specs.Entries.{Ploc, Entry, Cursor, plocHead, state, stateOf, entry, mayLie, offsetPlace, placeOf, chunkStep, chunksFrom}
-use Rattle.partial.specs.Heading.{Heading, bytesIn}
+use Rattle.partial.specs.Heading.{Heading, heading, bytesIn}
+use Rattle.partial.specs.Limits.{fileLimit}
 use Rattle.partial.specs.Index.{hasIndex}
 use Rattle.partial.specs.Reading.{segment}
+use Rattle.partial.specs.Sequences.{sum}
 use Rattle.partial.specs.Segments.{Chunk, Segment, present, corrupted, hasPlace}
 use Rattle.partial.proofs.Meaning.MappedLaws.{may-be}
 use Rattle.partial.proofs.Meaning.SequenceLaws.{which, both, Each}
+use Rattle.partial.proofs.Reading.HeadingAppendLaws.{headed}
 use Rattle.partial.proofs.Reading.KeptLaws.{found, stepped}
 use Rattle.additions.specs.Append.{Placed, flagByte, entryBytes}
-use Rattle.salvage.specs.Kept.{Fate, dropped, whole, ofPfil, ofPseg, Fated, walkOf, opening, keptWith, keptOf, fateOf, fatesFrom, fates}
-use Rattle.salvage.specs.Copy.{boxBytes, unindexed, reheaded, offsetTo, placedAnew, plocBytes, innerBytes, copyOf, copySize, newPlace, copied}
-use Rattle.salvage.proofs.CopyLaws.{staying}
-use Rattle.salvage.proofs.FateLaws.{segmentsOf, fate-pseg, fate-no-pfil, beside-given}
-use Rattle.salvage.proofs.WholeLaws.{Stood}
+use Rattle.salvage.specs.Kept.{Fate, dropped, whole, ofPfil, ofPseg, Fated, walkOf, framed, firstTwo, opening, keptWith, keptOf, fateOf, fatesFrom, fates}
+use Rattle.salvage.specs.Copy.{boxBytes, unindexed, reheaded, offsetTo, placedAnew, plocBytes, innerBytes, copyOf, newPlace, copied}
+use Rattle.salvage.proofs.CopyLaws.{staying, Ready}
+use Rattle.salvage.proofs.PieceLaws.{length-boxBytes}
+use Rattle.salvage.proofs.PlaceLaws.{Chained, ends, AsLong, new-along}
+use Rattle.salvage.proofs.FateLaws.{segmentsOf, kept-all, fate-pseg, fate-no-pfil, beside-given}
+use Rattle.salvage.proofs.FramedLaws.{framed-boxes}
+use Rattle.salvage.proofs.HeadingLaws.{header-nearer, opened}
+use Rattle.salvage.proofs.WholeLaws.{Stood, fates-all, fates-stood, fates-ready, fates-chained}
 
 -- of so many entries from a place on those without data have offset 0
 abbrev pub Zeroed : List ℕ → Ploc → ℕ → ℕ → Type 0
@@ -351,19 +358,20 @@ of-kind P k bs one first = go bs (only (those k bs) one (subst P (firstOf-those 
           | inr e ↦ (λ e′. absurd (false≢true (sym e ∙ e′)), go bs (subst (Each P) (those-other k b bs e) all))
         ]
 
+-- what stands in the copy for a box is that box
+abbrev Same : List ℕ → (ℕ → ℕ) → Fated → Type 0
+Same f new x = copyOf f new x ≡ boxBytes f (x .box)
+
+-- a segment without an index whose empty chunks have offset 0
+abbrev Unchanged : List ℕ → Segment → Type 0
+Unchanged f s = (hasIndex (s .inner) ≡ false) × ((l : Ploc) → plocHead f (firstOf ploc (s .inner)) ≡ given l → Zeroed f l (l .count) (l .first))
+
 -- where no place of the file changes
 module _ (limit : ℕ) (f : List ℕ) (h : Heading) (bytes : (k : ℕ) → getD f k 0 < 256)
     (ends : (k : ℕ) → k < length (h .boxes) → boxAt k (h .boxes) .end ≤ length f)
     (new : ℕ → ℕ)
     (same : (place : ℕ) → place ≤ length f → new place ≡ place) where
-  -- what stands in the copy for a box is that box
-  abbrev Same : Fated → Type 0
-  Same x = copyOf f new x ≡ boxBytes f (x .box)
-
-  -- a segment without an index whose empty chunks have offset 0
-  abbrev Unchanged : Segment → Type 0
-  Unchanged s = (hasIndex (s .inner) ≡ false) × ((l : Ploc) → plocHead f (firstOf ploc (s .inner)) ≡ given l → Zeroed f l (l .count) (l .first))
-
+  -- the `ploc` of a segment
   ploc-back : (s : Segment) (b : Box) (l : Ploc) (start : ℕ) → b .at ≤ b .body → b .end ≤ length f → s .place ≤ length f → plocHead f b ≡ given l
       → chunksFrom limit f h (s .place) l (l .count) (record { at = l .first; start = start }) ≡ given (s .chunks)
       → Zeroed f l (l .count) (l .first)
@@ -402,14 +410,14 @@ module _ (limit : ℕ) (f : List ℕ) (h : Heading) (bytes : (k : ℕ) → getD 
   -- a `pseg` whose segment was read beside some others
   segment-back : (before : List Segment) (b : Box) (s : Segment) (end : ℕ) → header File f (b .at) end ≡ given b → is pseg b ≡ true → b .end ≤ length f
       → segment limit f h before b ≡ given s
-      → Unchanged s
-      → Same (record { box = b; fate = ofPseg s })
+      → Unchanged f s
+      → Same f new (record { box = b; fate = ofPseg s })
   unfolding copyOf is
   segment-back before b s end stood kind inside read =
       let i = header-inside File f (b .at) end stood in
       let typed = eqb-true (b .kind) (pseg .code) kind in
       let (inner, l, cs, t, same-segment) = stepped limit f h before b read in
-      subst (λ (s : Segment). Unchanged s → Same (record { box = b; fate = ofPseg s })) same-segment
+      subst (λ (s : Segment). Unchanged f s → Same f new (record { box = b; fate = ofPseg s })) same-segment
       (λ (no-index, zeros).
       let heads = of-kind (λ c. plocHead f c ≡ given l) ploc inner (right-one Pseg ploc inner refl (t .single)) (t .head) in
       let filled = boxes-filled Pseg f (b .body) (b .end) (t .boxes) in
@@ -423,7 +431,7 @@ module _ (limit : ℕ) (f : List ℕ) (h : Heading) (bytes : (k : ℕ) → getD 
   pfil-back : (b : Box) (inner : List Box) (end : ℕ) → header File f (b .at) end ≡ given b → is pfil b ≡ true → b .end ≤ length f
       → boxesIn Pfil f (b .body) (b .end) ≡ given inner
       → hasIndex inner ≡ false
-      → Same (record { box = b; fate = ofPfil inner })
+      → Same f new (record { box = b; fate = ofPfil inner })
   unfolding copyOf is
   pfil-back b inner end stood kind inside known no-index =
       let typed = eqb-true (b .kind) (pfil .code) kind in
@@ -439,8 +447,8 @@ module _ (limit : ℕ) (f : List ℕ) (h : Heading) (bytes : (k : ℕ) → getD 
   -- boxes behind the first two that all stay
   fates-back : (kept : List Segment) (bs : List Box) → Each (Stood f) (fatesFrom limit f h kept bs)
       → Each (λ x. staying (x .fate) ≡ true) (fatesFrom limit f h kept bs)
-      → Each Unchanged (segmentsOf (fatesFrom limit f h kept bs))
-      → Each Same (fatesFrom limit f h kept bs)
+      → Each (Unchanged f) (segmentsOf (fatesFrom limit f h kept bs))
+      → Each (Same f new) (fatesFrom limit f h kept bs)
   unfolding fatesFrom segmentsOf copyOf
   fates-back kept [] stood stay plain = tt
   fates-back kept (b ∷ bs) (here, there) (stays, stay) plain =
@@ -450,8 +458,8 @@ module _ (limit : ℕ) (f : List ℕ) (h : Heading) (bytes : (k : ℕ) → getD 
       xs : List Fated
       xs = fatesFrom limit f h (keptWith limit f h kept b) bs
 
-      go : (t : Fate) → fateOf limit f h kept b ≡ t → staying t ≡ true → Each Unchanged (segmentsOf (record { box = b; fate = t } ∷ xs))
-          → Same (record { box = b; fate = t }) × Each Unchanged (segmentsOf xs)
+      go : (t : Fate) → fateOf limit f h kept b ≡ t → staying t ≡ true → Each (Unchanged f) (segmentsOf (record { box = b; fate = t } ∷ xs))
+          → Same f new (record { box = b; fate = t }) × Each (Unchanged f) (segmentsOf xs)
       go (dropped n) e stays plain = absurd (false≢true stays)
       go whole e stays plain = (refl, plain)
       go (ofPfil inner) e stays plain = absurd (fate-no-pfil limit f h kept b e)
@@ -459,5 +467,106 @@ module _ (limit : ℕ) (f : List ℕ) (h : Heading) (bytes : (k : ℕ) → getD 
           let (kind, found) = fate-pseg limit f h kept b e in
           (segment-back kept b s (here .end) (here .read) kind (here .inside) (beside-given limit f h kept b found .1) plain, others)
 
+-- ---- the file
+
+-- the boxes of `pfil` are those that it has in the first two boxes alone
+cut-inner : (f : List ℕ) {to : ℕ} {bs : List Box} → Filled File f to 0 bs → to ≤ length f → 2 ≤ length bs → (k : Heading) → heading (firstTwo f bs) ≡ given k
+    → boxesIn Pfil f (boxAt 1 bs .body) (boxAt 1 bs .end) ≡ given (k .inner)
+unfolding firstTwo boxAt boxLimit
+cut-inner f (full e) inside two k known = absurd (omega arith)
+cut-inner f (next short read (full e)) inside two k known = absurd (omega arith)
+cut-inner f {to} (next {b = a} short read (next {b = b} {bs = bs} short′ read′ rest)) inside two k known =
+    let g : List ℕ = take (b .end) f in
+    let one = header-inside File f 0 to read in
+    let other = header-inside File f (a .end) to read′ in
+    let alike : (i : ℕ) → i < b .end → getD g i 0 ≡ getD f i 0 = λ i less. getD-take (b .end) f i 0 less in
+    let cut = header-same f g (b .end) alike File in
+    let filled : Filled File g (b .end) 0 (a ∷ b ∷ []) =
+    next {at = 0} (omega arith) (cut 0 ∙ header-nearer File f 0 to (b .end) read (omega arith) (omega arith))
+    (next {at = a .end} (omega arith) (cut (a .end) ∙ header-nearer File f (a .end) to (b .end) read′ (omega arith) (omega arith)) (full (le-refl (b .end)))) in
+    let t = headed g k (rw (le-leb 2 (length (a ∷ b ∷ bs)) two, firstTwo) at known) in
+    let boxes : k .boxes ≡ a ∷ b ∷ [] = given-same (sym (t .boxes) ∙ rw (length-take-le (b .end) f (omega arith)) (filled-boxes File filled (omega arith))) in
+    sym (boxes-same f g (b .end) alike Pfil (b .body)) ∙ rw boxes at (t .inner)
+
+module _ (f : List ℕ) (h : Heading) (opens : opening f ≡ given h) where
+  pfil-inner : boxesIn Pfil f (boxAt 1 (h .boxes) .body) (boxAt 1 (h .boxes) .end) ≡ given (h .inner)
+  unfolding opening
+  pfil-inner =
+      let o = opened f h opens in
+      let (_, e) = held 1 (leb (length f) fileLimit) _ opens in
+      let (k, known, same) = both-given (heading (firstTwo f (walkOf f .boxes))) _ e in
+      let inner : k .inner ≡ h .inner = ap (λ (h : Heading). h .inner) (given-same same) in
+      rw (← inner) (cut-inner f (o .filled) (o .inside) (o .two) k (ap (λ (bs : List Box). heading (firstTwo f bs)) (o .boxes) ∙ known))
+
+  -- without a framing error its boxes are all of it
+  all-filled : walkOf f .fault ≡ none → Filled File f (length f) 0 (h .boxes)
+  unfolding framed
+  all-filled faultless =
+      let all : framed f ≡ f = rw (framed, faultless) in
+      rw (opened f h opens .boxes) (boxes-filled File f 0 (length f) (rw all at (framed-boxes f)))
+
+  -- and each ends in it
+  all-inside : (k : ℕ) → k < length (h .boxes) → boxAt k (h .boxes) .end ≤ length f
+  all-inside k there =
+      let o = opened f h opens in
+      omega (arith, boxes-standing File f 0 (o .end) (filled-boxes File (o .filled) (o .few)) k there .inside .ends)
+
+-- boxes that fill a file end with it
+filled-ends : (f : List ℕ) (end at : ℕ) (xs : List Fated) → at ≤ end → Filled File f end at (map (λ x. x .box) xs) → ends at xs ≡ end
+filled-ends f end at [] low (full e) = omega arith
+filled-ends f end at (x ∷ xs) low (next short read rest) = filled-ends f end (x .box .end) xs (header-inside File f at end read .ends) rest
+
+-- a box that is copied as it was is as long in the copy
+all-long : (f : List ℕ) (new : ℕ → ℕ) (xs : List Fated) → Each (Same f new) xs → Each (Ready f new) xs → Each (Stood f) xs
+    → Each AsLong xs
+all-long f new [] same ready stood = tt
+all-long f new (x ∷ xs) (here, same) (r, ready) (there, stood) =
+    (sym (r .long) ∙ ap length here ∙ length-boxBytes File f (there .end) (there .read) (there .inside), all-long f new xs same ready stood)
+
+-- what holds of each and what else holds of each
+each-both : {A : Type 0} (P Q : A → Type 0) (xs : List A) → Each P xs → Each Q xs → Each (λ x. P x × Q x) xs
+each-both P Q [] all too = tt
+each-both P Q (x ∷ xs) (p, all) (q, too) = ((p, q), each-both P Q xs all too)
+
+module _ (limit : ℕ) (f : List ℕ) (h : Heading) (opens : opening f ≡ given h) (bytes : (k : ℕ) → getD f k 0 < 256) (clean : Clean limit f h) where
+  abbrev xs : List Fated
+  xs = fates limit f h
+
+  stood : Each (Stood f) xs
+  stood = fates-stood limit f h opens bytes
+
+  filled : Filled File f (length f) 0 (map (λ x. x .box) xs)
+  filled = rw (fates-all limit f h opens bytes) (all-filled f h opens (clean .faultless))
+
+  -- where no place of the file changes each box is copied as it was
+  same-all : (new : ℕ → ℕ) → ((place : ℕ) → place ≤ length f → new place ≡ place) → Each (Same f new) xs
+  unfolding fates segmentsOf copyOf
+  same-all new same =
+      let plain : Each (Unchanged f) (segmentsOf xs) = rw (kept-all limit f h) at (each-both _ _ (keptOf limit f h) (clean .segments) (clean .zeros)) in
+      let second = stood .1 .0 in
+      let inside = all-inside f h opens in (
+        refl,
+        (
+          pfil-back limit f h bytes inside new same (boxAt 1 (h .boxes)) (h .inner) (second .end) (second .read) (opened f h opens .second) (second .inside) (pfil-inner f h opens) (clean .pfil),
+          fates-back limit f h bytes inside new same [] (drop 2 (h .boxes)) (stood .1 .1) (clean .stay .1 .1) plain,
+        ),
+      )
+
+  long-all : Each AsLong xs
+  long-all = all-long f (λ place. place) xs (same-all (λ place. place) (λ place _. refl)) (fates-ready limit f h opens bytes (λ place. place)) stood
+
+  -- so none does
+  place-same : (place : ℕ) → place ≤ length f → newPlace 0 xs place ≡ place
+  unfolding sum
+  place-same place low =
+      let chained : Chained 0 (xs ++ []) = rw append-nil (fates-chained limit f h opens bytes) in
+      let there = filled-ends f (length f) 0 xs (omega arith) filled in
+      omega (arith, rw append-nil at (new-along 0 0 [] xs [] chained long-all place (omega arith) (omega arith)))
+
 pub copy-same : (limit : ℕ) (f : List ℕ) (h : Heading) → opening f ≡ given h → ((k : ℕ) → getD f k 0 < 256) → Clean limit f h → copied f (fates limit f h) ≡ f
-copy-same limit f h opens bytes clean = ?
+unfolding copied
+copy-same limit f h opens bytes clean =
+    let new : ℕ → ℕ = newPlace 0 (fates limit f h) in
+    pieces-back (copyOf f new) (λ x. x .box) File f (length f) {at = 0} (fates limit f h) (filled limit f h opens bytes clean)
+    (same-all limit f h opens bytes clean new (place-same limit f h opens bytes clean))
+    ∙ rw sub-zero (take-length f)
