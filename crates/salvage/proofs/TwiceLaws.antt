@@ -3,7 +3,7 @@ use Prim.Native.Nat.{ℕ, zero, suc, _+_, _-_, _/_, _%_, _^_, _<_, _≤_}
 use mathlib.Core.Bool.{Bool, true, false, _&&_, or-true}
 use mathlib.Core.List.{List, [], _∷_, _++_, map, append-assoc, append-nil, List·Memᴰ, List·Memᴰ·head, List·Memᴰ·tail}
 use mathlib.Core.Logic.{inl, inr}
-use mathlib.Core.Option.{none}
+use mathlib.Core.Option.{Option, none, some}
 use mathlib.Core.Path.{_≡_, refl, sym, ap, subst, _∙_}
 use native.Mathlib.Nat.{zero-add, add-zero, mod-lt, le-refl}
 use native.Mathlib.Omega.{arith}
@@ -12,10 +12,10 @@ use lib.Dec.{leb, eqb, lit<}
 use lib.ListN.{length, getD, take, drop, length-append}
 use lib.Seq.{take-at}
 use Rattle.boxes.specs.Answer.{given}
-use Rattle.boxes.specs.Framing.{Box, Walked, boxLimit, boxesIn, frontSize, front}
+use Rattle.boxes.specs.Framing.{Box, Fault, Walked, boxLimit, boxesIn, frontSize, front}
 use Rattle.boxes.specs.Kinds.{ftyp, pfil, pseg, pdat, ploc, is, boxAt, firstOf}
 use Rattle.boxes.specs.declared.kinds.Container.the-variants.{File}
-use Rattle.boxes.proofs.AnswerLaws.{given-same}
+use Rattle.boxes.proofs.AnswerLaws.{both-given, given-same}
 use Rattle.boxes.proofs.FaultLaws.{no-fault}
 use Rattle.boxes.proofs.HeaderLaws.{header-inside}
 use Rattle.boxes.proofs.KindLaws.{those-nil}
@@ -33,7 +33,7 @@ use Rattle.partial.proofs.Reading.HeadingAppendLaws.{headed}
 use Rattle.additions.specs.Append.{Placed, flagByte, entryBytes}
 use Rattle.additions.proofs.EntriesBackLaws.{Tells, entry-long, entry-back}
 use Rattle.additions.proofs.StandsLaws.{Stands, stands-right}
-use Rattle.salvage.specs.Kept.{Fate, dropped, whole, ofPfil, ofPseg, Fated, walkOf, firstTwo, opening}
+use Rattle.salvage.specs.Kept.{Fate, dropped, whole, ofPfil, ofPseg, Fated, walkOf, framed, firstTwo, opening}
 use Rattle.salvage.specs.Kept.{liesIn, beside, keptWith, keptFrom, keptOf, stays, fateOf, fatesFrom, fates}
 use Rattle.salvage.specs.Copy.{boxBytes, unindexed, reheaded, placedAnew, plocBytes, innerBytes, copyOf, copySize, copied, salvage}
 use Rattle.salvage.specs.Lines.{salvageText}
@@ -41,6 +41,8 @@ use Rattle.salvage.proofs.Shapes.{resized, boxesAnew, chunkAnew, segmen
 use Rattle.salvage.proofs.PlaceLaws.{sizes, Copied, new-nearer}
 use Rattle.salvage.proofs.CopyLaws.{staying, Ready, pieces-long, copy-filled, copy-stands}
 use Rattle.salvage.proofs.FateLaws.{segmentsOf, segments-split, fate-pseg, fate-whole, fate-no-pfil, beside-given}
+use Rattle.salvage.proofs.FramedLaws.{framed-opens}
+use Rattle.salvage.proofs.LineLaws.{lines-none}
 use Rattle.salvage.proofs.HeadingLaws.{opened, firstFated, secondFated, headingAnew, allAnew, heading-back, pfil-unindexed}
 use Rattle.salvage.proofs.WholeLaws.{fates-ready, fates-chained, copy-shorter, headingBack, heading-copied}
 use Rattle.salvage.proofs.PlocLaws.{Lies, offset-empty, told, bytes-are, front-long, length-ploc, headAnew, head-back}
@@ -48,7 +50,7 @@ use Rattle.salvage.proofs.SegmentLaws.{segment-place, was, located, loc
 use Rattle.salvage.proofs.LieLaws.{newPlaces, run-copied, chunk-carried, kept-lie}
 use Rattle.salvage.proofs.ReadingLaws.{Anew, none-anew, one-anew, anew-long, anew-many, anew-count, anew-beside, anew-agreed, anew-fates, anew-split, kept-anew}
 use Rattle.salvage.proofs.ReadingLaws.{segmentsBack, sizes-more, all-split, stands-new, new-there, stood-there, fate-there, kept-there, segment-there, all-read}
-use Rattle.salvage.proofs.SameLaws.{Zeroed, Clean}
+use Rattle.salvage.proofs.SameLaws.{Zeroed, Clean, copy-same}
 
 -- ---- bytes
 
@@ -211,11 +213,11 @@ module _ (new : ℕ → ℕ) (one two : Chunk → Bool) where
       → someOf one cs ≡ true
       → someOf two (map (chunkAnew new) cs) ≡ true
   unfolding someOf
-  some-chunks [] so some = some
-  some-chunks (c ∷ cs) so some =
+  some-chunks [] so passed = passed
+  some-chunks (c ∷ cs) so passed =
       elim (which (one c)) [
         | inl e ↦ rw (so c (List·Memᴰ·head refl) e)
-        | inr e ↦ rw (some-chunks cs (λ d there. so d (List·Memᴰ·tail there)) (rw e at some), or-true)
+        | inr e ↦ rw (some-chunks cs (λ d there. so d (List·Memᴰ·tail there)) (rw e at passed), or-true)
       ]
 
   some-anew : {ss ts : List Segment} → Anew new ss ts
@@ -223,12 +225,12 @@ module _ (new : ℕ → ℕ) (one two : Chunk → Bool) where
       → someOf one (chunksOf ss) ≡ true
       → someOf two (chunksOf ts) ≡ true
   unfolding chunksOf someOf
-  some-anew none-anew so some = some
-  some-anew (one-anew {ss} {ts} b s rest) so some =
+  some-anew none-anew so passed = passed
+  some-anew (one-anew {ss} {ts} b s rest) so passed =
       rw (some-append two (map (chunkAnew new) (s .chunks)) (chunksOf ts))
       (elim (which (someOf one (s .chunks))) [
         | inl e ↦ rw (some-chunks (s .chunks) (so s (List·Memᴰ·head refl)) e)
-        | inr e ↦ rw (some-anew rest (λ t there. so t (List·Memᴰ·tail there)) (rw (some-append one (s .chunks) (chunksOf ss), e) at some), or-true)
+        | inr e ↦ rw (some-anew rest (λ t there. so t (List·Memᴰ·tail there)) (rw (some-append one (s .chunks) (chunksOf ss), e) at passed), or-true)
       ])
 
 -- ---- what is found of a box
@@ -387,10 +389,10 @@ module _ (limit : ℕ) (f : List ℕ) (h : Heading) (opens : opening f ≡ given
       let (is-good, from) = both (eqb (c .state) good) (leb (c .place) (b .at)) two in
       let low = leb-true (c .place) (b .at) from in
       let high = leb-true (b .end) (c .place + c .size) to in
-      let some : 0 < c .size = omega arith in
-      let placed : hasPlace (c .state) (c .size) ≡ true = unfold hasPlace present in rw (eqb-true (c .state) good is-good, lt-ltb 0 (c .size) some) in
+      let filled : 0 < c .size = omega arith in
+      let placed : hasPlace (c .state) (c .size) ≡ true = unfold hasPlace present in rw (eqb-true (c .state) good is-good, lt-ltb 0 (c .size) filled) in
       let run = chunk-carried limit f h opens bytes s there c chunk placed .0 in
-      let (first, near) = new-nearer 0 0 (fates limit f h) chained (c .place) (b .at) (run-copied (fates limit f h) chained (c .place) (c .size) run some) own .ahead low in
+      let (first, near) = new-nearer 0 0 (fates limit f h) chained (c .place) (b .at) (run-copied (fates limit f h) chained (c .place) (c .size) run filled) own .ahead low in
       let put = new-there limit f h opens bytes before x behind split in
       rw (is-good, chunkAnew, placed, le-leb (new (c .place)) at (omega arith), le-leb (at + (b .end - b .at)) (new (c .place) + c .size) (omega arith)))
 
@@ -473,9 +475,47 @@ module _ (limit : ℕ) (f : List ℕ) (h : Heading) (opens : opening f ≡ given
         zeros = rw kept-again (on .zeros);
       }
 
+-- what is known of a copy
+record Made (limit : ℕ) (g : List ℕ) : Type 0 where
+  heading : Heading
+  opens : opening g ≡ given heading
+  bytes : (k : ℕ) → getD g k 0 < 256
+  clean : Clean limit g heading
+
 module _ (limit : ℕ) (f g : List ℕ) (bytes : (k : ℕ) → getD f k 0 < 256) (once : salvage limit f ≡ given g) where
+  framed-bytes : (k : ℕ) → getD (framed f) k 0 < 256
+  unfolding framed
+  framed-bytes = low-at (go (walkOf f .fault))
+    where
+      go : (x : Option Fault) → Low (elim x [ none ↦ f | some x ↦ take (x .at) f ])
+      go none = low-all f bytes
+      go (some x) = low-take (x .at) (low-all f bytes)
+
+  made : Made limit g
+  unfolding salvage
+  made =
+      let (h, opens, same) = both-given (opening f) _ once in
+      let whole = framed-opens f h opens in
+      subst (Made limit) (given-same same)
+      (record {
+        heading = headingBack limit (framed f) h whole framed-bytes;
+        opens = copy-opens limit (framed f) h whole framed-bytes;
+        bytes = copy-bytes limit (framed f) h whole framed-bytes;
+        clean = copy-clean limit (framed f) h whole framed-bytes;
+      })
+
+  framed-again : framed g ≡ g
+  unfolding framed
+  framed-again = rw (framed, made .clean .faultless)
+
   pub salvage-twice : salvage limit g ≡ given g
-  salvage-twice = ?
+  unfolding salvage
+  salvage-twice =
+      let m = made in
+      rw (m .opens, framed-again, copy-same limit g (m .heading) (m .opens) (m .bytes) (m .clean))
 
   pub lines-twice : (most : ℕ) → length g ≤ most → salvageText limit most g ≡ []
-  lines-twice most few = ?
+  unfolding salvageText
+  lines-twice most few =
+      let m = made in
+      rw (salvageText, le-leb (length g) most few, m .opens, framed-again, m .clean .faultless) (lines-none (fates limit g (m .heading)) (m .clean .stay))
