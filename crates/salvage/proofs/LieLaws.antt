@@ -432,7 +432,7 @@ module _ (limit : ℕ) (f : List ℕ) (h : Heading) (opens : opening f ≡ given
         record { before = own .before; x = x; behind = own .behind; all = own .all; low = omega arith; high = omega arith; far = omega arith }
 
     module _ (c : Chunk) (chunk : List·Memᴰ c (s .chunks)) (placed : hasPlace (c .state) (c .size) ≡ true) where
-      pub some-bytes : 0 < c .size
+      some-bytes : 0 < c .size
       unfolding hasPlace
       some-bytes = ltb-true 0 (c .size) (both (present (c .state)) (ltb 0 (c .size)) placed .1)
 

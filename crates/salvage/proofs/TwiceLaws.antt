@@ -263,26 +263,30 @@ module _ (limit : ℕ) (f : List ℕ) (h : Heading) (opens : opening f ≡ given
   abbrev back : Heading
   back = headingBack limit f h opens bytes
 
+  -- the boxes behind the first two, and the first two before some of them
+  abbrev others : List Fated
+  others = fatesFrom limit f h [] (drop 2 (h .boxes))
+
+  abbrev upTo : List Fated → List Fated
+  upTo before = firstFated f h opens ∷ secondFated f h opens ∷ before
+
   copy-walk : walkOf copy ≡ record { boxes = back .boxes; fault = none }
   unfolding walkOf boxesIn
   copy-walk = no-fault (walkOf copy) (headed copy back (heading-copied limit f h opens bytes) .boxes)
 
   -- its first two boxes alone
-  abbrev firsts : List Fated
-  firsts = firstFated f h opens ∷ secondFated f h opens ∷ []
-
   abbrev two : List ℕ
-  two = each (copyOf f new) firsts
+  two = each (copyOf f new) (upTo [])
 
-  two-ready : Each (Ready f new) firsts
+  two-ready : Each (Ready f new) (upTo [])
   unfolding fates
   two-ready = let (one, (other, _)) = fates-ready limit f h opens bytes new in (one, (other, tt))
 
   two-long : length two ≡ copySize (firstFated f h opens) + copySize (secondFated f h opens)
   unfolding sum
-  two-long = pieces-long f new firsts two-ready ∙ omega arith
+  two-long = pieces-long f new (upTo []) two-ready ∙ omega arith
 
-  two-split : copy ≡ two ++ each (copyOf f new) (fatesFrom limit f h [] (drop 2 (h .boxes)))
+  two-split : copy ≡ two ++ each (copyOf f new) others
   unfolding copied fates each
   two-split = simp (append-assoc, append-nil)
 
@@ -292,7 +296,7 @@ module _ (limit : ℕ) (f : List ℕ) (h : Heading) (opens : opening f ≡ given
       let whole = le-leb 2 (length (back .boxes)) (omega arith) in
       rw (firstTwo, whole, two-split, zero-add) (take-at two _ _ two-long)
 
-  two-boxes : boxesAnew 0 firsts ≡ allAnew f h opens new two []
+  two-boxes : boxesAnew 0 (upTo []) ≡ allAnew f h opens new two []
   unfolding boxesAnew
   two-boxes = rw (zero-add (copySize (firstFated f h opens)))
 
@@ -300,7 +304,7 @@ module _ (limit : ℕ) (f : List ℕ) (h : Heading) (opens : opening f ≡ given
   unfolding boxLimit sum
   two-heading =
       heading-back f h opens new two [] (omega (arith, simp length-append at (ap length two-split), copy-shorter limit f h opens bytes, opened f h opens .small))
-      (rw two-boxes at (copy-filled f new firsts two-ready))
+      (rw two-boxes at (copy-filled f new (upTo []) two-ready))
       (omega arith)
       (copy-stands f new [] (firstFated f h opens) (secondFated f h opens ∷ []) two-ready)
       (rw add-zero at (copy-stands f new (firstFated f h opens ∷ []) (secondFated f h opens) [] two-ready))
@@ -316,16 +320,11 @@ module _ (limit : ℕ) (f : List ℕ) (h : Heading) (opens : opening f ≡ given
   unfolding copied
   copy-bytes = low-at (low-each (copyOf f new) (low-copy f (low-all f bytes) new) (fates limit f h))
 
-  -- the boxes behind the first two, and the first two before some of them
-  abbrev others : List Fated
-  others = fatesFrom limit f h [] (drop 2 (h .boxes))
-
-  abbrev upTo : List Fated → List Fated
-  upTo before = firstFated f h opens ∷ secondFated f h opens ∷ before
-
+  -- the segments that are kept of it
   abbrev kept : List Segment
   kept = segmentsBack limit f h opens bytes
 
+  -- its empty chunks have offset 0
   abbrev ZerosIn : Segment → Type 0
   ZerosIn s = (l : Ploc) → plocHead copy (firstOf ploc (s .inner)) ≡ given l → Zeroed copy l (l .count) (l .first)
 
