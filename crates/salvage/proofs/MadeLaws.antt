@@ -1,0 +1,206 @@
+-- Of a file that begin and append alone made nothing goes.
+use Prim.Native.Nat.{ℕ, zero, suc, _+_, _-_, _^_, _≤_, _<_}
+use mathlib.Core.Bool.{Bool, true, false, not, _&&_, _||_, or-true, true≢false}
+use mathlib.Core.List.{List, [], _∷_, _++_, map, append-assoc, List·Memᴰ}
+use mathlib.Core.Logic.{inl, inr}
+use mathlib.Core.Path.{_≡_, refl, sym, ap, subst, _∙_}
+use native.Mathlib.Nat.{add-zero, mod-lt}
+use native.Mathlib.Omega.{arith}
+use borrow.Author.Tests.{le-leb, lt-ltb, leb-true, ltb-true, eq-eqb, eqb-true, eqb-false, not-true, ne-eqb}
+use lib.Dec.{leb, ltb, eqb, lit<, T}
+use lib.ListN.{length, getD, take, drop, length-append, length-drop}
+use lib.Seq.{drop-append-le, getD-drop}
+use Rattle.boxes.specs.Answer.{Answer, refused, given}
+use Rattle.boxes.specs.Framing.{Box, boxedAt}
+use Rattle.boxes.specs.Kinds.{ploc, is, firstOf}
+use Rattle.boxes.proofs.AnswerLaws.{both-given, held, given-same, not-both}
+use Rattle.numerals.specs.Numbers.{number, signed}
+use Rattle.numerals.specs.declared.numbers.Offset.the-variants.{Ahead}
+use Rattle.numerals.proofs.NumberLaws.{number-none}
+use Rattle.numerals.proofs.OffsetLaws.{signed-none}
+use Rattle.partial.specs.Entries.{Ploc, Entry, Cursor, plocHead, stateOf, entry, inData, mayLie, placeOf, chunkStep, chunksFrom}
+use Rattle.partial.specs.Heading.{Heading, heading}
+use Rattle.partial.specs.Mixed.{allowed, fillUp, wholeBoxes}
+use Rattle.partial.specs.Reading.{segment, segmentsFrom}
+use Rattle.partial.specs.Segments.{Chunk, Segment, good, present, hasPlace}
+use Rattle.partial.specs.Sequences.{someOf, allOf, sum}
+use Rattle.partial.proofs.Meaning.SequenceLaws.{which, both, Each, each-append, all-append, none-by}
+use Rattle.partial.proofs.Reading.HeadingAppendLaws.{all-kept}
+use Rattle.partial.proofs.Reading.KeptLaws.{found, stepped}
+use Rattle.additions.specs.Addition.{Item, sizeOf, goesOut}
+use Rattle.additions.specs.Append.{back, placedWith, newChunks}
+use Rattle.additions.proofs.DataLaws.{out-present, size-on, size-past}
+use Rattle.additions.proofs.PlacedLaws.{formed, formed-some, back-out, place-present, OutLie}
+use Rattle.additions.proofs.WholeLaws.{allowed-other, Row, row-starts, starts, starts-later}
+use Rattle.additions.proofs.OutsideLaws.{out-good}
+use Rattle.salvage.specs.Kept.{liesIn}
+use Rattle.salvage.specs.Demands.{ZeroOffsets}
+
+-- ---- where no chunk is empty, the entries without data have offset 0
+
+-- whether a chunk is not empty
+abbrev sized : Chunk → Bool
+sized c = not (eqb (c .size) 0)
+
+-- an entry that is not present has offset 0
+entry-absent : (f : List ℕ) (l : Ploc) (at : ℕ) (x : Entry) → entry f l at ≡ given x → present (x .state) ≡ false → x .offset ≡ Ahead 0
+unfolding entry
+entry-absent f l at x e absent =
+    let (_, e1) = held 17 (ltb at (l .end)) _ e in
+    let (s, _, e2) = both-given (stateOf (getD f at 0)) _ e1 in
+    let width : ℕ = elim (present s) [ true ↦ l .offsetSize | false ↦ 0 ] in
+    let (_, e3) = held 17 (leb (at + 1 + l .lengthSize + width) (l .end)) _ e2 in
+    let same = given-same e3 in
+    let lacks : present s ≡ false = ap (λ (y : Entry). present (y .state)) same ∙ absent in
+    let none : width ≡ 0 = rw lacks in
+    sym (ap (λ (y : Entry). y .offset) same) ∙ rw (none, number-none f (at + 1 + l .lengthSize)) signed-none
+
+-- a chunk that is not empty has no place only where it is not present
+sized-absent : (state size : ℕ) → not (eqb size 0) ≡ true → hasPlace state size ≡ false → present state ≡ false
+unfolding hasPlace
+sized-absent state size some none =
+    elim (which (present state)) [
+      | inl e ↦
+          let more = eqb-false size 0 (not-true (eqb size 0) some) in
+          absurd (true≢false (sym (lt-ltb 0 size (omega arith)) ∙ rw e at none))
+      | inr e ↦ e
+    ]
+
+module _ (limit : ℕ) (f : List ℕ) (h : Heading) where
+  chunks-zero : (pseg : ℕ) (l : Ploc) (more : ℕ) (c : Cursor) (cs : List Chunk) → chunksFrom limit f h pseg l more c ≡ given cs → allOf sized cs ≡ true
+      → ZeroOffsets f l more (c .at)
+  unfolding chunksFrom chunkStep allOf
+  chunks-zero pseg l zero c cs e all = tt
+  chunks-zero pseg l (suc more) c cs e all = λ x read.
+      let (met, step, e1) = both-given (chunkStep limit f h pseg l c) _ e in
+      let (rest, others, e2) = both-given (chunksFrom limit f h pseg l more (met .1)) _ e1 in
+      let (y, known, e3) = both-given (entry f l (c .at)) _ step in
+      let (_, e4) = held 23 (leb (c .start + y .size) limit) _ e3 in
+      let (place, _, e5) = both-given (placeOf h pseg y) _ e4 in
+      let same-met = given-same e5 in
+      let same : y ≡ x = given-same (sym known ∙ read) in
+      let (here, there) = both (sized (met .0)) (allOf sized rest) (rw (sym (given-same e2)) at all) in
+      let size : met .0 .size ≡ x .size = ap (λ (p : Chunk × Cursor). p .0 .size) (sym same-met) ∙ ap (λ (z : Entry). z .size) same in
+      let next : met .1 .at ≡ x .next = ap (λ (p : Chunk × Cursor). p .1 .at) (sym same-met) ∙ ap (λ (z : Entry). z .next) same in (
+        λ none. entry-absent f l (c .at) x read (sized-absent (x .state) (x .size) (rw size at here) none),
+        rw next at (chunks-zero pseg l more (met .1) rest others there),
+      )
+
+  -- a segment none of whose chunks is empty
+  abbrev Zeroed : Segment → Type 0
+  Zeroed s = allOf sized (s .chunks) ≡ true → (l : Ploc) → plocHead f (firstOf ploc (s .inner)) ≡ given l → ZeroOffsets f l (l .count) (l .first)
+
+  segment-zero : (before : List Segment) (b : Box) (s : Segment) → segment limit f h before b ≡ given s → Zeroed s
+  segment-zero before b s e =
+      let (inner, l, cs, t, same) = stepped limit f h before b e in
+      subst Zeroed same
+      (λ all k head.
+      subst (λ (m : Ploc). ZeroOffsets f m (m .count) (m .first)) (given-same (sym (t .head) ∙ head)) (chunks-zero (b .at) l (l .count) _ cs (t .chunks) all))
+
+  segments-zero : (before : List Segment) (bs : List Box) (ss : List Segment) → Each Zeroed before → segmentsFrom limit f h before bs ≡ given ss → Each Zeroed ss
+  unfolding segmentsFrom
+  segments-zero before [] ss all e = subst (Each Zeroed) (given-same e) all
+  segments-zero before (b ∷ bs) ss all e =
+      let (s, read, e1) = both-given (segment limit f h before b) _ e in
+      segments-zero (before ++ (s ∷ [])) bs ss (each-append Zeroed before (s ∷ []) all (segment-zero before b s read, tt)) e1
+
+-- ---- each box outside `pdat` is one of those that its chunk lies in
+
+-- a row that ends somewhere starts there or before
+row-on : (at end : ℕ) (bs : List Box) → Row at end bs → at ≤ end
+row-on at end [] r = omega arith
+row-on at end (b ∷ bs) (from, front, whole, rest) = omega (arith, row-on (b .end) end bs rest)
+
+-- a row of whole boxes up to a place, and what follows
+row-split : (at mid end : ℕ) (bs : List Box) → Row at end bs → fillUp bs mid ≡ true
+    → (cs : List Box) × (ds : List Box) × (bs ≡ cs ++ ds) × Row at mid cs × Row mid end ds
+unfolding fillUp
+row-split at mid end [] r h = absurd (true≢false (sym h))
+row-split at mid end (b ∷ bs) (from, front, whole, row) h =
+    let (_, rest) = both (allowed b) (elim (ltb (b .end) mid) [ true ↦ fillUp bs mid | false ↦ eqb (b .end) mid ]) h in
+    elim (which (ltb (b .end) mid)) [
+      | inl e ↦
+          let (cs, ds, all, mine, others) = row-split (b .end) mid end bs row (rw e at rest) in
+          (b ∷ cs, ds, ap (λ (l : List Box). b ∷ l) all, (from, front, whole, mine), others)
+      | inr e ↦
+          let to : b .end ≡ mid = eqb-true (b .end) mid (rw e at rest) in
+          (b ∷ [], bs, refl, (from, front, whole, to), rw to at row)
+    ]
+
+-- whole boxes are not among those that start before
+whole-past : (before bs : List Box) (place end : ℕ) → allOf (starts place) before ≡ true → wholeBoxes (before ++ bs) place end ≡ wholeBoxes bs place end
+unfolding wholeBoxes allOf
+whole-past [] bs place end first = refl
+whole-past (b ∷ before) bs place end first =
+    let (here, others) = both (starts place b) (allOf (starts place) before) first in
+    let less = ltb-true (b .at) place here in
+    rw (wholeBoxes, ne-eqb (b .at) place (λ same. omega arith)) (whole-past before bs place end others)
+
+-- from a place on, a row starts with them
+whole-fills : (bs : List Box) (place mid end : ℕ) → Row place end bs → wholeBoxes bs place mid ≡ true → fillUp bs mid ≡ true
+unfolding wholeBoxes
+whole-fills [] place mid end row h = absurd (true≢false (sym h))
+whole-fills (b ∷ bs) place mid end row h = rw (wholeBoxes, eq-eqb (b .at) place (row .0)) at h
+
+-- the boxes of a row that a good chunk has
+module _ (c : Chunk) (end : ℕ) (state : eqb (c .state) good ≡ true) (total : c .place + c .size ≡ end) where
+  box-lies : (b : Box) → c .place ≤ b .at → b .end ≤ end → liesIn b c ≡ true
+  unfolding liesIn
+  box-lies b from to = rw (state, le-leb (c .place) (b .at) from, le-leb (b .end) (c .place + c .size) (omega arith))
+
+  row-lies : (at : ℕ) (bs : List Box) → c .place ≤ at → Row at end bs → allOf (λ b. liesIn b c) bs ≡ true
+  unfolding allOf
+  row-lies at [] low row = refl
+  row-lies at (b ∷ bs) low (from, front, whole, row) =
+      rw (box-lies b (omega arith) (row-on (b .end) end bs row)) (row-lies (b .end) bs (omega arith) row)
+
+-- boxes in one of some chunks, with one more before these, and boxes that all lie in that one
+lie-later : (c : Chunk) (cs : List Chunk) (bs : List Box) → allOf (λ b. someOf (liesIn b) cs) bs ≡ true → allOf (λ b. someOf (liesIn b) (c ∷ cs)) bs ≡ true
+unfolding someOf
+lie-later c cs bs all = all-kept (λ b. someOf (liesIn b) cs) (λ b. someOf (liesIn b) cs) _ (λ b there _. rw (there, or-true)) bs all all
+
+lie-first : (c : Chunk) (cs : List Chunk) (bs : List Box) → allOf (λ b. liesIn b c) bs ≡ true → allOf (λ b. someOf (liesIn b) (c ∷ cs)) bs ≡ true
+unfolding someOf
+lie-first c cs bs all = all-kept (λ b. liesIn b c) (λ b. liesIn b c) _ (λ b here _. rw here) bs all all
+
+-- the chunks of items, whose data outside is the row of boxes before a place
+module _ (k : Heading) (at : ℕ) (o : Bool) (out : ℕ) (free : allOf allowed (k .boxes) ≡ true) where
+  -- a good chunk that lies among allowed boxes is whole boxes
+  outer-whole : (state place size : ℕ) → mayLie k state place size ≡ true → wholeBoxes (k .boxes) place (place + size) ≡ true
+  unfolding mayLie inData
+  outer-whole state place size may =
+      let none : inData (k .boxes) place size ≡ false = none-by _ allowed (λ b other. rw (allowed-other b other .3)) (k .boxes) free in
+      both (k .mixed && eqb state good) (wholeBoxes (k .boxes) place (place + size)) (rw none at may) .1
+
+  outer-lie : (start : ℕ) (is : List Item) (before bs : List Box) (place : ℕ) → k .boxes ≡ before ++ bs → allOf (starts place) before ≡ true
+      → Row place at bs
+      → place + sizeOf (goesOut o) is ≡ at
+      → allOf formed is ≡ true
+      → OutLie k at o is
+      → allOf (λ b. someOf (liesIn b) (newChunks at start (placedWith o out is))) bs ≡ true
+  unfolding newChunks placedWith allOf sum
+  outer-lie start [] before [] place boxes first row total listed lie = refl
+  outer-lie start [] before (b ∷ bs) place boxes first row total listed lie = absurd (omega (arith, row-on (b .end) at bs (row .3)))
+  outer-lie start (i ∷ is) before bs place boxes first row total listed lie =
+      let (right, others) = both (formed i) (allOf formed is) listed in
+      let (some-size, known) = formed-some i right in
+      elim (which (goesOut o i)) [
+        | inl e ↦
+            let more = size-on (goesOut o) i is e in
+            let far = back-out o out i is e in
+            let n = back o out i is in
+            let there : at - sizeOf (goesOut o) (i ∷ is) ≡ place = omega arith in
+            let whole = rw (there, boxes, whole-past before bs place (place + i .size) first) at (outer-whole (i .state) _ (i .size) (lie .0 e)) in
+            let (cs, ds, all, mine, rest) = row-split place (place + i .size) at bs row (whole-fills bs place (place + i .size) at row whole) in
+            let home = place-present at i n (out-present o i e) (omega arith) some-size in
+            let later = starts-later place (place + i .size) (omega arith) before first in
+            let ours = row-starts place (place + i .size) cs mine (place + i .size) (omega arith) in
+            let c : Chunk = record { start = start; size = i .size; state = i .state; place = at - n } in
+            let further = newChunks at (start + i .size) (placedWith o out is) in
+            rw (home, all, all-append)
+            (rw (
+              lie-first c further cs (row-lies c (place + i .size) (out-good o i e) (omega arith) place cs (omega arith) mine),
+              lie-later c further ds (outer-lie (start + i .size) is (before ++ cs) ds (place + i .size) (boxes ∙ ap (λ (l : List Box). before ++ l) all ∙ sym (append-assoc before cs ds)) (rw (all-append, later, ours)) rest (omega arith) others (lie .1)),
+            ))
+        | inr e ↦ lie-later _ _ bs (outer-lie (start + i .size) is before bs place boxes first row (omega (arith, size-past (goesOut o) i is e)) others (lie .1))
+      ]
