@@ -1,7 +1,7 @@
 -- Of a file that begin and append alone made nothing goes.
 use Prim.Native.Nat.{ℕ, zero, suc, _+_, _-_, _^_, _≤_, _<_}
 use mathlib.Core.Bool.{Bool, true, false, not, _&&_, _||_, or-true, true≢false}
-use mathlib.Core.List.{List, [], _∷_, _++_, map, append-assoc, List·Memᴰ}
+use mathlib.Core.List.{List, [], _∷_, _++_, map, append-assoc, append-nil, List·Memᴰ}
 use mathlib.Core.Logic.{inl, inr}
 use mathlib.Core.Path.{_≡_, refl, sym, ap, subst, _∙_}
 use native.Mathlib.Nat.{add-zero, mod-lt}
@@ -12,7 +12,9 @@ use lib.ListN.{length, getD, take, drop, length-append, length-drop}
 use lib.Seq.{drop-append-le, getD-drop}
 use Rattle.boxes.specs.Answer.{Answer, refused, given}
 use Rattle.boxes.specs.Framing.{Box, boxedAt}
-use Rattle.boxes.specs.Kinds.{ploc, is, firstOf}
+use Rattle.boxes.specs.Kinds.{pseg, ploc, pdat, is, firstOf}
+use Rattle.boxes.proofs.HeaderLaws.{moved}
+use Rattle.boxes.proofs.KindLaws.{is-eqb}
 use Rattle.boxes.proofs.AnswerLaws.{both-given, held, given-same, not-both}
 use Rattle.numerals.specs.Numbers.{number, signed}
 use Rattle.numerals.specs.declared.numbers.Offset.the-variants.{Ahead}
@@ -20,19 +22,25 @@ use Rattle.numerals.proofs.NumberLaws.{number-none}
 use Rattle.numerals.proofs.OffsetLaws.{signed-none}
 use Rattle.partial.specs.Entries.{Ploc, Entry, Cursor, plocHead, stateOf, entry, inData, mayLie, placeOf, chunkStep, chunksFrom}
 use Rattle.partial.specs.Heading.{Heading, heading}
+use Rattle.partial.specs.Index.{hasIndex}
 use Rattle.partial.specs.Mixed.{allowed, fillUp, wholeBoxes}
 use Rattle.partial.specs.Reading.{segment, segmentsFrom}
-use Rattle.partial.specs.Segments.{Chunk, Segment, good, present, hasPlace}
+use Rattle.partial.specs.Segments.{Chunk, Segment, good, present, hasPlace, chunksOf}
 use Rattle.partial.specs.Sequences.{someOf, allOf, sum}
-use Rattle.partial.proofs.Meaning.SequenceLaws.{which, both, Each, each-append, all-append, none-by}
+use Rattle.partial.proofs.Meaning.SequenceLaws.{which, both, Each, each-append, all-append, some-append, none-by}
+use Rattle.partial.proofs.Meaning.SupplyLaws.{chunks-append}
 use Rattle.partial.proofs.Reading.HeadingAppendLaws.{all-kept}
+use Rattle.partial.proofs.Reading.IndexedLaws.{has-none}
 use Rattle.partial.proofs.Reading.KeptLaws.{found, stepped}
-use Rattle.additions.specs.Addition.{Item, sizeOf, goesOut}
-use Rattle.additions.specs.Append.{back, placedWith, newChunks}
-use Rattle.additions.proofs.DataLaws.{out-present, size-on, size-past}
-use Rattle.additions.proofs.PlacedLaws.{formed, formed-some, back-out, place-present, OutLie}
-use Rattle.additions.proofs.WholeLaws.{allowed-other, Row, row-starts, starts, starts-later}
-use Rattle.additions.proofs.OutsideLaws.{out-good}
+use Rattle.additions.specs.Addition.{Item, items, Addition, isState, sizeOf, goesOut}
+use Rattle.additions.specs.Append.{insideData, outsideData, anyInside, dataBox, stored, back, placedWith, placed, newChunks, newSegment, psegPlace}
+use Rattle.additions.proofs.DataLaws.{out-present, size-on, size-past, length-outside}
+use Rattle.additions.proofs.PlacedLaws.{formed, formed-some, list-formed, back-out, place-present, OutLie}
+use Rattle.additions.proofs.WholeLaws.{allowed-other, allowed-moved, Row, filled-row, row-moved, row-starts, starts, starts-later}
+use Rattle.additions.proofs.OutsideLaws.{out-good, outBoxes, out-filled, out-free, out-whole}
+use Rattle.additions.proofs.AddedBoxesLaws.{dataBoxes, storedBoxes, segmentBox, newBoxes, length-stored}
+use Rattle.additions.proofs.NewSegmentLaws.{no-index-new}
+use Rattle.additions.proofs.ReadsBackLaws.{Offered}
 use Rattle.salvage.specs.Kept.{liesIn}
 use Rattle.salvage.specs.Demands.{ZeroOffsets}
 
@@ -204,3 +212,77 @@ module _ (k : Heading) (at : ℕ) (o : Bool) (out : ℕ) (free : allOf allowed (
             ))
         | inr e ↦ lie-later _ _ bs (outer-lie (start + i .size) is before bs place boxes first row (omega (arith, size-past (goesOut o) i is e)) others (lie .1))
       ]
+
+-- ---- an addition
+
+-- whether a box behind the first two has a reason beside some segments: it is a `pdat`, a `pseg`, or a good chunk lies
+-- in it
+abbrev belongs : List Segment → Box → Bool
+belongs ss b = is pdat b || (is pseg b || someOf (liesIn b) (chunksOf ss))
+
+-- it has it beside more segments
+belongs-more : (ss ts : List Segment) (b : Box) → belongs ss b ≡ true → belongs (ss ++ ts) b ≡ true
+belongs-more ss ts b h = rw (chunks-append ss ts, some-append (liesIn b) (chunksOf ss) (chunksOf ts)) (go (is pdat b) (is pseg b) (someOf (liesIn b) (chunksOf ss)) h)
+  where
+    go : (d s c : Bool) → d || (s || c) ≡ true → d || (s || (c || someOf (liesIn b) (chunksOf ts))) ≡ true
+    go true s c h = refl
+    go false true c h = refl
+    go false false true h = refl
+    go false false false h = absurd (true≢false (sym h))
+
+-- a segment without an index none of whose chunks is empty
+abbrev plain : Segment → Bool
+plain s = not (hasIndex (s .inner)) && allOf sized (s .chunks)
+
+-- the chunks of items of an addition are not empty
+chunks-sized : (at start : ℕ) (o : Bool) (out : ℕ) (is : List Item) → allOf formed is ≡ true → allOf sized (newChunks at start (placedWith o out is)) ≡ true
+unfolding newChunks placedWith allOf
+chunks-sized at start o out [] listed = refl
+chunks-sized at start o out (i ∷ is) listed =
+    let (first, others) = both (formed i) (allOf formed is) listed in
+    rw (both (not (eqb (i .size) 0)) (isState (i .state)) first .0) (chunks-sized at (start + i .size) o out is others)
+
+module _ (limit : ℕ) (f : List ℕ) (h : Heading) (ss : List Segment) (a : Addition) (t : Offered limit f h ss a) where
+  abbrev newest : Segment
+  newest = newSegment h ss (psegPlace (length f) a) a
+
+  new-plain : plain newest ≡ true
+  unfolding newSegment placed
+  new-plain =
+      rw (
+        has-none limit f (newest .inner) (no-index-new h ss (psegPlace (length f) a) a),
+        chunks-sized (psegPlace (length f) a) (a .sourceOffset) (a .outside) _ (items (a .list)) (list-formed (a .list) (t .list)),
+      )
+
+  -- the boxes of the data outside
+  outer-covered : allOf (λ b. someOf (liesIn b) (newest .chunks)) (map (moved (length f + length (dataBox a))) (outBoxes a)) ≡ true
+  unfolding newSegment placed psegPlace allOf
+  outer-covered =
+      let at : ℕ = length f + length (dataBox a) in
+      let there : List Box = map (moved at) (outBoxes a) in
+      let end : ℕ = length f + length (stored a) in
+      let k : Heading = record { boxes = there; inner = h .inner; urls = h .urls; mixed = h .mixed } in
+      let total : end ≡ at + sizeOf (goesOut (a .outside)) (items (a .list)) = omega (arith, length-stored a, length-outside a (t .carried)) in
+      let ends : at + length (outsideData a) ≡ end = omega (arith, length-stored a) in
+      let row : Row at end there = rw (add-zero, ends) at (row-moved at 0 (length (outsideData a)) (outBoxes a) (filled-row (omega arith) (out-filled h a (t .list) (t .carried) (t .outside)))) in
+      outer-lie k end (a .outside) _ (allowed-moved at (outBoxes a) ∙ out-free h a (t .list) (t .carried) (t .outside)) (a .sourceOffset) (items (a .list)) [] there at refl refl row (sym total) (list-formed (a .list) (t .list))
+      (out-whole h a (t .list) (t .carried) (t .outside) k [] [] at end refl (sym (append-nil there)) refl total)
+
+  outer-belong : allOf (belongs (ss ++ (newest ∷ []))) (map (moved (length f + length (dataBox a))) (outBoxes a)) ≡ true
+  unfolding chunksOf
+  outer-belong =
+      all-kept (λ b. someOf (liesIn b) (newest .chunks)) (λ b. someOf (liesIn b) (newest .chunks)) (belongs (ss ++ (newest ∷ [])))
+      (λ b there _. rw (chunks-append ss (newest ∷ []), append-nil (newest .chunks), some-append (liesIn b) (chunksOf ss) (newest .chunks), there, or-true, or-true, or-true)) _ outer-covered outer-covered
+
+  data-belong : allOf (belongs (ss ++ (newest ∷ []))) (dataBoxes (anyInside a) (length f) (length (insideData a))) ≡ true
+  unfolding allOf
+  data-belong =
+      elim (which (anyInside a)) [
+        | inl e ↦ rw (e, is-eqb pdat (boxedAt (length f) (pdat .code) (length (insideData a))))
+        | inr e ↦ rw e
+      ]
+
+  new-belong : allOf (belongs (ss ++ (newest ∷ []))) (newBoxes (length f) a) ≡ true
+  unfolding allOf
+  new-belong =
+      rw (all-append _ (storedBoxes (length f) a) (segmentBox (length f) a ∷ []), all-append, data-belong, outer-belong, is-eqb pseg (segmentBox (length f) a), or-true)
