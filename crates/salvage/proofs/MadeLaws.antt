@@ -6,43 +6,53 @@ use mathlib.Core.Logic.{inl, inr}
 use mathlib.Core.Path.{_≡_, refl, sym, ap, subst, _∙_}
 use native.Mathlib.Nat.{add-zero, mod-lt}
 use native.Mathlib.Omega.{arith}
-use borrow.Author.Tests.{le-leb, lt-ltb, leb-true, ltb-true, eq-eqb, eqb-true, eqb-false, not-true, ne-eqb}
-use lib.Dec.{leb, ltb, eqb, lit<, T}
-use lib.ListN.{length, getD, take, drop, length-append, length-drop}
+use borrow.Author.Tests.{le-leb, lt-ltb, ltb-true, eq-eqb, eqb-true, eqb-false, not-true, ne-eqb}
+use lib.Dec.{leb, ltb, eqb, lit<}
+use lib.ListN.{length, getD, take, drop, length-drop}
 use lib.Seq.{drop-append-le, getD-drop}
 use Rattle.boxes.specs.Answer.{Answer, refused, given}
 use Rattle.boxes.specs.Framing.{Box, boxedAt}
-use Rattle.boxes.specs.Kinds.{pseg, ploc, pdat, is, firstOf}
+use Rattle.boxes.specs.Kinds.{pfil, pseg, ploc, pdat, fidx, is, right, boxAt, firstOf, those, noBox}
+use Rattle.boxes.specs.declared.kinds.Container.the-variants.{File}
 use Rattle.boxes.proofs.HeaderLaws.{moved}
-use Rattle.boxes.proofs.KindLaws.{is-eqb}
-use Rattle.boxes.proofs.AnswerLaws.{both-given, held, given-same, not-both}
-use Rattle.numerals.specs.Numbers.{number, signed}
+use Rattle.boxes.proofs.KindLaws.{is-eqb, is-there, boxAt-getD}
+use Rattle.boxes.proofs.ContainerLaws.{boxes-none}
+use Rattle.boxes.proofs.AnswerLaws.{both-given, held, given-same}
 use Rattle.numerals.specs.declared.numbers.Offset.the-variants.{Ahead}
 use Rattle.numerals.proofs.NumberLaws.{number-none}
 use Rattle.numerals.proofs.OffsetLaws.{signed-none}
 use Rattle.partial.specs.Entries.{Ploc, Entry, Cursor, plocHead, stateOf, entry, inData, mayLie, placeOf, chunkStep, chunksFrom}
-use Rattle.partial.specs.Heading.{Heading, heading}
+use Rattle.partial.specs.Heading.{Heading, heading, pfilRight}
 use Rattle.partial.specs.Index.{hasIndex}
+use Rattle.partial.specs.Memory.{after}
 use Rattle.partial.specs.Mixed.{allowed, fillUp, wholeBoxes}
-use Rattle.partial.specs.Reading.{segment, segmentsFrom}
+use Rattle.partial.specs.Reading.{segment, segmentsFrom, earlierSegments}
 use Rattle.partial.specs.Segments.{Chunk, Segment, good, present, hasPlace, chunksOf}
 use Rattle.partial.specs.Sequences.{someOf, allOf, sum}
-use Rattle.partial.proofs.Meaning.SequenceLaws.{which, both, Each, each-append, all-append, some-append, none-by}
+use Rattle.partial.specs.declared.brand.Brand.{Brand}
+use Rattle.partial.proofs.Meaning.SequenceLaws.{which, both, Each, each-append, each-member, all-append, all-at, member-passes, some-append, none-by}
 use Rattle.partial.proofs.Meaning.SupplyLaws.{chunks-append}
-use Rattle.partial.proofs.Reading.HeadingAppendLaws.{all-kept}
+use Rattle.partial.proofs.Reading.HeadingAppendLaws.{headed, heading-of, all-kept}
 use Rattle.partial.proofs.Reading.IndexedLaws.{has-none}
-use Rattle.partial.proofs.Reading.KeptLaws.{found, stepped}
+use Rattle.partial.proofs.Reading.KeptLaws.{stepped, segmented}
+use Rattle.partial.proofs.Reading.RefusalLaws.{earlier-read, takes}
 use Rattle.additions.specs.Addition.{Item, items, Addition, isState, sizeOf, goesOut}
-use Rattle.additions.specs.Append.{insideData, outsideData, anyInside, dataBox, stored, back, placedWith, placed, newChunks, newSegment, psegPlace}
+use Rattle.additions.specs.Append.{insideData, outsideData, anyInside, dataBox, stored, back, placedWith, placed, newChunks, added, newSegment, psegPlace, appended}
+use Rattle.additions.specs.Begin.{beginning, begun}
+use Rattle.additions.specs.Runs.{Lent, lent, fileIn, sizeAfter, begin, append, appendAll}
 use Rattle.additions.proofs.DataLaws.{out-present, size-on, size-past, length-outside}
 use Rattle.additions.proofs.PlacedLaws.{formed, formed-some, list-formed, back-out, place-present, OutLie}
 use Rattle.additions.proofs.WholeLaws.{allowed-other, allowed-moved, Row, filled-row, row-moved, row-starts, starts, starts-later}
 use Rattle.additions.proofs.OutsideLaws.{out-good, outBoxes, out-filled, out-free, out-whole}
 use Rattle.additions.proofs.AddedBoxesLaws.{dataBoxes, storedBoxes, segmentBox, newBoxes, length-stored}
 use Rattle.additions.proofs.NewSegmentLaws.{no-index-new}
-use Rattle.additions.proofs.ReadsBackLaws.{Offered}
+use Rattle.additions.proofs.ReadsBackLaws.{Offered, Taken, admits, taken-any, taken, taken-sayable, grownHeading, heading-added, reading-added, file-after}
+use Rattle.additions.proofs.RepairTimeLaws.{cut, added-cut, taken-cut}
+use Rattle.additions.proofs.BoxesStandLaws.{neither}
+use Rattle.additions.proofs.BegunLaws.{begunHeading, begun-headed, begun-taken, begin-given}
 use Rattle.salvage.specs.Kept.{liesIn}
-use Rattle.salvage.specs.Demands.{ZeroOffsets}
+use Rattle.salvage.specs.Copy.{salvage}
+use Rattle.salvage.specs.Demands.{Bytes, ZeroOffsets, Bare}
 
 -- ---- where no chunk is empty, the entries without data have offset 0
 
@@ -94,7 +104,7 @@ module _ (limit : ℕ) (f : List ℕ) (h : Heading) where
         rw next at (chunks-zero pseg l more (met .1) rest others there),
       )
 
-  -- a segment none of whose chunks is empty
+  -- so of a segment, and of all that were read
   abbrev Zeroed : Segment → Type 0
   Zeroed s = allOf sized (s .chunks) ≡ true → (l : Ploc) → plocHead f (firstOf ploc (s .inner)) ≡ given l → ZeroOffsets f l (l .count) (l .first)
 
@@ -286,3 +296,143 @@ module _ (limit : ℕ) (f : List ℕ) (h : Heading) (ss : List Segment) (a : Add
   unfolding allOf
   new-belong =
       rw (all-append _ (storedBoxes (length f) a) (segmentBox (length f) a ∷ []), all-append, data-belong, outer-belong, is-eqb pseg (segmentBox (length f) a), or-true)
+
+-- ---- a run of additions
+
+-- the second box of a file is its `pfil`
+two-boxes : (f : List ℕ) (h : Heading) → heading f ≡ given h → 2 ≤ length (h .boxes)
+unfolding pfilRight
+two-boxes f h e = is-there pfil (lit< tt) 1 (h .boxes) (both (is pfil (boxAt 1 (h .boxes))) (right File pfil (h .boxes)) (headed f h e .pfil) .0)
+
+-- a refused addition leaves the file, and a refused beginning none
+append-refused : (limit : ℕ) (buffer : List ℕ) (n : ℕ) (a : Addition) (k : ℕ) → appended limit buffer n a ≡ refused k → fileIn (append limit (lent buffer n) a) ≡ take n buffer
+unfolding append fileIn after sizeAfter
+append-refused limit buffer n a k e = rw e
+
+begin-refused : (buffer : List ℕ) (brand : Brand) (u m : List ℕ) (k : ℕ) → begun buffer brand u m ≡ refused k → fileIn (begin buffer brand u m) ≡ []
+unfolding begin fileIn after sizeAfter
+begin-refused buffer brand u m k e = rw e
+
+nothing-headed : (h : Heading) → heading [] ≡ given h → ⊥
+nothing-headed h e =
+    let none : [] ≡ h .boxes = given-same (sym (boxes-none File [] 0 0 (omega arith)) ∙ headed [] h e .boxes) in
+    omega (arith, two-boxes [] h e, ap length none)
+
+module _ (limit : ℕ) where
+  -- what begin and append make of a file with a heading
+  record Made (f : List ℕ) (h : Heading) : Type 0 where
+    ss : List Segment
+    read : earlierSegments limit f ≡ given ss
+    boxes : allOf (belongs ss) (drop 2 (h .boxes)) ≡ true
+    pfil : hasIndex (h .inner) ≡ false
+    segments : allOf plain ss ≡ true
+
+  -- it is bare
+  made-bare : (f : List ℕ) (h : Heading) → heading f ≡ given h → (m : Made f h) → Bare f h (m .ss)
+  made-bare f h head m =
+      let its : (s : Segment) → List·Memᴰ s (m .ss) → (not (hasIndex (s .inner)) ≡ true) × (allOf sized (s .chunks) ≡ true) =
+      λ s there. both (not (hasIndex (s .inner))) (allOf sized (s .chunks)) (member-passes plain (m .ss) (m .segments) s there) in
+      let zero-all = segments-zero limit f h [] (those pseg (h .boxes)) (m .ss) tt (segmented limit f h (earlier-read limit f head (m .read)) .read) in
+      record {
+        boxes = λ k from less.
+            let same : 2 + (k - 2) ≡ k = omega arith in
+            let there = all-at (belongs (m .ss)) noBox (drop 2 (h .boxes)) (m .boxes) (k - 2) (rw length-drop (omega arith)) in
+            rw (boxAt-getD, rw (getD-drop, same) at there) tt;
+        pfil = m .pfil;
+        segments = λ s there. not-true (hasIndex (s .inner)) (its s there .0);
+        zeros = λ s there. each-member (Zeroed limit f h) (m .ss) zero-all s there (its s there .1);
+      }
+
+  module _ (below : limit < 2 ^ 64) where
+    -- one addition more
+    made-added : (f : List ℕ) (h : Heading) (m : Made f h) (a : Addition) → Taken limit f h (m .ss) a → a .repairTime < 2 ^ 64
+        → Made (f ++ added a) (grownHeading limit f h (m .ss) a)
+    unfolding allOf
+    made-added f h m a t time =
+        let ss = m .ss in
+        let new = newest limit f h ss a (t .offered) in
+        record {
+          ss = ss ++ (new ∷ []);
+          read = takes limit (f ++ added a) .acceptable _ (reading-added limit f h ss a t (taken-sayable limit f h ss a t below time));
+          boxes = rw (
+            drop-append-le 2 (h .boxes) (newBoxes (length f) a) (two-boxes f h (t .offered .headed)),
+            all-append,
+            all-kept (belongs ss) (belongs ss) (belongs (ss ++ (new ∷ []))) (λ b there _. belongs-more ss (new ∷ []) b there) (drop 2 (h .boxes)) (m .boxes) (m .boxes),
+            new-belong limit f h ss a (t .offered),
+          );
+          pfil = m .pfil;
+          segments = rw (all-append, m .segments, new-plain limit f h ss a (t .offered));
+        }
+
+    -- a file, if it has a heading, is so made
+    abbrev Run : List ℕ → Type 0
+    Run f = (h : Heading) → heading f ≡ given h → Made f h
+
+    run-step : (l : Lent) (a : Addition) → Run (fileIn l) → Run (fileIn (append limit l a))
+    unfolding fileIn
+    run-step (lent buffer n) a before = go (appended limit buffer n a) refl
+      where
+        f : List ℕ
+        f = take n buffer
+
+        go : (answer : Answer ℕ) → appended limit buffer n a ≡ answer → Run (fileIn (append limit (lent buffer n) a))
+        go (refused k) e = subst Run (sym (append-refused limit buffer n a k e)) before
+        go (given size) e =
+            let (h, _, was, _, _, _) = taken-any limit buffer n a size e in
+            let m = before h (was .offered .headed) in
+            let (t, long, total) = taken limit buffer n a size h (m .ss) (was .offered .headed) (m .read) e in
+            let c = cut a in
+            let u = taken-cut limit f h (m .ss) a t in
+            let (ok, _) = admits limit h (m .ss) (length f) c (u .admits) in
+            let same : fileIn (append limit (lent buffer n) a) ≡ f ++ added c = file-after limit buffer n a size e long total ∙ ap (λ (bytes : List ℕ). f ++ bytes) (sym (added-cut a)) in
+            let head = heading-added limit f h (m .ss) c (u .offered) (ok .small) (ok .boxes) in
+            subst Run (sym same)
+            (λ k known. subst (Made (f ++ added c)) (given-same (sym head ∙ known)) (made-added f h m c u (mod-lt (a .repairTime) (lit< tt))))
+
+    runs : (additions : List Addition) (l : Lent) → Run (fileIn l) → Run (fileIn (appendAll limit l additions))
+    unfolding appendAll
+    runs [] l before = before
+    runs (a ∷ more) l before = runs more (append limit l a) (run-step l a before)
+
+    -- a file just begun, or none
+    run-begun : (buffer : List ℕ) (brand : Brand) (u m : List ℕ) → Run (fileIn (begin buffer brand u m))
+    unfolding allOf
+    run-begun buffer brand u m = go (begun buffer brand u m) refl
+      where
+        go : (answer : Answer ℕ) → begun buffer brand u m ≡ answer → Run (fileIn (begin buffer brand u m))
+        go (refused k) e = subst Run (sym (begin-refused buffer brand u m k e)) (λ h known. absurd (nothing-headed h known))
+        go (given n) e =
+            let (plain-url, plain-mime, small, file) = begin-given buffer brand u m n e in
+            let head = heading-of (beginning brand u m) (begunHeading brand u m) (begun-headed brand u m small plain-url plain-mime) in
+            let made : Made (beginning brand u m) (begunHeading brand u m) =
+            record {
+              ss = [];
+              read = begun-taken brand u m limit small plain-url plain-mime;
+              boxes = refl;
+              pfil = has-none limit [] (begunHeading brand u m .inner) (neither fidx _ _ (is-eqb fidx _) (is-eqb fidx _));
+              segments = refl;
+            } in
+            subst Run (sym file) (λ k known. subst (Made (beginning brand u m)) (given-same (sym head ∙ known)) made)
+
+    -- of a file that begin and append alone made nothing goes
+    module _ (buffer : List ℕ) (brand : Brand) (u m : List ℕ) (additions : List Addition) where
+      abbrev madeFile : List ℕ
+      madeFile = fileIn (appendAll limit (begin buffer brand u m) additions)
+
+      pub bare-made : (h : Heading) → heading madeFile ≡ given h → (ss : List Segment) × (earlierSegments limit madeFile ≡ given ss) × Bare madeFile h ss
+      bare-made h head =
+          let made = runs additions (begin buffer brand u m) (run-begun buffer brand u m) h head in
+          (made .ss, made .read, made-bare madeFile h head made)
+
+-- so it is its own copy, where one of which nothing goes is
+pub salvage-made : (limit : ℕ) → limit < 2 ^ 64
+    → ((f : List ℕ) (h : Heading) (ss : List Segment) → Bytes f → heading f ≡ given h → earlierSegments limit f ≡ given ss → Bare f h ss → salvage limit f ≡ given f)
+    → (buffer : List ℕ) (brand : Brand) (u m : List ℕ) (additions : List Addition)
+    → let f = fileIn (appendAll limit (begin buffer brand u m) additions) in
+    Bytes f
+    → (h : Heading)
+    → heading f ≡ given h
+    → salvage limit f ≡ given f
+salvage-made limit below unchanged buffer brand u m additions bytes h head =
+    let (ss, read, bare) = bare-made limit below buffer brand u m additions h head in
+    unchanged _ h ss bytes head read bare
