@@ -6,6 +6,7 @@ pub mod FramedLaws
 pub mod HeadingLaws
 pub mod LieLaws
 pub mod LineLaws
+pub mod MadeLaws
 pub mod PieceLaws
 pub mod PlaceLaws
 pub mod PlocLaws
