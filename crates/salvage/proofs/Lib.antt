@@ -1,4 +1,5 @@
 -- Laws of salvage: the copy reads back as the segments that are kept.
+pub mod AcceptedLaws
 pub mod CarriedLaws
 pub mod CopyLaws
 pub mod FateLaws

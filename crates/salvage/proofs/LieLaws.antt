@@ -52,7 +52,7 @@ module _ {A : Type 0} where
   each-second P (x ∷ xs) ys (here, all) = each-second P xs ys all
 
   -- what holds of every member
-  each-by : (P : A → Type 0) (xs : List A) → ((x : A) → List·Memᴰ x xs → P x) → Each P xs
+  pub each-by : (P : A → Type 0) (xs : List A) → ((x : A) → List·Memᴰ x xs → P x) → Each P xs
   each-by P [] all = tt
   each-by P (x ∷ xs) all = (all x (List·Memᴰ·head refl), each-by P xs (λ y there. all y (List·Memᴰ·tail there)))
 
@@ -436,7 +436,7 @@ module _ (limit : ℕ) (f : List ℕ) (h : Heading) (opens : opening f ≡ given
       unfolding hasPlace
       some-bytes = ltb-true 0 (c .size) (both (present (c .state)) (ltb 0 (c .size)) placed .1)
 
-      may-lie : mayLie h (c .state) (c .place) (c .size) ≡ true
+      pub may-lie : mayLie h (c .state) (c .place) (c .size) ≡ true
       unfolding lies
       may-lie =
           let (kind, before, read) = at-known own (Known limit f h) all-known .read s (own .here) in
