@@ -5,6 +5,7 @@ import random
 
 import model
 import model_check_index
+import model_check_salvage
 import model_check_sources
 from boxes import box, entry, ftyp, full, head, lost_segment, open_segment, pfhd, ploc, pshd, surl
 from expecting import close, expect
@@ -769,5 +770,6 @@ if __name__ == "__main__":
     check_ranges_of_names()
     model_check_index.check()
     model_check_sources.check(random.Random(2))
+    model_check_salvage.check()
     check_random_runs(random.Random(1), 300)
     raise SystemExit(close())
