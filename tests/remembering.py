@@ -2,6 +2,7 @@
 file cost one reading."""
 
 import model
+import model_salvage
 
 # Functions of the model that are pure, with a file or a reading as their first argument.
 REMEMBERED = ["accept", "read_earlier", "edges", "supplier", "run_length", "ranges", "named_ranges", "accept_index"]
@@ -28,3 +29,4 @@ def remembered(step):
 def remember():
     for name in REMEMBERED:
         setattr(model, name, remembered(getattr(model, name)))
+    model_salvage.dropped_and_faults = remembered(model_salvage.dropped_and_faults)
