@@ -58,7 +58,7 @@ def send(stream, cases):
     listed = scale_files.of_corpora()
     for file in listed:
         scale_reading.few_cases(stream, rng, file)
-        scale_salvaging.salvage_cases(stream, rng, file, 0)
+        scale_salvaging.salvage_cases(stream, rng, file, rng.choice([0, 0, 0, 1]))
     chosen = scale_files.chooser(listed)
     while stream.cases < cases:
         scale_reading.file_cases(stream, rng, chosen(rng))
