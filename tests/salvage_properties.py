@@ -14,8 +14,10 @@ import salvage_files
 from expecting import close, expect
 
 CONTAINERS = (b"pfil", b"pseg")
-# So many segments of a file are judged again one by one.
-JUDGED = 12
+# Later boxes of these types are dropped with these numbers.
+OF_LATER = {b"ftyp": model.FTYP_FAULT, b"pfil": model.PFIL_FAULT}
+# So many segments of a file that are left out, and so many of all, are judged again one by one.
+JUDGED = 8
 
 
 def told_in(text):
@@ -31,7 +33,7 @@ def walked(file):
             boxes.append(box)
     except model.Refused:
         pass
-    return boxes, boxes[-1].end
+    return boxes, boxes[-1].end if boxes else 0
 
 
 # The old file, without what is dropped but with every byte in its place.
@@ -72,6 +74,9 @@ def check_lines(name, file, copy, told):
     expect(f"{name}: ascending", [place for place, number in told], sorted({place for place, number in told}))
     expect(f"{name}: an error where the walk ended", [place for place, number in told if place >= end], [end] if end < len(file) else [])
     expect(f"{name}: boxes that were there", set(dropped) <= {box.place for box in boxes[2:]})
+    numbers = dict(told)
+    expect(f"{name}: each pdat is kept", [box.place for box in boxes if box.kind == b"pdat" and box.place in numbers], [])
+    expect(f"{name}: later heads", [numbers.get(box.place) for box in boxes[2:] if box.kind in OF_LATER], [OF_LATER[box.kind] for box in boxes[2:] if box.kind in OF_LATER])
     kept = [box for box in boxes if box.place not in dropped]
     expect(f"{name}: the others are kept", [box.kind for box in kept], [box.kind for box in walked(copy)[0]])
     for box, other in zip(kept, walked(copy)[0]):
@@ -79,14 +84,16 @@ def check_lines(name, file, copy, told):
 
 
 def without_offsets(file, ploc):
-    """A ploc whose offsets are all 0."""
+    """A ploc whose offsets are all 0, and the offsets of its empty chunks."""
     length_size, offset_size, chunk_count = model.read_ploc_head(file, ploc)
-    content, cursor = file[ploc.place:ploc.body + 9], ploc.body + 9
+    content, cursor, of_empty = file[ploc.place:ploc.body + 9], ploc.body + 9, []
     for _ in range(chunk_count):
-        present = file[cursor] & model.PRESENT
-        content += file[cursor:cursor + 1 + length_size] + bytes(offset_size if present else 0)
-        cursor += 1 + length_size + (offset_size if present else 0)
-    return content
+        width = offset_size if file[cursor] & model.PRESENT else 0
+        size, end = model.unsigned(file, cursor + 1, length_size), cursor + 1 + length_size + width
+        content += file[cursor:end - width] + bytes(width)
+        of_empty += [file[end - width:end]] if size == 0 else []
+        cursor = end
+    return content, of_empty
 
 
 def check_box(name, file, box, copy, other):
@@ -100,7 +107,9 @@ def check_box(name, file, box, copy, other):
     expect(f"{name}: parts of {box.kind}", [part.kind for part in new], [part.kind for part in old])
     for part, now in zip(old, new):
         if box.kind == b"pseg" and part.kind == b"ploc":
-            expect(f"{name}: ploc but for its offsets", without_offsets(copy, now), without_offsets(file, part))
+            found, of_empty = without_offsets(copy, now)
+            expect(f"{name}: ploc but for its offsets", found, without_offsets(file, part)[0])
+            expect(f"{name}: offsets of empty chunks", b"".join(of_empty).strip(b"\0"), b"")
         else:
             expect(f"{name}: {part.kind} in {box.kind}", copy[now.place:now.end], file[part.place:part.end])
 
@@ -142,7 +151,9 @@ def check_judged(name, rng, file, told):
     """Each segment is left out with the number by which reading refuses it beside those that are kept before it, and
     kept where reading takes it. Of a misplaced chunk one of both unknown types would make a right one."""
     psegs, numbers = [box.place for box in walked(file)[0] if box.kind == b"pseg"], dict(told)
-    for place in rng.sample(psegs, min(len(psegs), JUDGED)):
+    left_out = [place for place in psegs if place in numbers]
+    expect(f"{name}: something was wrong with each that is left out", all(numbers[place] for place in left_out))
+    for place in rng.sample(psegs, min(len(psegs), JUDGED)) + rng.sample(left_out, min(len(left_out), JUDGED)):
         keeping = {other for other in psegs if other < place and other not in numbers} | {place}
         found = {model.attempt(model.accept, in_place(file, keeping, kind))[0] for kind in (b"free", b"pdat")}
         wanted = numbers.get(place, 0)
@@ -160,12 +171,19 @@ def check_boxes_of_chunks(name, file, copy, told):
            [None if any(chunk.place <= box.place < chunk.place + chunk.size for chunk in used) else 0 for box in boxes])
 
 
+def check_refused(name, file, number, text):
+    """A refusal is that of the first two boxes: the framing of both, and then what reading says of them alone."""
+    boxes, end = walked(file)
+    wanted = model.attempt(model.read_head, file[:boxes[1].end] if len(boxes) > 1 else file)[0]
+    expect(f"{name}: refused", (number, text), (wanted, b"refused\t%d\n" % wanted))
+
+
 def check_file(name, rng, file):
     """All promises on one file; whether it is salvaged."""
     answer, buffer = model_salvage.salvage(file, bytes(len(file)))
     text = model_salvage.salvage_text(file, len(file))
     if answer[0] == "refused":
-        expect(f"{name}: refused in both", text, b"refused\t%d\n" % answer[1])
+        check_refused(name, file, answer[1], text)
         return False
     copy, told = buffer[:answer[1]], told_in(text)
     check_lines(name, file, copy, told)
@@ -173,6 +191,7 @@ def check_file(name, rng, file):
     check_judged(name, rng, file, told)
     check_boxes_of_chunks(name, file, copy, told)
     expect(f"{name}: not longer", len(copy) <= len(file))
+    expect(f"{name}: an exact buffer, and one too short", [model_salvage.salvage(file, bytes(room))[0] for room in (len(copy), len(copy) - 1)], [answer, ("refused", 33)])
     expect(f"{name}: twice", (model_salvage.salvage(copy, bytes(len(copy))), model_salvage.salvage_text(copy, len(copy))), ((("length", len(copy)), copy), b""))
     return True
 
