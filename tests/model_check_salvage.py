@@ -259,6 +259,9 @@ def check_mixed():
     expect_salvage("in pdat beside", MIXED + whole + box(b"pdat", b"abcd") + one_chunk(4, -4), MIXED + box(b"pdat", b"abcd") + one_chunk(4, -4), (55, 0))
     expect_salvage("a run up to the error", MIXED + one_chunk(20, 52) + whole + FREE + b"\0", MIXED + one_chunk(20, 52) + whole + FREE, (127, 2))
     expect_salvage("a run over the error", MIXED + one_chunk(20, 52) + whole + FREE[:-1], MIXED, (55, 24), (107, 0), (119, 2))
+    for flag_byte in (LOST, ELSEWHERE):
+        far = lost_segment(0, [9_999], flag_byte=flag_byte)
+        expect_salvage(f"chunks that are not present ({flag_byte}) lie nowhere", MIXED + far + whole, MIXED + far, (109, 0))
     both = ftyp([b"paff", b"pmff"]) + MIXED[20:]
     expect_salvage("both brands", both + whole + one_chunk(12, -12), both + whole + one_chunk(12, -12))
 

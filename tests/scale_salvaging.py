@@ -25,8 +25,8 @@ def note_lines(stream, text):
     (stream.refusals_in_texts["salvage_lines"] if refusal else stream.dropped).update(numbers)
 
 
-def copy_case(stream, file, copy, number, room):
-    refusal = number or (model.BUFFER_TOO_SHORT if room < len(copy) else 0)
+def copy_case(stream, file, copy, room):
+    refusal = model.attempt(model_salvage.check_copy, file, room)[0]
     buffer = Memory(room, NONE, NONE if refusal else COPY)
     stream.call("salvage", refusal, (), [stream.whole(FILE), buffer], (len(copy),))
 
@@ -38,7 +38,7 @@ def copy_cases(stream, rng, file, count):
     stream.hold(COPY, copy)
     rooms = [*awkward(len(copy)), min(len(file), 2 * len(copy) + 99)]
     for room in [len(copy), *rng.sample(rooms, count)]:
-        copy_case(stream, file, copy, number, room)
+        copy_case(stream, file, copy, room)
 
 
 def lines_cases(stream, rng, file, most, count):
