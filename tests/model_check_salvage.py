@@ -132,6 +132,9 @@ def check_all_else():
                ploc(3, 5, [entry(DAMAGED, 3, 3, 5, -5), entry(GOOD, 3, 2, 5, -8)], large=True), box(b"uuid", bytes(16)), large=True)
     expect("it is acceptable", model.read(front + pseg)[0], "read")
     expect_salvage("a foreign file", front + pseg, front + pseg)
+    located = ploc(1, 1, [entry(GOOD, 1, 0, 1, 77), entry(GOOD, 1, 4, 1, -9)])
+    odd = bare_head(surl(), located, box(b"pseg", pshd(0), located, fidx())) + FREE + open_segment(0, parts=box(b"pseg", located))
+    expect_salvage("a ploc in pfil and in boxes that are not looked into", odd, odd.replace(FREE, b""), (40 + 15 + 23 + 63, 0))
     expect_salvage("the same with a gap", front + FREE + pseg.replace(b"\xff\xff\xff\xff\xfb", b"\xff\xff\xff\xff\xf3").replace(b"\xff\xff\xff\xff\xf8", b"\xff\xff\xff\xff\xf0"),
                    front + pseg, (len(front), 0))
 

@@ -3,7 +3,7 @@ contradict each other, boxes that go, and whatever moves the places of those tha
 
 import broken
 import generate
-from boxes import bare_head, box, ftyp, lost_segment, open_segment, pfhd, surl
+from boxes import bare_head, box, entry, fidx, ftyp, lost_segment, open_segment, pfhd, ploc, surl
 from faults import (
     BOXES, CHUNKS, FREE, SEGMENTS, data_reference, may_not_lie_there, no_surl, not_one_ploc, ploc_fault, pshd_fault,
     reserved_bit, sizes_disagree, source_over_limit, surl_fault_in_pseg, too_many_chunks, too_many_sources, width_over_8)
@@ -63,6 +63,13 @@ def empty_chunks(rng, plan):
         segment.offset_size = max(segment.offset_size, rng.choice([0, 0, 1, 2, 8]))
 
 
+def misplace(rng, plan):
+    """A ploc with offsets in pfil or in a box that is not looked into, and an index in such a box, all of which stay."""
+    located = ploc(1, 2, [entry(GOOD, 1, rng.choice([0, 3]), 2, rng.randint(-999, 999)) for _ in range(rng.randint(1, 3))])
+    plan.pfil_parts.append(rng.choice([located, box(b"free", fidx()), box(b"pseg", located, fidx())]))
+    rng.choice(plan.segments()).after.append(box(rng.choice([b"free", b"pfil", b"pseg"]), located, fidx()))
+
+
 def turn_round(rng, plan):
     """Segments before all that they point to, or behind it."""
     plan.items.sort(key=lambda item: isinstance(item, Segment), reverse=rng.random() < 0.7)
@@ -114,7 +121,7 @@ def spoil_segments(rng, plan):
         rng.choice(FAULTS_OF_A_SEGMENT)(rng, plan)
 
 
-CHANGES = [drop_between, drop_between, drop_between, repeat_head, index_all, enlarge, empty_chunks, turn_round, break_inside, break_between, contradict, layer,
+CHANGES = [drop_between, drop_between, drop_between, repeat_head, index_all, enlarge, empty_chunks, misplace, turn_round, break_inside, break_between, contradict, layer,
            spoil_segments, spoil_segments, spoil_segments]
 
 
