@@ -8,6 +8,7 @@ pub mod FramedLaws
 pub mod HeadingLaws
 pub mod LieLaws
 pub mod LineLaws
+pub mod MadeLaws
 pub mod PieceLaws
 pub mod PlaceLaws
 pub mod PlocLaws
@@ -15,5 +16,6 @@ pub mod ReadingLaws
 pub mod SameLaws
 pub mod SegmentLaws
 pub mod Shapes
+pub mod TableLaws
 pub mod TwiceLaws
 pub mod WholeLaws
