@@ -35,7 +35,7 @@ use Rattle.partial.proofs.Reading.RefusalLaws.{takes}
 use Rattle.salvage.specs.Kept.{walkOf, framed, firstTwo, opening, fates}
 use Rattle.salvage.specs.Copy.{copied, salvage, salvaged}
 use Rattle.salvage.specs.Lines.{salvageText}
-use Rattle.salvage.specs.Demands.{Bytes, rescuedOf, SameSegments, Rescued, Salvage}
+use Rattle.salvage.specs.Demands.{Bytes, rescuedOf, SameSegments, Rescued, Bare, Salvage}
 use Rattle.salvage.proofs.Shapes.{chunkAnew}
 use Rattle.salvage.proofs.FateLaws.{kept-all}
 use Rattle.salvage.proofs.FramedLaws.{framed-shorter, framed-boxes, framed-opens}
@@ -44,6 +44,7 @@ use Rattle.salvage.proofs.WholeLaws.{copy-shorter}
 use Rattle.salvage.proofs.LineLaws.{text-named, ascending}
 use Rattle.salvage.proofs.ReadingLaws.{Anew, none-anew, one-anew, anew-fates, segmentsBack, reads-back, only-12, served-back}
 use Rattle.salvage.proofs.AcceptedLaws.{accepted-opens, accepted-framed, accepted-kept, accepted-same, accepted-silent, kept-lies}
+use Rattle.salvage.proofs.MadeLaws.{salvage-made}
 use Rattle.salvage.proofs.TwiceLaws.{salvage-twice, lines-twice}
 
 -- ---- the segments of the copy are those that are kept
@@ -225,6 +226,8 @@ module _ (limit : ℕ) (f : List ℕ) where
 
 pub salvage-demands : (limit : ℕ) → limit < 2 ^ 64 → Salvage limit
 salvage-demands limit low =
+    let unchanged : (f : List ℕ) (h : Heading) (ss : List Segment) → Bytes f → heading f ≡ given h → earlierSegments limit f ≡ given ss → Bare f h ss → salvage limit f ≡ given f =
+    λ f h ss bytes head read bare. accepted-same limit f h ss head read bytes bare in
     record {
       rescued = λ f h g bytes opens e. subst (Rescued limit f h) (given-same (sym (salvage-opened limit f h opens) ∙ e)) (rescued limit f h bytes opens);
       opens = λ f h opens. (copied (framed f) (fates limit (framed f) h), salvage-opened limit f h opens);
@@ -233,9 +236,9 @@ salvage-demands limit low =
       overLimit = λ f over. salvage-refuses limit f 1 .1 (opening-long limit f over);
       firstTwo = λ f n small. (λ e. two-refuse limit f n small .0 (salvage-refuses limit f n .0 e), λ e. salvage-refuses limit f n .1 (two-refuse limit f n small .1 e));
       keeps = λ f h ss head read. (accepted-opens f h head, accepted-framed f h head, rw (accepted-framed f h head) (accepted-kept limit f h ss head read));
-      unchanged = λ f h ss bytes head read bare. accepted-same limit f h ss head read bytes bare;
+      unchanged = unchanged;
       nothingDropped = λ f h ss most bytes head read only few. accepted-silent limit f h ss head read bytes only most few;
-      made = ?;
+      made = salvage-made limit low unchanged;
       twice = salvage-twice limit;
       noLine = λ f g most bytes once few. lines-twice limit f g bytes once most few;
       overLong = λ most input over. text-long limit input most over;
