@@ -22,7 +22,6 @@ use Rattle.boxes.proofs.ContainerLaws.{Filled, full, next, boxes-filled, filled
 use Rattle.boxes.proofs.FaultLaws.{no-fault}
 use Rattle.boxes.proofs.HeaderLaws.{header-inside}
 use Rattle.boxes.proofs.KindLaws.{is-there, those-nil, those-one, those-other, right-one}
-use Rattle.partial.specs.Entries.{Ploc}
 use Rattle.partial.specs.Heading.{Heading, heading, ftypRight, brandRight, branded, pfilRight}
 use Rattle.partial.specs.Limits.{fileLimit, segmentLimit, layerLimit}
 use Rattle.partial.specs.Mixed.{allowed}
@@ -41,15 +40,16 @@ use Rattle.partial.proofs.Reading.RefusalLaws.{earlier-read}
 use Rattle.salvage.specs.Kept.{whole, ofPseg, liesIn, walkOf, framed, firstTwo, opening, beside, keptWith, keptFrom, keptOf, fateOf, fatesFrom, fates}
 use Rattle.salvage.specs.Copy.{salvage}
 use Rattle.salvage.specs.Lines.{salvageText}
-use Rattle.salvage.specs.Demands.{ZeroOffsets, OnlyData, Bare}
+use Rattle.salvage.specs.Demands.{OnlyData, Bare}
 use Rattle.salvage.proofs.Shapes.{Paired}
 use Rattle.salvage.proofs.CarriedLaws.{paired-pfhd, paired-surls, paired-urls}
 use Rattle.salvage.proofs.CopyLaws.{staying}
 use Rattle.salvage.proofs.FateLaws.{fate-data, fate-lain}
+use Rattle.salvage.proofs.FramedLaws.{faultless-framed}
 use Rattle.salvage.proofs.LineLaws.{lines-none}
 use Rattle.salvage.proofs.LieLaws.{each-by, may-lie}
 use Rattle.salvage.proofs.WholeLaws.{two-first}
-use Rattle.salvage.proofs.SameLaws.{Zeroed, Clean, copy-same}
+use Rattle.salvage.proofs.SameLaws.{Clean, copy-same}
 use Rattle.salvage.proofs.HeadingLaws.{cut-filled, Says, says, other-kind, ftyp-right, pfil-right}
 
 -- ---- an acceptable file opens
@@ -66,17 +66,12 @@ filled-paired c f g end same (next {at = at} {b = b} short read rest) =
       filled-paired c f g end same rest,
     )
 
--- a file without a framing error is all whole boxes
-faultless-framed : (f : List ℕ) → walkOf f .fault ≡ none → framed f ≡ f
-unfolding framed
-faultless-framed f faultless = rw (framed, faultless)
-
 module _ (f : List ℕ) (h : Heading) (head : heading f ≡ given h) where
   accepted-walk : walkOf f ≡ record { boxes = h .boxes; fault = none }
   unfolding walkOf boxesIn
   accepted-walk = no-fault (walkOf f) (headed f h head .boxes)
 
-  accepted-faultless : walkOf f .fault ≡ none
+  pub accepted-faultless : walkOf f .fault ≡ none
   accepted-faultless = ap (λ (w : Walked). w .fault) accepted-walk
 
   pub accepted-framed : framed f ≡ f
@@ -85,7 +80,8 @@ module _ (f : List ℕ) (h : Heading) (head : heading f ≡ given h) where
   accepted-says : Says f (boxAt 0 (h .boxes)) (boxAt 1 (h .boxes)) (h .inner) (h .urls) (h .mixed)
   accepted-says = rw append-nil at (says f [] h (headed f h head))
 
-  two-boxes : 2 ≤ length (h .boxes)
+  -- its second box is `pfil`
+  pub two-boxes : 2 ≤ length (h .boxes)
   two-boxes = is-there pfil (lit< tt) 1 (h .boxes) (accepted-says .second)
 
   -- it says the same cut behind its second box
@@ -275,11 +271,6 @@ none-of k (b ∷ bs) lacks n less =
       ] less
     ]
 
--- entries have offset 0, as both say
-zeroed : (f : List ℕ) (l : Ploc) (more at : ℕ) → ZeroOffsets f l more at → Zeroed f l more at
-zeroed f l zero at zeros = tt
-zeroed f l (suc more) at zeros = λ e read. let (here, there) = zeros e read in (here, zeroed f l more (e .next) there)
-
 module _ (limit : ℕ) (f : List ℕ) (h : Heading) (ss : List Segment) (head : heading f ≡ given h) (read : earlierSegments limit f ≡ given ss) where
   -- the boxes behind the first two
   abbrev others : List Box
@@ -364,5 +355,5 @@ module _ (limit : ℕ) (f : List ℕ) (h : Heading) (ss : List Segment) (head : 
         stay = accepted-stay bytes (bare .boxes);
         pfil = bare .pfil;
         segments = rw accepted-kept (each-by _ ss (bare .segments));
-        zeros = rw accepted-kept (each-by _ ss (λ s there l e. zeroed f l (l .count) (l .first) (bare .zeros s there l e)));
+        zeros = rw accepted-kept (each-by _ ss (bare .zeros));
       })

@@ -3,16 +3,14 @@ use Prim.Native.Nat.{ℕ, _+_, _^_, _<_, _≤_}
 use mathlib.Core.Bool.{true}
 use mathlib.Core.List.{List, [], _∷_, map-map}
 use mathlib.Core.Logic.{_↔_, inl, inr, ⊎-elim}
-use mathlib.Core.Option.{Option, none, some}
+use mathlib.Core.Option.{some}
 use mathlib.Core.Path.{_≡_, refl, sym, ap, subst, _∙_}
-use native.Mathlib.Decide.{decLe}
 use native.Mathlib.Omega.{arith}
 use borrow.Author.Tests.{le-leb, lt-leb, ltb-true, lt-ltb}
 use lib.Dec.{T, leb}
-use lib.ListN.{length, getD, take, length-take, List·getD-eq-default}
-use lib.Seq.{getD-take, take-length}
+use lib.ListN.{length}
 use Rattle.boxes.specs.Answer.{Answer, refused, given, _>>=_}
-use Rattle.boxes.specs.Framing.{Box, Fault, boxesIn}
+use Rattle.boxes.specs.Framing.{Box, boxesIn}
 use Rattle.boxes.specs.Kinds.{boxAt}
 use Rattle.boxes.specs.declared.kinds.Container.{Container}
 use Rattle.boxes.specs.declared.kinds.Container.the-variants.{File, Pfil}
@@ -35,10 +33,10 @@ use Rattle.partial.proofs.Reading.RefusalLaws.{takes}
 use Rattle.salvage.specs.Kept.{walkOf, framed, firstTwo, opening, fates}
 use Rattle.salvage.specs.Copy.{copied, salvage, salvaged}
 use Rattle.salvage.specs.Lines.{salvageText}
-use Rattle.salvage.specs.Demands.{Bytes, rescuedOf, SameSegments, Rescued, Bare, Salvage}
+use Rattle.salvage.specs.Demands.{Bytes, rescuedOf, SameSegments, Rescued, Salvage}
 use Rattle.salvage.proofs.Shapes.{chunkAnew}
 use Rattle.salvage.proofs.FateLaws.{kept-all}
-use Rattle.salvage.proofs.FramedLaws.{framed-shorter, framed-boxes, framed-opens}
+use Rattle.salvage.proofs.FramedLaws.{framed-shorter, framed-at, framed-bytes, framed-boxes, framed-opens}
 use Rattle.salvage.proofs.HeadingLaws.{opened}
 use Rattle.salvage.proofs.WholeLaws.{copy-shorter}
 use Rattle.salvage.proofs.LineLaws.{text-named, ascending}
@@ -69,28 +67,7 @@ none-same : (ts : List Segment) → SameSegments [] ts → [] ≡ ts
 none-same [] same = refl
 none-same (t ∷ ts) same = absurd same
 
--- ---- the file without what follows its first framing error
-
-module _ (f : List ℕ) where
-  framed-cut : (n : ℕ) × (framed f ≡ take n f)
-  unfolding framed
-  framed-cut = go (walkOf f .fault)
-    where
-      go : (x : Option Fault) → (n : ℕ) × ((elim x as (λ _. List ℕ) [ none ↦ f | some x ↦ take (x .at) f ]) ≡ take n f)
-      go none = (length f, sym (take-length f))
-      go (some x) = (x .at, refl)
-
-  framed-at : (k : ℕ) → k < length (framed f) → getD (framed f) k 0 ≡ getD f k 0
-  framed-at k less =
-      let (n, cut) = framed-cut in
-      rw cut (getD-take n f k 0 (omega (arith, ap length cut, length-take n f)))
-
-  framed-bytes : Bytes f → Bytes (framed f)
-  framed-bytes bytes k =
-      elim (decLe (length (framed f)) k) [
-        | yes past ↦ rw (List·getD-eq-default (framed f) 0 past) (omega arith)
-        | no inside ↦ rw (framed-at k (omega arith)) (bytes k)
-      ]
+-- ---- they supply what the file supplies
 
 -- a byte that chunks supply stands in the boxes that they lie in
 place-below : (g : List ℕ) (h : Heading) (ss : List Segment) → boxesIn File g 0 (length g) ≡ given (h .boxes) → allOf (lies h) (chunksOf ss) ≡ true
@@ -226,8 +203,6 @@ module _ (limit : ℕ) (f : List ℕ) where
 
 pub salvage-demands : (limit : ℕ) → limit < 2 ^ 64 → Salvage limit
 salvage-demands limit low =
-    let unchanged : (f : List ℕ) (h : Heading) (ss : List Segment) → Bytes f → heading f ≡ given h → earlierSegments limit f ≡ given ss → Bare f h ss → salvage limit f ≡ given f =
-    λ f h ss bytes head read bare. accepted-same limit f h ss head read bytes bare in
     record {
       rescued = λ f h g bytes opens e. subst (Rescued limit f h) (given-same (sym (salvage-opened limit f h opens) ∙ e)) (rescued limit f h bytes opens);
       opens = λ f h opens. (copied (framed f) (fates limit (framed f) h), salvage-opened limit f h opens);
@@ -236,16 +211,16 @@ salvage-demands limit low =
       overLimit = λ f over. salvage-refuses limit f 1 .1 (opening-long limit f over);
       firstTwo = λ f n small. (λ e. two-refuse limit f n small .0 (salvage-refuses limit f n .0 e), λ e. salvage-refuses limit f n .1 (two-refuse limit f n small .1 e));
       keeps = λ f h ss head read. (accepted-opens f h head, accepted-framed f h head, rw (accepted-framed f h head) (accepted-kept limit f h ss head read));
-      unchanged = unchanged;
+      unchanged = λ f h ss bytes head read bare. accepted-same limit f h ss head read bytes bare;
       nothingDropped = λ f h ss most bytes head read only few. accepted-silent limit f h ss head read bytes only most few;
-      made = salvage-made limit low unchanged;
+      made = salvage-made limit low;
       twice = salvage-twice limit;
       noLine = λ f g most bytes once few. lines-twice limit f g bytes once most few;
       overLong = λ most input over. text-long limit input most over;
       refusal = λ most input n small e. text-refused limit input most n small e;
       lines = λ most input h small opens. text-named limit input h opens most small;
       ascending = λ input h opens. ascending limit input h opens;
-      first = λ f buffer n e. handed-on limit f buffer n e;
+      handedOn = handed-on limit;
       room = λ f buffer g e fit. enough limit f buffer g e fit;
       noRoom = λ f buffer g e over. short limit f buffer g e over;
     }

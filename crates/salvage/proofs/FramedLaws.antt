@@ -1,14 +1,15 @@
 -- The whole boxes of a file alone are a file: it has no framing error, the same boxes and the same first two.
-use Prim.Native.Nat.{ℕ, _≤_}
+use Prim.Native.Nat.{ℕ, _<_, _≤_}
 use mathlib.Core.List.{List, [], _∷_}
 use mathlib.Core.Logic.{⊎-elim}
 use mathlib.Core.Option.{Option, none, some}
 use mathlib.Core.Path.{_≡_, refl, sym, ap, _∙_}
+use native.Mathlib.Decide.{decLe}
 use native.Mathlib.Nat.{le-refl}
 use native.Mathlib.Omega.{arith}
 use borrow.Author.Tests.{le-leb}
 use lib.Dec.{leb}
-use lib.ListN.{length, take}
+use lib.ListN.{length, getD, take, List·getD-eq-default}
 use lib.Seq.{length-take-le, take-length, take-take, getD-take}
 use Rattle.boxes.specs.Answer.{given}
 use Rattle.boxes.specs.Faults.{Follow}
@@ -43,6 +44,11 @@ record Cut (f s : List ℕ) : Type 0 where
   few : length (walkOf f .boxes) ≤ boxLimit
 
 module _ (f : List ℕ) where
+  -- a file without a framing error is all whole boxes
+  pub faultless-framed : walkOf f .fault ≡ none → framed f ≡ f
+  unfolding framed
+  faultless-framed faultless = rw (framed, faultless)
+
   cut : Cut f (framed f)
   unfolding walkOf framed boxesIn faultless
   cut = go (walkOf f .fault) refl
@@ -72,6 +78,19 @@ module _ (f : List ℕ) where
 
   pub framed-shorter : length (framed f) ≤ length f
   framed-shorter = rw framed-long (cut .inside)
+
+  -- its bytes are those of the file
+  pub framed-at : (k : ℕ) → k < length (framed f) → getD (framed f) k 0 ≡ getD f k 0
+  framed-at k less =
+      let c = cut in
+      rw (c .same) (getD-take (c .to) f k 0 (omega (arith, framed-long)))
+
+  pub framed-bytes : ((k : ℕ) → getD f k 0 < 256) → (k : ℕ) → getD (framed f) k 0 < 256
+  framed-bytes bytes k =
+      elim (decLe (length (framed f)) k) [
+        | yes past ↦ rw (List·getD-eq-default (framed f) 0 past) (omega arith)
+        | no inside ↦ rw (framed-at k (omega arith)) (bytes k)
+      ]
 
   pub framed-boxes : boxesIn File (framed f) 0 (length (framed f)) ≡ given (walkOf f .boxes)
   framed-boxes =

@@ -12,17 +12,17 @@ use lib.ListN.{length, getD, take, drop, length-drop}
 use lib.Seq.{drop-append-le, getD-drop}
 use Rattle.boxes.specs.Answer.{Answer, refused, given}
 use Rattle.boxes.specs.Framing.{Box, boxedAt}
-use Rattle.boxes.specs.Kinds.{pfil, pseg, ploc, pdat, fidx, is, right, boxAt, firstOf, those, noBox}
+use Rattle.boxes.specs.Kinds.{pfil, pseg, ploc, pdat, fidx, is, right, firstOf, those, noBox}
 use Rattle.boxes.specs.declared.kinds.Container.the-variants.{File}
 use Rattle.boxes.proofs.HeaderLaws.{moved}
-use Rattle.boxes.proofs.KindLaws.{is-eqb, is-there, boxAt-getD}
+use Rattle.boxes.proofs.KindLaws.{is-eqb, boxAt-getD}
 use Rattle.boxes.proofs.ContainerLaws.{boxes-none}
 use Rattle.boxes.proofs.AnswerLaws.{both-given, held, given-same}
 use Rattle.numerals.specs.declared.numbers.Offset.the-variants.{Ahead}
 use Rattle.numerals.proofs.NumberLaws.{number-none}
 use Rattle.numerals.proofs.OffsetLaws.{signed-none}
 use Rattle.partial.specs.Entries.{Ploc, Entry, Cursor, plocHead, stateOf, entry, inData, mayLie, placeOf, chunkStep, chunksFrom}
-use Rattle.partial.specs.Heading.{Heading, heading, pfilRight}
+use Rattle.partial.specs.Heading.{Heading, heading}
 use Rattle.partial.specs.Index.{hasIndex}
 use Rattle.partial.specs.Memory.{after}
 use Rattle.partial.specs.Mixed.{allowed, fillUp, wholeBoxes}
@@ -53,6 +53,7 @@ use Rattle.additions.proofs.BegunLaws.{begunHeading, begun-headed, begun-taken,
 use Rattle.salvage.specs.Kept.{liesIn}
 use Rattle.salvage.specs.Copy.{salvage}
 use Rattle.salvage.specs.Demands.{Bytes, ZeroOffsets, Bare}
+use Rattle.salvage.proofs.AcceptedLaws.{two-boxes, accepted-same}
 
 -- ---- where no chunk is empty, the entries without data have offset 0
 
@@ -299,11 +300,6 @@ module _ (limit : ℕ) (f : List ℕ) (h : Heading) (ss : List Segment) (a : Add
 
 -- ---- a run of additions
 
--- the second box of a file is its `pfil`
-two-boxes : (f : List ℕ) (h : Heading) → heading f ≡ given h → 2 ≤ length (h .boxes)
-unfolding pfilRight
-two-boxes f h e = is-there pfil (lit< tt) 1 (h .boxes) (both (is pfil (boxAt 1 (h .boxes))) (right File pfil (h .boxes)) (headed f h e .pfil) .0)
-
 -- a refused addition leaves the file, and a refused beginning none
 append-refused : (limit : ℕ) (buffer : List ℕ) (n : ℕ) (a : Addition) (k : ℕ) → appended limit buffer n a ≡ refused k → fileIn (append limit (lent buffer n) a) ≡ take n buffer
 unfolding append fileIn after sizeAfter
@@ -424,15 +420,14 @@ module _ (limit : ℕ) where
           let made = runs additions (begin buffer brand u m) (run-begun buffer brand u m) h head in
           (made .ss, made .read, made-bare madeFile h head made)
 
--- so it is its own copy, where one of which nothing goes is
+-- so it is its own copy
 pub salvage-made : (limit : ℕ) → limit < 2 ^ 64
-    → ((f : List ℕ) (h : Heading) (ss : List Segment) → Bytes f → heading f ≡ given h → earlierSegments limit f ≡ given ss → Bare f h ss → salvage limit f ≡ given f)
     → (buffer : List ℕ) (brand : Brand) (u m : List ℕ) (additions : List Addition)
     → let f = fileIn (appendAll limit (begin buffer brand u m) additions) in
     Bytes f
     → (h : Heading)
     → heading f ≡ given h
     → salvage limit f ≡ given f
-salvage-made limit below unchanged buffer brand u m additions bytes h head =
+salvage-made limit below buffer brand u m additions bytes h head =
     let (ss, read, bare) = bare-made limit below buffer brand u m additions h head in
-    unchanged _ h ss bytes head read bare
+    accepted-same limit _ h ss head read bytes bare

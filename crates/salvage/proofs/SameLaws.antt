@@ -40,20 +40,16 @@ use Rattle.partial.proofs.Meaning.SequenceLaws.{which, both, Each}
 use Rattle.partial.proofs.Reading.HeadingAppendLaws.{headed}
 use Rattle.partial.proofs.Reading.KeptLaws.{found, stepped}
 use Rattle.additions.specs.Append.{Placed, flagByte, entryBytes}
-use Rattle.salvage.specs.Kept.{Fate, dropped, whole, ofPfil, ofPseg, Fated, walkOf, framed, firstTwo, opening, keptWith, keptOf, fateOf, fatesFrom, fates}
+use Rattle.salvage.specs.Kept.{Fate, dropped, whole, ofPfil, ofPseg, Fated, walkOf, firstTwo, opening, keptWith, keptOf, fateOf, fatesFrom, fates}
 use Rattle.salvage.specs.Copy.{boxBytes, unindexed, reheaded, offsetTo, placedAnew, plocBytes, innerBytes, copyOf, newPlace, copied}
+use Rattle.salvage.specs.Demands.{ZeroOffsets}
 use Rattle.salvage.proofs.CopyLaws.{staying, Ready}
 use Rattle.salvage.proofs.PieceLaws.{length-boxBytes}
 use Rattle.salvage.proofs.PlaceLaws.{Chained, ends, AsLong, new-along}
 use Rattle.salvage.proofs.FateLaws.{segmentsOf, kept-all, fate-pseg, fate-no-pfil, beside-given}
-use Rattle.salvage.proofs.FramedLaws.{framed-boxes}
+use Rattle.salvage.proofs.FramedLaws.{faultless-framed, framed-boxes}
 use Rattle.salvage.proofs.HeadingLaws.{header-nearer, opened}
 use Rattle.salvage.proofs.WholeLaws.{Stood, fates-all, fates-stood, fates-ready, fates-chained}
-
--- of so many entries from a place on those without data have offset 0
-abbrev pub Zeroed : List ℕ → Ploc → ℕ → ℕ → Type 0
-Zeroed f l zero at = Unit {0}
-Zeroed f l (suc more) at = (e : Entry) → entry f l at ≡ given e → (hasPlace (e .state) (e .size) ≡ false → e .offset ≡ Ahead 0) × Zeroed f l more (e .next)
 
 -- of a file nothing goes: it has no framing error, every box stays, there is no index, and empty chunks have offset 0
 pub record Clean (limit : ℕ) (f : List ℕ) (h : Heading) : Type 0 where
@@ -61,7 +57,7 @@ pub record Clean (limit : ℕ) (f : List ℕ) (h : Heading) : Type 0 where
   pub stay : Each (λ x. staying (x .fate) ≡ true) (fates limit f h)
   pub pfil : hasIndex (h .inner) ≡ false
   pub segments : Each (λ s. hasIndex (s .inner) ≡ false) (keptOf limit f h)
-  pub zeros : Each (λ s. (l : Ploc) → plocHead f (firstOf ploc (s .inner)) ≡ given l → Zeroed f l (l .count) (l .first)) (keptOf limit f h)
+  pub zeros : Each (λ s. (l : Ploc) → plocHead f (firstOf ploc (s .inner)) ≡ given l → ZeroOffsets f l (l .count) (l .first)) (keptOf limit f h)
 
 -- ---- parts of a file, from one place to another
 
@@ -305,7 +301,7 @@ module _ (f : List ℕ) (bytes : (k : ℕ) → getD f k 0 < 256) (l : Ploc) (ins
           | inr empty ↦ rw (placedAnew, empty, none-there empty)
         ]
 
-    entries-back : (limit more : ℕ) (c : Cursor) (cs : List Chunk) → chunksFrom limit f h pseg l more c ≡ given cs → Zeroed f l more (c .at)
+    entries-back : (limit more : ℕ) (c : Cursor) (cs : List Chunk) → chunksFrom limit f h pseg l more c ≡ given cs → ZeroOffsets f l more (c .at)
         → written (map (placedAnew new pseg) cs) ≡ part f (c .at) (l .end)
     unfolding chunksFrom chunkStep entryBytes
     entries-back limit zero c cs e zeroed =
@@ -364,7 +360,7 @@ Same f new x = copyOf f new x ≡ boxBytes f (x .box)
 
 -- a segment without an index whose empty chunks have offset 0
 abbrev Unchanged : List ℕ → Segment → Type 0
-Unchanged f s = (hasIndex (s .inner) ≡ false) × ((l : Ploc) → plocHead f (firstOf ploc (s .inner)) ≡ given l → Zeroed f l (l .count) (l .first))
+Unchanged f s = (hasIndex (s .inner) ≡ false) × ((l : Ploc) → plocHead f (firstOf ploc (s .inner)) ≡ given l → ZeroOffsets f l (l .count) (l .first))
 
 -- where no place of the file changes
 module _ (limit : ℕ) (f : List ℕ) (h : Heading) (bytes : (k : ℕ) → getD f k 0 < 256)
@@ -374,7 +370,7 @@ module _ (limit : ℕ) (f : List ℕ) (h : Heading) (bytes : (k : ℕ) → getD 
   -- the `ploc` of a segment
   ploc-back : (s : Segment) (b : Box) (l : Ploc) (start : ℕ) → b .at ≤ b .body → b .end ≤ length f → s .place ≤ length f → plocHead f b ≡ given l
       → chunksFrom limit f h (s .place) l (l .count) (record { at = l .first; start = start }) ≡ given (s .chunks)
-      → Zeroed f l (l .count) (l .first)
+      → ZeroOffsets f l (l .count) (l .first)
       → plocBytes f new s b ≡ boxBytes f b
   unfolding plocHead plocBytes boxBytes bytesIn
   ploc-back s b l start low inside from head =
@@ -384,7 +380,7 @@ module _ (limit : ℕ) (f : List ℕ) (h : Heading) (bytes : (k : ℕ) → getD 
       let (_, e2) = held 18 (leb (widths / 16) 8 && leb (widths % 16) 8) _ e1 in
       let (_, e3) = held 19 (eqb (number f (b .body + 5) 2) 0) _ e2 in
       subst (λ (l : Ploc). chunksFrom limit f h (s .place) l (l .count) (record { at = l .first; start = start }) ≡ given (s .chunks)
-      → Zeroed f l (l .count) (l .first)
+      → ZeroOffsets f l (l .count) (l .first)
       → plocBytes f new s b ≡ boxBytes f b) (given-same e3)
       (λ read zeroed.
       rw (entries-back f bytes _ inside h (s .place) new same from ends limit _ _ (s .chunks) read zeroed)
@@ -393,7 +389,7 @@ module _ (limit : ℕ) (f : List ℕ) (h : Heading) (bytes : (k : ℕ) → getD 
   -- the boxes inside a `pseg` whose `ploc` has that head
   inner-back : (s : Segment) (l : Ploc) (start end : ℕ) → s .place ≤ length f → end ≤ length f
       → chunksFrom limit f h (s .place) l (l .count) (record { at = l .first; start = start }) ≡ given (s .chunks)
-      → Zeroed f l (l .count) (l .first)
+      → ZeroOffsets f l (l .count) (l .first)
       → {at : ℕ} {bs : List Box} → Filled Pseg f end at bs → Each (λ b. is ploc b ≡ true → plocHead f b ≡ given l) bs
       → Each (λ b. innerBytes f new s b ≡ boxBytes f b) bs
   unfolding innerBytes
@@ -500,10 +496,7 @@ module _ (f : List ℕ) (h : Heading) (opens : opening f ≡ given h) where
 
   -- without a framing error its boxes are all of it
   all-filled : walkOf f .fault ≡ none → Filled File f (length f) 0 (h .boxes)
-  unfolding framed
-  all-filled faultless =
-      let all : framed f ≡ f = rw (framed, faultless) in
-      rw (opened f h opens .boxes) (boxes-filled File f 0 (length f) (rw all at (framed-boxes f)))
+  all-filled faultless = rw (opened f h opens .boxes) (boxes-filled File f 0 (length f) (rw (faultless-framed f faultless) at (framed-boxes f)))
 
   -- and each ends in it
   all-inside : (k : ℕ) → k < length (h .boxes) → boxAt k (h .boxes) .end ≤ length f

@@ -3,54 +3,50 @@ use Prim.Native.Nat.{ℕ, zero, suc, _+_, _-_, _/_, _%_, _^_, _<_, _≤_}
 use mathlib.Core.Bool.{Bool, true, false, _&&_, or-true}
 use mathlib.Core.List.{List, [], _∷_, _++_, map, append-assoc, append-nil, List·Memᴰ, List·Memᴰ·head, List·Memᴰ·tail}
 use mathlib.Core.Logic.{inl, inr}
-use mathlib.Core.Option.{Option, none, some}
-use mathlib.Core.Path.{_≡_, refl, sym, ap, subst, _∙_}
-use native.Mathlib.Nat.{zero-add, add-zero, mod-lt, le-refl}
+use mathlib.Core.Path.{_≡_, refl, sym, subst, _∙_}
+use native.Mathlib.Nat.{add-zero, mod-lt, le-refl}
 use native.Mathlib.Omega.{arith}
 use borrow.Author.Tests.{le-leb, leb-true, lt-ltb, eqb-true}
 use lib.Dec.{leb, eqb, lit<}
 use lib.ListN.{length, getD, take, drop, length-append}
-use lib.Seq.{take-at}
 use Rattle.boxes.specs.Answer.{given}
-use Rattle.boxes.specs.Framing.{Box, Fault, Walked, boxLimit, boxesIn, frontSize, front}
-use Rattle.boxes.specs.Kinds.{ftyp, pfil, pseg, pdat, ploc, is, boxAt, firstOf}
+use Rattle.boxes.specs.Framing.{Box, frontSize, front}
+use Rattle.boxes.specs.Kinds.{ftyp, pfil, pseg, pdat, ploc, is, firstOf}
 use Rattle.boxes.specs.declared.kinds.Container.the-variants.{File}
 use Rattle.boxes.proofs.AnswerLaws.{both-given, given-same}
-use Rattle.boxes.proofs.FaultLaws.{no-fault}
 use Rattle.boxes.proofs.HeaderLaws.{header-inside}
-use Rattle.boxes.proofs.KindLaws.{those-nil}
 use Rattle.numerals.specs.Numbers.{number, bytesOf, twosComplement, holds, holdsOffset}
 use Rattle.numerals.specs.declared.numbers.Offset.the-variants.{Ahead}
 use Rattle.partial.specs.BoxList.{each}
 use Rattle.partial.specs.Entries.{Ploc, Entry, plocHead, chunksFrom}
-use Rattle.partial.specs.Heading.{Heading, heading, bytesIn}
-use Rattle.partial.specs.Limits.{fileLimit, segmentLimit, layerLimit}
+use Rattle.partial.specs.Heading.{Heading, bytesIn}
+use Rattle.partial.specs.Limits.{segmentLimit, layerLimit}
 use Rattle.partial.specs.Segments.{Chunk, Segment, good, corrupted, present, hasPlace, chunksOf}
 use Rattle.partial.specs.Sequences.{allOf, someOf, sum}
 use Rattle.partial.specs.Sources.{sourceCount}
 use Rattle.partial.proofs.Meaning.SequenceLaws.{which, both, Each, some-append}
-use Rattle.partial.proofs.Reading.HeadingAppendLaws.{headed}
 use Rattle.additions.specs.Append.{Placed, flagByte, entryBytes}
 use Rattle.additions.proofs.EntriesBackLaws.{Tells, entry-long, entry-back}
 use Rattle.additions.proofs.StandsLaws.{Stands, stands-right}
-use Rattle.salvage.specs.Kept.{Fate, dropped, whole, ofPfil, ofPseg, Fated, walkOf, framed, firstTwo, opening}
+use Rattle.salvage.specs.Kept.{Fate, dropped, whole, ofPfil, ofPseg, Fated, framed, opening}
 use Rattle.salvage.specs.Kept.{liesIn, beside, keptWith, keptFrom, keptOf, stays, fateOf, fatesFrom, fates}
 use Rattle.salvage.specs.Copy.{boxBytes, unindexed, reheaded, placedAnew, plocBytes, innerBytes, copyOf, copySize, copied, salvage}
+use Rattle.salvage.specs.Demands.{ZeroOffsets}
 use Rattle.salvage.specs.Lines.{salvageText}
 use Rattle.salvage.proofs.Shapes.{resized, boxesAnew, chunkAnew, segmentAnew, segmentsAnew}
 use Rattle.salvage.proofs.PlaceLaws.{sizes, Copied, new-nearer}
-use Rattle.salvage.proofs.CopyLaws.{staying, Ready, pieces-long, copy-filled, copy-stands}
+use Rattle.salvage.proofs.CopyLaws.{staying}
 use Rattle.salvage.proofs.FateLaws.{segmentsOf, segments-split, fate-pseg, fate-whole, fate-no-pfil, beside-given}
-use Rattle.salvage.proofs.FramedLaws.{framed-opens}
-use Rattle.salvage.proofs.LineLaws.{lines-none}
-use Rattle.salvage.proofs.HeadingLaws.{opened, firstFated, secondFated, headingAnew, allAnew, heading-back, pfil-unindexed}
-use Rattle.salvage.proofs.WholeLaws.{fates-ready, fates-chained, copy-shorter, headingBack, heading-copied}
+use Rattle.salvage.proofs.FramedLaws.{framed-bytes, framed-opens}
+use Rattle.salvage.proofs.HeadingLaws.{opened, firstFated, secondFated, pfil-unindexed}
+use Rattle.salvage.proofs.WholeLaws.{fates-chained, headingBack, heading-copied}
 use Rattle.salvage.proofs.PlocLaws.{Lies, offset-empty, told, bytes-are, front-long, length-ploc, headAnew, head-back}
 use Rattle.salvage.proofs.SegmentLaws.{segment-place, was, located, location-box, location-stands}
 use Rattle.salvage.proofs.LieLaws.{newPlaces, run-copied, chunk-carried, kept-lie}
 use Rattle.salvage.proofs.ReadingLaws.{Anew, none-anew, one-anew, anew-long, anew-many, anew-count, anew-beside, anew-agreed, anew-fates, anew-split, kept-anew}
 use Rattle.salvage.proofs.ReadingLaws.{segmentsBack, sizes-more, all-split, stands-new, new-there, stood-there, fate-there, kept-there, segment-there, all-read}
-use Rattle.salvage.proofs.SameLaws.{Zeroed, Clean, copy-same}
+use Rattle.salvage.proofs.SameLaws.{Clean}
+use Rattle.salvage.proofs.AcceptedLaws.{accepted-faultless, accepted-opens, clean-same, stay-silent}
 
 -- ---- bytes
 
@@ -160,7 +156,7 @@ zeroed-entries : (g : List ℕ) (h : Heading) (pseg : ℕ) (l : Ploc) (ps : List
     → allOf (λ p. holds (l .lengthSize) (p .size)) ps ≡ true
     → allOf (λ p. holdsOffset (l .offsetSize) (p .offset)) ps ≡ true
     → Each (λ p. hasPlace (p .state) (p .size) ≡ false → p .offset ≡ Ahead 0) ps
-    → Zeroed g l (length ps) at
+    → ZeroOffsets g l (length ps) at
 unfolding allOf
 zeroed-entries g h pseg l [] at stands ends tell sizes places zeros = tt
 zeroed-entries g h pseg l (p ∷ ps) at stands ends (tells, tell) sizes places (zero-here, zeros) =
@@ -169,7 +165,7 @@ zeroed-entries g h pseg l (p ∷ ps) at stands ends (tells, tell) sizes places (
     let (found, rest) = entry-back g l p ps h pseg at stands ends tells fits-size fits-offset in
     let long = entry-long g l p ps in
     λ e read.
-    subst (λ (e : Entry). (hasPlace (e .state) (e .size) ≡ false → e .offset ≡ Ahead 0) × Zeroed g l (length ps) (e .next)) (given-same (sym found ∙ read))
+    subst (λ (e : Entry). (hasPlace (e .state) (e .size) ≡ false → e .offset ≡ Ahead 0) × ZeroOffsets g l (length ps) (e .next)) (given-same (sym found ∙ read))
     (zero-here, zeroed-entries g h pseg l ps _ rest (omega arith) tell sizes-rest places-rest zeros)
 
 -- those of chunks at their new places
@@ -188,7 +184,7 @@ module _ (limit : ℕ) (f : List ℕ) (h : Heading) (s : Segment) (b : Box) (l :
     (read : chunksFrom limit f h (s .place) l (l .count) (record { at = l .first; start = start }) ≡ given (s .chunks))
     (new : ℕ → ℕ)
     (g : List ℕ) (h′ : Heading) (at : ℕ) (stands : Stands g at (plocBytes f new s b)) (lie : Each (Lies new (s .place) h′) (s .chunks)) where
-  zeroed-ploc : (l′ : Ploc) → plocHead g (resized at (b .end - b .at) b) ≡ given l′ → Zeroed g l′ (l′ .count) (l′ .first)
+  zeroed-ploc : (l′ : Ploc) → plocHead g (resized at (b .end - b .at) b) ≡ given l′ → ZeroOffsets g l′ (l′ .count) (l′ .first)
   zeroed-ploc l′ found =
       let there = told limit f h s b l typed inside bytes head start low read new in
       let parts = bytes-are limit f h s b l typed inside bytes head start low read new in
@@ -201,8 +197,8 @@ module _ (limit : ℕ) (f : List ℕ) (h : Heading) (s : Segment) (b : Box) (l :
       let ps : List Placed = map (placedAnew new (s .place)) (s .chunks) in
       let entries : List ℕ = entryBytes (l .lengthSize) (l .offsetSize) ps in
       let there-too = stands-right g at (bytesIn f (record { place = b .at; size = b .body + 9 - b .at })) entries (rw parts at stands) in
-      subst (λ (l : Ploc). Zeroed g l (l .count) (l .first)) same
-      (subst (λ (n : ℕ). Zeroed g back n (back .first)) (there .many)
+      subst (λ (l : Ploc). ZeroOffsets g l (l .count) (l .first)) same
+      (subst (λ (n : ℕ). ZeroOffsets g back n (back .first)) (there .many)
       (zeroed-entries g h′ (new (s .place)) back ps (back .first) (rw (front-size, first) at there-too) (omega arith) tells (there .sizes) offsets (placed-zeros l new (s .place) (s .chunks))))
 
 -- ---- chunks at their new places
@@ -270,51 +266,8 @@ module _ (limit : ℕ) (f : List ℕ) (h : Heading) (opens : opening f ≡ given
   abbrev upTo : List Fated → List Fated
   upTo before = firstFated f h opens ∷ secondFated f h opens ∷ before
 
-  copy-walk : walkOf copy ≡ record { boxes = back .boxes; fault = none }
-  unfolding walkOf boxesIn
-  copy-walk = no-fault (walkOf copy) (headed copy back (heading-copied limit f h opens bytes) .boxes)
-
-  -- its first two boxes alone
-  abbrev two : List ℕ
-  two = each (copyOf f new) (upTo [])
-
-  two-ready : Each (Ready f new) (upTo [])
-  unfolding fates
-  two-ready = let (one, (other, _)) = fates-ready limit f h opens bytes new in (one, (other, tt))
-
-  two-long : length two ≡ copySize (firstFated f h opens) + copySize (secondFated f h opens)
-  unfolding sum
-  two-long = pieces-long f new (upTo []) two-ready ∙ omega arith
-
-  two-split : copy ≡ two ++ each (copyOf f new) others
-  unfolding copied fates each
-  two-split = simp (append-assoc, append-nil)
-
-  two-first : firstTwo copy (back .boxes) ≡ two
-  unfolding firstTwo fates boxesAnew boxAt
-  two-first =
-      let whole = le-leb 2 (length (back .boxes)) (omega arith) in
-      rw (firstTwo, whole, two-split, zero-add) (take-at two _ _ two-long)
-
-  two-boxes : boxesAnew 0 (upTo []) ≡ allAnew f h opens new two []
-  unfolding boxesAnew
-  two-boxes = rw (zero-add (copySize (firstFated f h opens)))
-
-  two-heading : heading two ≡ given (headingAnew f h opens (allAnew f h opens new two []))
-  unfolding boxLimit sum
-  two-heading =
-      heading-back f h opens new two [] (omega (arith, simp length-append at (ap length two-split), copy-shorter limit f h opens bytes, opened f h opens .small))
-      (rw two-boxes at (copy-filled f new (upTo []) two-ready))
-      (omega arith)
-      (copy-stands f new [] (firstFated f h opens) (secondFated f h opens ∷ []) two-ready)
-      (rw add-zero at (copy-stands f new (firstFated f h opens ∷ []) (secondFated f h opens) [] two-ready))
-      (those-nil ftyp) (those-nil pfil)
-
   pub copy-opens : opening (copied f (fates limit f h)) ≡ given (headingBack limit f h opens bytes)
-  unfolding opening
-  copy-opens =
-      let small = le-leb (length copy) fileLimit (omega (arith, copy-shorter limit f h opens bytes, opened f h opens .small)) in
-      rw (small, copy-walk, two-first, two-heading)
+  copy-opens = accepted-opens copy back (heading-copied limit f h opens bytes)
 
   pub copy-bytes : (k : ℕ) → getD (copied f (fates limit f h)) k 0 < 256
   unfolding copied
@@ -326,7 +279,7 @@ module _ (limit : ℕ) (f : List ℕ) (h : Heading) (opens : opening f ≡ given
 
   -- its empty chunks have offset 0
   abbrev ZerosIn : Segment → Type 0
-  ZerosIn s = (l : Ploc) → plocHead copy (firstOf ploc (s .inner)) ≡ given l → Zeroed copy l (l .count) (l .first)
+  ZerosIn s = (l : Ploc) → plocHead copy (firstOf ploc (s .inner)) ≡ given l → ZeroOffsets copy l (l .count) (l .first)
 
   -- each is taken again
   module _ (before : List Fated) (b : Box) (s : Segment) (behind : List Fated) (split : others ≡ before ++ (record { box = b; fate = ofPseg s } ∷ behind))
@@ -467,7 +420,7 @@ module _ (limit : ℕ) (f : List ℕ) (h : Heading) (opens : opening f ≡ given
   unfolding fates boxesAnew segmentsAnew
   copy-clean =
       record {
-        faultless = ap (λ (w : Walked). w .fault) copy-walk;
+        faultless = accepted-faultless copy back (heading-copied limit f h opens bytes);
         stay = (refl, (refl, on .stay kept-again));
         pfil = pfil-unindexed f h opens;
         segments = rw kept-again (all-read limit f h opens bytes .1);
@@ -482,39 +435,22 @@ record Made (limit : ℕ) (g : List ℕ) : Type 0 where
   clean : Clean limit g heading
 
 module _ (limit : ℕ) (f g : List ℕ) (bytes : (k : ℕ) → getD f k 0 < 256) (once : salvage limit f ≡ given g) where
-  framed-bytes : (k : ℕ) → getD (framed f) k 0 < 256
-  unfolding framed
-  framed-bytes = low-at (go (walkOf f .fault))
-    where
-      go : (x : Option Fault) → Low (elim x [ none ↦ f | some x ↦ take (x .at) f ])
-      go none = low-all f bytes
-      go (some x) = low-take (x .at) (low-all f bytes)
-
   made : Made limit g
   unfolding salvage
   made =
       let (h, opens, same) = both-given (opening f) _ once in
       let whole = framed-opens f h opens in
+      let low = framed-bytes f bytes in
       subst (Made limit) (given-same same)
       (record {
-        heading = headingBack limit (framed f) h whole framed-bytes;
-        opens = copy-opens limit (framed f) h whole framed-bytes;
-        bytes = copy-bytes limit (framed f) h whole framed-bytes;
-        clean = copy-clean limit (framed f) h whole framed-bytes;
+        heading = headingBack limit (framed f) h whole low;
+        opens = copy-opens limit (framed f) h whole low;
+        bytes = copy-bytes limit (framed f) h whole low;
+        clean = copy-clean limit (framed f) h whole low;
       })
 
-  framed-again : framed g ≡ g
-  unfolding framed
-  framed-again = rw (framed, made .clean .faultless)
-
   pub salvage-twice : salvage limit g ≡ given g
-  unfolding salvage
-  salvage-twice =
-      let m = made in
-      rw (m .opens, framed-again, copy-same limit g (m .heading) (m .opens) (m .bytes) (m .clean))
+  salvage-twice = let m = made in clean-same limit g (m .heading) (m .opens) (m .bytes) (m .clean)
 
   pub lines-twice : (most : ℕ) → length g ≤ most → salvageText limit most g ≡ []
-  unfolding salvageText
-  lines-twice most few =
-      let m = made in
-      rw (salvageText, le-leb (length g) most few, m .opens, framed-again, m .clean .faultless) (lines-none (fates limit g (m .heading)) (m .clean .stay))
+  lines-twice = let m = made in stay-silent limit g (m .heading) (m .opens) (m .clean .faultless) (m .clean .stay)

@@ -148,6 +148,6 @@ pub record Salvage (limit : ℕ) : Type 0 where
   pub ascending : (input : List ℕ) (h : Heading) → opening input ≡ given h
       → Ascending (λ y. y .at) 0 (droppedOf (fates limit (framed input) h) ++ faultOf (walkOf input .fault))
   -- 33 where the buffer is too short for the copy, after its refusals
-  pub first : (f buffer : List ℕ) (n : ℕ) → salvage limit f ≡ refused n → salvaged limit f buffer ≡ refused n
+  pub handedOn : (f buffer : List ℕ) (n : ℕ) → salvage limit f ≡ refused n → salvaged limit f buffer ≡ refused n
   pub room : (f buffer g : List ℕ) → salvage limit f ≡ given g → length g ≤ length buffer → salvaged limit f buffer ≡ given g
   pub noRoom : (f buffer g : List ℕ) → salvage limit f ≡ given g → length buffer < length g → salvaged limit f buffer ≡ refused 33
