@@ -12,9 +12,10 @@ use Rattle.boxes.specs.declared.kinds.Container.the-variants.{File}
 use Rattle.partial.specs.Heading.{Heading}
 use Rattle.partial.specs.Limits.{layerLimit, sourceLimit}
 use Rattle.partial.specs.ReadingDemands.{Numbered}
-use Rattle.partial.specs.Segments.{Segment, chunksOf}
+use Rattle.partial.specs.Segments.{Segment, chunksOf, endOf}
 use Rattle.partial.specs.Sources.{sourceCount, agreed}
 use Rattle.salvage.specs.Kept.{Fate, dropped, whole, ofPfil, ofPseg, beside, keptOf, fates}
+use Rattle.ends.specs.Table.{Holds}
 use Rattle.segment.specs.Data.{Searched}
 use Rattle.surls.specs.declared.body.Body.{Body}
 use Rattle.sources.specs.Held.{PfilList}
@@ -28,6 +29,13 @@ use Rattle.gathering.specs.declared.step.SegmentRead.the-variants.{Refus
 -- 25 and 40 of segments; 0 for neither
 unfoldable pub lateFault : List Segment → ℕ
 lateFault ss = elim (agreed ss) [ true ↦ elim (leb (sourceCount ss) layerLimit) [ true ↦ 0 | false ↦ 40 ] | false ↦ 25 ]
+
+-- what they say of segments that pass both, with one more, by what a table holds of its source
+abbrev pub LateTold : List ℕ → ℕ → ℕ → ℕ → ℕ → ℕ → Type 0
+LateTold z source flags count end r =
+    (ss : List Segment) (s : Segment) → source ≡ s .source → Holds z ss → flags ≡ s .flags → count ≡ length (s .chunks) → end ≡ endOf s → agreed ss ≡ true
+    → sourceCount ss ≤ layerLimit
+    → r ≡ lateFault (ss ++ (s ∷ []))
 
 -- what stands of the segments kept so far: what was gathered and is noted of them, and the numbers of their chunks. They
 -- pass 25 and 40

@@ -33,20 +33,17 @@ use surls::body::Body;
 use surls::first::has_surl;
 use tallying::find::NO_BOX;
 ghost use Prim.Native.Nat.{_≤_};
-ghost use mathlib.Core.Bool.{true};
-ghost use mathlib.Core.List.{List, [], _∷_, _++_};
+ghost use mathlib.Core.List.{List};
 ghost use mathlib.Core.Path.{_≡_};
 ghost use lib.ListN.{length};
 ghost use Rattle.boxes.specs.Framing.{boxLimit, boxOf};
 ghost use Rattle.partial.specs.Heading.{Heading};
-ghost use Rattle.partial.specs.Limits.{chunkLimit, layerLimit};
-ghost use Rattle.partial.specs.Segments.{Segment, endOf};
-ghost use Rattle.partial.specs.Sources.{sourceCount, agreed};
-ghost use Rattle.ends.specs.Table.{Holds};
+ghost use Rattle.partial.specs.Limits.{chunkLimit};
+ghost use Rattle.partial.specs.Segments.{Segment};
 ghost use Rattle.segment.specs.Data.{Searched};
 ghost use Rattle.segment.specs.Tops.{Tops};
 ghost use Rattle.sources.specs.Held.{PfilList};
-ghost use Rattle.gathering.specs.Keeping.{lateFault, SoFar, Tried, Boxed, Keeps};
+ghost use Rattle.gathering.specs.Keeping.{LateTold, SoFar, Tried, Boxed, Keeps};
 ghost use Rattle.gathering.specs.Parts.{hasSurl};
 ghost use Rattle.gathering.specs.Step.{Counted};
 
@@ -58,8 +55,7 @@ pub const ALL_FATES: usize = 512;
 // 25 and 40 of segments that pass both, with one more of a source, of these flags and so many chunks, that ends there; 0
 // for neither.
 fn late_fault(sizes: &[u64; ALL_SIZES], source: u64, flags: u64, count: u64, end: Position) -> u64
-    ensures { λ r. ⌜ ((ss : List Segment) (s : Segment) → source ≡ s .source → Holds (now (sizes .entry)) ss → flags ≡ s .flags
-        → count ≡ length (s .chunks) → end .0 ≡ endOf s → agreed ss ≡ true → sourceCount ss ≤ layerLimit → r ≡ lateFault (ss ++ (s ∷ []))) ⌝ }
+    ensures { λ r. ⌜ LateTold (now (sizes .entry)) source flags count (end .0) r ⌝ }
 {
     let before = sizes_at(sizes, source);
     let said = before.with(end, gives_size(flags, count));
@@ -141,6 +137,7 @@ pub fn keep_pass(
     ensures { λ r. ⌜ ((h : Heading) → Boxed (now (file .entry)) mixed list h
         → Keeps (now (file .entry)) h (now (fates .exit)) (now (numbers .exit)) r) ⌝ }
 {
+    *fates = [STAYS; ALL_FATES];
     let in_pfil = has_surl(file, list);
     let mut tops = [NO_TOP; TOPS];
     tops_of(file, &mut tops);
@@ -157,6 +154,8 @@ pub fn keep_pass(
         match walk.step(file) {
             Step::Next(b, next) => {
                 walk = next;
+                let at = k;
+                k += 1;
                 if b.kind == PSEG.code {
                     match keep_segment(
                         file,
@@ -172,15 +171,14 @@ pub fn keep_pass(
                         &mut sources,
                         &mut lists,
                     ) {
-                        SegmentRead::Refused(n) => fates[k] = n,
+                        SegmentRead::Refused(n) => fates[at] = n,
                         SegmentRead::Given(more, held) => {
                             gathered = more;
                             last = held;
-                            fates[k] = STAYS;
+                            fates[at] = STAYS;
                         }
                     }
                 }
-                k += 1;
             }
             Step::End => return gathered,
             Step::Refused(_) => return gathered,

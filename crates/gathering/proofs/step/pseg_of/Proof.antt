@@ -1,66 +1,98 @@
+-- `gathering::step::pseg_of` meets its contract: each test is one of the definition's.
+use Prim.Native.Nat.{_+_, _≤_}
+use mathlib.Core.Path.{refl, sym, ap, subst, _∙_}
+use native.Mathlib.Omega.{arith}
 use borrow.Author.Needs.{needs}
+use Rattle.boxes.proofs.ToldLaws.{box-fields}
+use Rattle.partial.specs.Limits.{chunkLimit}
+use Rattle.gathering.specs.Chunks.{Chunked}
+use Rattle.gathering.specs.Parts.{partsAnswer}
+use Rattle.gathering.specs.Step.{Fitting, PsegTold}
+use Rattle.gathering.proofs.StepLaws.{header-whole, segment-fault, segment-crowded, segment-far, segment-cut}
 use Rattle.gathering.proofs.step.pseg_of.Statement.{statement}
 use Rattle.gathering.proofs.step.pseg_of.Tie as tie
-use Rattle.gathering.proofs.step.pseg_of.Reads as reads
-use Rattle.gathering.proofs.step.pseg_of.Lts as lts
-use Rattle.gathering.proofs.chunks.chunks_of.Reads as chunks-of-reads
-use Rattle.gathering.proofs.parts.parts_of.Reads as parts-of-reads
 
--- src/step.rt:121:11
+-- what was before the segment, and what its parts are
+abbrev at-parts : tie.Else2 → tie.After-p
+at-parts c = c .before .before .before .before .before .before .before .before .before
+
+few : (c : tie.Else2) → at-parts c .before .before .before .before .before .before .args .before .chunks + at-parts c .p .given .0 .0 .location .count ≤ chunkLimit
+few c = omega arith
+
 parts-of-requires : tie.Need-parts-of-requires
 parts-of-requires c κs = search needs
 
--- src/step.rt:122:28
 enum-known-n : tie.Need-enum-known-n
 enum-known-n c = search needs
 
--- src/step.rt:123:26
 enum-known-p : tie.Need-enum-known-p
 enum-known-p c = search needs
 
--- src/step.rt:129:16
 sub-if1 : tie.Need-sub-if1
 sub-if1 c = search needs
 
--- src/step.rt:130:17
 returns : tie.Need-returns
-returns c = ?
+unfolding Fitting PsegTold partsAnswer
+returns c =
+    let met = c .before .before .before .before .before .before .before in
+    let parts = sym (met .before .before .parts-of .ensures) ∙ ap partsAnswer (met .p .given .1) in
+    (tt, λ h ss mix known listed any chunks. (segment-crowded _ h ss _ any _ parts (omega arith), λ room. refl))
 
--- src/step.rt:133:17
 returns-2 : tie.Need-returns-2
-returns-2 c = ?
+unfolding Fitting PsegTold partsAnswer
+returns-2 c =
+    let met = c .before .before .before .before .before .before .before .before .before in
+    let parts = sym (met .before .before .parts-of .ensures) ∙ ap partsAnswer (met .p .given .1) in
+    (tt, λ h ss mix known listed any chunks. (segment-far _ h ss _ any _ parts (omega arith) (omega arith), λ room. refl))
 
--- src/step.rt:136:19
 chunks-of-requires : tie.Need-chunks-of-requires
 chunks-of-requires c κs = search needs
 
--- src/step.rt:137:37
 enum-known-n-2 : tie.Need-enum-known-n-2
 enum-known-n-2 c = search needs
 
--- src/step.rt:138:35
 enum-known-cursor : tie.Need-enum-known-cursor
 enum-known-cursor c = search needs
 
--- src/step.rt:103:1
 returns-3 : tie.Need-returns-3
-returns-3 c = ?
+unfolding Fitting PsegTold partsAnswer
+returns-3 c = (
+  tt,
+  λ h ss mix known listed any chunks.
+      (segment-fault _ h ss _ any (sym (c .before .before .before .parts-of .ensures) ∙ ap partsAnswer (c .before .n .given .1)), λ room. refl),
+)
 
--- src/step.rt:103:1
 same-length : tie.Need-same-length
 same-length c = search needs
 
--- src/step.rt:103:1
 returns-4 : tie.Need-returns-4
-returns-4 c = ?
+unfolding Fitting PsegTold Chunked partsAnswer
+returns-4 c =
+    let near = c .before .before .before .before .before .before .before in
+    let met = at-parts near in
+    let parts = sym (met .before .before .parts-of .ensures) ∙ ap partsAnswer (met .p .given .1) in
+    let ran = c .before .before .before .before .before .chunks-of .ensures in (
+      tt,
+      λ h ss mix known listed any chunks.
+          let (cut, behind) = subst (Chunked _ h _ _ _ _ _ _ _) (c .before .n2 .given .1) (ran h mix known listed) in
+          (segment-cut _ h ss _ any _ parts (omega (arith, few near)) (omega arith) (met .before .before .before .before .before .before .args .last) cut, behind),
+    )
 
--- src/step.rt:103:1
 same-length-2 : tie.Need-same-length-2
 same-length-2 c = search needs
 
--- src/step.rt:103:1
 returns-5 : tie.Need-returns-5
-returns-5 c = ?
+unfolding Fitting PsegTold Chunked partsAnswer
+returns-5 c =
+    let near = c .before .before .before .before .before .before .before in
+    let met = at-parts near in
+    let parts = sym (met .before .before .parts-of .ensures) ∙ ap partsAnswer (met .p .given .1) in
+    let ran = c .before .before .before .before .before .chunks-of .ensures in (
+      (few near, rw (box-fields _) at (header-whole _ _ _ parts)),
+      λ h ss mix known listed any chunks.
+          let (cs, e, many, here) = subst (Chunked _ h _ _ _ _ _ _ _) (c .before .cursor .given .1) (ran h mix known listed) in
+          record { parts = parts; near = omega arith; chunks = cs; read = e; many = many; ran = here },
+    )
 
 pub pseg-of-spec : {M : Type 1} → statement M
 pseg-of-spec =

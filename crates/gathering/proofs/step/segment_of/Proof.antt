@@ -1,51 +1,69 @@
+-- `gathering::step::segment_of` meets its contract: it goes by its box, and what was read of that is put.
+use Prim.Native.Nat.{ℕ, _≤_}
+use mathlib.Core.Path.{sym, subst}
+use native.Mathlib.Omega.{arith}
 use borrow.Author.Needs.{needs}
+use Rattle.partial.specs.Limits.{chunkLimit}
+use Rattle.gathering.specs.Step.{Fitting, PsegTold, Counted, Segmented}
+use Rattle.gathering.proofs.GatheredLaws.{gathered-chunks}
+use Rattle.gathering.proofs.StepLaws.{segment-told, any-told}
 use Rattle.gathering.proofs.step.segment_of.Statement.{statement}
 use Rattle.gathering.proofs.step.segment_of.Tie as tie
-use Rattle.gathering.proofs.step.segment_of.Reads as reads
-use Rattle.gathering.proofs.step.segment_of.Lts as lts
-use Rattle.gathering.proofs.step.list_of.Reads as list-of-reads
-use Rattle.gathering.proofs.step.pseg_of.Reads as pseg-of-reads
-use Rattle.gathering.proofs.step.put_read.Reads as put-read-reads
 
--- src/step.rt:169:11
 pseg-of-requires : tie.Need-pseg-of-requires
 pseg-of-requires c κs = search needs
 
--- src/step.rt:180:27
 enum-known-n : tie.Need-enum-known-n
 enum-known-n c = search needs
 
--- src/step.rt:181:25
 enum-known-p : tie.Need-enum-known-p
 enum-known-p c = search needs
 
--- src/step.rt:186:17
 list-of-requires : tie.Need-list-of-requires
 list-of-requires c κs = search needs
 
--- src/step.rt:184:17
 put-read-requires : tie.Need-put-read-requires
-put-read-requires c κs = ?
+unfolding Fitting
+put-read-requires c κs =
+    let met = c .before .before .before .before .before .before .before .before in
+    let (few, whole) = subst (Fitting _) (met .p .given .1) (met .before .before .before .before .pseg-of .ensures .0) in
+    (search needs, few, whole)
 
--- src/step.rt:146:1
 same-length : tie.Need-same-length
 same-length c = search needs
 
--- src/step.rt:146:1
 returns : tie.Need-returns
-returns c = ?
+unfolding Counted Segmented PsegTold
+returns c =
+    let judged = c .before .before .before .before .before .pseg-of .ensures in (
+      tt,
+      λ h ss mix known listed beside.
+          subst (PsegTold _ h ss _ _ _ _ _ _ _) (c .before .n .given .1) (judged .1 h ss mix known listed (any-told _ h beside) (gathered-chunks ss (beside .gathered))) .0,
+    )
 
--- src/step.rt:146:1
 same-length-2 : tie.Need-same-length-2
 same-length-2 c = search needs
 
--- src/step.rt:146:1
 same-length-3 : tie.Need-same-length-3
 same-length-3 c = search needs
 
--- src/step.rt:146:1
 returns-2 : tie.Need-returns-2
-returns-2 c = ?
+unfolding Counted Segmented Fitting PsegTold
+returns-2 c =
+    let put = c .before .before in
+    let met = put .before .before .before .before .before .before .before .before .before in
+    let judged = met .before .before .before .before .pseg-of .ensures in
+    let start = met .before .before .before .before .before .before .before .before .before in
+    let (few, _) = subst (Fitting _) (met .p .given .1) (judged .0) in
+    let entered = put .put-read .ensures in (
+      (entered .segments, subst (λ (n : ℕ). n ≤ chunkLimit) (sym (entered .chunks)) few),
+      λ h ss mix known listed beside.
+          let any = any-told _ h beside in
+          let chunks = gathered-chunks ss (beside .gathered) in
+          let r = subst (PsegTold _ h ss _ _ _ _ _ _ _) (met .p .given .1) (judged .1 h ss mix known listed any chunks) in
+          segment-told _ h ss _ any _ (r .parts) (omega (arith, few)) (r .near) (start .args .last) (start .pre .2) beside (r .read) (r .many) (r .ran)
+          (rw (put .before .before .before .before .before .list-of .ensures) at entered),
+    )
 
 pub segment-of-spec : {M : Type 1} → statement M
 segment-of-spec =
