@@ -16,9 +16,10 @@ use Rattle.partial.specs.Heading.{Heading}
 use Rattle.partial.specs.Limits.{segmentLimit, chunkLimit, layerLimit, sourceLimit}
 use Rattle.partial.specs.Reading.{segment}
 use Rattle.partial.specs.Segments.{Segment, chunksOf, endOf}
-use Rattle.partial.specs.Sources.{sourceCount, sourceBeside}
+use Rattle.partial.specs.Sources.{sourceCount, sourceBeside, agreed}
+use Rattle.partial.specs.Sequences.{allOf, largest}
 use Rattle.partial.specs.Texts.{listBoxes}
-use Rattle.partial.proofs.Meaning.SourceLaws.{numbered-more}
+use Rattle.partial.proofs.Meaning.SourceLaws.{numbered-none, numbered-more}
 use Rattle.partial.proofs.Reading.NumberedLaws.{segment-beside}
 use Rattle.surls.specs.declared.body.Body.{Body}
 use Rattle.sources.specs.Held.{PfilList, SourceOf}
@@ -30,7 +31,7 @@ use Rattle.gathering.specs.Gathered.{gatheredOf}
 use Rattle.gathering.specs.Keeping.{lateFault, LateTold, SoFar, Tried}
 use Rattle.gathering.specs.Numbers.{numbersOf}
 use Rattle.gathering.specs.Parts.{hasSurl, partsOf}
-use Rattle.gathering.specs.Step.{chosenList, Beside, Entered, PsegOf, Segmented}
+use Rattle.gathering.specs.Step.{Noted, chosenList, Beside, Entered, PsegOf, Segmented}
 use Rattle.gathering.specs.declared.gathered.Gathered.{Gathered}
 use Rattle.gathering.specs.declared.parts.Parts.{Parts}
 use Rattle.gathering.specs.declared.step.SegmentRead.the-variants.{Refused, Given}
@@ -64,8 +65,13 @@ module _ (kept : List Segment) (s : Segment) {u₀ u : List ℕ} (held : take (l
       ∙ ap (λ (ns : List ℕ). ns ++ rows) held
       ∙ sym (all-puts-last true kept s)
 
-module _ (f : List ℕ) (h : Heading) (kept : List Segment) (b : Framed) {list : Body} {inPfil : Bool} {before : Gathered} {u₀ z n l : List ℕ} (pfil : PfilList f h list)
-    (any : inPfil ≡ hasSurl (h .inner)) (so : SoFar f h before u₀ z n l kept) where
+-- no segment is kept yet
+pub so-far-none : (f : List ℕ) (h : Heading) {g : Gathered} {u z n l : List ℕ} → g ≡ gatheredOf [] → Noted f h z n l [] → SoFar f h g u z n l []
+unfolding chunksOf numbersOf agreed allOf sourceCount largest
+so-far-none f h none clear =
+    record { gathered = none; numbers = refl; numbered = numbered-none; noted = clear; agrees = refl; few = omega arith }
+
+module _ (f : List ℕ) (h : Heading) (kept : List Segment) {before : Gathered} {u₀ z n l : List ℕ} (so : SoFar f h before u₀ z n l kept) where
   -- where it is refused they stay as they are
   pub so-far-same : {u : List ℕ} → length u₀ ≡ chunkLimit → Behind true (before .chunks) u₀ u → SoFar f h before u z n l kept
   unfolding formLength
@@ -84,57 +90,58 @@ module _ (f : List ℕ) (h : Heading) (kept : List Segment) (b : Framed) {list :
     pub few : length kept < segmentLimit
     few = omega (arith, gathered-segments kept (so .gathered))
 
-    besides : Beside f h list inPfil before z n l kept
-    besides = record { gathered = so .gathered; few = few; numbered = so .numbered; inPfil = pfil; any = any; noted = so .noted }
+    module _ {list : Body} {inPfil : Bool} (pfil : PfilList f h list) (any : inPfil ≡ hasSurl (h .inner)) where
+      besides : Beside f h list inPfil before z n l kept
+      besides = record { gathered = so .gathered; few = few; numbered = so .numbered; inPfil = pfil; any = any; noted = so .noted }
 
-    pub listed : inPfil ≡ ltb 0 (length (h .urls))
-    listed = any-told f h besides
+      pub listed : inPfil ≡ ltb 0 (length (h .urls))
+      listed = any-told f h besides
 
-    module _ {u : List ℕ} {last : Framed} {p : Parts} {c : Cursor} (r : PsegOf f h b inPfil before last true u₀ u p c) (fits : before .chunks + p .location .count ≤ chunkLimit) (ends : b .end .0 ≤ length f) where
-      -- the segment that was read
-      abbrev pub its : Segment
-      its = built f h kept (b .at .0) (inside f h kept b listed p (r .parts) .0) (partsOf p) (r .chunks)
+      module _ (b : Framed) {u : List ℕ} {last : Framed} {p : Parts} {c : Cursor} (r : PsegOf f h b inPfil before last true u₀ u p c) (fits : before .chunks + p .location .count ≤ chunkLimit) (ends : b .end .0 ≤ length f) where
+        -- the segment that was read
+        abbrev pub its : Segment
+        its = built f h kept (b .at .0) (inside f h kept b listed p (r .parts) .0) (partsOf p) (r .chunks)
 
-      low : length (chunksOf kept) + p .location .count ≤ chunkLimit
-      low = omega (arith, gathered-chunks kept (so .gathered))
+        low : length (chunksOf kept) + p .location .count ≤ chunkLimit
+        low = omega (arith, gathered-chunks kept (so .gathered))
 
-      read : segment sourceLimit f h kept (boxOf b) ≡ given its
-      read = segment-read f h kept b listed p (r .parts) low (r .near) last (r .read)
+        read : segment sourceLimit f h kept (boxOf b) ≡ given its
+        read = segment-read f h kept b listed p (r .parts) low (r .near) last (r .read)
 
-      -- 25 and 40, by its source
-      pub its-fault : {source fault : ℕ} → SourceOf f l (before .sources) (chosenList b (p .listed) list) source
-          → LateTold z source (p .fields .flags) (p .location .count) (c .start .0) fault
-          → fault ≡ lateFault (kept ++ (its ∷ []))
-      unfolding endOf
-      its-fault found told =
-          let next = next-list f h kept b listed p (r .parts) ends besides (r .chunks) in
-          let number = found h kept (listBoxes h its) (next .sources) (next .numbered) (so .noted .sourced .lists) (next .stands) ∙ ap (sourceBeside kept) (next .urls) ∙ sym (next .number) in
-          told kept its number (so .noted .sizes) refl (sym (r .many)) (r .ran .ends) (so .agrees) (so .few)
+        -- 25 and 40, by its source
+        pub its-fault : {source fault : ℕ} → SourceOf f l (before .sources) (chosenList b (p .listed) list) source
+            → LateTold z source (p .fields .flags) (p .location .count) (c .start .0) fault
+            → fault ≡ lateFault (kept ++ (its ∷ []))
+        unfolding endOf
+        its-fault found told =
+            let next = next-list f h kept b listed p (r .parts) ends besides (r .chunks) in
+            let number = found h kept (listBoxes h its) (next .sources) (next .numbered) (so .noted .sourced .lists) (next .stands) ∙ ap (sourceBeside kept) (next .urls) ∙ sym (next .number) in
+            told kept its number (so .noted .sizes) refl (sym (r .many)) (r .ran .ends) (so .agrees) (so .few)
 
-      pub tried-late : {fault : ℕ} → length u₀ ≡ chunkLimit → fault ≡ lateFault (kept ++ (its ∷ [])) → (fault ≡ 0 → ⊥) → Tried f h kept (boxOf b) before u z n l (Refused fault)
-      unfolding Tried
-      tried-late long is other =
-          (beside-late f h kept (boxOf b) few read is other, so-far-same long (puts-behind true (before .segments) (before .chunks) (r .chunks) (omega (arith, r .many)) (r .ran .rows)))
+        pub tried-late : {fault : ℕ} → length u₀ ≡ chunkLimit → fault ≡ lateFault (kept ++ (its ∷ [])) → (fault ≡ 0 → ⊥) → Tried f h kept (boxOf b) before u z n l (Refused fault)
+        unfolding Tried
+        tried-late long is other =
+            (beside-late f h kept (boxOf b) few read is other, so-far-same long (puts-behind true (before .segments) (before .chunks) (r .chunks) (omega (arith, r .many)) (r .ran .rows)))
 
-      pub tried-kept : {g : Gathered} {t₀ t z′ n′ l′ : List ℕ} → length u₀ ≡ chunkLimit → 0 ≡ lateFault (kept ++ (its ∷ []))
-          → Entered f (chosenList b (p .listed) list) before (b .at .0) p (c .start .0) t₀ t z z′ n n′ l l′ g
-          → Tried f h kept (boxOf b) before u z′ n′ l′ (Given g (c .last))
-      unfolding Tried Segmented
-      tried-kept {g} {z′ = z′} {n′ = n′} {l′ = l′} long none entered =
-          let (s, again, gathered, known, _, put, noted) = segment-told f h kept b listed p (r .parts) low (r .near) last ends besides (r .read) (r .many) (r .ran) entered in
-          let same : its ≡ s = given-same (sym read ∙ again) in
-          let none-late = none ∙ ap (λ (s : Segment). lateFault (kept ++ (s ∷ []))) same in
-          let (agrees, sources) = late-passed (kept ++ (s ∷ [])) none-late in
-          let many : length (s .chunks) ≡ p .location .count = sym (ap (λ (s : Segment). length (s .chunks)) same) ∙ r .many in (
-            s,
-            beside-kept f h kept (boxOf b) few again none-late,
-            record {
-              gathered = gathered;
-              numbers = numbers-more kept s (so .numbers) long (omega (arith, low)) put;
-              numbered = numbered-more kept (so .numbered) s (segment-beside sourceLimit f h kept (boxOf b) again);
-              noted = noted;
-              agrees = agrees;
-              few = leb-true (sourceCount (kept ++ (s ∷ []))) layerLimit sources;
-            },
-            known,
-          )
+        pub tried-kept : {g : Gathered} {t₀ t z′ n′ l′ : List ℕ} → length u₀ ≡ chunkLimit → 0 ≡ lateFault (kept ++ (its ∷ []))
+            → Entered f (chosenList b (p .listed) list) before (b .at .0) p (c .start .0) t₀ t z z′ n n′ l l′ g
+            → Tried f h kept (boxOf b) before u z′ n′ l′ (Given g (c .last))
+        unfolding Tried Segmented
+        tried-kept {g} {z′ = z′} {n′ = n′} {l′ = l′} long none entered =
+            let (s, again, gathered, known, _, put, noted) = segment-told f h kept b listed p (r .parts) low (r .near) last ends besides (r .read) (r .many) (r .ran) entered in
+            let same : its ≡ s = given-same (sym read ∙ again) in
+            let none-late = none ∙ ap (λ (s : Segment). lateFault (kept ++ (s ∷ []))) same in
+            let (agrees, sources) = late-passed (kept ++ (s ∷ [])) none-late in
+            let many : length (s .chunks) ≡ p .location .count = sym (ap (λ (s : Segment). length (s .chunks)) same) ∙ r .many in (
+              s,
+              beside-kept f h kept (boxOf b) few again none-late,
+              record {
+                gathered = gathered;
+                numbers = numbers-more kept s (so .numbers) long (omega (arith, low)) put;
+                numbered = numbered-more kept (so .numbered) s (segment-beside sourceLimit f h kept (boxOf b) again);
+                noted = noted;
+                agrees = agrees;
+                few = leb-true (sourceCount (kept ++ (s ∷ []))) layerLimit sources;
+              },
+              known,
+            )

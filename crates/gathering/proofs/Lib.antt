@@ -10,4 +10,5 @@ pub mod KeptLaws
 pub mod KeptPutLaws
 pub mod LateLaws
 pub mod KeepingLaws
+pub mod KeepingPassLaws
 pub mod Determined

@@ -47,10 +47,10 @@ returns-2 c =
       tt,
       λ h kept mix known tops pfil any so.
           let short : start .args .before .segments < segmentLimit = omega arith in
-          let r = subst (PsegTold _ h kept _ _ _ _ _ _ _) (met .p .given .1) (judged .pseg-of .ensures .1 h kept mix known tops (listed _ h kept _ pfil any so short) (gathered-chunks kept (so .gathered))) in
+          let r = subst (PsegTold _ h kept _ _ _ _ _ _ _) (met .p .given .1) (judged .pseg-of .ensures .1 h kept mix known tops (listed _ h kept so short pfil any) (gathered-chunks kept (so .gathered))) in
           let found = rw (sourced .before .before .list-of .ensures) at (sourced .source-of .ensures) in
-          tried-late _ h kept _ pfil any so short r fits (start .pre .2) (judged .before .pseg-of-arg .given .0 .1)
-          (its-fault _ h kept _ pfil any so short r fits (start .pre .2) found (tested .late-fault .ensures)) (c .if2 .taken),
+          tried-late _ h kept so short pfil any _ r fits (start .pre .2) (judged .before .pseg-of-arg .given .0 .1)
+          (its-fault _ h kept so short pfil any _ r fits (start .pre .2) found (tested .late-fault .ensures)) (c .if2 .taken),
     )
 
 slice-aggregate-put-read : tie.Need-slice-aggregate-put-read
@@ -71,8 +71,8 @@ returns-3 c =
       tt,
       λ h kept mix known tops pfil any so.
           let short : start .args .before .segments < segmentLimit = omega arith in
-          let (cut, behind) = subst (PsegTold _ h kept _ _ _ _ _ _ _) (c .before .n .given .1) (judged .pseg-of .ensures .1 h kept mix known tops (listed _ h kept _ pfil any so short) (gathered-chunks kept (so .gathered))) in
-          (beside-cut _ h kept _ (few _ h kept _ pfil any so short) cut, so-far-same _ h kept _ pfil any so (judged .before .pseg-of-arg .given .0 .1) behind),
+          let (cut, behind) = subst (PsegTold _ h kept _ _ _ _ _ _ _) (c .before .n .given .1) (judged .pseg-of .ensures .1 h kept mix known tops (listed _ h kept so short pfil any) (gathered-chunks kept (so .gathered))) in
+          (beside-cut _ h kept _ (few _ h kept so short) cut, so-far-same _ h kept so (judged .before .pseg-of-arg .given .0 .1) behind),
     )
 
 returns-4 : tie.Need-returns-4
@@ -90,11 +90,11 @@ returns-4 c =
       (entered .segments, subst (λ (n : ℕ). n ≤ chunkLimit) (sym (entered .chunks)) fits),
       λ h kept mix known tops pfil any so.
           let short : start .args .before .segments < segmentLimit = omega arith in
-          let r = subst (PsegTold _ h kept _ _ _ _ _ _ _) (met .p .given .1) (judged .pseg-of .ensures .1 h kept mix known tops (listed _ h kept _ pfil any so short) (gathered-chunks kept (so .gathered))) in
+          let r = subst (PsegTold _ h kept _ _ _ _ _ _ _) (met .p .given .1) (judged .pseg-of .ensures .1 h kept mix known tops (listed _ h kept so short pfil any) (gathered-chunks kept (so .gathered))) in
           let own = sourced .before .before .list-of .ensures in
           let found = rw own at (sourced .source-of .ensures) in
-          tried-kept _ h kept _ pfil any so short r fits (start .pre .2) (judged .before .pseg-of-arg .given .0 .1)
-          (sym (passed .if2 .left) ∙ its-fault _ h kept _ pfil any so short r fits (start .pre .2) found (tested .late-fault .ensures)) (rw own at entered),
+          tried-kept _ h kept so short pfil any _ r fits (start .pre .2) (judged .before .pseg-of-arg .given .0 .1)
+          (sym (passed .if2 .left) ∙ its-fault _ h kept so short pfil any _ r fits (start .pre .2) found (tested .late-fault .ensures)) (rw own at entered),
     )
 
 pub keep-segment-spec : {M : Type 1} → statement M
