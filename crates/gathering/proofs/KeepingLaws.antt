@@ -8,7 +8,7 @@ use borrow.Author.Tests.{leb-true}
 use lib.Dec.{ltb}
 use lib.ListN.{length, take}
 use Rattle.boxes.specs.Answer.{given}
-use Rattle.boxes.specs.Framing.{Box, boxOf}
+use Rattle.boxes.specs.Framing.{boxOf}
 use Rattle.boxes.specs.declared.framing.Framed.{Framed}
 use Rattle.boxes.proofs.AnswerLaws.{given-same}
 use Rattle.numerals.proofs.StoredLaws.{take-stored}
@@ -37,7 +37,7 @@ use Rattle.gathering.specs.declared.parts.Parts.{Parts}
 use Rattle.gathering.specs.declared.step.SegmentRead.the-variants.{Refused, Given}
 use Rattle.gathering.proofs.FormLaws.{puts-behind, puts-long, all-puts-last}
 use Rattle.gathering.proofs.GatheredLaws.{gathered-segments, gathered-chunks, chunks-last}
-use Rattle.gathering.proofs.LateLaws.{late-passed, beside-full, beside-cut, beside-late, beside-kept}
+use Rattle.gathering.proofs.LateLaws.{late-passed, beside-late, beside-kept}
 use Rattle.gathering.proofs.StepLaws.{built, any-told, inside, next-list, segment-read, segment-told}
 
 -- by their numbers chunks take one number each

@@ -137,6 +137,7 @@ pub fn keep_pass(
     ensures { λ r. ⌜ ((h : Heading) → Boxed (now (file .entry)) mixed list h
         → Keeps (now (file .entry)) h (now (fates .exit)) (now (numbers .exit)) r) ⌝ }
 {
+    // The numbers of other boxes are left at that.
     *fates = [STAYS; ALL_FATES];
     let in_pfil = has_surl(file, list);
     let mut tops = [NO_TOP; TOPS];

@@ -1,7 +1,7 @@
 -- `gathering::keeping::keep_segment` meets its contract: each test is one of the definition's, and what was read is put only
 -- where all are passed.
 use Prim.Native.Nat.{ℕ, _≤_, _<_}
-use mathlib.Core.Path.{refl, sym, subst, _∙_}
+use mathlib.Core.Path.{sym, subst, _∙_}
 use native.Mathlib.Omega.{arith}
 use borrow.Author.Needs.{needs}
 use Rattle.partial.specs.Limits.{segmentLimit, chunkLimit}
