@@ -1,3 +1,5 @@
 pub mod Kept
 pub mod Copy
 pub mod Lines
+pub mod Table
+pub mod Demands

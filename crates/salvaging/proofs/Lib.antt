@@ -1,0 +1,4 @@
+-- Laws of the code of salvage.
+pub mod CountingLaws
+pub mod LinesLaws
+pub mod SoundLaws
