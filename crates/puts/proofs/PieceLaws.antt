@@ -9,7 +9,7 @@ use lib.ListN.{length, length-append}
 use Rattle.boxes.specs.Framing.{frontSize, front, boxed}
 use Rattle.numerals.specs.Numbers.{bytesOf, twosComplement, holds, holdsOffset}
 use Rattle.numerals.specs.Stored.{stored}
-use Rattle.numerals.specs.declared.numbers.Offset.the-variants.{Back}
+use Rattle.numerals.specs.declared.numbers.Offset.{Offset}
 use Rattle.boxes.proofs.BoxedLaws.{front-size, size-held, length-boxed, boxed-parts}
 use Rattle.filling.specs.Rows.{Puts}
 use Rattle.filling.proofs.PutsLaws.{puts-stored, puts-same, puts-more}
@@ -34,20 +34,19 @@ module _ {s t : List ℕ} {at m : ℕ} where
   pub pieces-same : {a b : List ℕ} → a ≡ b → PutsPieces s at a t m → PutsPieces s at b t m
   pieces-same e p = subst (λ (bytes : List ℕ). PutsPieces s at bytes t m) e p
 
-  -- a number, and an offset so many back, of a width up to 8 that holds it
+  -- a number, and an offset, of a width up to 8 that holds it
   pub number-put : (w n : ℕ) → w ≤ 8 → holds w n ≡ true → PutsField (holds (min w 8) n) s at (bytesOf (min w 8) n) t m
       → PutsPieces s at (bytesOf w n) t m
   number-put w n low held p =
       let same : min w 8 ≡ w = min-eq-left low in
       pieces-same (ap (λ (k : ℕ). bytesOf k n) same) (field-put (ap (λ (k : ℕ). holds k n) same ∙ held) p)
 
-  pub back-put : (w n : ℕ) → w ≤ 8 → holdsOffset w (Back n) ≡ true
-      → PutsField (holdsOffset (min w 8) (Back n)) s at (bytesOf (min w 8) (twosComplement (min w 8) (Back n))) t m
-      → PutsPieces s at (bytesOf w (twosComplement w (Back n))) t m
-  back-put w n low held p =
+  pub offset-put : (w : ℕ) (z : Offset) → w ≤ 8 → holdsOffset w z ≡ true
+      → PutsField (holdsOffset (min w 8) z) s at (bytesOf (min w 8) (twosComplement (min w 8) z)) t m
+      → PutsPieces s at (bytesOf w (twosComplement w z)) t m
+  offset-put w z low held p =
       let same : min w 8 ≡ w = min-eq-left low in
-      pieces-same (ap (λ (k : ℕ). bytesOf k (twosComplement k (Back n))) same)
-      (field-put (ap (λ (k : ℕ). holdsOffset k (Back n)) same ∙ held) p)
+      pieces-same (ap (λ (k : ℕ). bytesOf k (twosComplement k z)) same) (field-put (ap (λ (k : ℕ). holdsOffset k z) same ∙ held) p)
 
   -- pieces that are put behind others are put with them
   pub pieces-more : {a b : List ℕ} {u : List ℕ} {n : ℕ} → PutsPieces s at a t m → PutsPieces t m b u n → PutsPieces s at (a ++ b) u n

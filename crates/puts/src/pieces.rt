@@ -5,14 +5,12 @@ use boxes::framing::FRONT_SIZE;
 use boxes::framing::put_header;
 use numerals::numbers::Offset;
 use numerals::numbers::put_number;
-use numerals::numbers::put_offset;
 use numerals::numbers::within;
 use numerals::order::sum_of;
 use numerals::place::Place;
 ghost use Prim.Native.Nat.{_+_, min};
 ghost use Rattle.boxes.specs.Framing.{frontSize, front};
 ghost use Rattle.numerals.specs.Numbers.{bytesOf, twosComplement, holds, holdsOffset};
-ghost use Rattle.numerals.specs.declared.numbers.Offset.the-variants.{Back};
 ghost use Rattle.texts.specs.Pieces.{PutsPiece};
 ghost use Rattle.puts.specs.Pieces.{PutsField};
 use texts::puts::put_text;
@@ -32,11 +30,11 @@ pub fn put_field(buffer: &mut [u8], at: Place, width: usize, n: u64) -> Place
     Place(sum_of(at.0, within(width) as u64))
 }
 
-// Puts an offset of that width, so many back; a width over 8 counts as 8.
-pub fn put_back(buffer: &mut [u8], at: Place, width: usize, n: u64) -> Place
-    ensures { λ r. ⌜ PutsField (holdsOffset (min width 8) (Back n)) (now (buffer .entry)) (at .0) (bytesOf (min width 8) (twosComplement (min width 8) (Back n))) (now (buffer .exit)) (r .0) ⌝ }
+// Puts an offset of that width; a width over 8 counts as 8.
+pub fn put_offset(buffer: &mut [u8], at: Place, width: usize, z: Offset) -> Place
+    ensures { λ r. ⌜ PutsField (holdsOffset (min width 8) z) (now (buffer .entry)) (at .0) (bytesOf (min width 8) (twosComplement (min width 8) z)) (now (buffer .exit)) (r .0) ⌝ }
 {
-    put_offset(buffer, at, width, Offset::Back(n));
+    numerals::numbers::put_offset(buffer, at, width, z);
     Place(sum_of(at.0, within(width) as u64))
 }
 
