@@ -29,7 +29,8 @@ use Rattle.segment.specs.Data.{Searched}
 use Rattle.surls.specs.declared.body.Body.{Body}
 use Rattle.gathering.specs.Gathered.{gatheredOf}
 use Rattle.gathering.specs.Numbers.{numbersOf}
-use Rattle.gathering.specs.Keeping.{SoFar, Tried, codeOf, codes, Boxed, Keeps}
+use Rattle.salvage.specs.Table.{codeOf, codes}
+use Rattle.gathering.specs.Keeping.{SoFar, Tried, Boxed, Keeps}
 use Rattle.gathering.specs.declared.gathered.Gathered.{Gathered}
 use Rattle.gathering.specs.declared.step.SegmentRead.the-variants.{Refused, Given}
 

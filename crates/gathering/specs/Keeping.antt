@@ -14,7 +14,8 @@ use Rattle.partial.specs.Limits.{layerLimit, sourceLimit}
 use Rattle.partial.specs.ReadingDemands.{Numbered}
 use Rattle.partial.specs.Segments.{Segment, chunksOf, endOf}
 use Rattle.partial.specs.Sources.{sourceCount, agreed}
-use Rattle.salvage.specs.Kept.{Fate, dropped, whole, ofPfil, ofPseg, beside, keptOf, fates}
+use Rattle.salvage.specs.Kept.{beside, keptOf}
+use Rattle.salvage.specs.Table.{codes}
 use Rattle.ends.specs.Table.{Holds}
 use Rattle.segment.specs.Data.{Searched}
 use Rattle.surls.specs.declared.body.Body.{Body}
@@ -53,16 +54,6 @@ unfoldable pub Tried : List ℕ → Heading → List Segment → Box → Gathere
 Tried f h kept b before u z n l (Refused m) = (beside sourceLimit f h kept b ≡ refused m) × SoFar f h before u z n l kept
 Tried f h kept b before u z n l (Given g last) =
     (s : Segment) × (beside sourceLimit f h kept b ≡ given s) × SoFar f h g u z n l (kept ++ (s ∷ [])) × Searched f (boxOf last) (h .boxes)
-
--- how a table tells a fate: a dropped box by its number, one that stays by 255
-unfoldable pub codeOf : Fate → ℕ
-codeOf (dropped n) = n
-codeOf whole = 255
-codeOf (ofPfil inner) = 255
-codeOf (ofPseg s) = 255
-
-abbrev pub codes : List ℕ → Heading → List ℕ
-codes f h = map (λ x. codeOf (x .fate)) (fates sourceLimit f h)
 
 -- a file with the boxes of a heading, of which the first two are `ftyp` and `pfil`; it is mixed as the heading says, and
 -- the list in its `pfil` stands in that container

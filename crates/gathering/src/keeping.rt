@@ -23,6 +23,8 @@ use partial::refusals::SIZES_DIFFER;
 use partial::refusals::TOO_MANY_SEGMENTS;
 use partial::refusals::TOO_MANY_SOURCES;
 use partial::rows::ALL_NUMBERS;
+use salvage::table::ALL_FATES;
+use salvage::table::STAYS;
 use segment::tops::NO_TOP;
 use segment::tops::TOPS;
 use segment::tops::tops_of;
@@ -46,11 +48,6 @@ ghost use Rattle.sources.specs.Held.{PfilList};
 ghost use Rattle.gathering.specs.Keeping.{LateTold, SoFar, Tried, Boxed, Keeps};
 ghost use Rattle.gathering.specs.Parts.{hasSurl};
 ghost use Rattle.gathering.specs.Step.{Counted};
-
-// In a table of fates a box that stays; a dropped one has its number.
-pub const STAYS: u64 = 255;
-// As many fates as a file may have boxes.
-pub const ALL_FATES: usize = 512;
 
 // 25 and 40 of segments that pass both, with one more of a source, of these flags and so many chunks, that ends there; 0
 // for neither.

@@ -16,6 +16,7 @@ pub mod ReadingLaws
 pub mod SameLaws
 pub mod SegmentLaws
 pub mod Shapes
+pub mod SmallLaws
 pub mod TableLaws
 pub mod TwiceLaws
 pub mod WholeLaws

@@ -125,7 +125,7 @@ module _ (f : List ℕ) (h : Heading) where
 
 module _ (f : List ℕ) (h : Heading) (k : ℕ) where
   pub code-at : k < length (fates sourceLimit f h) → Coded (getD (fates sourceLimit f h) k noFated .fate) (getD (codes f h) k 0)
-  unfolding codes codeOf
+  unfolding codeOf
   code-at there =
       rw (List·getD-map (λ (x : Fated). codeOf (x .fate)) (fates sourceLimit f h) k noFated)
       (coded (getD (fates sourceLimit f h) k noFated) (at-each (fates sourceLimit f h) k there (fates-low sourceLimit f h)))

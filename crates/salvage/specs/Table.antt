@@ -13,5 +13,5 @@ codeOf (ofPfil inner) = 255
 codeOf (ofPseg s) = 255
 
 -- those of all boxes
-unfoldable pub codes : List ℕ → Heading → List ℕ
+abbrev pub codes : List ℕ → Heading → List ℕ
 codes f h = map (λ x. codeOf (x .fate)) (fates sourceLimit f h)

@@ -1,0 +1,88 @@
+// What becomes of each box of a file whose framing is right: a table that tells which stay, and the number of each that
+// is dropped.
+use boxes::framing::Framed;
+use boxes::kinds::FTYP;
+use boxes::kinds::PDAT;
+use boxes::kinds::PFIL;
+use fields::state::GOOD;
+use salvage::table::STAYS;
+use gathering::numbers::chunk_by;
+use numerals::order::sum_of;
+use partial::limits::CHUNK_LIMIT;
+use partial::position::Position;
+use partial::refusals::FTYP_WRONG;
+use partial::refusals::PFIL_WRONG;
+use partial::rows::ALL_NUMBERS;
+ghost use Prim.Native.Nat.{ℕ, _≤_};
+ghost use mathlib.Core.Bool.{false};
+ghost use mathlib.Core.List.{List};
+ghost use mathlib.Core.Path.{_≡_};
+ghost use lib.ListN.{take};
+ghost use Rattle.boxes.specs.Framing.{boxOf};
+ghost use Rattle.boxes.specs.Kinds.{pseg, is};
+ghost use Rattle.partial.specs.Heading.{Heading};
+ghost use Rattle.partial.specs.Limits.{sourceLimit, chunkLimit};
+ghost use Rattle.partial.specs.Segments.{Segment};
+ghost use Rattle.partial.proofs.Reading.SmallLaws.{AllSmall};
+ghost use Rattle.partial.specs.Sequences.{someOf};
+ghost use Rattle.salvage.specs.Kept.{liesIn, keptOf, fateOf};
+ghost use Rattle.salvage.specs.Table.{codeOf};
+ghost use Rattle.gathering.specs.Numbers.{chunkBy, numbersOf};
+
+// The number of a dropped box with which nothing was wrong.
+const NOTHING_WRONG: u64 = 0;
+
+// Whether the chunk of a number is good and lies in a box.
+fn lies_in(b: Framed, number: u64) -> bool
+    ensures { λ r. ⌜ r ≡ liesIn (boxOf b) (chunkBy 0 number) ⌝ }
+{
+    let at = b.at;
+    let end = b.end;
+    let c = chunk_by(number, Position(0));
+    let place = c.place;
+    if c.state != GOOD {
+        return false;
+    }
+    if at.0 < place.0 {
+        return false;
+    }
+    end.0 <= sum_of(place.0, c.size)
+}
+
+// Whether some good chunk, of so many whose numbers these are, lies in a box.
+fn lain_in(b: Framed, numbers: &[u64; ALL_NUMBERS], many: u64) -> bool
+    ensures { λ r. ⌜ (many ≤ chunkLimit → r ≡ someOf (λ n. liesIn (boxOf b) (chunkBy 0 n)) (take many (now (numbers .entry)))) ⌝ }
+{
+    if CHUNK_LIMIT < many {
+        return false;
+    }
+    let mut i = 0;
+    while i < many {
+        if lies_in(b, numbers[i as usize]) {
+            return true;
+        }
+        i += 1;
+    }
+    false
+}
+
+// What becomes of a box behind the first two that is no `pseg`.
+fn fate_of(b: Framed, mixed: bool, numbers: &[u64; ALL_NUMBERS], many: u64) -> u64
+    ensures { λ r. ⌜ ((f : List ℕ) (h : Heading) (kept : List Segment) → mixed ≡ h .mixed → is pseg (boxOf b) ≡ false
+        → AllSmall sourceLimit (keptOf sourceLimit f h) → many ≤ chunkLimit → take many (now (numbers .entry)) ≡ numbersOf (keptOf sourceLimit f h) → r ≡ codeOf (fateOf sourceLimit f h kept (boxOf b))) ⌝ }
+{
+    if b.kind == FTYP.code {
+        return FTYP_WRONG;
+    }
+    if b.kind == PFIL.code {
+        return PFIL_WRONG;
+    }
+    if b.kind == PDAT.code {
+        return STAYS;
+    }
+    if mixed && lain_in(b, numbers, many) {
+        return STAYS;
+    }
+    NOTHING_WRONG
+}
+
