@@ -102,7 +102,7 @@ module _ (c : Container) (s : List ℕ) (end : ℕ) (within : end ≤ length s) 
 -- ---- the file cut behind its second box
 
 -- its boxes are the first two
-cut-filled : (f : List ℕ) {to : ℕ} {bs : List Box} → Filled File f to 0 bs → to ≤ length f → 2 ≤ length bs
+pub cut-filled : (f : List ℕ) {to : ℕ} {bs : List Box} → Filled File f to 0 bs → to ≤ length f → 2 ≤ length bs
     → Filled File (take (boxAt 1 bs .end) f) (boxAt 1 bs .end) 0 (boxAt 0 bs ∷ boxAt 1 bs ∷ [])
 unfolding boxAt
 cut-filled f (full e) inside two = absurd (omega arith)

@@ -1,1 +1,2 @@
 -- Laws of the code of salvage.
+pub mod OpensLaws
