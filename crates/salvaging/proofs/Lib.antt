@@ -1,2 +1,3 @@
 -- Laws of the code of salvage.
 pub mod OpensLaws
+pub mod TableLaws
