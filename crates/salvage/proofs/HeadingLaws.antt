@@ -116,20 +116,20 @@ cut-filled f {to} (next {b = a} short read (next {b = b} short′ read′ rest))
     (full {at = b .end} (le-refl (b .end))))
 
 -- what the first two boxes of a file say
-record Says (f : List ℕ) (a b : Box) (bs : List Box) (us : List (List ℕ)) (mix : Bool) : Type 0 where
-  first : is ftyp a ≡ true
-  room : a .body + 8 ≤ a .end
-  fours : eqb ((a .end - a .body) % 4) 0 ≡ true
-  brand : (someOf (eqb paff) (brands f a) || someOf (eqb pmff) (brands f a)) ≡ true
-  mixed : mix ≡ someOf (eqb pmff) (brands f a)
-  second : is pfil b ≡ true
-  inner : boxesIn Pfil f (b .body) (b .end) ≡ given bs
-  pfhd : pfhdRight f bs ≡ true
-  surl : surlRight f bs ≡ true
-  urls : us ≡ urlsIn f bs
+pub record Says (f : List ℕ) (a b : Box) (bs : List Box) (us : List (List ℕ)) (mix : Bool) : Type 0 where
+  pub first : is ftyp a ≡ true
+  pub room : a .body + 8 ≤ a .end
+  pub fours : eqb ((a .end - a .body) % 4) 0 ≡ true
+  pub brand : (someOf (eqb paff) (brands f a) || someOf (eqb pmff) (brands f a)) ≡ true
+  pub mixed : mix ≡ someOf (eqb pmff) (brands f a)
+  pub second : is pfil b ≡ true
+  pub inner : boxesIn Pfil f (b .body) (b .end) ≡ given bs
+  pub pfhd : pfhdRight f bs ≡ true
+  pub surl : surlRight f bs ≡ true
+  pub urls : us ≡ urlsIn f bs
 
 -- also with more behind it
-says : (f g : List ℕ) (h : Heading) → Headed f h → Says (f ++ g) (boxAt 0 (h .boxes)) (boxAt 1 (h .boxes)) (h .inner) (h .urls) (h .mixed)
+pub says : (f g : List ℕ) (h : Heading) → Headed f h → Says (f ++ g) (boxAt 0 (h .boxes)) (boxAt 1 (h .boxes)) (h .inner) (h .urls) (h .mixed)
 unfolding ftypRight brandRight branded pfilRight
 says f g h t =
     let a = boxAt 0 (h .boxes) in
@@ -288,20 +288,20 @@ brand-carried f g a to headed room same =
     rw (from, on) (same (a .body - a .at + 8 + i) (omega arith))))
 
 -- a box of one kind is of no other
-other-kind : (k l : Kind) (b : Box) → eqb (k .code) (l .code) ≡ false → is k b ≡ true → is l b ≡ false
+pub other-kind : (k l : Kind) (b : Box) → eqb (k .code) (l .code) ≡ false → is k b ≡ true → is l b ≡ false
 unfolding is
 other-kind k l b apart h = rw (eqb-true (b .kind) (k .code) h) apart
 
 -- the first two boxes keep their rules before others of other kinds
 module _ (a b : Box) (rest : List Box) where
-  ftyp-right : is ftyp a ≡ true → is ftyp b ≡ false → those ftyp rest ≡ [] → a .body + 8 ≤ a .end → eqb ((a .end - a .body) % 4) 0 ≡ true
+  pub ftyp-right : is ftyp a ≡ true → is ftyp b ≡ false → those ftyp rest ≡ [] → a .body + 8 ≤ a .end → eqb ((a .end - a .body) % 4) 0 ≡ true
       → ftypRight (a ∷ b ∷ rest) ≡ true
   unfolding ftypRight boxAt
   ftyp-right first other none room fours =
       let one = one-right File ftyp (a ∷ b ∷ rest) refl (rw (those-one ftyp a (b ∷ rest) first, those-other ftyp b rest other, none)) in
       rw (first, le-leb (a .body + 8) (a .end) room, fours, one)
 
-  pfil-right : is pfil a ≡ false → is pfil b ≡ true → those pfil rest ≡ [] → pfilRight (a ∷ b ∷ rest) ≡ true
+  pub pfil-right : is pfil a ≡ false → is pfil b ≡ true → those pfil rest ≡ [] → pfilRight (a ∷ b ∷ rest) ≡ true
   unfolding pfilRight boxAt
   pfil-right other second none =
       let one = one-right File pfil (a ∷ b ∷ rest) refl (rw (those-other pfil a (b ∷ rest) other, those-one pfil b rest second, none)) in

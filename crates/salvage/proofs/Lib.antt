@@ -1,4 +1,5 @@
 -- Laws of salvage: the copy reads back as the segments that are kept.
+pub mod AcceptedLaws
 pub mod CarriedLaws
 pub mod CopyLaws
 pub mod FateLaws
@@ -6,6 +7,7 @@ pub mod FramedLaws
 pub mod HeadingLaws
 pub mod LieLaws
 pub mod LineLaws
+pub mod MadeLaws
 pub mod PieceLaws
 pub mod PlaceLaws
 pub mod PlocLaws
@@ -13,5 +15,6 @@ pub mod ReadingLaws
 pub mod SameLaws
 pub mod SegmentLaws
 pub mod Shapes
+pub mod TableLaws
 pub mod TwiceLaws
 pub mod WholeLaws

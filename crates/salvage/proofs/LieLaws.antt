@@ -52,7 +52,7 @@ module _ {A : Type 0} where
   each-second P (x ∷ xs) ys (here, all) = each-second P xs ys all
 
   -- what holds of every member
-  each-by : (P : A → Type 0) (xs : List A) → ((x : A) → List·Memᴰ x xs → P x) → Each P xs
+  pub each-by : (P : A → Type 0) (xs : List A) → ((x : A) → List·Memᴰ x xs → P x) → Each P xs
   each-by P [] all = tt
   each-by P (x ∷ xs) all = (all x (List·Memᴰ·head refl), each-by P xs (λ y there. all y (List·Memᴰ·tail there)))
 
@@ -212,7 +212,7 @@ chained-first : (at : ℕ) (xs ys : List Fated) → Chained at (xs ++ ys) → Ch
 chained-first at [] ys chained = tt
 chained-first at (x ∷ xs) ys (from, some, less, chained) = (from, some, less, chained-first (x .box .end) xs ys chained)
 
-record Run (xs : List Fated) (place size : ℕ) : Type 0 where
+pub record Run (xs : List Fated) (place size : ℕ) : Type 0 where
   before : List Fated
   run : List Fated
   behind : List Fated
@@ -239,7 +239,7 @@ module _ (xs : List Fated) (chained : Chained 0 xs) (place size : ℕ) (r : Run 
   chained-run : Chained (ends 0 (r .before)) (r .run ++ r .behind)
   chained-run = chained-behind 0 (r .before) (r .run ++ r .behind) chained-all
 
-  run-copied : 0 < size → Copied xs place
+  pub run-copied : 0 < size → Copied xs place
   run-copied some =
       rw (r .all) (in-run (r .before) (r .run) (r .behind) (r .stay) (ends 0 (r .before)) place chained-run (r .low) (omega (arith, r .to)))
 
@@ -436,7 +436,7 @@ module _ (limit : ℕ) (f : List ℕ) (h : Heading) (opens : opening f ≡ given
       unfolding hasPlace
       some-bytes = ltb-true 0 (c .size) (both (present (c .state)) (ltb 0 (c .size)) placed .1)
 
-      may-lie : mayLie h (c .state) (c .place) (c .size) ≡ true
+      pub may-lie : mayLie h (c .state) (c .place) (c .size) ≡ true
       unfolding lies
       may-lie =
           let (kind, before, read) = at-known own (Known limit f h) all-known .read s (own .here) in
@@ -453,7 +453,7 @@ module _ (limit : ℕ) (f : List ℕ) (h : Heading) (opens : opening f ≡ given
           (some-member (liesIn (x .box)) (s .chunks) c chunk
           (rw (is-good, le-leb (c .place) (x .box .at) low, le-leb (x .box .end) (c .place + c .size) high)))))
 
-      chunk-carried : Run fated (c .place) (c .size) × (mayLie (headingBack limit f h opens bytes) (c .state) (newPlaces (c .place)) (c .size) ≡ true)
+      pub chunk-carried : Run fated (c .place) (c .size) × (mayLie (headingBack limit f h opens bytes) (c .state) (newPlaces (c .place)) (c .size) ≡ true)
       unfolding mayLie
       chunk-carried =
           elim (which (inData (h .boxes) (c .place) (c .size))) [

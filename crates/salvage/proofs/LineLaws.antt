@@ -23,27 +23,12 @@ use Rattle.partial.specs.BoxList.{each, faultLine}
 use Rattle.partial.specs.Heading.{Heading}
 use Rattle.partial.proofs.Meaning.SequenceLaws.{Each}
 use Rattle.salvage.specs.Kept.{Fate, dropped, whole, ofPfil, ofPseg, Fated, walkOf, framed, opening, fates}
+use Rattle.salvage.specs.Demands.{droppedOf, faultOf, Ascending}
 use Rattle.salvage.specs.Lines.{droppedLine, droppedLines, salvageText}
 use Rattle.salvage.proofs.CopyLaws.{staying}
 use Rattle.salvage.proofs.FateLaws.{fates-boxes}
 use Rattle.salvage.proofs.FramedLaws.{framed-boxes}
 use Rattle.salvage.proofs.HeadingLaws.{opened}
-
--- place and number of each dropped box, in order
-abbrev pub droppedOf : List Fated → List Fault
-droppedOf [] = []
-droppedOf (x ∷ xs) =
-    elim (x .fate) [
-      | dropped n ↦ record { at = x .box .at; number = n } ∷ droppedOf xs
-      | whole ↦ droppedOf xs
-      | ofPfil inner ↦ droppedOf xs
-      | ofPseg s ↦ droppedOf xs
-    ]
-
--- the framing error, if there is one
-abbrev pub faultOf : Option Fault → List Fault
-faultOf none = []
-faultOf (some x) = x ∷ []
 
 -- what holds of the dropped ones, by what becomes of the first
 by-first : (P : List Fault → Type 0) (x : Fated) (xs : List Fated)
@@ -117,21 +102,16 @@ dropped-named (z ∷ xs) x n (List·Memᴰ·tail there) e =
 -- ---- their places
 
 module _ {A : Type 0} (place : A → ℕ) where
-  -- places that ascend strictly, from one on
-  abbrev pub Ascending : ℕ → List A → Type 0
-  Ascending low [] = Unit {0}
-  Ascending low (x ∷ xs) = (low ≤ place x) × Ascending (place x + 1) xs
-
-  from-lower : (low low′ : ℕ) (xs : List A) → low′ ≤ low → Ascending low xs → Ascending low′ xs
+  from-lower : (low low′ : ℕ) (xs : List A) → low′ ≤ low → Ascending place low xs → Ascending place low′ xs
   from-lower low low′ [] h up = tt
   from-lower low low′ (x ∷ xs) h (here, there) = (omega arith, there)
 
-  none-lower : (low : ℕ) (xs : List A) → Ascending low xs → (x : A) → List·Memᴰ x xs → low ≤ place x
+  none-lower : (low : ℕ) (xs : List A) → Ascending place low xs → (x : A) → List·Memᴰ x xs → low ≤ place x
   none-lower low (y ∷ xs) (here, there) x (List·Memᴰ·head same) = rw same here
   none-lower low (y ∷ xs) (here, there) x (List·Memᴰ·tail m) = omega (arith, none-lower (place y + 1) xs there x m)
 
   -- no two have one place
-  one-place : (low : ℕ) (xs : List A) → Ascending low xs → (x y : A) → List·Memᴰ x xs → List·Memᴰ y xs → place x ≡ place y → x ≡ y
+  one-place : (low : ℕ) (xs : List A) → Ascending place low xs → (x y : A) → List·Memᴰ x xs → List·Memᴰ y xs → place x ≡ place y → x ≡ y
   one-place low (z ∷ xs) (here, there) x y (List·Memᴰ·head p) (List·Memᴰ·head q) same = p ∙ sym q
   one-place low (z ∷ xs) (here, there) x y (List·Memᴰ·head p) (List·Memᴰ·tail m) same =
       absurd (omega (arith, none-lower (place z + 1) xs there y m, ap place p))

@@ -187,7 +187,7 @@ module _ (l : Ploc) where
       unfolding placedAnew
       offset-has c has = rw (placedAnew, has)
 
-      offset-empty : (c : Chunk) → hasPlace (c .state) (c .size) ≡ false → placedAnew new pseg c .offset ≡ Ahead 0
+      pub offset-empty : (c : Chunk) → hasPlace (c .state) (c .size) ≡ false → placedAnew new pseg c .offset ≡ Ahead 0
       unfolding placedAnew
       offset-empty c empty = rw (placedAnew, empty)
 
@@ -228,13 +228,13 @@ module _ (l : Ploc) where
       anew cs = map (placedAnew new pseg) cs
 
       -- what is known of them where so many entries were read from a cursor on
-      record Entries (limit more : ℕ) (c : Cursor) (cs : List Chunk) : Type 0 where
-        many : length (anew cs) ≡ more
+      pub record Entries (limit more : ℕ) (c : Cursor) (cs : List Chunk) : Type 0 where
+        pub many : length (anew cs) ≡ more
         low : c .start + sum (map (λ p. p .size) (anew cs)) ≤ limit
         fills : c .at + length (entryBytes (l .lengthSize) (l .offsetSize) (anew cs)) ≡ l .end
         chunks : newChunks (new pseg) (c .start) (anew cs) ≡ map (chunkAnew new) cs
-        sizes : allOf (λ p. holds (l .lengthSize) (p .size)) (anew cs) ≡ true
-        tell : (h′ : Heading) → Each (Lies new pseg h′) cs
+        pub sizes : allOf (λ p. holds (l .lengthSize) (p .size)) (anew cs) ≡ true
+        pub tell : (h′ : Heading) → Each (Lies new pseg h′) cs
             → Each (Tells h′ (new pseg)) (anew cs) × (allOf (λ p. holdsOffset (l .offsetSize) (p .offset)) (anew cs) ≡ true)
 
       module _ (limit : ℕ) (f : List ℕ) (bytes : (k : ℕ) → getD f k 0 < 256) (h : Heading) where
@@ -329,14 +329,14 @@ module _ (limit : ℕ) (f : List ℕ) (h : Heading) (s : Segment) (b : Box) (l :
   abbrev entries : List ℕ
   entries = entryBytes (l .lengthSize) (l .offsetSize) (map (placedAnew new (s .place)) (s .chunks))
 
-  told : Entries l (s .place) new limit (l .count) (record { at = l .first; start = start }) (s .chunks)
+  pub told : Entries l (s .place) new limit (l .count) (record { at = l .first; start = start }) (s .chunks)
   told = entries-read l (s .place) new limit f bytes h (l .count) (record { at = l .first; start = start }) (s .chunks) low read
 
-  bytes-are : plocBytes f new s b ≡ front ++ entries
+  pub bytes-are : plocBytes f new s b ≡ front ++ entries
   unfolding plocBytes
   bytes-are = let t = headed f b l head in rw (t .sizes, t .offsets)
 
-  front-long : length front ≡ b .body + 9 - b .at
+  pub front-long : length front ≡ b .body + 9 - b .at
   unfolding bytesIn
   front-long = let t = headed f b l head in simp (length-take, length-drop) (omega arith)
 

@@ -48,7 +48,7 @@ use Rattle.salvage.proofs.LieLaws.{newPlaces, kept-lie, kept-alike}
 -- ---- what the places of segments do not change
 
 -- segments, and those of the copy
-data Anew (new : ℕ → ℕ) : List Segment → List Segment → Type 0 where
+pub data Anew (new : ℕ → ℕ) : List Segment → List Segment → Type 0 where
   none-anew : Anew new [] []
   one-anew : {ss ts : List Segment} (b : Box) (s : Segment) → Anew new ss ts → Anew new (s ∷ ss) (segmentAnew new b s ∷ ts)
 
@@ -70,16 +70,16 @@ module _ (new : ℕ → ℕ) (b : Box) (s : Segment) where
       go (c ∷ cs) = refl
 
 module _ {new : ℕ → ℕ} where
-  anew-long : {ss ts : List Segment} → Anew new ss ts → length ts ≡ length ss
+  pub anew-long : {ss ts : List Segment} → Anew new ss ts → length ts ≡ length ss
   anew-long none-anew = refl
   anew-long (one-anew b s rest) = ap suc (anew-long rest)
 
-  anew-many : {ss ts : List Segment} → Anew new ss ts → length (chunksOf ts) ≡ length (chunksOf ss)
+  pub anew-many : {ss ts : List Segment} → Anew new ss ts → length (chunksOf ts) ≡ length (chunksOf ss)
   unfolding chunksOf
   anew-many none-anew = refl
   anew-many (one-anew b s rest) = simp (length-append, length-map, anew-many rest)
 
-  anew-count : {ss ts : List Segment} → Anew new ss ts → sourceCount ts ≡ sourceCount ss
+  pub anew-count : {ss ts : List Segment} → Anew new ss ts → sourceCount ts ≡ sourceCount ss
   unfolding sourceCount largest
   anew-count none-anew = refl
   anew-count (one-anew b s rest) = ap (max (suc (s .source))) (anew-count rest)
@@ -90,7 +90,7 @@ module _ {new : ℕ → ℕ} where
   anew-among (one-anew b s rest) next us =
       elim (which (sameUrls us (s .urls))) [ inl e ↦ rw (sourceAmong, e) | inr e ↦ rw (sourceAmong, e) (anew-among rest next us) ]
 
-  anew-beside : {ss ts : List Segment} → Anew new ss ts → (us : List (List ℕ)) → sourceBeside ts us ≡ sourceBeside ss us
+  pub anew-beside : {ss ts : List Segment} → Anew new ss ts → (us : List (List ℕ)) → sourceBeside ts us ≡ sourceBeside ss us
   unfolding sourceBeside
   anew-beside {ss} a us = rw (anew-count a) (anew-among a (sourceCount ss) us)
 
@@ -127,7 +127,7 @@ module _ {new : ℕ → ℕ} where
       go none = refl
       go (some n) = anew-all (under n) (under n) (λ b s. rw (anew-ends new b s, anew-gives new b s)) a
 
-  anew-agreed : {ss ts : List Segment} → Anew new ss ts → agreed ts ≡ agreed ss
+  pub anew-agreed : {ss ts : List Segment} → Anew new ss ts → agreed ts ≡ agreed ss
   unfolding agreed
   anew-agreed {ss} {ts} a = anew-all (λ s. agree (ofSource (s .source) ss)) (λ s. agree (ofSource (s .source) ts)) (λ b s. anew-agree (anew-of a (s .source))) a
 
@@ -200,7 +200,7 @@ module _ (limit : ℕ) (f : List ℕ) where
 -- ---- the segments of boxes, and of their copies
 
 module _ (new : ℕ → ℕ) where
-  anew-fates : (xs : List Fated) → Anew new (segmentsOf xs) (segmentsAnew new xs)
+  pub anew-fates : (xs : List Fated) → Anew new (segmentsOf xs) (segmentsAnew new xs)
   unfolding segmentsOf segmentsAnew
   anew-fates [] = none-anew
   anew-fates (x ∷ xs) = go (x .fate) (anew-fates xs)
@@ -212,7 +212,7 @@ module _ (new : ℕ → ℕ) where
       go (ofPfil inner) rest = rest
       go (ofPseg s) rest = one-anew (x .box) s rest
 
-  anew-split : (before behind : List Fated) → segmentsAnew new (before ++ behind) ≡ segmentsAnew new before ++ segmentsAnew new behind
+  pub anew-split : (before behind : List Fated) → segmentsAnew new (before ++ behind) ≡ segmentsAnew new before ++ segmentsAnew new behind
   unfolding segmentsAnew
   anew-split [] behind = refl
   anew-split (x ∷ xs) behind = go (x .fate) (anew-split xs behind)
@@ -224,7 +224,7 @@ module _ (new : ℕ → ℕ) where
       go (ofPfil inner) rest = rest
       go (ofPseg s) rest = ap (λ (ts : List Segment). segmentAnew new (x .box) s ∷ ts) rest
 
-sizes-more : (before : List Fated) (x : Fated) → sizes (before ++ (x ∷ [])) ≡ sizes before + copySize x
+pub sizes-more : (before : List Fated) (x : Fated) → sizes (before ++ (x ∷ [])) ≡ sizes before + copySize x
 unfolding sum
 sizes-more [] x = omega arith
 sizes-more (y ∷ ys) x = omega (arith, sizes-more ys x)
@@ -252,27 +252,27 @@ module _ (limit : ℕ) (f : List ℕ) (h : Heading) (opens : opening f ≡ given
   -- ---- each of them reads back
 
   module _ (before : List Fated) (x : Fated) (behind : List Fated) (split : others ≡ before ++ (x ∷ behind)) where
-    all-split : fates limit f h ≡ front before ++ (x ∷ behind)
+    pub all-split : fates limit f h ≡ front before ++ (x ∷ behind)
     unfolding fates
     all-split = rw split
 
-    stands-new : (places : ℕ → ℕ) → Stands (each (copyOf f places) (fates limit f h)) (sizes (front before)) (copyOf f places x)
+    pub stands-new : (places : ℕ → ℕ) → Stands (each (copyOf f places) (fates limit f h)) (sizes (front before)) (copyOf f places x)
     stands-new places = rw all-split (copy-stands f places (front before) x behind (rw all-split at (fates-ready limit f h opens bytes places)))
 
-    new-there : new (x .box .at) ≡ sizes (front before)
+    pub new-there : new (x .box .at) ≡ sizes (front before)
     new-there = rw all-split (new-at 0 0 (front before) x behind (rw all-split at (fates-chained limit f h opens bytes)) ∙ zero-add (sizes (front before)))
 
-    stood-there : Stood f x
+    pub stood-there : Stood f x
     stood-there = each-member (Stood f) (fates limit f h) (fates-stood limit f h opens bytes) x (rw all-split (Memᴰ·append-right (front before) (List·Memᴰ·head refl)))
 
-    fate-there : fateOf limit f h (segmentsOf before) (x .box) ≡ x .fate
+    pub fate-there : fateOf limit f h (segmentsOf before) (x .box) ≡ x .fate
     fate-there = sym (fate-at limit f h [] (drop 2 (h .boxes)) before x behind split)
 
-    kept-there : (s : Segment) → x .fate ≡ ofPseg s → List·Memᴰ s (keptOf limit f h)
+    pub kept-there : (s : Segment) → x .fate ≡ ofPseg s → List·Memᴰ s (keptOf limit f h)
     unfolding segmentsOf
     kept-there s e = rw (kept-all limit f h, all-split, segments-split, e) (Memᴰ·append-right (segmentsOf (front before)) (List·Memᴰ·head refl))
 
-  segment-there : (before : List Fated) (b : Box) (s : Segment) (behind : List Fated) → others ≡ before ++ (record { box = b; fate = ofPseg s } ∷ behind)
+  pub segment-there : (before : List Fated) (b : Box) (s : Segment) (behind : List Fated) → others ≡ before ++ (record { box = b; fate = ofPseg s } ∷ behind)
       → (at : ℕ) → at ≡ sizes (front before)
       → (segment limit copy back (segmentsAnew new before) (resized at (copySize (record { box = b; fate = ofPseg s })) b) ≡ given (segmentAnew new b s)) × (hasIndex (innerAnew new b s) ≡ false)
   unfolding copied
@@ -320,7 +320,7 @@ module _ (limit : ℕ) (f : List ℕ) (h : Heading) (opens : opening f ≡ given
       one-more before (x .box) (x .fate) behind split at here
       (rw (anew-split new before (x ∷ [])) at (reads-on behind (before ++ (x ∷ [])) (split ∙ sym (append-assoc before (x ∷ []) behind)) (at + copySize x) (unfold sum in omega (arith, sizes-more before x))))
 
-  all-read : ReadsOn [] (fates limit f h) 0
+  pub all-read : ReadsOn [] (fates limit f h) 0
   unfolding fates segmentsAnew boxesAnew is
   all-read =
       let first : boxAt 0 (h .boxes) .kind ≡ ftyp .code = eqb-true _ _ (opened f h opens .first) in
@@ -329,7 +329,7 @@ module _ (limit : ℕ) (f : List ℕ) (h : Heading) (opens : opening f ≡ given
       let not-second : is pseg (boxAt 1 (h .boxes)) ≡ false = rw second in
       rw (those-other pseg _ _ not-first, those-other pseg _ _ not-second) (reads-on others [] refl _ (unfold sum in omega arith))
 
-  kept-anew : Anew new (keptOf limit f h) segmentsBack
+  pub kept-anew : Anew new (keptOf limit f h) segmentsBack
   kept-anew = rw (kept-all limit f h) (anew-fates new (fates limit f h))
 
   -- as many as there are

@@ -185,11 +185,11 @@ module _ (limit : ℕ) (f : List ℕ) (h : Heading) (s : Segment) (l : Ploc) (en
       ]
 
 -- what was read of a segment, with that `ploc`
-record Was (limit : ℕ) (f : List ℕ) (h : Heading) (before : List Segment) (b : Box) (s : Segment) (l : Ploc) : Type 0 where
-  step : Stepped limit f h before b (s .inner) l (s .chunks)
+pub record Was (limit : ℕ) (f : List ℕ) (h : Heading) (before : List Segment) (b : Box) (s : Segment) (l : Ploc) : Type 0 where
+  pub step : Stepped limit f h before b (s .inner) l (s .chunks)
   same : found f h before b (s .inner) (s .chunks) ≡ s
-  low : s .sourceOffset ≤ limit
-  chunks : chunksFrom limit f h (s .place) l (l .count) (record { at = l .first; start = s .sourceOffset }) ≡ given (s .chunks)
+  pub low : s .sourceOffset ≤ limit
+  pub chunks : chunksFrom limit f h (s .place) l (l .count) (record { at = l .first; start = s .sourceOffset }) ≡ given (s .chunks)
 
 -- a `pseg` of a file that was read beside some segments
 module _ (limit : ℕ) (f : List ℕ) (h : Heading) (before : List Segment) (b : Box) (s : Segment)
@@ -198,7 +198,7 @@ module _ (limit : ℕ) (f : List ℕ) (h : Heading) (before : List Segment) (b :
     (bytes : (k : ℕ) → getD f k 0 < 256)
     (read : segment limit f h before b ≡ given s)
     (new : ℕ → ℕ) where
-  was : (l : Ploc) × Was limit f h before b s l
+  pub was : (l : Ploc) × Was limit f h before b s l
   was =
       let (inner, l, cs, t, same) = stepped limit f h before b read in (
         l,
@@ -264,7 +264,7 @@ module _ (limit : ℕ) (f : List ℕ) (h : Heading) (before : List Segment) (b :
   abbrev location : Box
   location = firstOf ploc (s .inner)
 
-  located : (is ploc location ≡ true) × (location .at ≤ location .body) × (location .end ≤ length f)
+  pub located : (is ploc location ≡ true) × (location .at ≤ location .body) × (location .end ≤ length f)
   located =
       let one = right-one Pseg ploc (s .inner) refl (was .1 .step .single) in
       let (m, nth) = those-nth ploc (s .inner) 0 (omega arith) in
@@ -306,10 +306,10 @@ module _ (limit : ℕ) (f : List ℕ) (h : Heading) (before : List Segment) (b :
     abbrev location′ : Box
     location′ = firstOf ploc inner′
 
-    location-box : location′ ≡ resized (location′ .at) (location .end - location .at) location
+    pub location-box : location′ ≡ resized (location′ .at) (location .end - location .at) location
     location-box = rw (first-unindexed ploc refl (s .inner)) at (paired-first f g ploc inner inner′ paired .same)
 
-    location-stands : Stands g (location′ .at) (plocBytes f new s location)
+    pub location-stands : Stands g (location′ .at) (plocBytes f new s location)
     unfolding innerBytes
     location-stands =
         let one = right-one Pseg ploc inner refl (unindexed-right Pseg ploc refl (s .inner) ∙ was .1 .step .single) in

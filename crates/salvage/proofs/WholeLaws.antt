@@ -39,7 +39,7 @@ each-by P Q so [] all = tt
 each-by P Q so (x ∷ xs) (here, there) = (so x here, each-by P Q so xs there)
 
 -- two boxes and those behind them
-two-first : (bs : List Box) → 2 ≤ length bs → boxAt 0 bs ∷ boxAt 1 bs ∷ drop 2 bs ≡ bs
+pub two-first : (bs : List Box) → 2 ≤ length bs → boxAt 0 bs ∷ boxAt 1 bs ∷ drop 2 bs ≡ bs
 unfolding boxAt
 two-first [] two = absurd (omega arith)
 two-first (b ∷ []) two = absurd (omega arith)

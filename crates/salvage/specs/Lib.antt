@@ -2,3 +2,4 @@ pub mod Kept
 pub mod Copy
 pub mod Lines
 pub mod Table
+pub mod Demands

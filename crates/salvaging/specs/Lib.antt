@@ -1,2 +1,3 @@
+pub mod Fault
 pub mod Opens
 pub mod Tables

@@ -1,11 +1,9 @@
 -- Document 02, [9], "Refusals: 1; 2 to 11 for the first two boxes": what is told of a file before any of its segments is
 -- judged.
 use Prim.Native.Nat.{ℕ}
-use mathlib.Core.Bool.{true, false}
 use mathlib.Core.List.{List}
 use mathlib.Core.Option.{Option, none, some}
 use mathlib.Core.Path.{_≡_}
-use lib.Dec.{eqb}
 use lib.ListN.{length, take}
 use Rattle.boxes.specs.Answer.{refused, given}
 use Rattle.boxes.specs.Framing.{Fault}
@@ -20,10 +18,6 @@ use Rattle.salvaging.specs.declared.opening.Opening.the-variants.{Refuse
 unfoldable pub faultNumber : Option Fault → ℕ
 faultNumber none = 0
 faultNumber (some x) = x .number
-
--- a framing error at a place, of a number, 0 for none
-unfoldable pub faultAt : ℕ → ℕ → Option Fault
-faultAt at number = elim (eqb number 0) [ true ↦ none | false ↦ some (record { at = at; number = number }) ]
 
 -- where the whole boxes of a file end, and the number of the framing error there
 pub record Whole (f : List ℕ) (at fault : ℕ) : Type 0 where
