@@ -1,21 +1,38 @@
 -- Laws of the tables: how long what stays of each box is, and where it is in the copy.
-use Prim.Native.Nat.{ℕ, _+_, _-_, _^_, min, _≤_, _<_}
-use mathlib.Core.Bool.{true, false}
-use mathlib.Core.List.{List, _∷_}
+use Prim.Native.Nat.{ℕ, zero, suc, _+_, _-_, _^_, min, _≤_, _<_}
+use mathlib.Core.Bool.{true, false, false≢true}
+use mathlib.Core.List.{List, [], _∷_}
 use mathlib.Core.Option.{none, some}
-use mathlib.Core.Path.{_≡_, refl, sym, ap, _∙_}
-use native.Mathlib.Nat.{add-assoc, add-zero, zero-add}
+use mathlib.Core.Path.{_≡_, refl, sym, ap, subst⁻¹, _∙_}
+use native.Mathlib.Nat.{add-assoc, add-zero, zero-add, le-refl}
 use native.Mathlib.Omega.{arith}
+use lib.ListN.{length, getD, drop, length-drop}
+use lib.Seq.{getD-drop}
 use Rattle.boxes.specs.Answer.{refused, given}
 use Rattle.boxes.specs.Framing.{Box, boxesIn}
-use Rattle.boxes.specs.Kinds.{fidx, is}
+use Rattle.boxes.specs.Kinds.{noBox, ftyp, pseg, fidx, is, boxAt}
 use Rattle.boxes.specs.Walk.{walkOver, stepped}
 use Rattle.boxes.specs.declared.kinds.Container.{Container}
+use Rattle.boxes.specs.declared.kinds.Container.the-variants.{File, Pfil, Pseg}
 use Rattle.boxes.specs.declared.walk.Walk.{Walk}
+use Rattle.boxes.proofs.ContainerLaws.{boxes-filled, boxes-standing}
+use Rattle.boxes.proofs.HeaderLaws.{Inside}
 use Rattle.boxes.proofs.WalkLaws.{met}
 use Rattle.numerals.specs.declared.place.Place.{Place}
 use Rattle.tallying.proofs.FoundLaws.{Asked, asked-more, asked-end, asked-sound}
-use Rattle.salvage.specs.Copy.{unindexed, sizeOf}
+use Rattle.partial.specs.Heading.{Heading}
+use Rattle.partial.specs.Limits.{sourceLimit}
+use Rattle.partial.specs.Segments.{Segment}
+use Rattle.partial.proofs.Reading.KeptLaws.{stepped as read-step}
+use Rattle.salvage.specs.Copy.{unindexed, sizeOf, copySize}
+use Rattle.salvage.specs.Kept.{Fate, dropped, whole, ofPfil, ofPseg, keptWith, fateOf, fatesFrom, fates}
+use Rattle.salvage.specs.Table.{codes}
+use Rattle.salvage.proofs.CopyLaws.{staying}
+use Rattle.salvage.proofs.FateLaws.{fate-pseg, fate-whole, fate-no-pfil, beside-given}
+use Rattle.salvage.proofs.HeadingLaws.{opened, said, other-kind, filled-size}
+use Rattle.salvage.proofs.TableLaws.{noFated, Coded, code-at}
+use Rattle.salvaging.specs.Tables.{fateAt, Sound}
+use Rattle.salvaging.proofs.SoundLaws.{box-held, fates-long}
 
 -- ---- how many bytes the boxes of a container have without its index
 
@@ -72,3 +89,121 @@ module _ {s : List ℕ} {c : Container} {start end : Place} {w₀ w : Walk} {siz
 
   pub summed-sound : {n : ℕ} → stepped s w ≡ refused n → ⊥
   summed-sound step = asked-sound new begun known step
+
+-- ---- how many bytes of a box are in the copy
+
+-- the fate of a box behind others is found beside some segments kept before it
+fated-from : (f : List ℕ) (h : Heading) (kept : List Segment) (bs : List Box) (k : ℕ) → k < length bs
+    → (before : List Segment) × (getD (fatesFrom sourceLimit f h kept bs) k noFated .fate ≡ fateOf sourceLimit f h before (boxAt k bs))
+unfolding fatesFrom boxAt
+fated-from f h kept [] k there = absurd (omega arith)
+fated-from f h kept (b ∷ bs) zero there = (kept, refl)
+fated-from f h kept (b ∷ bs) (suc k) there = fated-from f h (keptWith sourceLimit f h kept b) bs k (omega arith)
+
+two-on : (bs : List Box) (k : ℕ) → boxAt k (drop 2 bs) ≡ boxAt (suc (suc k)) bs
+unfolding boxAt
+two-on bs k = getD-drop 2 bs k noBox ∙ ap (λ (n : ℕ). getD bs n noBox) (omega arith)
+
+module _ (f : List ℕ) (h : Heading) (sound : Sound f h) where
+  -- what holds of a box's fate, by its number and its kind
+  by-fate : (P : Fate → Type 0) (k : ℕ) → k < length (h .boxes)
+      → let b = boxAt k (h .boxes) in
+      ((n : ℕ) → P (dropped n))
+      → ((k ≡ 1 → ⊥) → is pseg b ≡ false → P whole)
+      → (k ≡ 1 → boxesIn Pfil f (b .body) (b .end) ≡ given (h .inner) → P (ofPfil (h .inner)))
+      → ((k ≡ 1 → ⊥) → is pseg b ≡ true → (s : Segment) → boxesIn Pseg f (b .body) (b .end) ≡ given (s .inner) → P (ofPseg s))
+      → P (fateAt f h k .fate)
+  unfolding fates
+  by-fate P zero there gone stay first one = stay (λ e. omega arith) (other-kind ftyp pseg (boxAt 0 (h .boxes)) refl (opened f h (sound .opens) .first))
+  by-fate P (suc zero) there gone stay first one = first refl (said f h (sound .opens) .inner)
+  by-fate P (suc (suc j)) there gone stay first one =
+      let (before, e) = fated-from f h [] (drop 2 (h .boxes)) j (omega (arith, length-drop 2 (h .boxes))) in
+      subst⁻¹ P (e ∙ ap (fateOf sourceLimit f h before) (two-on (h .boxes) j)) (go before (fateOf sourceLimit f h before b) refl)
+    where
+      b : Box
+      b = boxAt (suc (suc j)) (h .boxes)
+
+      go : (before : List Segment) (t : Fate) → fateOf sourceLimit f h before b ≡ t → P t
+      go before (dropped n) e = gone n
+      go before whole e = stay (λ e. omega arith) (fate-whole sourceLimit f h before b e .0)
+      go before (ofPfil inner) e = absurd (fate-no-pfil sourceLimit f h before b e)
+      go before (ofPseg s) e =
+          let (kind, found) = fate-pseg sourceLimit f h before b e in
+          let (inner, l, cs, t, same) = read-step sourceLimit f h before b (beside-given sourceLimit f h before b found .1) in
+          one (λ e. omega arith) kind s (t .boxes ∙ ap (λ (s : Segment). given (s .inner)) same)
+
+  module _ (k : ℕ) (there : k < length (h .boxes)) where
+    -- it stands in the file
+    pub box-stands : Inside (boxAt k (h .boxes) .at) (length f) (boxAt k (h .boxes))
+    box-stands = boxes-standing File f 0 (length f) (sound .boxes) k there .inside
+
+    -- its size, by its fate
+    abbrev sizeAs : Fate → ℕ
+    sizeAs t = copySize (record { box = boxAt k (h .boxes); fate = t })
+
+    size-by : sizeAs (fateAt f h k .fate) ≡ copySize (fateAt f h k)
+    size-by = ap (λ (b : Box). copySize (record { box = b; fate = fateAt f h k .fate })) (sym (box-held f h sound k))
+
+    -- what stands in a container without its index ends with it
+    inner-short : (c : Container) (inner : List Box) → boxesIn c f (boxAt k (h .boxes) .body) (boxAt k (h .boxes) .end) ≡ given inner
+        → boxAt k (h .boxes) .body + sizeOf (unindexed inner) ≤ boxAt k (h .boxes) .end
+    inner-short c inner known =
+        let b = boxAt k (h .boxes) in
+        filled-size c f (b .end) (box-stands .whole) (boxes-filled c f (b .body) (b .end) known)
+
+    pub copy-shorter : copySize (fateAt f h k) ≤ boxAt k (h .boxes) .end - boxAt k (h .boxes) .at
+    unfolding copySize
+    copy-shorter =
+        let lies = box-stands in
+        rw (← size-by)
+        (by-fate (λ t. sizeAs t ≤ boxAt k (h .boxes) .end - boxAt k (h .boxes) .at) k there (λ n. omega arith) (λ _ _. le-refl _)
+        (λ _ known. omega (arith, inner-short Pfil (h .inner) known)) (λ _ _ s known. omega (arith, inner-short Pseg (s .inner) known)))
+
+    -- as it is told of the box that was read
+    module _ {code : ℕ} (coded : code ≡ getD (codes f h) k 0) {b : Box} (same : b ≡ boxAt k (h .boxes)) where
+      told : Coded (fateAt f h k .fate) code
+      told = rw coded (code-at f h k (rw (fates-long f h sound) there))
+
+      pub size-none : (code ≡ 255 → ⊥) → 0 ≡ copySize (fateAt f h k)
+      unfolding copySize
+      size-none goes = rw (← size-by, told .goes goes)
+
+      module _ (stays : code ≡ 255) where
+        by-staying : {n : ℕ}
+            → let b = boxAt k (h .boxes) in
+            ((k ≡ 1 → ⊥) → is pseg b ≡ false → n ≡ sizeAs whole)
+            → (k ≡ 1 → boxesIn Pfil f (b .body) (b .end) ≡ given (h .inner) → n ≡ sizeAs (ofPfil (h .inner)))
+            → ((k ≡ 1 → ⊥) → is pseg b ≡ true → (s : Segment) → boxesIn Pseg f (b .body) (b .end) ≡ given (s .inner) → n ≡ sizeAs (ofPseg s))
+            → n ≡ copySize (fateAt f h k)
+        by-staying {n} stay first one =
+            rw (← size-by)
+            (by-fate (λ t. staying t ≡ true → n ≡ sizeAs t) k there (λ m stays. absurd (false≢true stays)) (λ other kind _. stay other kind)
+            (λ second known _. first second known) (λ other kind s known _. one other kind s known) (told .stays stays))
+
+        -- a container has its header and what was counted in it
+        module _ {front n : ℕ} (inner : ℕ) (headed : front ≡ b .body - b .at) (sums : n ≡ min (front + inner) (2 ^ 64 - 1)) where
+          abbrev Counts : Container → Type 0
+          Counts c = (bs : List Box) → boxesIn c f (b .body) (b .end) ≡ given bs → b .end < 2 ^ 32 → inner ≡ sizeOf (unindexed bs)
+
+          sized : (c : Container) → Counts c → (bs : List Box) → boxesIn c f (boxAt k (h .boxes) .body) (boxAt k (h .boxes) .end) ≡ given bs
+              → n ≡ boxAt k (h .boxes) .body - boxAt k (h .boxes) .at + sizeOf (unindexed bs)
+          sized c counts bs known =
+              let lies = box-stands in
+              let small = opened f h (sound .opens) .small in
+              let counted = counts bs (rw same known) (rw same (omega arith)) in
+              let front-is = rw same at headed in
+              omega (arith, inner-short c bs known)
+
+          pub size-pfil : k ≡ 1 → Counts Pfil → n ≡ copySize (fateAt f h k)
+          unfolding copySize
+          size-pfil second counts = by-staying (λ other _. absurd (other second)) (λ _ known. sized Pfil counts (h .inner) known) (λ other _ _ _. absurd (other second))
+
+          pub size-pseg : (k ≡ 1 → ⊥) → is pseg b ≡ true → Counts Pseg → n ≡ copySize (fateAt f h k)
+          unfolding copySize
+          size-pseg other kind counts =
+              by-staying (λ _ apart. absurd (false≢true (sym apart ∙ rw same at kind))) (λ second _. absurd (other second)) (λ _ _ s known. sized Pseg counts (s .inner) known)
+
+        pub size-whole : (k ≡ 1 → ⊥) → is pseg b ≡ false → {n : ℕ} → n ≡ b .end - b .at → n ≡ copySize (fateAt f h k)
+        unfolding copySize
+        size-whole other kind long =
+            by-staying (λ _ _. rw same at long) (λ second _. absurd (other second)) (λ _ one _ _. absurd (false≢true (sym (rw same at kind) ∙ one)))
