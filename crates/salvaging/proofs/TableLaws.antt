@@ -3,11 +3,14 @@ use Prim.Native.Nat.{ℕ, zero, suc, _+_, _-_, _^_, min, _≤_, _<_}
 use mathlib.Core.Bool.{true, false, false≢true}
 use mathlib.Core.List.{List, [], _∷_}
 use mathlib.Core.Option.{none, some}
-use mathlib.Core.Path.{_≡_, refl, sym, ap, subst⁻¹, _∙_}
+use mathlib.Core.Path.{_≡_, refl, sym, ap, subst, subst⁻¹, _∙_}
+use native.Mathlib.Decide.{decLe}
 use native.Mathlib.Nat.{add-assoc, add-zero, zero-add, le-refl}
+use native.Mathlib.Numerals.{add-one}
 use native.Mathlib.Omega.{arith}
-use lib.ListN.{length, getD, drop, length-drop}
-use lib.Seq.{getD-drop}
+use borrow.Author.Tests.{le-leb, lt-leb}
+use lib.ListN.{length, getD, take, drop, set, replicate, length-drop, length-set, length-replicate}
+use lib.Seq.{getD-drop, getD-set-same, getD-set-other}
 use Rattle.boxes.specs.Answer.{refused, given}
 use Rattle.boxes.specs.Framing.{Box, boxesIn}
 use Rattle.boxes.specs.Kinds.{noBox, ftyp, pseg, fidx, is, boxAt}
@@ -15,24 +18,28 @@ use Rattle.boxes.specs.Walk.{walkOver, stepped}
 use Rattle.boxes.specs.declared.kinds.Container.{Container}
 use Rattle.boxes.specs.declared.kinds.Container.the-variants.{File, Pfil, Pseg}
 use Rattle.boxes.specs.declared.walk.Walk.{Walk}
-use Rattle.boxes.proofs.ContainerLaws.{boxes-filled, boxes-standing}
-use Rattle.boxes.proofs.HeaderLaws.{Inside}
+use Rattle.boxes.proofs.ContainerLaws.{Filled, full, next, boxes-filled, boxes-standing, boxes-apart}
+use Rattle.boxes.proofs.HeaderLaws.{Inside, header-inside}
 use Rattle.boxes.proofs.WalkLaws.{met}
 use Rattle.numerals.specs.declared.place.Place.{Place}
 use Rattle.tallying.proofs.FoundLaws.{Asked, asked-more, asked-end, asked-sound}
 use Rattle.partial.specs.Heading.{Heading}
 use Rattle.partial.specs.Limits.{sourceLimit}
 use Rattle.partial.specs.Segments.{Segment}
+use Rattle.partial.specs.Sequences.{sum}
 use Rattle.partial.proofs.Reading.KeptLaws.{stepped as read-step}
-use Rattle.salvage.specs.Copy.{unindexed, sizeOf, copySize}
-use Rattle.salvage.specs.Kept.{Fate, dropped, whole, ofPfil, ofPseg, keptWith, fateOf, fatesFrom, fates}
+use Rattle.segment.specs.Tops.{Before}
+use Rattle.segment.proofs.TopsLaws.{few}
+use Rattle.salvage.specs.Copy.{unindexed, sizeOf, copySize, newPlace}
+use Rattle.salvage.specs.Kept.{Fate, dropped, whole, ofPfil, ofPseg, Fated, keptWith, fateOf, fatesFrom, fates}
 use Rattle.salvage.specs.Table.{codes}
 use Rattle.salvage.proofs.CopyLaws.{staying}
 use Rattle.salvage.proofs.FateLaws.{fate-pseg, fate-whole, fate-no-pfil, beside-given}
 use Rattle.salvage.proofs.HeadingLaws.{opened, said, other-kind, filled-size}
+use Rattle.salvage.proofs.PlaceLaws.{sizes}
 use Rattle.salvage.proofs.TableLaws.{noFated, Coded, code-at}
-use Rattle.salvaging.specs.Tables.{fateAt, Sound}
-use Rattle.salvaging.proofs.SoundLaws.{box-held, fates-long}
+use Rattle.salvaging.specs.Tables.{fatesIn, fateAt, startOf, PlacesHeld, Sound, Moving, newIn}
+use Rattle.salvaging.proofs.SoundLaws.{two-boxes, box-held, fates-long}
 
 -- ---- how many bytes the boxes of a container have without its index
 
@@ -207,3 +214,151 @@ module _ (f : List ℕ) (h : Heading) (sound : Sound f h) where
         unfolding copySize
         size-whole other kind long =
             by-staying (λ _ _. rw same at long) (λ second _. absurd (other second)) (λ _ one _ _. absurd (false≢true (sym (rw same at kind) ∙ one)))
+
+-- ---- where each box is in the copy
+
+-- the copies of one box more
+sizes-more : (xs : List Fated) (k : ℕ) → k < length xs → sizes (take (suc k) xs) ≡ sizes (take k xs) + copySize (getD xs k noFated)
+unfolding sum
+sizes-more [] k there = absurd (omega arith)
+sizes-more (x ∷ xs) zero there = omega arith
+sizes-more (x ∷ xs) (suc k) there = omega (arith, sizes-more xs k (omega arith))
+
+-- boxes that fill a file follow each other without a gap, up to its end
+filled-joined : {c : Container} {s : List ℕ} {end at : ℕ} {bs : List Box} → Filled c s end at bs → (k : ℕ) → suc k < length bs → boxAt (suc k) bs .at ≡ boxAt k bs .end
+unfolding boxAt
+filled-joined (full e) k there = absurd (omega arith)
+filled-joined (next short read (full e)) k there = absurd (omega arith)
+filled-joined (next short read (next short′ read′ rest)) zero there = header-inside _ _ _ _ read′ .starts
+filled-joined (next short read (next short′ read′ rest)) (suc k) there = filled-joined (next short′ read′ rest) k (omega arith)
+
+filled-last : {c : Container} {s : List ℕ} {end at : ℕ} {bs : List Box} → Filled c s end at bs → (k : ℕ) → suc k ≡ length bs → end ≤ boxAt k bs .end
+unfolding boxAt
+filled-last (full e) k last = absurd (omega arith)
+filled-last (next short read (full e)) zero last = e
+filled-last (next short read (full e)) (suc k) last = absurd (omega arith)
+filled-last (next short read (next short′ read′ rest)) zero last = absurd (omega arith)
+filled-last (next short read (next short′ read′ rest)) (suc k) last = filled-last (next short′ read′ rest) k (omega arith)
+
+filled-first : {c : Container} {s : List ℕ} {end at : ℕ} {bs : List Box} → Filled c s end at bs → 0 < length bs → boxAt 0 bs .at ≡ at
+unfolding boxAt
+filled-first (full e) there = absurd (omega arith)
+filled-first (next short read rest) there = header-inside _ _ _ _ read .starts
+
+module _ (f : List ℕ) (h : Heading) (sound : Sound f h) where
+  all-filled : Filled File f (length f) 0 (h .boxes)
+  all-filled = boxes-filled File f 0 (length f) (sound .boxes)
+
+  start-more : (k : ℕ) → k < length (h .boxes) → startOf f h (suc k) ≡ startOf f h k + copySize (fateAt f h k)
+  start-more k there = sizes-more (fatesIn f h) k (rw (fates-long f h sound) there)
+
+  -- no box is further on there
+  start-low : (k : ℕ) → k < length (h .boxes) → startOf f h k ≤ boxAt k (h .boxes) .at
+  unfolding sum
+  start-low zero there = omega arith
+  start-low (suc k) there =
+      let before : k < length (h .boxes) = omega arith in
+      let lies = box-stands f h sound k before in
+      omega (arith, start-low k before, start-more k before, copy-shorter f h sound k before, filled-joined all-filled k there)
+
+  -- the places of the boxes so far stand in a table
+  pub record Placing (t : List ℕ) (size k : ℕ) : Type 0 where
+    pub long : length t ≡ 512
+    pub each : (j : ℕ) → j < k → getD t j 0 ≡ startOf f h j
+    pub all : size ≡ startOf f h k
+
+  pub placing-none : Placing (replicate 512 0) 0 0
+  unfolding sum
+  placing-none = record { long = length-replicate {A = ℕ} 512 0; each = λ j less. absurd (omega arith); all = refl }
+
+  pub placing-more : {t : List ℕ} {size k : ℕ} → Placing t size k → k < length (h .boxes) → k < 512 → {n more : ℕ} → n ≡ copySize (fateAt f h k) → more ≡ min (size + n) (2 ^ 64 - 1)
+      → Placing (set t k size) more (k + 1)
+  placing-more {t} {size} {k} p there room {n} {more} one sums =
+      let lies = box-stands f h sound k there in
+      let small = opened f h (sound .opens) .small in
+      let on : suc k ≡ k + 1 = omega arith in
+      record {
+        long = length-set t k size ∙ p .long;
+        each = λ j less.
+            elim (decLe k j) [
+              | yes most ↦
+                  let here : j ≡ k = omega arith in
+                  rw here (getD-set-same t k size 0 (omega (arith, p .long)) ∙ p .all)
+              | no other ↦ getD-set-other t k j size 0 (λ e. omega arith) ∙ p .each j (omega arith)
+            ];
+        all =
+            let exact : more ≡ startOf f h (suc k) = omega (arith, p .all, start-low k there, start-more k there, copy-shorter f h sound k there) in
+            exact ∙ ap (startOf f h) on;
+      }
+
+  pub placing-end : {t : List ℕ} {size k : ℕ} → Placing t size k → k ≡ length (h .boxes) → PlacesHeld f h t × (size ≡ startOf f h (length (h .boxes)))
+  placing-end p last = (record { long = p .long; each = λ j less. p .each j (omega arith) }, p .all ∙ ap (startOf f h) last)
+
+-- ---- where a place is in the copy
+
+-- in a box: as far behind its copy's start as it is behind the box's
+new-in : (start : ℕ) (xs : List Fated) (k place : ℕ) → k < length xs → ((j : ℕ) → j < k → getD xs j noFated .box .end ≤ place) → place < getD xs k noFated .box .end
+    → newPlace start xs place ≡ start + sizes (take k xs) + (place - getD xs k noFated .box .at)
+unfolding newPlace sum
+new-in start [] k place there past high = absurd (omega arith)
+new-in start (x ∷ xs) zero place there past high = rw (newPlace, lt-leb (x .box .end) place high) (omega arith)
+new-in start (x ∷ xs) (suc k) place there past high =
+    rw (newPlace, le-leb (x .box .end) place (past 0 (omega arith)))
+    (new-in (start + copySize x) xs k place (omega arith) (λ j less. past (suc j) (omega arith)) high ∙ omega arith)
+
+module _ (f : List ℕ) (h : Heading) {tops places : List ℕ} (moving : Moving f h tops places) {place : ℕ} (inside : place < length f) where
+  -- the box that it is in is the last one that does not start behind it
+  module _ {k asked : ℕ} (behind : asked ≡ min (place + 1) (2 ^ 64 - 1)) (found : Before tops asked k) where
+    last : Before tops (place + 1) k
+    last =
+        let small = opened f h (moving .sound .opens) .small in
+        subst (λ (n : ℕ). Before tops n k) (omega arith) found
+
+    there : k < length (h .boxes)
+    there =
+        elim (decLe (length (h .boxes)) k) [
+          | yes past ↦
+              let small = opened f h (moving .sound .opens) .small in
+              let many = two-boxes f h (moving .sound) in
+              absurd (omega (arith, last .before (omega arith), moving .listed .beyond k past (last .there)))
+          | no less ↦ omega arith
+        ]
+
+    starts : boxAt k (h .boxes) .at ≤ place
+    starts =
+        elim (decLe k 0) [
+          | yes first ↦
+              let zeroth : k ≡ 0 = omega arith in
+              let many = two-boxes f h (moving .sound) in
+              rw zeroth (omega (arith, filled-first (all-filled f h (moving .sound)) (omega arith)))
+          | no later ↦ omega (arith, last .before (omega arith), moving .listed .listed k there)
+        ]
+
+    ends : place < boxAt k (h .boxes) .end
+    ends =
+        elim (decLe (length (h .boxes)) (k + 1)) [
+          | yes final ↦ omega (arith, filled-last (all-filled f h (moving .sound)) k (omega (arith, there)))
+          | no less ↦
+              let more : k + 1 < length (h .boxes) = omega arith in
+              let room = few f (moving .sound .boxes) (moving .listed) in
+              let on : boxAt (k + 1) (h .boxes) .at ≡ boxAt k (h .boxes) .end = rw add-one (filled-joined (all-filled f h (moving .sound)) k (omega arith)) in
+              omega (arith, last .next (omega arith), moving .listed .listed (k + 1) more)
+        ]
+
+    pub new-found : {at n r : ℕ} → at ≡ getD tops k 0 → n ≡ place - at → r ≡ min (getD places k 0 + n) (2 ^ 64 - 1) → r ≡ newIn f h place
+    new-found top far sums =
+        let box = box-held f h (moving .sound) in
+        let small = opened f h (moving .sound .opens) .small in
+        let new =
+        new-in 0 (fatesIn f h) k place (rw (fates-long f h (moving .sound)) there)
+        (λ j less. rw box (omega (arith, starts, boxes-apart File f 0 (length f) (moving .sound .boxes) j k less there)))
+        (rw box ends) in
+        omega (
+          arith,
+          starts,
+          new,
+          ap (λ (b : Box). b .at) (box k),
+          moving .listed .listed k there,
+          moving .placed .each k there,
+          start-low f h (moving .sound) k there,
+        )

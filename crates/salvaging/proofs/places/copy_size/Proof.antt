@@ -1,6 +1,5 @@
 -- `salvaging::places::copy_size` meets its contract: a box that stays is copied as it is, or, a container, without its
 -- index.
-use borrow.Author.Needs.{needs}
 use Rattle.boxes.specs.Framing.{boxOf}
 use Rattle.boxes.specs.Kinds.{pseg}
 use Rattle.tallying.proofs.FoundLaws.{is-kind, is-other}
