@@ -217,7 +217,7 @@ module _ (c : Container) (f : List ℕ) (end : ℕ) where
       by-index (Each Read) b bs others (λ _. ((subst (λ (n : ℕ). header c f n end ≡ given b) (sym (i .starts)) read, omega arith), others))
 
   -- they have no more bytes than all
-  filled-size : {at : ℕ} {bs : List Box} → at ≤ end → Filled c f end at bs → at + sizeOf (unindexed bs) ≤ end
+  pub filled-size : {at : ℕ} {bs : List Box} → at ≤ end → Filled c f end at bs → at + sizeOf (unindexed bs) ≤ end
   unfolding unindexed sizeOf
   filled-size low (full e) = omega arith
   filled-size low (next {at = at} {b = b} {bs = bs} short read rest) =
@@ -349,7 +349,7 @@ module _ (f : List ℕ) (h : Heading) (opens : opening f ≡ given h) where
   pub opened : Opened f h
   opened = opened-says f h opens .0
 
-  said : Says f (boxAt 0 (h .boxes)) (boxAt 1 (h .boxes)) (h .inner) (h .urls) (h .mixed)
+  pub said : Says f (boxAt 0 (h .boxes)) (boxAt 1 (h .boxes)) (h .inner) (h .urls) (h .mixed)
   said = opened-says f h opens .1
 
   -- both stand in the file

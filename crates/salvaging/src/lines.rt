@@ -2,9 +2,9 @@
 use boxes::kinds::Container;
 use boxes::walk::Step;
 use boxes::walk::Walk;
+use numerals::place::Place;
 use salvage::table::ALL_FATES;
 use salvage::table::STAYS;
-use numerals::place::Place;
 use texts::lines::put_fault;
 ghost use Prim.Native.Nat.{_+_, _*_, _≤_};
 ghost use mathlib.Core.Path.{_≡_};
@@ -51,12 +51,7 @@ fn put_dropped(buffer: &mut [u8], file: &[u8], fates: &[u64; ALL_FATES]) -> u64
 }
 
 // Puts these lines and that of the framing error that stands behind the file's boxes, of that number, 0 for none.
-pub(crate) fn put_lines(
-    buffer: &mut [u8],
-    file: &[u8],
-    fates: &[u64; ALL_FATES],
-    fault: u64,
-) -> u64
+pub(crate) fn put_lines(buffer: &mut [u8], file: &[u8], fates: &[u64; ALL_FATES], fault: u64) -> u64
     ensures { λ r. ⌜ ((h : Heading) → Sound (now (file .entry)) h → FatesHeld (now (file .entry)) h (now (fates .entry))
         → Puts (now (buffer .entry)) 0 (droppedLines (fatesIn (now (file .entry)) h) (faultAt (length (now (file .entry))) fault)) (now (buffer .exit)) r) ⌝ }
 {

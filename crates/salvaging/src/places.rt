@@ -11,6 +11,7 @@ use numerals::place::Place;
 use salvage::table::ALL_FATES;
 use salvage::table::STAYS;
 use segment::tops::TOPS;
+use segment::tops::top_at;
 use segment::tops::top_before;
 ghost use Prim.Native.Nat.{ℕ, _^_, _<_};
 ghost use mathlib.Core.List.{List};
@@ -79,6 +80,8 @@ pub(crate) fn places_of(
     ensures { λ r. ⌜ ((h : Heading) → Sound (now (file .entry)) h → FatesHeld (now (file .entry)) h (now (fates .entry))
         → PlacesHeld (now (file .entry)) h (now (places .exit)) × (r ≡ startOf (now (file .entry)) h (length (h .boxes)))) ⌝ }
 {
+    // Nothing is left there of another file.
+    *places = [0; ALL_PLACES];
     let mut walk = Walk::new(Container::File, Place(0), Place(file.len() as u64));
     let mut size = 0;
     let mut k = 0;
@@ -102,6 +105,6 @@ pub(crate) fn new_place(tops: &[u32; TOPS], places: &[u64; ALL_PLACES], place: P
 {
     // The last box that does not start behind it.
     let number = top_before(tops, Place(sum_of(place.0, 1)));
-    let at = tops[number] as u64;
+    let at = top_at(tops, number);
     Place(sum_of(places[number], between(at, place.0)))
 }

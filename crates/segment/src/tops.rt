@@ -51,7 +51,7 @@ fn wide(top: u32) -> u64
 }
 
 // What stands in a table.
-pub(crate) fn top_at(tops: &[u32; TOPS], number: usize) -> u64
+pub fn top_at(tops: &[u32; TOPS], number: usize) -> u64
     requires { ⌜ number < 512 ⌝ }
     ensures { λ r. ⌜ r ≡ getD (now (tops .entry)) number 0 ⌝ }
 {

@@ -87,7 +87,7 @@ loop-again c =
           let (less, here, onward) = counting-more counting step in (
             onward,
             puts-same (each-more droppedLine (fatesIn f h) noFated k (omega (arith, less, fates-long f h sound)))
-            (puts-more puts (line (fateAt f h k) (ap (λ b. b .at) (box-held f h sound k ∙ sym here)) (code-held f h sound held k less) (omega (arith, inv .1, inv .2)))),
+                (puts-more puts (line (fateAt f h k) (ap (λ b. b .at) (box-held f h sound k ∙ sym here)) (code-held f h sound held k less) (omega (arith, inv .1, inv .2)))),
           ),
     )
 
