@@ -26,6 +26,7 @@ use Rattle.puts.proofs.pfil.put_pfil.Reads as put-pfil
 use Rattle.puts.proofs.pieces.put_bytes.Reads as put-bytes
 use Rattle.puts.proofs.pieces.put_field.Reads as put-field
 use Rattle.puts.proofs.pieces.put_front.Reads as put-front
+use Rattle.puts.proofs.pieces.put_large_front.Reads as put-large-front
 use Rattle.puts.proofs.pieces.put_offset.Reads as put-offset
 use Rattle.puts.proofs.ploc.put_entry.Reads as put-entry
 use Rattle.puts.proofs.pseg.put_pseg.Reads as put-pseg
@@ -61,6 +62,12 @@ put-front-result κs args x y after after′ p q = same-place (p .end ∙ sym (q
 
 put-front-bytes : OneLeft put-front.Post (λ κs after. now (after .0))
 put-front-bytes κs args x y after after′ p q = p .left ∙ sym (q .left)
+
+put-large-front-result : OneResult put-large-front.Post
+put-large-front-result κs args x y after after′ p q = same-place (p .end ∙ sym (q .end))
+
+put-large-front-bytes : OneLeft put-large-front.Post (λ κs after. now (after .0))
+put-large-front-bytes κs args x y after after′ p q = p .left ∙ sym (q .left)
 
 -- ---- pieces one behind the other
 
