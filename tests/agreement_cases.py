@@ -169,12 +169,18 @@ def texts_case(rng, name, file, made_from):
     return Case(name, term, texts_numbers(file, segment, a, b), number_of(model.texts(file, segment, len(a), len(b))), made_from)
 
 
-def tables_case(rng, name, file, source):
+def tables_case(rng, name, file, source, lend=room):
     answer = model.read(file)
     segments, chunks = ([], []) if answer[0] == "refused" else answer[1:]
-    a, b = room(rng, 8 * len(segments)), room(rng, 6 * len(chunks))
+    a, b = lend(rng, 8 * len(segments)), lend(rng, 6 * len(chunks))
     term = "tablesOf %s (%s) (%s)" % (octets(file), listing(a), listing(b))
     return Case(name, term, tables_numbers(file, a, b), number_of(model.read(file, len(a), len(b))), source)
+
+
+def short_case(rng, name):
+    """26, which chance may leave out: the tables of an accepted file, each one number too short."""
+    file = accepted_file(rng)
+    return tables_case(rng, name, file, "file " + file.hex(), lend=lambda rng, needed: [MARK] * max(0, needed - 1))
 
 
 def lists_case(rng, name, file, made_from):
@@ -315,10 +321,18 @@ def some_file(rng, index):
     return generate.faulty_file(rng, rng.choice([number for number in faults if number != 6]))
 
 
+def accepted_file(rng):
+    """A file as another writer makes it, which reading accepts."""
+    while True:
+        file = generate.foreign_file(rng)
+        if model.read(file)[0] == "read":
+            return file
+
+
 def some_addition(rng, index):
-    """Mostly as a clerk would add, one in four outside, and each fault of append in turn; those that need a large file
-    once."""
-    file = generate.foreign_file(rng)
+    """Mostly as a clerk would add, one in four outside, and each fault of append in turn, to an accepted file, so that
+    it is met; those that need a large file once."""
+    file = accepted_file(rng)
     if index < len(generate.FAULTS_OF_APPEND):
         number = generate.FAULTS_OF_APPEND[index]
         return large_addition(rng, number) if number in LARGE else generate.faulty_addition(rng, file, number)
@@ -371,7 +385,7 @@ def choose(rng, files, additions, beginnings):
     for index in range(beginnings):
         cases.append(beginning_case("beginning%d" % index, some_beginning(rng, index)))
         cases.append(rewriting_case(rng, "again%d" % index))
-    return cases
+    return cases + [short_case(rng, "short")]
 
 
 def refusals(cases):
