@@ -1,13 +1,21 @@
 // What becomes of each box of a file whose framing is right: a table that tells which stay, and the number of each that
 // is dropped.
 use boxes::framing::Framed;
+use boxes::kinds::Container;
 use boxes::kinds::FTYP;
 use boxes::kinds::PDAT;
 use boxes::kinds::PFIL;
+use boxes::kinds::PSEG;
+use boxes::walk::Step;
+use boxes::walk::Walk;
 use fields::state::GOOD;
+use salvage::table::ALL_FATES;
 use salvage::table::STAYS;
+use surls::body::Body;
+use gathering::keeping::keep_pass;
 use gathering::numbers::chunk_by;
 use numerals::order::sum_of;
+use numerals::place::Place;
 use partial::limits::CHUNK_LIMIT;
 use partial::position::Position;
 use partial::refusals::FTYP_WRONG;
@@ -27,6 +35,8 @@ ghost use Rattle.partial.proofs.Reading.SmallLaws.{AllSmall};
 ghost use Rattle.partial.specs.Sequences.{someOf};
 ghost use Rattle.salvage.specs.Kept.{liesIn, keptOf, fateOf};
 ghost use Rattle.salvage.specs.Table.{codeOf};
+ghost use Rattle.salvaging.specs.Tables.{FatesHeld, Sound};
+ghost use Rattle.gathering.specs.Keeping.{Boxed};
 ghost use Rattle.gathering.specs.Numbers.{chunkBy, numbersOf};
 
 // The number of a dropped box with which nothing was wrong.
@@ -86,3 +96,27 @@ fn fate_of(b: Framed, mixed: bool, numbers: &[u64; ALL_NUMBERS], many: u64) -> u
     NOTHING_WRONG
 }
 
+// Tells the fate of each box of a file.
+pub(crate) fn fates_of(file: &[u8], mixed: bool, list: Body, fates: &mut [u64; ALL_FATES])
+    ensures { λ _. ⌜ ((h : Heading) → Sound (now (file .entry)) h → Boxed (now (file .entry)) mixed list h → FatesHeld (now (file .entry)) h (now (fates .exit))) ⌝ }
+{
+    let mut numbers = [0; ALL_NUMBERS];
+    let gathered = keep_pass(file, mixed, list, fates, &mut numbers);
+    let mut walk = Walk::new(Container::File, Place(0), Place(file.len() as u64));
+    let mut k = 0;
+    loop {
+        match walk.step(file) {
+            Step::Next(b, onward) => {
+                if k < 2 {
+                    fates[k] = STAYS;
+                } else if b.kind != PSEG.code {
+                    fates[k] = fate_of(b, mixed, &numbers, gathered.chunks);
+                }
+                walk = onward;
+                k += 1;
+            }
+            Step::End => return,
+            Step::Refused(_) => return,
+        }
+    }
+}
