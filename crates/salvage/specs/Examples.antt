@@ -75,14 +75,15 @@ cut =
     }
 
 -- 24 among all whole boxes before the first framing error: of the segment at 67 one chunk lies before it and one, at
--- 130, behind it. Where the `pdat` of that one is cut the segment is left out with both, and the `pdat` before it stays
+-- 130, behind it. Where the `pdat` of that one is cut, though behind the chunk, the segment is left out with both, and
+-- the `pdat` before it stays
 abbrev dataBehind : Example
 dataBehind =
     let f =
     begunBytes
     ++ (box "pdat" (11 ∷ 12 ∷ 13 ∷ 14 ∷ [])
-    ++ (segmentOf 0 0 2 (0x40 ∷ 4 ∷ 0xfc ∷ 0x40 ∷ 2 ∷ 63 ∷ []) ++ box "pdat" (15 ∷ 16 ∷ []))) in
-    record { defined = told f ++ told (take 131 f); paper = lines "" f ++ lines "67\t24\n122\t5\n" (take 67 f) }
+    ++ (segmentOf 0 0 2 (0x40 ∷ 4 ∷ 0xfc ∷ 0x40 ∷ 2 ∷ 63 ∷ []) ++ box "pdat" (15 ∷ 16 ∷ 17 ∷ []))) in
+    record { defined = told f ++ told (take 132 f); paper = lines "" f ++ lines "67\t24\n122\t5\n" (take 67 f) }
 
 -- "beside the segments already kept": in P10's file a last segment that ends at 5 is left out beside the first, and the
 -- second, which ends at 7, stays. Its data lie 56 bytes before it, and 5 in the copy. Where the wrong one stands first
