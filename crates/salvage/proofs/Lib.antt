@@ -1,8 +1,10 @@
 -- Laws of salvage: the copy reads back as the segments that are kept.
 pub mod AcceptedLaws
 pub mod CarriedLaws
+pub mod Computing
 pub mod CopyLaws
 pub mod Demands
+pub mod Examples
 pub mod FateLaws
 pub mod FramedLaws
 pub mod HeadingLaws

@@ -3,3 +3,4 @@ pub mod Copy
 pub mod Lines
 pub mod Table
 pub mod Demands
+pub mod Examples
