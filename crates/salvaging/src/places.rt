@@ -11,8 +11,8 @@ use numerals::place::Place;
 use salvage::table::ALL_FATES;
 use salvage::table::STAYS;
 use segment::tops::TOPS;
-use segment::tops::top_at;
 use segment::tops::top_before;
+use segment::tops::wide;
 ghost use Prim.Native.Nat.{ℕ, _^_, _<_};
 ghost use mathlib.Core.List.{List};
 ghost use mathlib.Core.Path.{_≡_};
@@ -105,6 +105,6 @@ pub(crate) fn new_place(tops: &[u32; TOPS], places: &[u64; ALL_PLACES], place: P
 {
     // The last box that does not start behind it.
     let number = top_before(tops, Place(sum_of(place.0, 1)));
-    let at = top_at(tops, number);
+    let at = wide(tops[number]);
     Place(sum_of(places[number], between(at, place.0)))
 }

@@ -44,14 +44,14 @@ pub fn tops_of(s: &[u8], tops: &mut [u32; TOPS])
 }
 
 // A place of the table as a number of a file's places.
-fn wide(top: u32) -> u64
+pub fn wide(top: u32) -> u64
     ensures { λ r. ⌜ r ≡ top ⌝ }
 {
     top as u64
 }
 
 // What stands in a table.
-pub fn top_at(tops: &[u32; TOPS], number: usize) -> u64
+pub(crate) fn top_at(tops: &[u32; TOPS], number: usize) -> u64
     requires { ⌜ number < 512 ⌝ }
     ensures { λ r. ⌜ r ≡ getD (now (tops .entry)) number 0 ⌝ }
 {
