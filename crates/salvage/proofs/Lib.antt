@@ -1,6 +1,7 @@
 -- Laws of salvage: the copy reads back as the segments that are kept.
 pub mod AcceptedLaws
 pub mod CarriedLaws
+pub mod Computing
 pub mod CopyLaws
 pub mod FateLaws
 pub mod FramedLaws
