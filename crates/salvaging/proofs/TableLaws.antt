@@ -30,14 +30,14 @@ use Rattle.partial.specs.Sequences.{sum}
 use Rattle.partial.proofs.Reading.KeptLaws.{stepped as read-step}
 use Rattle.segment.specs.Tops.{Before}
 use Rattle.segment.proofs.TopsLaws.{few}
-use Rattle.salvage.specs.Copy.{unindexed, sizeOf, copySize, newPlace}
-use Rattle.salvage.specs.Kept.{Fate, dropped, whole, ofPfil, ofPseg, Fated, keptWith, fateOf, fatesFrom, fates}
-use Rattle.salvage.specs.Table.{codes}
-use Rattle.salvage.proofs.CopyLaws.{staying}
-use Rattle.salvage.proofs.FateLaws.{fate-pseg, fate-whole, fate-no-pfil, beside-given}
-use Rattle.salvage.proofs.HeadingLaws.{opened, said, other-kind, filled-size}
-use Rattle.salvage.proofs.PlaceLaws.{sizes}
-use Rattle.salvage.proofs.TableLaws.{noFated, Coded, code-at}
+use Rattle.kept.specs.Copy.{unindexed, sizeOf, copySize, newPlace}
+use Rattle.kept.specs.Kept.{Fate, dropped, whole, ofPfil, ofPseg, Fated, keptWith, fateOf, fatesFrom, fates}
+use Rattle.kept.specs.Table.{codes}
+use Rattle.kept.proofs.CopyLaws.{staying}
+use Rattle.kept.proofs.FateLaws.{fate-pseg, fate-whole, fate-no-pfil, beside-given}
+use Rattle.kept.proofs.HeadingLaws.{opened, said, other-kind, filled-size}
+use Rattle.kept.proofs.PlaceLaws.{sizes}
+use Rattle.kept.proofs.TableLaws.{noFated, Coded, code-at}
 use Rattle.salvaging.specs.Tables.{fatesIn, fateAt, startOf, PlacesHeld, Sound, Moving, newIn}
 use Rattle.salvaging.proofs.SoundLaws.{two-boxes, box-held, fates-long}
 
