@@ -6,7 +6,7 @@ import shutil
 import subprocess
 
 TOP = os.path.dirname(os.path.dirname(os.path.abspath(__file__)))
-OURS = ["numerals", "boxes", "partial", "additions", "kept"]
+OURS = ["numerals", "boxes", "partial", "additions", "rescue"]
 LISTS = """use Prim.Native.Nat.{ℕ, zero, suc}
 use mathlib.Core.Bool.{Bool, true, false}
 use mathlib.Core.List.{List, [], _∷_, _++_}
@@ -45,9 +45,9 @@ use Rattle.additions.specs.Append.{appended, psegPlace, newUrls, newSegment, re
 use Rattle.additions.specs.Runs.{lent, fileIn, append}
 use Rattle.additions.specs.Again.{again, settled, writeAgain}
 use Rattle.additions.specs.Carried.{carried}
-use Rattle.kept.specs.Copy.{salvage, salvaged}
-use Rattle.kept.specs.Lines.{salvageText}
-use Rattle.kept.proofs.Computing.{computing}
+use Rattle.rescue.specs.Copy.{salvage, salvaged}
+use Rattle.rescue.specs.Lines.{salvageText}
+use Rattle.rescue.proofs.Computing.{computing}
 
 answered : {A : Type 0} → (A → List ℕ) → Answer A → List ℕ
 answered values (refused n) = 0 ∷ n ∷ []
@@ -278,9 +278,9 @@ use Rattle.partial.specs.Segments.{Segment}
 use Rattle.partial.specs.Heading.{heading, fileBoxes}
 use Rattle.partial.specs.Reading.{reading}
 use Rattle.partial.specs.Map.{mapOf, missmapOf, textFor, mapText, missmapText, refusedLine}
-use Rattle.kept.specs.Kept.{opening}
-use Rattle.kept.specs.Copy.{salvage}
-use Rattle.kept.specs.Lines.{salvageText}
+use Rattle.rescue.specs.Kept.{opening}
+use Rattle.rescue.specs.Copy.{salvage}
+use Rattle.rescue.specs.Lines.{salvageText}
 
 long-file : (f : List ℕ) → leb (length f) fileLimit ≡ false → reading sourceLimit f ≡ refused 1
 unfolding reading heading fileBoxes

@@ -20,7 +20,7 @@ use Rattle.partial.specs.Limits.{sourceLimit}
 use Rattle.partial.specs.Segments.{Segment, chunksOf}
 use Rattle.partial.specs.Sources.{sourceCount}
 use Rattle.partial.specs.Tables.{segmentRows, chunkRows}
-use Rattle.kept.specs.Kept.{keptOf}
+use Rattle.rescue.specs.Kept.{keptOf}
 use Rattle.surls.specs.declared.body.Body.{Body}
 use Rattle.partial.specs.Texts.{listBoxes}
 use Rattle.sources.specs.Held.{ListHeld}

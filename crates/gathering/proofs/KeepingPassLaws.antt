@@ -24,12 +24,12 @@ use Rattle.boxes.proofs.WalkLaws.{ahead, known-next, known-end, known-sound}
 use Rattle.partial.specs.Heading.{Heading}
 use Rattle.partial.specs.Limits.{sourceLimit}
 use Rattle.partial.specs.Segments.{Segment, chunksOf}
-use Rattle.kept.specs.Kept.{beside, keptWith, keptFrom, keptOf, fateOf, fatesFrom, fates}
+use Rattle.rescue.specs.Kept.{beside, keptWith, keptFrom, keptOf, fateOf, fatesFrom, fates}
 use Rattle.segment.specs.Data.{Searched}
 use Rattle.surls.specs.declared.body.Body.{Body}
 use Rattle.gathering.specs.Gathered.{gatheredOf}
 use Rattle.gathering.specs.Numbers.{numbersOf}
-use Rattle.kept.specs.Table.{codeOf, codes}
+use Rattle.rescue.specs.Table.{codeOf, codes}
 use Rattle.gathering.specs.Keeping.{SoFar, Tried, Boxed, Keeps}
 use Rattle.gathering.specs.declared.gathered.Gathered.{Gathered}
 use Rattle.gathering.specs.declared.step.SegmentRead.the-variants.{Refused, Given}

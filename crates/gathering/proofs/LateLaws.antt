@@ -19,7 +19,7 @@ use Rattle.partial.specs.Sources.{sourceCount, ofSource, agreed}
 use Rattle.partial.proofs.Meaning.SequenceLaws.{which, all-members}
 use Rattle.partial.proofs.Meaning.SourceLaws.{agreed-of, source-count-more}
 use Rattle.ends.proofs.TableLaws.{of-last, of-other}
-use Rattle.kept.specs.Kept.{beside}
+use Rattle.rescue.specs.Kept.{beside}
 use Rattle.gathering.specs.Keeping.{lateFault}
 
 -- 25 of the segments with one more: the sizes of its source agree with it, since those of every other source do

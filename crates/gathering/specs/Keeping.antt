@@ -14,8 +14,8 @@ use Rattle.partial.specs.Limits.{layerLimit, sourceLimit}
 use Rattle.partial.specs.ReadingDemands.{Numbered}
 use Rattle.partial.specs.Segments.{Segment, chunksOf, endOf}
 use Rattle.partial.specs.Sources.{sourceCount, agreed}
-use Rattle.kept.specs.Kept.{beside, keptOf}
-use Rattle.kept.specs.Table.{codes}
+use Rattle.rescue.specs.Kept.{beside, keptOf}
+use Rattle.rescue.specs.Table.{codes}
 use Rattle.ends.specs.Table.{Holds}
 use Rattle.segment.specs.Data.{Searched}
 use Rattle.surls.specs.declared.body.Body.{Body}

@@ -32,8 +32,8 @@ use Rattle.heading.specs.Facts.{factsOf, told, headedAnswer}
 use Rattle.heading.specs.declared.answers.Head.{Head}
 use Rattle.heading.specs.declared.answers.Headed.{Headed}
 use Rattle.heading.specs.declared.answers.Headed.the-variants as Headed
-use Rattle.kept.specs.Kept.{walkOf, framed, firstTwo, opening}
-use Rattle.kept.proofs.HeadingLaws.{opened, cut-filled}
+use Rattle.rescue.specs.Kept.{walkOf, framed, firstTwo, opening}
+use Rattle.rescue.proofs.HeadingLaws.{opened, cut-filled}
 use Rattle.salvaging.specs.Opens.{Whole, faultNumber, Opens}
 use Rattle.salvaging.specs.declared.opening.Opening.the-variants as Opening
 

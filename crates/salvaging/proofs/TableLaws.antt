@@ -30,14 +30,14 @@ use Rattle.partial.specs.Sequences.{sum}
 use Rattle.partial.proofs.Reading.KeptLaws.{stepped as read-step}
 use Rattle.segment.specs.Tops.{Before}
 use Rattle.segment.proofs.TopsLaws.{few}
-use Rattle.kept.specs.Copy.{unindexed, sizeOf, copySize, newPlace}
-use Rattle.kept.specs.Kept.{Fate, dropped, whole, ofPfil, ofPseg, Fated, keptWith, fateOf, fatesFrom, fates}
-use Rattle.kept.specs.Table.{codes}
-use Rattle.kept.proofs.CopyLaws.{staying}
-use Rattle.kept.proofs.FateLaws.{fate-pseg, fate-whole, fate-no-pfil, beside-given}
-use Rattle.kept.proofs.HeadingLaws.{opened, said, other-kind, filled-size}
-use Rattle.kept.proofs.PlaceLaws.{sizes}
-use Rattle.kept.proofs.TableLaws.{noFated, Coded, code-at}
+use Rattle.rescue.specs.Copy.{unindexed, sizeOf, copySize, newPlace}
+use Rattle.rescue.specs.Kept.{Fate, dropped, whole, ofPfil, ofPseg, Fated, keptWith, fateOf, fatesFrom, fates}
+use Rattle.rescue.specs.Table.{codes}
+use Rattle.rescue.proofs.CopyLaws.{staying}
+use Rattle.rescue.proofs.FateLaws.{fate-pseg, fate-whole, fate-no-pfil, beside-given}
+use Rattle.rescue.proofs.HeadingLaws.{opened, said, other-kind, filled-size}
+use Rattle.rescue.proofs.PlaceLaws.{sizes}
+use Rattle.rescue.proofs.TableLaws.{noFated, Coded, code-at}
 use Rattle.salvaging.specs.Tables.{fatesIn, fateAt, startOf, PlacesHeld, Sound, Moving, newIn}
 use Rattle.salvaging.proofs.SoundLaws.{two-boxes, box-held, fates-long}
 

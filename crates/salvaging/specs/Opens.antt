@@ -9,7 +9,7 @@ use Rattle.boxes.specs.Answer.{refused, given}
 use Rattle.boxes.specs.Framing.{Fault}
 use Rattle.partial.specs.Heading.{Heading}
 use Rattle.heading.specs.Facts.{pfilBody}
-use Rattle.kept.specs.Kept.{walkOf, framed, opening}
+use Rattle.rescue.specs.Kept.{walkOf, framed, opening}
 use Rattle.salvaging.specs.declared.opening.OpenFile.{OpenFile}
 use Rattle.salvaging.specs.declared.opening.Opening.{Opening}
 use Rattle.salvaging.specs.declared.opening.Opening.the-variants.{Refused, Found}

@@ -2,9 +2,9 @@
 use boxes::kinds::Container;
 use boxes::walk::Step;
 use boxes::walk::Walk;
-use kept::table::ALL_FATES;
-use kept::table::STAYS;
 use numerals::place::Place;
+use rescue::table::ALL_FATES;
+use rescue::table::STAYS;
 use texts::lines::put_fault;
 ghost use Prim.Native.Nat.{_+_, _*_, _≤_};
 ghost use mathlib.Core.Path.{_≡_};
@@ -12,9 +12,9 @@ ghost use lib.ListN.{length};
 ghost use Rattle.filling.specs.Rows.{Puts};
 ghost use Rattle.partial.specs.BoxList.{each};
 ghost use Rattle.partial.specs.Heading.{Heading};
-ghost use Rattle.kept.specs.Kept.{Fated};
-ghost use Rattle.kept.proofs.TableLaws.{Coded};
-ghost use Rattle.kept.specs.Lines.{droppedLine, droppedLines};
+ghost use Rattle.rescue.specs.Kept.{Fated};
+ghost use Rattle.rescue.proofs.TableLaws.{Coded};
+ghost use Rattle.rescue.specs.Lines.{droppedLine, droppedLines};
 ghost use Rattle.salvaging.specs.Fault.{faultAt};
 ghost use Rattle.salvaging.specs.Tables.{fatesIn, FatesHeld, Sound};
 

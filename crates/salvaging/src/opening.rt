@@ -11,7 +11,7 @@ use surls::body::Body;
 ghost use Prim.Native.Nat.{_≤_};
 ghost use mathlib.Core.Path.{_≡_};
 ghost use lib.ListN.{length, take};
-ghost use Rattle.kept.specs.Kept.{walkOf, firstTwo};
+ghost use Rattle.rescue.specs.Kept.{walkOf, firstTwo};
 ghost use Rattle.salvaging.specs.Opens.{Whole, Opens};
 
 // Whether the file is mixed, where the list of URLs in its `pfil` stands, where its whole boxes end, and the number of

@@ -5,11 +5,11 @@ use boxes::kinds::FIDX;
 use boxes::kinds::PSEG;
 use boxes::walk::Step;
 use boxes::walk::Walk;
-use kept::table::ALL_FATES;
-use kept::table::STAYS;
 use numerals::order::between;
 use numerals::order::sum_of;
 use numerals::place::Place;
+use rescue::table::ALL_FATES;
+use rescue::table::STAYS;
 use segment::tops::TOPS;
 use segment::tops::top_before;
 use segment::tops::wide;
@@ -21,8 +21,8 @@ ghost use Rattle.boxes.specs.Answer.{given};
 ghost use Rattle.boxes.specs.Framing.{Box, boxOf, boxesIn};
 ghost use Rattle.boxes.specs.Kinds.{boxAt};
 ghost use Rattle.partial.specs.Heading.{Heading};
-ghost use Rattle.kept.specs.Copy.{copySize, unindexed, sizeOf};
-ghost use Rattle.kept.specs.Table.{codes};
+ghost use Rattle.rescue.specs.Copy.{copySize, unindexed, sizeOf};
+ghost use Rattle.rescue.specs.Table.{codes};
 ghost use Rattle.salvaging.specs.Tables.{fateAt, startOf, FatesHeld, PlacesHeld, Sound, Moving, newIn};
 
 // As many places as a file may have boxes.

@@ -10,8 +10,8 @@ use Rattle.filling.specs.Rows.{Puts}
 use Rattle.filling.proofs.PutsLaws.{puts-same, puts-more}
 use Rattle.partial.specs.BoxList.{each}
 use Rattle.partial.specs.Heading.{Heading}
-use Rattle.kept.specs.Lines.{droppedLine}
-use Rattle.kept.proofs.TableLaws.{noFated}
+use Rattle.rescue.specs.Lines.{droppedLine}
+use Rattle.rescue.proofs.TableLaws.{noFated}
 use Rattle.salvaging.specs.Tables.{fatesIn, fateAt, FatesHeld, Sound}
 use Rattle.salvaging.proofs.CountingLaws.{Counting, counting-none, counting-more, counting-end, counting-sound}
 use Rattle.salvaging.proofs.LinesLaws.{each-more, each-none, take-all}

@@ -1,10 +1,10 @@
 -- Which definitions are opened where the checker computes them: `unfolding computing` opens those of reading and writing
 -- and these.
 use Rattle.additions.proofs.Computing as writing
-use Rattle.kept.specs.Kept
-use Rattle.kept.specs.Copy
-use Rattle.kept.specs.Lines
-use Rattle.kept.specs.Table
+use Rattle.rescue.specs.Kept
+use Rattle.rescue.specs.Copy
+use Rattle.rescue.specs.Lines
+use Rattle.rescue.specs.Table
 
 unfoldable pub computing : Unit {0}
 unfolding

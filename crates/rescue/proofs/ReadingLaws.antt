@@ -34,16 +34,16 @@ use Rattle.partial.proofs.Reading.KeptLaws.{segments-of}
 use Rattle.partial.proofs.Reading.LimitLaws.{segments-many}
 use Rattle.partial.proofs.Reading.ReadingLaws.{read-reading, reading-none}
 use Rattle.additions.proofs.StandsLaws.{Stands}
-use Rattle.kept.specs.Kept.{Fate, dropped, whole, ofPfil, ofPseg, Fated, opening, keptOf, fateOf, fatesFrom, fates}
-use Rattle.kept.specs.Copy.{copyOf, copied, copySize}
-use Rattle.kept.proofs.Shapes.{Alike, resized, chunkAnew, innerAnew, segmentAnew, segmentsAnew, boxesAnew}
-use Rattle.kept.proofs.PlaceLaws.{sizes, new-at}
-use Rattle.kept.proofs.CopyLaws.{copy-stands}
-use Rattle.kept.proofs.FateLaws.{segmentsOf, segments-split, kept-all, fate-at, fate-pseg, fate-whole, fate-no-pfil, beside-given, kept-sound}
-use Rattle.kept.proofs.HeadingLaws.{opened, firstFated, secondFated, pfil-unindexed}
-use Rattle.kept.proofs.SegmentLaws.{segment-place, segment-back, segment-unindexed}
-use Rattle.kept.proofs.WholeLaws.{Stood, fates-stood, fates-ready, fates-chained, headingBack, heading-copied}
-use Rattle.kept.proofs.LieLaws.{newPlaces, kept-lie, kept-alike}
+use Rattle.rescue.specs.Kept.{Fate, dropped, whole, ofPfil, ofPseg, Fated, opening, keptOf, fateOf, fatesFrom, fates}
+use Rattle.rescue.specs.Copy.{copyOf, copied, copySize}
+use Rattle.rescue.proofs.Shapes.{Alike, resized, chunkAnew, innerAnew, segmentAnew, segmentsAnew, boxesAnew}
+use Rattle.rescue.proofs.PlaceLaws.{sizes, new-at}
+use Rattle.rescue.proofs.CopyLaws.{copy-stands}
+use Rattle.rescue.proofs.FateLaws.{segmentsOf, segments-split, kept-all, fate-at, fate-pseg, fate-whole, fate-no-pfil, beside-given, kept-sound}
+use Rattle.rescue.proofs.HeadingLaws.{opened, firstFated, secondFated, pfil-unindexed}
+use Rattle.rescue.proofs.SegmentLaws.{segment-place, segment-back, segment-unindexed}
+use Rattle.rescue.proofs.WholeLaws.{Stood, fates-stood, fates-ready, fates-chained, headingBack, heading-copied}
+use Rattle.rescue.proofs.LieLaws.{newPlaces, kept-lie, kept-alike}
 
 -- ---- what the places of segments do not change
 

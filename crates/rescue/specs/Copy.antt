@@ -15,7 +15,7 @@ use Rattle.partial.specs.Heading.{bytesIn}
 use Rattle.partial.specs.Memory.{fits}
 use Rattle.partial.specs.Segments.{Chunk, Segment, hasPlace}
 use Rattle.additions.specs.Append.{Placed, entryBytes}
-use Rattle.kept.specs.Kept.{dropped, whole, ofPfil, ofPseg, Fated, framed, opening, fates}
+use Rattle.rescue.specs.Kept.{dropped, whole, ofPfil, ofPseg, Fated, framed, opening, fates}
 
 -- the bytes of a box as they are
 unfoldable pub boxBytes : List ℕ → Box → List ℕ

@@ -7,8 +7,8 @@ use lib.ListN.{getD}
 use Rattle.boxes.specs.Framing.{Box}
 use Rattle.boxes.specs.Kinds.{ploc, pshd, is, firstOf}
 use Rattle.partial.specs.Segments.{Chunk, Segment, hasPlace}
-use Rattle.kept.specs.Kept.{Fate, dropped, whole, ofPfil, ofPseg, Fated}
-use Rattle.kept.specs.Copy.{unindexed, copySize}
+use Rattle.rescue.specs.Kept.{Fate, dropped, whole, ofPfil, ofPseg, Fated}
+use Rattle.rescue.specs.Copy.{unindexed, copySize}
 
 -- the bytes of g from c on are those of f from a on, so many of them
 abbrev pub Alike : List ℕ → ℕ → List ℕ → ℕ → ℕ → Type 0

@@ -19,7 +19,7 @@ use Rattle.partial.specs.Mixed.{allowed}
 use Rattle.partial.specs.Sources.{sourceCount, agreed}
 use Rattle.partial.specs.Reading.{segment}
 use Rattle.additions.proofs.WholeLaws.{allowed-other}
-use Rattle.kept.specs.Kept.{Fate, dropped, whole, ofPfil, ofPseg, Fated, liesIn, beside, keptWith, keptFrom, keptOf, stays, fateOf, fatesFrom, fates}
+use Rattle.rescue.specs.Kept.{Fate, dropped, whole, ofPfil, ofPseg, Fated, liesIn, beside, keptWith, keptFrom, keptOf, stays, fateOf, fatesFrom, fates}
 
 -- the segments of boxes that stay
 unfoldable pub segmentsOf : List Fated → List Segment

@@ -21,10 +21,10 @@ use Rattle.partial.specs.Segments.{Segment}
 use Rattle.partial.proofs.Meaning.SequenceLaws.{Each, past}
 use Rattle.partial.specs.ReadingDemands.{beforeAgreement}
 use Rattle.partial.proofs.Reading.RefusalLaws.{segments-from-only}
-use Rattle.kept.specs.Kept.{Fate, dropped, whole, ofPfil, ofPseg, Fated, beside, keptWith, stays, fateOf, fatesFrom, fates}
-use Rattle.kept.specs.Table.{codeOf, codes}
-use Rattle.kept.proofs.CopyLaws.{staying}
-use Rattle.kept.proofs.FateLaws.{fates-boxes}
+use Rattle.rescue.specs.Kept.{Fate, dropped, whole, ofPfil, ofPseg, Fated, beside, keptWith, stays, fateOf, fatesFrom, fates}
+use Rattle.rescue.specs.Table.{codeOf, codes}
+use Rattle.rescue.proofs.CopyLaws.{staying}
+use Rattle.rescue.proofs.FateLaws.{fates-boxes}
 
 -- a number of a refusal
 abbrev Low : ℕ → Type 0

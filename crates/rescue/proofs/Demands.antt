@@ -30,20 +30,20 @@ use Rattle.partial.proofs.Meaning.SequenceLaws.{which, inside, within-true, all
 use Rattle.partial.proofs.Meaning.SourceLaws.{chunks-of}
 use Rattle.partial.proofs.Meaning.SupplyLaws.{supplier-good, supplier-covers}
 use Rattle.partial.proofs.Reading.RefusalLaws.{takes}
-use Rattle.kept.specs.Kept.{walkOf, framed, firstTwo, opening, fates}
-use Rattle.kept.specs.Copy.{copied, salvage, salvaged}
-use Rattle.kept.specs.Lines.{salvageText}
-use Rattle.kept.specs.Demands.{Bytes, rescuedOf, SameSegments, Rescued, Salvage}
-use Rattle.kept.proofs.Shapes.{chunkAnew}
-use Rattle.kept.proofs.FateLaws.{kept-all}
-use Rattle.kept.proofs.FramedLaws.{framed-shorter, framed-at, framed-bytes, framed-boxes, framed-opens}
-use Rattle.kept.proofs.HeadingLaws.{opened}
-use Rattle.kept.proofs.WholeLaws.{copy-shorter}
-use Rattle.kept.proofs.LineLaws.{text-named, ascending}
-use Rattle.kept.proofs.ReadingLaws.{Anew, none-anew, one-anew, anew-fates, segmentsBack, reads-back, only-12, served-back}
-use Rattle.kept.proofs.AcceptedLaws.{accepted-opens, accepted-framed, accepted-kept, accepted-same, accepted-silent, kept-lies}
-use Rattle.kept.proofs.MadeLaws.{salvage-made}
-use Rattle.kept.proofs.TwiceLaws.{salvage-twice, lines-twice}
+use Rattle.rescue.specs.Kept.{walkOf, framed, firstTwo, opening, fates}
+use Rattle.rescue.specs.Copy.{copied, salvage, salvaged}
+use Rattle.rescue.specs.Lines.{salvageText}
+use Rattle.rescue.specs.Demands.{Bytes, rescuedOf, SameSegments, Rescued, Salvage}
+use Rattle.rescue.proofs.Shapes.{chunkAnew}
+use Rattle.rescue.proofs.FateLaws.{kept-all}
+use Rattle.rescue.proofs.FramedLaws.{framed-shorter, framed-at, framed-bytes, framed-boxes, framed-opens}
+use Rattle.rescue.proofs.HeadingLaws.{opened}
+use Rattle.rescue.proofs.WholeLaws.{copy-shorter}
+use Rattle.rescue.proofs.LineLaws.{text-named, ascending}
+use Rattle.rescue.proofs.ReadingLaws.{Anew, none-anew, one-anew, anew-fates, segmentsBack, reads-back, only-12, served-back}
+use Rattle.rescue.proofs.AcceptedLaws.{accepted-opens, accepted-framed, accepted-kept, accepted-same, accepted-silent, kept-lies}
+use Rattle.rescue.proofs.MadeLaws.{salvage-made}
+use Rattle.rescue.proofs.TwiceLaws.{salvage-twice, lines-twice}
 
 -- ---- the segments of the copy are those that are kept
 

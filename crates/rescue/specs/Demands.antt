@@ -26,9 +26,9 @@ use Rattle.partial.specs.Sources.{ofSource}
 use Rattle.partial.specs.declared.brand.Brand.{Brand}
 use Rattle.additions.specs.Addition.{Addition}
 use Rattle.additions.specs.Runs.{fileIn, begin, appendAll}
-use Rattle.kept.specs.Kept.{Fate, dropped, whole, ofPfil, ofPseg, Fated, liesIn, walkOf, framed, firstTwo, opening, keptOf, fates}
-use Rattle.kept.specs.Copy.{salvage, salvaged}
-use Rattle.kept.specs.Lines.{salvageText}
+use Rattle.rescue.specs.Kept.{Fate, dropped, whole, ofPfil, ofPseg, Fated, liesIn, walkOf, framed, firstTwo, opening, keptOf, fates}
+use Rattle.rescue.specs.Copy.{salvage, salvaged}
+use Rattle.rescue.specs.Lines.{salvageText}
 
 -- a file is bytes
 abbrev pub Bytes : List ℕ → Type 0

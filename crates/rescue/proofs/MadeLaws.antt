@@ -50,10 +50,10 @@ use Rattle.additions.proofs.ReadsBackLaws.{Offered, Taken, admits, taken-any, t
 use Rattle.additions.proofs.RepairTimeLaws.{cut, added-cut, taken-cut}
 use Rattle.additions.proofs.BoxesStandLaws.{neither}
 use Rattle.additions.proofs.BegunLaws.{begunHeading, begun-headed, begun-taken, begin-given}
-use Rattle.kept.specs.Kept.{liesIn}
-use Rattle.kept.specs.Copy.{salvage}
-use Rattle.kept.specs.Demands.{Bytes, ZeroOffsets, Bare}
-use Rattle.kept.proofs.AcceptedLaws.{two-boxes, accepted-same}
+use Rattle.rescue.specs.Kept.{liesIn}
+use Rattle.rescue.specs.Copy.{salvage}
+use Rattle.rescue.specs.Demands.{Bytes, ZeroOffsets, Bare}
+use Rattle.rescue.proofs.AcceptedLaws.{two-boxes, accepted-same}
 
 -- ---- where no chunk is empty, the entries without data have offset 0
 

@@ -40,16 +40,16 @@ use Rattle.partial.proofs.Meaning.SequenceLaws.{which, both, Each}
 use Rattle.partial.proofs.Reading.HeadingAppendLaws.{headed}
 use Rattle.partial.proofs.Reading.KeptLaws.{found, stepped}
 use Rattle.additions.specs.Append.{Placed, flagByte, entryBytes}
-use Rattle.kept.specs.Kept.{Fate, dropped, whole, ofPfil, ofPseg, Fated, walkOf, firstTwo, opening, keptWith, keptOf, fateOf, fatesFrom, fates}
-use Rattle.kept.specs.Copy.{boxBytes, unindexed, reheaded, offsetTo, placedAnew, plocBytes, innerBytes, copyOf, newPlace, copied}
-use Rattle.kept.specs.Demands.{ZeroOffsets}
-use Rattle.kept.proofs.CopyLaws.{staying, Ready}
-use Rattle.kept.proofs.PieceLaws.{length-boxBytes}
-use Rattle.kept.proofs.PlaceLaws.{Chained, ends, AsLong, new-along}
-use Rattle.kept.proofs.FateLaws.{segmentsOf, kept-all, fate-pseg, fate-no-pfil, beside-given}
-use Rattle.kept.proofs.FramedLaws.{faultless-framed, framed-boxes}
-use Rattle.kept.proofs.HeadingLaws.{header-nearer, opened}
-use Rattle.kept.proofs.WholeLaws.{Stood, fates-all, fates-stood, fates-ready, fates-chained}
+use Rattle.rescue.specs.Kept.{Fate, dropped, whole, ofPfil, ofPseg, Fated, walkOf, firstTwo, opening, keptWith, keptOf, fateOf, fatesFrom, fates}
+use Rattle.rescue.specs.Copy.{boxBytes, unindexed, reheaded, offsetTo, placedAnew, plocBytes, innerBytes, copyOf, newPlace, copied}
+use Rattle.rescue.specs.Demands.{ZeroOffsets}
+use Rattle.rescue.proofs.CopyLaws.{staying, Ready}
+use Rattle.rescue.proofs.PieceLaws.{length-boxBytes}
+use Rattle.rescue.proofs.PlaceLaws.{Chained, ends, AsLong, new-along}
+use Rattle.rescue.proofs.FateLaws.{segmentsOf, kept-all, fate-pseg, fate-no-pfil, beside-given}
+use Rattle.rescue.proofs.FramedLaws.{faultless-framed, framed-boxes}
+use Rattle.rescue.proofs.HeadingLaws.{header-nearer, opened}
+use Rattle.rescue.proofs.WholeLaws.{Stood, fates-all, fates-stood, fates-ready, fates-chained}
 
 -- of a file nothing goes: it has no framing error, every box stays, there is no index, and empty chunks have offset 0
 pub record Clean (limit : ℕ) (f : List ℕ) (h : Heading) : Type 0 where

@@ -3,7 +3,7 @@ use Prim.Native.Nat.{ℕ}
 use mathlib.Core.List.{List, map}
 use Rattle.partial.specs.Heading.{Heading}
 use Rattle.partial.specs.Limits.{sourceLimit}
-use Rattle.kept.specs.Kept.{Fate, dropped, whole, ofPfil, ofPseg, fates}
+use Rattle.rescue.specs.Kept.{Fate, dropped, whole, ofPfil, ofPseg, fates}
 
 -- a dropped box by its number, one that stays by 255
 unfoldable pub codeOf : Fate → ℕ

@@ -17,15 +17,15 @@ use Rattle.partial.specs.Sequences.{sum}
 use Rattle.partial.specs.Segments.{Segment}
 use Rattle.partial.specs.Heading.{Heading, heading}
 use Rattle.partial.proofs.Meaning.SequenceLaws.{Each}
-use Rattle.kept.specs.Kept.{Fate, dropped, whole, ofPfil, ofPseg, Fated, opening, keptWith, fateOf, fatesFrom, fates}
-use Rattle.kept.specs.Copy.{copyOf, copySize, newPlace, copied}
-use Rattle.kept.proofs.Shapes.{boxesAnew}
-use Rattle.kept.proofs.PieceLaws.{length-boxBytes, whole-alone}
-use Rattle.kept.proofs.PlaceLaws.{Chained, sizes}
-use Rattle.kept.proofs.FateLaws.{fates-boxes, fate-pseg, fate-whole, fate-no-pfil, beside-given}
-use Rattle.kept.proofs.SegmentLaws.{length-segment, segment-shorter, segment-alone}
-use Rattle.kept.proofs.CopyLaws.{Ready, staying, pieces-long, copy-filled, copy-stands, boxes-anew-few, kinds-anew}
-use Rattle.kept.proofs.HeadingLaws.{opened, firstFated, secondFated, first-long, first-alone, second-long, second-shorter, second-alone, headingAnew, allAnew, heading-back}
+use Rattle.rescue.specs.Kept.{Fate, dropped, whole, ofPfil, ofPseg, Fated, opening, keptWith, fateOf, fatesFrom, fates}
+use Rattle.rescue.specs.Copy.{copyOf, copySize, newPlace, copied}
+use Rattle.rescue.proofs.Shapes.{boxesAnew}
+use Rattle.rescue.proofs.PieceLaws.{length-boxBytes, whole-alone}
+use Rattle.rescue.proofs.PlaceLaws.{Chained, sizes}
+use Rattle.rescue.proofs.FateLaws.{fates-boxes, fate-pseg, fate-whole, fate-no-pfil, beside-given}
+use Rattle.rescue.proofs.SegmentLaws.{length-segment, segment-shorter, segment-alone}
+use Rattle.rescue.proofs.CopyLaws.{Ready, staying, pieces-long, copy-filled, copy-stands, boxes-anew-few, kinds-anew}
+use Rattle.rescue.proofs.HeadingLaws.{opened, firstFated, secondFated, first-long, first-alone, second-long, second-shorter, second-alone, headingAnew, allAnew, heading-back}
 
 -- a box of the file, where it stands
 pub record Stood (f : List ℕ) (x : Fated) : Type 0 where

@@ -28,16 +28,16 @@ use Rattle.partial.proofs.Meaning.SequenceLaws.{which, both, Each, each-member,
 use Rattle.partial.proofs.Reading.KeptLaws.{stepped}
 use Rattle.partial.proofs.Reading.ReadingLaws.{step-told}
 use Rattle.additions.proofs.WholeLaws.{Row, filled-row, row-starts, starts, whole-row, allowed-other}
-use Rattle.kept.specs.Kept.{Fate, dropped, whole, ofPfil, ofPseg, Fated, opening, liesIn, keptWith, keptOf, fatesFrom, fates}
-use Rattle.kept.specs.Copy.{copyOf, copySize, newPlace, copied}
-use Rattle.kept.proofs.Shapes.{Alike, resized, boxesAnew}
-use Rattle.kept.proofs.PlaceLaws.{Chained, ends, sizes, chained-behind, new-in, Copied, new-nearer, AsLong, new-run, new-along}
-use Rattle.kept.proofs.PlocLaws.{Lies}
-use Rattle.kept.proofs.CopyLaws.{Ready, pieces-long, copy-filled, copy-alike, boxes-anew-split}
-use Rattle.kept.proofs.FateLaws.{segmentsOf, kept-all, fate-pseg, fate-data, fate-lain, beside-given}
-use Rattle.kept.proofs.HeadingLaws.{Opened, opened}
-use Rattle.kept.proofs.SegmentLaws.{segment-place, segment-header}
-use Rattle.kept.proofs.WholeLaws.{Stood, fates-all, fates-stood, fates-ready, fates-chained, headingBack}
+use Rattle.rescue.specs.Kept.{Fate, dropped, whole, ofPfil, ofPseg, Fated, opening, liesIn, keptWith, keptOf, fatesFrom, fates}
+use Rattle.rescue.specs.Copy.{copyOf, copySize, newPlace, copied}
+use Rattle.rescue.proofs.Shapes.{Alike, resized, boxesAnew}
+use Rattle.rescue.proofs.PlaceLaws.{Chained, ends, sizes, chained-behind, new-in, Copied, new-nearer, AsLong, new-run, new-along}
+use Rattle.rescue.proofs.PlocLaws.{Lies}
+use Rattle.rescue.proofs.CopyLaws.{Ready, pieces-long, copy-filled, copy-alike, boxes-anew-split}
+use Rattle.rescue.proofs.FateLaws.{segmentsOf, kept-all, fate-pseg, fate-data, fate-lain, beside-given}
+use Rattle.rescue.proofs.HeadingLaws.{Opened, opened}
+use Rattle.rescue.proofs.SegmentLaws.{segment-place, segment-header}
+use Rattle.rescue.proofs.WholeLaws.{Stood, fates-all, fates-stood, fates-ready, fates-chained, headingBack}
 
 -- ---- lists
 

@@ -18,11 +18,11 @@ use Rattle.partial.specs.Heading.{bytesIn}
 use Rattle.partial.specs.Sequences.{sum}
 use Rattle.partial.proofs.Meaning.SequenceLaws.{Each}
 use Rattle.additions.proofs.StandsLaws.{Stands}
-use Rattle.kept.specs.Kept.{Fate, dropped, whole, ofPfil, ofPseg, Fated}
-use Rattle.kept.specs.Copy.{boxBytes, copyOf, copySize}
-use Rattle.kept.proofs.Shapes.{Alike, resized, boxesAnew}
-use Rattle.kept.proofs.PieceLaws.{OneBox, rowOf, pieces-filled}
-use Rattle.kept.proofs.PlaceLaws.{sizes}
+use Rattle.rescue.specs.Kept.{Fate, dropped, whole, ofPfil, ofPseg, Fated}
+use Rattle.rescue.specs.Copy.{boxBytes, copyOf, copySize}
+use Rattle.rescue.proofs.Shapes.{Alike, resized, boxesAnew}
+use Rattle.rescue.proofs.PieceLaws.{OneBox, rowOf, pieces-filled}
+use Rattle.rescue.proofs.PlaceLaws.{sizes}
 
 -- whether a box stays
 abbrev pub staying : Fate → Bool

@@ -22,13 +22,13 @@ use Rattle.boxes.proofs.HeaderLaws.{header-inside}
 use Rattle.partial.specs.BoxList.{each, faultLine}
 use Rattle.partial.specs.Heading.{Heading}
 use Rattle.partial.proofs.Meaning.SequenceLaws.{Each}
-use Rattle.kept.specs.Kept.{Fate, dropped, whole, ofPfil, ofPseg, Fated, walkOf, framed, opening, fates}
-use Rattle.kept.specs.Demands.{droppedOf, faultOf, Ascending}
-use Rattle.kept.specs.Lines.{droppedLine, droppedLines, salvageText}
-use Rattle.kept.proofs.CopyLaws.{staying}
-use Rattle.kept.proofs.FateLaws.{fates-boxes}
-use Rattle.kept.proofs.FramedLaws.{framed-boxes}
-use Rattle.kept.proofs.HeadingLaws.{opened}
+use Rattle.rescue.specs.Kept.{Fate, dropped, whole, ofPfil, ofPseg, Fated, walkOf, framed, opening, fates}
+use Rattle.rescue.specs.Demands.{droppedOf, faultOf, Ascending}
+use Rattle.rescue.specs.Lines.{droppedLine, droppedLines, salvageText}
+use Rattle.rescue.proofs.CopyLaws.{staying}
+use Rattle.rescue.proofs.FateLaws.{fates-boxes}
+use Rattle.rescue.proofs.FramedLaws.{framed-boxes}
+use Rattle.rescue.proofs.HeadingLaws.{opened}
 
 -- what holds of the dropped ones, by what becomes of the first
 by-first : (P : List Fault → Type 0) (x : Fated) (xs : List Fated)

@@ -8,7 +8,7 @@ use Rattle.boxes.specs.Answer.{refused, given, _>>=_, hold}
 use Rattle.boxes.specs.Framing.{Fault}
 use Rattle.partial.specs.BoxList.{each, faultLine}
 use Rattle.partial.specs.Map.{refusedLine}
-use Rattle.kept.specs.Kept.{dropped, whole, ofPfil, ofPseg, Fated, walkOf, framed, opening, fates}
+use Rattle.rescue.specs.Kept.{dropped, whole, ofPfil, ofPseg, Fated, walkOf, framed, opening, fates}
 
 -- the line of a dropped box: its place, a tab and its number; none of one that stays
 unfoldable pub droppedLine : Fated → List ℕ

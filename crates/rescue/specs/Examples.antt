@@ -14,9 +14,9 @@ use Rattle.partial.specs.Map.{ascii}
 use Rattle.partial.specs.Segments.{Chunk, Segment, noChunk}
 use Rattle.partial.specs.Lesson.{begunBytes, firstBytes, secondBytes}
 use Rattle.partial.specs.Examples.{Example, says}
-use Rattle.kept.specs.Kept.{opening, beside}
-use Rattle.kept.specs.Copy.{salvage}
-use Rattle.kept.specs.Lines.{salvageText}
+use Rattle.rescue.specs.Kept.{opening, beside}
+use Rattle.rescue.specs.Copy.{salvage}
+use Rattle.rescue.specs.Lines.{salvageText}
 
 -- ---- the bytes of files, written out: no box has 256 bytes
 

@@ -12,8 +12,8 @@ use Rattle.partial.specs.Heading.{Heading}
 use Rattle.partial.specs.Limits.{fileLimit}
 use Rattle.partial.specs.Segments.{Segment}
 use Rattle.partial.proofs.Reading.SmallLaws.{AllSmall, all-append, segment-small}
-use Rattle.kept.specs.Kept.{beside, keptWith, keptFrom, keptOf}
-use Rattle.kept.proofs.FateLaws.{beside-given}
+use Rattle.rescue.specs.Kept.{beside, keptWith, keptFrom, keptOf}
+use Rattle.rescue.proofs.FateLaws.{beside-given}
 
 module _ (limit : ℕ) (f : List ℕ) (h : Heading) (short : length f ≤ fileLimit) (known : boxesIn File f 0 (length f) ≡ given (h .boxes)) where
   with-small : (kept : List Segment) (b : Box) → AllSmall limit kept → AllSmall limit (keptWith limit f h kept b)

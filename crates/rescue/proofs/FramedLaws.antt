@@ -23,8 +23,8 @@ use Rattle.boxes.proofs.FaultLaws.{no-fault, fault-stands}
 use Rattle.boxes.proofs.HeaderLaws.{header-inside}
 use Rattle.partial.specs.Heading.{Heading}
 use Rattle.partial.specs.Limits.{fileLimit}
-use Rattle.kept.specs.Kept.{walkOf, framed, firstTwo, opening}
-use Rattle.kept.proofs.HeadingLaws.{header-nearer, opened}
+use Rattle.rescue.specs.Kept.{walkOf, framed, firstTwo, opening}
+use Rattle.rescue.proofs.HeadingLaws.{header-nearer, opened}
 
 -- boxes that follow each other up to a place fill what lies before it
 follow-filled : (c : Container) (s : List ℕ) (end from : ℕ) (bs : List Box) (to : ℕ) → to ≤ length s → Follow c s end from bs to

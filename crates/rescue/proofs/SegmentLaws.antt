@@ -28,14 +28,14 @@ use Rattle.partial.specs.Sources.{sourceBeside, urlsFor}
 use Rattle.partial.proofs.Meaning.SequenceLaws.{which, Each}
 use Rattle.partial.proofs.Reading.KeptLaws.{Stepped, found, stepped, segment-of}
 use Rattle.additions.proofs.StandsLaws.{Stands, stands-left, stands-right}
-use Rattle.kept.specs.Kept.{ofPseg}
-use Rattle.kept.specs.Copy.{unindexed, sizeOf, innerBytes, boxBytes, plocBytes, copyOf, copySize}
-use Rattle.kept.proofs.Shapes.{Alike, resized, row, Paired, chunkAnew, innerAnew, segmentAnew}
-use Rattle.kept.proofs.PieceLaws.{OneBox, front-alone, length-boxBytes, bytes-alike, whole-alone, rowOf, pieces-stand}
-use Rattle.kept.proofs.PieceLaws.{length-reheaded, reheaded-alone, reheaded-body}
-use Rattle.kept.proofs.PlocLaws.{Lies, length-ploc, ploc-front, headAnew, head-back, chunks-anew}
-use Rattle.kept.proofs.CarriedLaws.{paired-many, paired-right, paired-first, paired-surls, paired-urls, paired-pshd, paired-fields}
-use Rattle.kept.proofs.CarriedLaws.{unindexed-those, unindexed-right, unindexed-few, unindexed-surls, unindexed-urls, unindexed-pshd, unindexed-none}
+use Rattle.rescue.specs.Kept.{ofPseg}
+use Rattle.rescue.specs.Copy.{unindexed, sizeOf, innerBytes, boxBytes, plocBytes, copyOf, copySize}
+use Rattle.rescue.proofs.Shapes.{Alike, resized, row, Paired, chunkAnew, innerAnew, segmentAnew}
+use Rattle.rescue.proofs.PieceLaws.{OneBox, front-alone, length-boxBytes, bytes-alike, whole-alone, rowOf, pieces-stand}
+use Rattle.rescue.proofs.PieceLaws.{length-reheaded, reheaded-alone, reheaded-body}
+use Rattle.rescue.proofs.PlocLaws.{Lies, length-ploc, ploc-front, headAnew, head-back, chunks-anew}
+use Rattle.rescue.proofs.CarriedLaws.{paired-many, paired-right, paired-first, paired-surls, paired-urls, paired-pshd, paired-fields}
+use Rattle.rescue.proofs.CarriedLaws.{unindexed-those, unindexed-right, unindexed-few, unindexed-surls, unindexed-urls, unindexed-pshd, unindexed-none}
 
 -- a piece of the copy for a box of f: one box with its header and its size and, unless it is a `ploc`, its bytes
 record Piece (f p : List ℕ) (b : Box) : Type 0 where

@@ -30,11 +30,11 @@ use Rattle.partial.specs.Index.{hasIndex}
 use Rattle.partial.proofs.Meaning.SequenceLaws.{both, Each}
 use Rattle.partial.proofs.Reading.HeadingAppendLaws.{Headed, headed, heading-of, brand-kept, inner-lie, pfhdRight-kept, surlRight-kept, urls-kept}
 use Rattle.additions.proofs.StandsLaws.{Stands, stands-left, stands-right}
-use Rattle.kept.specs.Kept.{whole, ofPfil, Fated, walkOf, firstTwo, opening}
-use Rattle.kept.specs.Copy.{boxBytes, copyOf, copySize, unindexed, sizeOf}
-use Rattle.kept.proofs.Shapes.{Alike, resized, row, Paired}
-use Rattle.kept.proofs.PieceLaws.{OneBox, length-boxBytes, bytes-alike, whole-alone, length-reheaded, reheaded-alone, reheaded-body, rowOf, pieces-stand}
-use Rattle.kept.proofs.CarriedLaws.{paired-pfhd, paired-surls, paired-urls, unindexed-pfhd, unindexed-surls, unindexed-urls, unindexed-few, paired-many}
+use Rattle.rescue.specs.Kept.{whole, ofPfil, Fated, walkOf, firstTwo, opening}
+use Rattle.rescue.specs.Copy.{boxBytes, copyOf, copySize, unindexed, sizeOf}
+use Rattle.rescue.proofs.Shapes.{Alike, resized, row, Paired}
+use Rattle.rescue.proofs.PieceLaws.{OneBox, length-boxBytes, bytes-alike, whole-alone, length-reheaded, reheaded-alone, reheaded-body, rowOf, pieces-stand}
+use Rattle.rescue.proofs.CarriedLaws.{paired-pfhd, paired-surls, paired-urls, unindexed-pfhd, unindexed-surls, unindexed-urls, unindexed-few, paired-many}
 
 -- ---- the boxes that a walk met
 

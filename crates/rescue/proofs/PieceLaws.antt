@@ -22,8 +22,8 @@ use Rattle.partial.specs.Heading.{bytesIn}
 use Rattle.partial.specs.BoxList.{each}
 use Rattle.partial.proofs.Meaning.SequenceLaws.{Each}
 use Rattle.additions.proofs.StandsLaws.{Stands, stands-left, stands-right}
-use Rattle.kept.specs.Copy.{boxBytes, reheaded}
-use Rattle.kept.proofs.Shapes.{Alike, resized}
+use Rattle.rescue.specs.Copy.{boxBytes, reheaded}
+use Rattle.rescue.proofs.Shapes.{Alike, resized}
 
 -- a piece is one box, with the header of another
 abbrev pub OneBox : Container → List ℕ → Box → Type 0

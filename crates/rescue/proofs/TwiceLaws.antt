@@ -28,25 +28,25 @@ use Rattle.partial.proofs.Meaning.SequenceLaws.{which, both, Each, some-append}
 use Rattle.additions.specs.Append.{Placed, flagByte, entryBytes}
 use Rattle.additions.proofs.EntriesBackLaws.{Tells, entry-long, entry-back}
 use Rattle.additions.proofs.StandsLaws.{Stands, stands-right}
-use Rattle.kept.specs.Kept.{Fate, dropped, whole, ofPfil, ofPseg, Fated, framed, opening}
-use Rattle.kept.specs.Kept.{liesIn, beside, keptWith, keptFrom, keptOf, stays, fateOf, fatesFrom, fates}
-use Rattle.kept.specs.Copy.{boxBytes, unindexed, reheaded, placedAnew, plocBytes, innerBytes, copyOf, copySize, copied, salvage}
-use Rattle.kept.specs.Demands.{ZeroOffsets}
-use Rattle.kept.specs.Lines.{salvageText}
-use Rattle.kept.proofs.Shapes.{resized, boxesAnew, chunkAnew, segmentAnew, segmentsAnew}
-use Rattle.kept.proofs.PlaceLaws.{sizes, Copied, new-nearer}
-use Rattle.kept.proofs.CopyLaws.{staying}
-use Rattle.kept.proofs.FateLaws.{segmentsOf, segments-split, fate-pseg, fate-whole, fate-no-pfil, beside-given}
-use Rattle.kept.proofs.FramedLaws.{framed-bytes, framed-opens}
-use Rattle.kept.proofs.HeadingLaws.{opened, firstFated, secondFated, pfil-unindexed}
-use Rattle.kept.proofs.WholeLaws.{fates-chained, headingBack, heading-copied}
-use Rattle.kept.proofs.PlocLaws.{Lies, offset-empty, told, bytes-are, front-long, length-ploc, headAnew, head-back}
-use Rattle.kept.proofs.SegmentLaws.{segment-place, was, located, location-box, location-stands}
-use Rattle.kept.proofs.LieLaws.{newPlaces, run-copied, chunk-carried, kept-lie}
-use Rattle.kept.proofs.ReadingLaws.{Anew, none-anew, one-anew, anew-long, anew-many, anew-count, anew-beside, anew-agreed, anew-fates, anew-split, kept-anew}
-use Rattle.kept.proofs.ReadingLaws.{segmentsBack, sizes-more, all-split, stands-new, new-there, stood-there, fate-there, kept-there, segment-there, all-read}
-use Rattle.kept.proofs.SameLaws.{Clean}
-use Rattle.kept.proofs.AcceptedLaws.{accepted-faultless, accepted-opens, clean-same, stay-silent}
+use Rattle.rescue.specs.Kept.{Fate, dropped, whole, ofPfil, ofPseg, Fated, framed, opening}
+use Rattle.rescue.specs.Kept.{liesIn, beside, keptWith, keptFrom, keptOf, stays, fateOf, fatesFrom, fates}
+use Rattle.rescue.specs.Copy.{boxBytes, unindexed, reheaded, placedAnew, plocBytes, innerBytes, copyOf, copySize, copied, salvage}
+use Rattle.rescue.specs.Demands.{ZeroOffsets}
+use Rattle.rescue.specs.Lines.{salvageText}
+use Rattle.rescue.proofs.Shapes.{resized, boxesAnew, chunkAnew, segmentAnew, segmentsAnew}
+use Rattle.rescue.proofs.PlaceLaws.{sizes, Copied, new-nearer}
+use Rattle.rescue.proofs.CopyLaws.{staying}
+use Rattle.rescue.proofs.FateLaws.{segmentsOf, segments-split, fate-pseg, fate-whole, fate-no-pfil, beside-given}
+use Rattle.rescue.proofs.FramedLaws.{framed-bytes, framed-opens}
+use Rattle.rescue.proofs.HeadingLaws.{opened, firstFated, secondFated, pfil-unindexed}
+use Rattle.rescue.proofs.WholeLaws.{fates-chained, headingBack, heading-copied}
+use Rattle.rescue.proofs.PlocLaws.{Lies, offset-empty, told, bytes-are, front-long, length-ploc, headAnew, head-back}
+use Rattle.rescue.proofs.SegmentLaws.{segment-place, was, located, location-box, location-stands}
+use Rattle.rescue.proofs.LieLaws.{newPlaces, run-copied, chunk-carried, kept-lie}
+use Rattle.rescue.proofs.ReadingLaws.{Anew, none-anew, one-anew, anew-long, anew-many, anew-count, anew-beside, anew-agreed, anew-fates, anew-split, kept-anew}
+use Rattle.rescue.proofs.ReadingLaws.{segmentsBack, sizes-more, all-split, stands-new, new-there, stood-there, fate-there, kept-there, segment-there, all-read}
+use Rattle.rescue.proofs.SameLaws.{Clean}
+use Rattle.rescue.proofs.AcceptedLaws.{accepted-faultless, accepted-opens, clean-same, stay-silent}
 
 -- ---- bytes
 

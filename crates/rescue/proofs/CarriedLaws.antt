@@ -25,8 +25,8 @@ use Rattle.partial.specs.Index.{hasIndex}
 use Rattle.partial.specs.Reading.{offsetWidth, pshdRight, pshdFields}
 use Rattle.partial.proofs.Meaning.SequenceLaws.{which, both}
 use Rattle.partial.proofs.Meaning.StretchLaws.{stretch-first}
-use Rattle.kept.specs.Copy.{unindexed}
-use Rattle.kept.proofs.Shapes.{Alike, Carries, Paired}
+use Rattle.rescue.specs.Copy.{unindexed}
+use Rattle.rescue.proofs.Shapes.{Alike, Carries, Paired}
 
 -- a box of a kind is of no other
 other-kind : (k l : Kind) → eqb (k .code) (l .code) ≡ false → (b : Box) → is l b ≡ true → is k b ≡ false

@@ -29,8 +29,8 @@ use Rattle.additions.specs.Addition.{isState}
 use Rattle.additions.specs.Append.{Placed, entryBytes, newChunks}
 use Rattle.additions.proofs.StandsLaws.{Stands, stands-right}
 use Rattle.additions.proofs.EntriesBackLaws.{Tells, chunks-back}
-use Rattle.kept.specs.Copy.{offsetTo, placedAnew, plocBytes}
-use Rattle.kept.proofs.Shapes.{Alike, resized, chunkAnew, Nearer}
+use Rattle.rescue.specs.Copy.{offsetTo, placedAnew, plocBytes}
+use Rattle.rescue.proofs.Shapes.{Alike, resized, chunkAnew, Nearer}
 
 -- where the data of a chunk is in the copy: no further from its `pseg`, and where it may lie
 abbrev pub Lies : (ℕ → ℕ) → ℕ → Heading → Chunk → Type 0

@@ -37,20 +37,20 @@ use Rattle.partial.proofs.Reading.HeadingAppendLaws.{Headed, headed, heading-of
 use Rattle.partial.proofs.Reading.KeptLaws.{segmented}
 use Rattle.partial.proofs.Reading.LimitLaws.{segments-limited}
 use Rattle.partial.proofs.Reading.RefusalLaws.{earlier-read}
-use Rattle.kept.specs.Kept.{whole, ofPseg, liesIn, walkOf, framed, firstTwo, opening, beside, keptWith, keptFrom, keptOf, fateOf, fatesFrom, fates}
-use Rattle.kept.specs.Copy.{salvage}
-use Rattle.kept.specs.Lines.{salvageText}
-use Rattle.kept.specs.Demands.{OnlyData, Bare}
-use Rattle.kept.proofs.Shapes.{Paired}
-use Rattle.kept.proofs.CarriedLaws.{paired-pfhd, paired-surls, paired-urls}
-use Rattle.kept.proofs.CopyLaws.{staying}
-use Rattle.kept.proofs.FateLaws.{fate-data, fate-lain}
-use Rattle.kept.proofs.FramedLaws.{faultless-framed}
-use Rattle.kept.proofs.LineLaws.{lines-none}
-use Rattle.kept.proofs.LieLaws.{each-by, may-lie}
-use Rattle.kept.proofs.WholeLaws.{two-first}
-use Rattle.kept.proofs.SameLaws.{Clean, copy-same}
-use Rattle.kept.proofs.HeadingLaws.{cut-filled, Says, says, other-kind, ftyp-right, pfil-right}
+use Rattle.rescue.specs.Kept.{whole, ofPseg, liesIn, walkOf, framed, firstTwo, opening, beside, keptWith, keptFrom, keptOf, fateOf, fatesFrom, fates}
+use Rattle.rescue.specs.Copy.{salvage}
+use Rattle.rescue.specs.Lines.{salvageText}
+use Rattle.rescue.specs.Demands.{OnlyData, Bare}
+use Rattle.rescue.proofs.Shapes.{Paired}
+use Rattle.rescue.proofs.CarriedLaws.{paired-pfhd, paired-surls, paired-urls}
+use Rattle.rescue.proofs.CopyLaws.{staying}
+use Rattle.rescue.proofs.FateLaws.{fate-data, fate-lain}
+use Rattle.rescue.proofs.FramedLaws.{faultless-framed}
+use Rattle.rescue.proofs.LineLaws.{lines-none}
+use Rattle.rescue.proofs.LieLaws.{each-by, may-lie}
+use Rattle.rescue.proofs.WholeLaws.{two-first}
+use Rattle.rescue.proofs.SameLaws.{Clean, copy-same}
+use Rattle.rescue.proofs.HeadingLaws.{cut-filled, Says, says, other-kind, ftyp-right, pfil-right}
 
 -- ---- an acceptable file opens
 

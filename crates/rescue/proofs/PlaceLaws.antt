@@ -8,9 +8,9 @@ use native.Mathlib.Omega.{arith}
 use borrow.Author.Tests.{le-leb, lt-leb}
 use Rattle.partial.specs.Sequences.{sum}
 use Rattle.partial.proofs.Meaning.SequenceLaws.{Each}
-use Rattle.kept.specs.Kept.{Fated}
-use Rattle.kept.specs.Copy.{copySize, newPlace}
-use Rattle.kept.proofs.Shapes.{Nearer}
+use Rattle.rescue.specs.Kept.{Fated}
+use Rattle.rescue.specs.Copy.{copySize, newPlace}
+use Rattle.rescue.proofs.Shapes.{Nearer}
 
 -- boxes one behind the other from a place on, of which none is longer in the copy
 abbrev pub Chained : ℕ → List Fated → Type 0
