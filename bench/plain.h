@@ -202,6 +202,24 @@ enum refusal plain_heading(const uint8_t *file, size_t file_length, struct parti
 /* Reads a file; ACCEPTED or its refusal, 1 to 25 and 36 to 41. */
 enum refusal plain_read(const uint8_t *file, size_t file_length, struct partial *partial);
 
+/* Makes ready to read a file; ACCEPTED, or 1. */
+enum refusal plain_open(const uint8_t *file, size_t file_length, struct partial *partial);
+
+/* Notes of a box of the file, by its number from 0, what tells where chunks may lie: where it ends, which the next does
+   as a chunk of boxes may, and the body of a `pdat`. */
+void plain_note_place(struct partial *partial, const struct box *box, uint32_t number);
+
+/* Judges the first two boxes of the file as if there were no others, a box of no type in the place of one that is not
+   there, and reads the `pfil` among them; ACCEPTED, or 2 to 11. */
+enum refusal plain_read_first_two(struct partial *partial, const struct box boxes[2]);
+
+/* Reads a segment, whose place is noted, by its number: it and its chunks, which are counted to those of the file, and
+   its end; ACCEPTED, or its refusal, 2 to 24 or 41. */
+enum refusal plain_read_segment(struct partial *partial, uint32_t number, uint64_t *end);
+
+/* Counts a segment to its source, which is a new one where none has its URLs. */
+void plain_join_source(struct partial *partial, uint32_t number, uint64_t end);
+
 /* Notes a `surl` among the boxes of its container. */
 void plain_note_surl(const uint8_t *file, struct surls *surls, const struct box *surl);
 

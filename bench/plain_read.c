@@ -19,9 +19,6 @@ static void note_box(struct partial *partial, const struct box *box, struct open
     case PFIL:
         opening->pfils++;
         break;
-    case PDAT:
-        partial->pdat[partial->pdat_count++] = (struct part){box->body, box->end - box->body};
-        break;
     case PSEG:
         if (partial->segment_count < VRAZHUPA_SEGMENTS) {
             struct segment *segment = &partial->segment[partial->segment_count];
@@ -36,11 +33,12 @@ static void note_box(struct partial *partial, const struct box *box, struct open
     }
 }
 
-/* Notes where a box of the file ends, which the next does as a chunk of boxes may. */
-static void note_end(struct partial *partial, const struct box *box, uint32_t number)
+void plain_note_place(struct partial *partial, const struct box *box, uint32_t number)
 {
     uint16_t earlier = number == 0 ? 0 : partial->barred[number - 1];
 
+    if (box->type == PDAT)
+        partial->pdat[partial->pdat_count++] = (struct part){box->body, box->end - box->body};
     partial->end[number] = box->end;
     partial->barred[number] = (uint16_t)(earlier + (may_be_outside(box->type) ? 0 : 1));
 }
@@ -60,7 +58,7 @@ static enum refusal read_file_boxes(struct partial *partial, struct opening *ope
         else if (in.boxes == 2)
             opening->second = box;
         note_box(partial, &box, opening);
-        note_end(partial, &box, in.boxes - 1);
+        plain_note_place(partial, &box, in.boxes - 1);
     }
     partial->boxes = in.boxes;
     return ACCEPTED;
@@ -343,8 +341,15 @@ static enum refusal read_ploc(struct partial *partial, uint32_t number, const st
     return read_entries(partial, number, entries, end);
 }
 
-/* Counts a segment to its source, which is a new one where none has its URLs. */
-static void join_source(struct partial *partial, uint32_t number, uint64_t end)
+enum refusal plain_read_segment(struct partial *partial, uint32_t number, uint64_t *end)
+{
+    struct box ploc = {0, 0, 0, 0};
+    enum refusal refusal = read_pseg_boxes(partial, &partial->segment[number], &ploc);
+
+    return refusal == ACCEPTED ? read_ploc(partial, number, &ploc, end) : refusal;
+}
+
+void plain_join_source(struct partial *partial, uint32_t number, uint64_t end)
 {
     struct segment *segment = &partial->segment[number];
     struct source *source;
@@ -364,14 +369,11 @@ static void join_source(struct partial *partial, uint32_t number, uint64_t end)
 static enum refusal read_segments(struct partial *partial)
 {
     for (uint32_t number = 0; number < partial->segment_count; number++) {
-        struct box ploc = {0, 0, 0, 0};
         uint64_t end = 0;
-        enum refusal refusal = read_pseg_boxes(partial, &partial->segment[number], &ploc);
-        if (refusal == ACCEPTED)
-            refusal = read_ploc(partial, number, &ploc, &end);
+        enum refusal refusal = plain_read_segment(partial, number, &end);
         if (refusal != ACCEPTED)
             return refusal;
-        join_source(partial, number, end);
+        plain_join_source(partial, number, end);
     }
     return ACCEPTED;
 }
@@ -386,11 +388,8 @@ static enum refusal check_sources(const struct partial *partial)
     return partial->source_count > VRAZHUPA_SOURCES ? TOO_MANY_SOURCES : ACCEPTED;
 }
 
-enum refusal plain_heading(const uint8_t *file, size_t file_length, struct partial *partial)
+enum refusal plain_open(const uint8_t *file, size_t file_length, struct partial *partial)
 {
-    struct opening opening = {{0, 0, 0, 0}, {0, 0, 0, 0}, 0, 0};
-    enum refusal refusal;
-
     if (file_length > VRAZHUPA_FILE)
         return FILE_OVER_LIMIT;
     partial->file = file;
@@ -400,8 +399,29 @@ enum refusal plain_heading(const uint8_t *file, size_t file_length, struct parti
     partial->index.count = partial->indexes = 0;
     partial->index_rows = 0;
     partial->nearest = 0;
+    return ACCEPTED;
+}
 
-    refusal = read_file_boxes(partial, &opening);
+enum refusal plain_read_first_two(struct partial *partial, const struct box boxes[2])
+{
+    struct opening opening = {boxes[0], boxes[1], 0, 0};
+    enum refusal refusal;
+
+    for (int i = 0; i < 2; i++) {
+        opening.ftyps += boxes[i].type == FTYP;
+        opening.pfils += boxes[i].type == PFIL;
+    }
+    refusal = check_opening(partial, &opening);
+    return refusal == ACCEPTED ? read_pfil(partial, &opening.second) : refusal;
+}
+
+enum refusal plain_heading(const uint8_t *file, size_t file_length, struct partial *partial)
+{
+    struct opening opening = {{0, 0, 0, 0}, {0, 0, 0, 0}, 0, 0};
+    enum refusal refusal = plain_open(file, file_length, partial);
+
+    if (refusal == ACCEPTED)
+        refusal = read_file_boxes(partial, &opening);
     if (refusal == ACCEPTED)
         refusal = check_opening(partial, &opening);
     if (refusal == ACCEPTED)

@@ -8,8 +8,9 @@ from collections import Counter, namedtuple
 import generate
 import model
 
-# `refusal` is the number that the model refuses with, 0 where it does not.
-Case = namedtuple("Case", "name term numbers refusal source")
+# `refusal` is the number that the model refuses with, 0 where it does not; `dropped` are those of the boxes that salvage
+# drops.
+Case = namedtuple("Case", "name term numbers refusal source dropped", defaults=[()])
 
 # Positions and lists are computed one position after the other, so only sources up to this length are listed whole.
 LISTED = 120
@@ -391,3 +392,8 @@ def choose(rng, files, additions, beginnings):
 def refusals(cases):
     """How many cases the model refuses, by number."""
     return Counter(case.refusal for case in cases if case.refusal)
+
+
+def files_of(cases):
+    """The files that cases were made from, each once."""
+    return list(dict.fromkeys(bytes.fromhex(case.source[5:]) for case in cases if case.source.startswith("file ")))

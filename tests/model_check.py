@@ -5,7 +5,9 @@ import random
 
 import model
 import model_check_index
+import model_check_salvage
 import model_check_sources
+import salvage_properties
 from boxes import box, entry, ftyp, full, head, lost_segment, open_segment, pfhd, ploc, pshd, surl
 from expecting import close, expect
 from model import PAFF, PMFF
@@ -769,5 +771,7 @@ if __name__ == "__main__":
     check_ranges_of_names()
     model_check_index.check()
     model_check_sources.check(random.Random(2))
+    model_check_salvage.check()
+    salvage_properties.check(random.Random(3), 250)
     check_random_runs(random.Random(1), 300)
     raise SystemExit(close())

@@ -2,9 +2,11 @@
 file cost one reading."""
 
 import model
+import model_salvage
 
 # Functions of the model that are pure, with a file or a reading as their first argument.
 REMEMBERED = ["accept", "read_earlier", "edges", "supplier", "run_length", "ranges", "named_ranges", "accept_index"]
+REMEMBERED_OF_SALVAGE = ["salvaged", "dropped_and_faults"]
 
 
 def remembered(step):
@@ -28,3 +30,5 @@ def remembered(step):
 def remember():
     for name in REMEMBERED:
         setattr(model, name, remembered(getattr(model, name)))
+    for name in REMEMBERED_OF_SALVAGE:
+        setattr(model_salvage, name, remembered(getattr(model_salvage, name)))

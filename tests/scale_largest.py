@@ -5,6 +5,7 @@ import additions
 import model
 from boxes import head
 from scale_reading import file_cases
+from scale_salvaging import salvage_cases
 from scale_writing import append_case, begin_case
 from writes_run import Append, Begin
 
@@ -18,6 +19,11 @@ def data_to_end_at(end):
     each."""
     without = len(head()) + additions.added_length(0, [MOST, 2], b"") + 4
     return bytes(end - without)
+
+
+def salvage_cases_of_largest(stream, rng):
+    for length in (MOST, MOST + 1):
+        salvage_cases(stream, rng, bytes(length))
 
 
 def largest_cases(stream, rng):

@@ -17,7 +17,8 @@
 #include <unistd.h>
 
 /* An implementation from before request 1 lacks the first of these calls, one from before request 6 the second too, one
-   from before request 7 the two behind, and one from before request 8 the others; so may its header. */
+   from before request 7 the two behind, one from before request 8 the three that follow, and one from before request 9
+   the others; so may its header. */
 extern __typeof__(vrazhupa_map) vrazhupa_missmap;
 extern uint64_t vrazhupa_heading(const uint8_t *file, size_t file_length, uint64_t told[7]);
 extern uint64_t vrazhupa_index(const uint8_t *file, size_t file_length, uint64_t *table, size_t table_length, uint64_t told[1]);
@@ -25,6 +26,8 @@ extern uint64_t vrazhupa_source_url(const uint8_t *file, size_t file_length, uin
 extern uint64_t vrazhupa_source_mime(const uint8_t *file, size_t file_length, uint64_t source, uint64_t told[2]);
 extern uint64_t vrazhupa_texts(const uint8_t *file, size_t file_length, uint64_t segment, uint8_t *texts, size_t texts_length, uint64_t *lengths,
                                size_t lengths_length, uint64_t told[2]);
+extern uint64_t vrazhupa_salvage(const uint8_t *file, size_t file_length, uint8_t *buffer, size_t buffer_length, uint64_t told[1]);
+extern __typeof__(vrazhupa_map) vrazhupa_salvage_lines;
 #pragma weak vrazhupa_boxes
 #pragma weak vrazhupa_missmap
 #pragma weak vrazhupa_heading
@@ -32,6 +35,8 @@ extern uint64_t vrazhupa_texts(const uint8_t *file, size_t file_length, uint64_t
 #pragma weak vrazhupa_source_url
 #pragma weak vrazhupa_source_mime
 #pragma weak vrazhupa_texts
+#pragma weak vrazhupa_salvage
+#pragma weak vrazhupa_salvage_lines
 
 /* An argument that came with request 2, and those that came with request 8. */
 #ifdef BEFORE_MIXED
@@ -64,6 +69,8 @@ enum {
     SOURCE_URL,
     SOURCE_MIME,
     TEXTS,
+    SALVAGE,
+    SALVAGE_LINES,
     KINDS,
     ZEROS = 254,
     END = 255
@@ -100,6 +107,8 @@ static const struct shape shapes[KINDS] = {
     [SOURCE_URL] = {"source_url", {1, 1}, 2, {{"file", 1}}},
     [SOURCE_MIME] = {"source_mime", {1, 1}, 2, {{"file", 1}}},
     [TEXTS] = {"texts", {1, 3}, 2, {{"file", 1}, {"texts", 1}, {"lengths", 8}}},
+    [SALVAGE] = {"salvage", {0, 2}, 1, {{"file", 1}, {"buffer", 1}}},
+    [SALVAGE_LINES] = {"salvage_lines", {1, 2}, 1, {{"file", 1}, {"buffer", 1}}},
 };
 
 static struct lent lent[MEMORIES];
@@ -170,6 +179,10 @@ static uint64_t make(const uint64_t *numbers)
         return call_for_text(vrazhupa_boxes, numbers[0]);
     case MISSMAP:
         return call_for_text(vrazhupa_missmap, numbers[0]);
+    case SALVAGE:
+        return vrazhupa_salvage(lent[0].at, lent[0].length, lent[1].at, lent[1].length, numbers_of(&told));
+    case SALVAGE_LINES:
+        return call_for_text(vrazhupa_salvage_lines, numbers[0]);
     case HEADING:
         return vrazhupa_heading(lent[0].at, lent[0].length, numbers_of(&told));
     case INDEX:
@@ -241,7 +254,8 @@ static bool is_there(unsigned call)
     return call > BLOCK && call < KINDS && (call != BOXES || vrazhupa_boxes != NULL) && (call != MISSMAP || vrazhupa_missmap != NULL) &&
            (call != HEADING || vrazhupa_heading != NULL) && (call != INDEX || vrazhupa_index != NULL) &&
            (call != SOURCE_URL || vrazhupa_source_url != NULL) && (call != SOURCE_MIME || vrazhupa_source_mime != NULL) &&
-           (call != TEXTS || vrazhupa_texts != NULL);
+           (call != TEXTS || vrazhupa_texts != NULL) && (call != SALVAGE || vrazhupa_salvage != NULL) &&
+           (call != SALVAGE_LINES || vrazhupa_salvage_lines != NULL);
 }
 
 static int say_calls(void)

@@ -70,11 +70,11 @@ module _ (g : List ℕ) (l : Ploc) (p : Placed) (ps : List Placed) where
   abbrev entryRead : ℕ → Entry
   entryRead at = record { state = p .state; size = p .size; offset = p .offset; next = at + 1 + l .lengthSize + wide }
 
-  entry-long : length (entryBytes (l .lengthSize) (l .offsetSize) (p ∷ ps)) ≡ 1 + l .lengthSize + wide + length (entryBytes (l .lengthSize) (l .offsetSize) ps)
+  pub entry-long : length (entryBytes (l .lengthSize) (l .offsetSize) (p ∷ ps)) ≡ 1 + l .lengthSize + wide + length (entryBytes (l .lengthSize) (l .offsetSize) ps)
   unfolding entryBytes
   entry-long = simp (length-append, length-bytesOf, offset-long (l .offsetSize) (p .offset) (present (p .state))) (omega arith)
 
-  entry-back : (h : Heading) (pseg at : ℕ) → Stands g at (entryBytes (l .lengthSize) (l .offsetSize) (p ∷ ps))
+  pub entry-back : (h : Heading) (pseg at : ℕ) → Stands g at (entryBytes (l .lengthSize) (l .offsetSize) (p ∷ ps))
       → at + length (entryBytes (l .lengthSize) (l .offsetSize) (p ∷ ps)) ≤ l .end
       → Tells h pseg p
       → holds (l .lengthSize) (p .size) ≡ true

@@ -88,7 +88,7 @@ pub record Inside (at end : ℕ) (b : Box) : Type 0 where
   pub ends : b .end ≤ end
 
 module _ (s : List ℕ) (at end : ℕ) {b : Box} where
-  sized-given : (width size : ℕ) → sized s at end width size ≡ given b
+  pub sized-given : (width size : ℕ) → sized s at end width size ≡ given b
       → let kind : ℕ = number s (at + 4) 4 in
       (width + userSize kind ≤ size) × (at + size ≤ end) × (record { kind = kind; at = at; user = at + width; body = at + (width + userSize kind); end = at + size } ≡ b)
   unfolding sized
@@ -108,7 +108,7 @@ module _ (s : List ℕ) (at end : ℕ) {b : Box} where
 
 module _ (c : Container) (s : List ℕ) (at end : ℕ) {b : Box} where
   -- a box was read in one of the two forms
-  by-form : {P : Type 0} → header c s at end ≡ given b
+  pub by-form : {P : Type 0} → header c s at end ≡ given b
       → (at + 8 ≤ end → number s at 4 ≡ 1 → large s at end ≡ given b → P)
       → (at + 8 ≤ end → (number s at 4 ≡ 0 → ⊥) → (number s at 4 ≡ 1 → ⊥) → sized s at end 8 (number s at 4) ≡ given b → P)
       → P

@@ -1,5 +1,5 @@
--- Laws of the line of a box, and of that of a framing error: where the parts of a box that was read lie, when it has a
--- user type, and the fields of both one behind the other.
+-- Laws of the line of a box: where the parts of a box that was read lie, when it has a user type, and its fields one
+-- behind the other.
 use Prim.Native.Nat.{ℕ, _+_, _-_, _^_, _≤_, _<_}
 use mathlib.Core.Bool.{Bool, true, false}
 use mathlib.Core.List.{List, [], _∷_, _++_}
@@ -15,7 +15,7 @@ use Rattle.boxes.specs.declared.kinds.Container.the-variants.{File}
 use Rattle.boxes.proofs.HeaderLaws.{user-vendor, user-none, user-most, header-inside}
 use Rattle.filling.specs.Rows.{Puts}
 use Rattle.filling.proofs.PutsLaws.{puts-more}
-use Rattle.partial.specs.BoxList.{hex, shown, each, typeBytes, userBytes, boxLine, faultLine}
+use Rattle.partial.specs.BoxList.{hex, shown, each, typeBytes, userBytes, boxLine}
 use Rattle.partial.specs.Map.{decimal, line}
 use Rattle.partial.specs.Heading.{bytesIn}
 use Rattle.texts.specs.Pieces.{PutsPiece}
@@ -115,8 +115,3 @@ module _ (f : List ℕ) (b : Framed) where
       (puts-more (piece-puts (omega arith) b)
       (puts-more (piece-puts (omega arith) tab′) (puts-more c (puts-more d (piece-puts (omega arith) end)))))) in
       (puts, next-low)
-
--- the two fields of a framing error
-pub fault-fields : (place n : ℕ) → decimal place ++ ((9 ∷ []) ++ (decimal n ++ (10 ∷ []))) ≡ faultLine (record { at = place; number = n })
-unfolding faultLine line
-fault-fields place n = refl

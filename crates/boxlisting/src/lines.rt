@@ -5,6 +5,7 @@ use boxes::kinds::Container;
 use boxes::walk::Step;
 use boxes::walk::Walk;
 use numerals::place::Place;
+use texts::lines::put_fault;
 use texts::puts::put_decimal;
 use texts::puts::put_text;
 ghost use Prim.Native.Nat.{_+_, _<_, _≤_, _^_};
@@ -14,7 +15,7 @@ ghost use Rattle.boxes.specs.Answer.{given};
 ghost use Rattle.boxes.specs.Framing.{header, walkedIn, boxOf};
 ghost use Rattle.boxes.specs.declared.kinds.Container.the-variants.{File};
 ghost use Rattle.filling.specs.Rows.{Puts};
-ghost use Rattle.partial.specs.BoxList.{boxLine, faultLine, walkLines};
+ghost use Rattle.partial.specs.BoxList.{boxLine, walkLines};
 ghost use Rattle.boxlisting.specs.Fields.{userField};
 
 // Puts a tab and the user type of a box that has one.
@@ -57,17 +58,6 @@ fn put_box(buffer: &mut [u8], at: u64, file: &[u8], b: Framed) -> u64
     put_text(buffer, last, b"\n")
 }
 
-// Place and number of a framing error.
-fn put_fault(buffer: &mut [u8], at: u64, place: Place, n: u64) -> u64
-    requires { ⌜ at < 2 ^ 57 ⌝ }
-    ensures { λ r. ⌜ Puts (now (buffer .entry)) at (faultLine (record { at = place .0; number = n })) (now (buffer .exit)) r ⌝ }
-{
-    let first = put_decimal(buffer, at, place.0);
-    let number = put_text(buffer, first, b"\t");
-    let second = put_decimal(buffer, number, n);
-    put_text(buffer, second, b"\n")
-}
-
 // Puts a line for each box of a file up to its end or its first framing error, and then that of the error.
 pub(crate) fn put_boxes(buffer: &mut [u8], file: &[u8]) -> u64
     ensures { λ r. ⌜ Puts (now (buffer .entry)) 0 (walkLines (now (file .entry)) (walkedIn File (now (file .entry)) 0 (length (now (file .entry))))) (now (buffer .exit)) r ⌝ }
@@ -82,7 +72,7 @@ pub(crate) fn put_boxes(buffer: &mut [u8], file: &[u8]) -> u64
                 next = put_box(buffer, next, file, b);
             }
             Step::End => return next,
-            Step::Refused(n) => return put_fault(buffer, next, place, n),
+            Step::Refused(n) => return put_fault(buffer, next, place.0, n),
         }
     }
 }

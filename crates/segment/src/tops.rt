@@ -44,7 +44,7 @@ pub fn tops_of(s: &[u8], tops: &mut [u32; TOPS])
 }
 
 // A place of the table as a number of a file's places.
-fn wide(top: u32) -> u64
+pub fn wide(top: u32) -> u64
     ensures { λ r. ⌜ r ≡ top ⌝ }
 {
     top as u64
@@ -59,7 +59,7 @@ pub(crate) fn top_at(tops: &[u32; TOPS], number: usize) -> u64
 }
 
 // The number of the last box that starts before a place, by halves; 0 if none does.
-pub(crate) fn top_before(tops: &[u32; TOPS], place: Place) -> usize
+pub fn top_before(tops: &[u32; TOPS], place: Place) -> usize
     ensures { λ r. ⌜ Before (now (tops .entry)) (place .0) r ⌝ }
 {
     let mut low = 0;

@@ -3,6 +3,7 @@
 use mathlib.Core.Path.{sym, _∙_}
 use denote.Ref.{now}
 use Rattle.numerals.proofs.Determined.{OneResult, OneLeft}
+use Rattle.texts.proofs.lines.put_fault.Reads as put-fault
 use Rattle.texts.proofs.lines.put_refused.Reads as put-refused
 use Rattle.texts.proofs.puts.put_decimal.Reads as put-decimal
 use Rattle.texts.proofs.puts.put_text.Reads as put-text
@@ -24,3 +25,9 @@ put-refused-result κs args x y after after′ p q = p .0 .end ∙ sym (q .0 .en
 
 put-refused-bytes : OneLeft put-refused.Post (λ κs after. now (after .0))
 put-refused-bytes κs args x y after after′ p q = p .0 .left ∙ sym (q .0 .left)
+
+put-fault-result : OneResult put-fault.Post
+put-fault-result κs args x y after after′ p q = p .0 .end ∙ sym (q .0 .end)
+
+put-fault-bytes : OneLeft put-fault.Post (λ κs after. now (after .0))
+put-fault-bytes κs args x y after after′ p q = p .0 .left ∙ sym (q .0 .left)

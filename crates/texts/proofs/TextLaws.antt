@@ -1,4 +1,5 @@
--- Laws of pieces of text: those that are copied, those that are put behind others, and the line of a refusal.
+-- Laws of pieces of text: those that are copied, those that are put behind others, and the lines that tell a
+-- number.
 use Prim.Native.Nat.{ℕ, _+_, _-_, _^_, _≤_, _<_}
 use mathlib.Core.List.{List, [], _∷_, _++_, append-nil}
 use mathlib.Core.Path.{_≡_, refl, sym, ap, subst, _∙_}
@@ -9,6 +10,7 @@ use Rattle.numerals.specs.Stored.{stored}
 use Rattle.numerals.proofs.StoredLaws.{stored-room, take-stored}
 use Rattle.filling.specs.Rows.{Puts}
 use Rattle.filling.proofs.PutsLaws.{puts-stored}
+use Rattle.partial.specs.BoxList.{faultLine}
 use Rattle.partial.specs.Map.{ascii, decimal, line, refusedLine}
 use Rattle.texts.specs.Pieces.{PutsPiece}
 
@@ -42,3 +44,8 @@ put-front {s} {t} {bytes} {next} p room =
 pub refused-words : (n : ℕ) → (114 ∷ 101 ∷ 102 ∷ 117 ∷ 115 ∷ 101 ∷ 100 ∷ 9 ∷ []) ++ (decimal n ++ (10 ∷ [])) ≡ refusedLine n
 unfolding refusedLine line ascii
 refused-words n = refl
+
+-- that of a framing error
+pub fault-words : (place n : ℕ) → decimal place ++ ((9 ∷ []) ++ (decimal n ++ (10 ∷ []))) ≡ faultLine (record { at = place; number = n })
+unfolding faultLine line
+fault-words place n = refl

@@ -3,6 +3,7 @@ use mathlib.Core.Path.{_≡_, refl, _∙_}
 use native.Mathlib.Omega.{arith}
 use lib.ListN.{length}
 use Rattle.boxes.proofs.WalkLaws.{next-box, no-more, a-fault, fewer}
+use Rattle.texts.proofs.TextLaws.{piece-puts}
 use Rattle.boxlisting.proofs.ListLaws.{Midway, midway-none, midway-more, midway-end, midway-fault, framed-read}
 use borrow.Author.Needs.{needs}
 use Rattle.boxlisting.proofs.lines.put_boxes.Statement.{statement}
@@ -55,15 +56,17 @@ enum-known-n : tie.Need-enum-known-n Inv-loop μ-loop
 enum-known-n c = search needs
 
 put-fault-requires : tie.Need-put-fault-requires Inv-loop μ-loop
-put-fault-requires c κs = omega (arith, c .before .before .before .before .before .before .loop .inv .1 .low)
+put-fault-requires c κs = search needs
 
 same-length-2 : tie.Need-same-length-2 Inv-loop μ-loop
-same-length-2 c = c .before .before .put-fault .ensures .put .long ∙ c .before .before .before .before .before .before .before .before .before .loop .inv .0
+same-length-2 c = search needs
 
 returns-2 : tie.Need-returns-2 Inv-loop μ-loop
 returns-2 c =
     let m = c .before .before .before .before .before .before .before .before .before .loop .inv .1 in
-    midway-fault m (a-fault (c .before .before .before .before .before .before .before .step .ensures) (c .before .before .before .before .before .n .given .1)) (c .before .before .put-fault .ensures)
+    let fault = a-fault (c .before .before .before .before .before .before .before .step .ensures) (c .before .before .before .before .before .n .given .1) in
+    let (piece, few) = c .before .before .put-fault .ensures in
+    midway-fault m fault (piece-puts (omega (arith, m .low)) piece)
 
 pub put-boxes-spec : {M : Type 1} → statement M
 put-boxes-spec =

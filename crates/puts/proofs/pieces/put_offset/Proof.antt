@@ -1,9 +1,9 @@
--- `puts::pieces::put_back` meets its contract: what the width says is how far an offset goes.
+-- `puts::pieces::put_offset` meets its contract: what the width says is how far an offset goes.
 use mathlib.Core.Path.{_∙_}
 use borrow.Author.Needs.{needs}
 use Rattle.numerals.proofs.NumberLaws.{length-bytesOf}
-use Rattle.puts.proofs.pieces.put_back.Statement.{statement}
-use Rattle.puts.proofs.pieces.put_back.Tie as tie
+use Rattle.puts.proofs.pieces.put_offset.Statement.{statement}
+use Rattle.puts.proofs.pieces.put_offset.Tie as tie
 
 put-offset-requires : tie.Need-put-offset-requires
 put-offset-requires c κs = search needs
@@ -22,6 +22,6 @@ returns c =
     let number = c .before .before .before .before .put-offset .ensures in
     record { left = number .left; end = c .sum-of .ensures ∙ rw (c .before .within .ensures, length-bytesOf) }
 
-pub put-back-spec : {M : Type 1} → statement M
-put-back-spec =
+pub put-offset-spec : {M : Type 1} → statement M
+put-offset-spec =
     tie.close (tie.spec put-offset-requires within-requires sum-of-requires same-length returns)

@@ -1,0 +1,6 @@
+-- Laws of the code of salvage.
+pub mod CountingLaws
+pub mod LinesLaws
+pub mod OpensLaws
+pub mod SoundLaws
+pub mod TableLaws
