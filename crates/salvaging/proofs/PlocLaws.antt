@@ -154,9 +154,9 @@ module _ (f : List ℕ) (h : Heading) (pseg : ℕ) (l : Location) (new : ℕ →
   put cs = entryBytes (l .«length_size») (l .«offset_size») (anew cs)
 
   -- the next one of some that were read
-  record Next (more at start : ℕ) (cs : List Chunk) : Type 0 where
+  pub record Next (more at start : ℕ) (cs : List Chunk) : Type 0 where
     x : Entry
-    place : ℕ
+    pub place : ℕ
     rest : List Chunk
     read : entry f (plocOf l) at ≡ given x
     there : placeOf h pseg x ≡ given place
@@ -199,7 +199,7 @@ module _ (f : List ℕ) (h : Heading) (pseg : ℕ) (l : Location) (new : ℕ →
 
     module _ {buffer : List ℕ} {to at-entry i : ℕ} (m : Midway cs buffer₀ at buffer to at-entry i) where
       module _ (less : i < l .count) where
-        met : Next (l .count - (i + 1)) at-entry (m .start) (m .left)
+        pub met : Next (l .count - (i + 1)) at-entry (m .start) (m .left)
         met =
             let one : l .count - i ≡ suc (l .count - (i + 1)) = omega arith in
             next (l .count - (i + 1)) at-entry (m .start) (m .left) (ap (λ (n : ℕ). from n at-entry (m .start)) (sym one) ∙ m .read)
@@ -212,10 +212,7 @@ module _ (f : List ℕ) (h : Heading) (pseg : ℕ) (l : Location) (new : ℕ →
             same-entry : met .x ≡ said e
             same-entry = entry-same f (plocOf l) at-entry answer (met .read) is
 
-            -- the chunk of the entry has its place
-            pub chunk : Chunk
-            chunk = chunkBy (m .start) (said e) (met .place)
-
+            -- its chunk has a place
             pub midway-place : placeOf h pseg (said e) ≡ given (met .place)
             midway-place = ap (placeOf h pseg) (sym same-entry) ∙ met .there
 
@@ -235,7 +232,10 @@ module _ (f : List ℕ) (h : Heading) (pseg : ℕ) (l : Location) (new : ℕ →
 
               bytes-here : put (m .left) ≡ entryOf (l .«length_size») (l .«offset_size») (e .size) (e .state) z ++ put (met .rest)
               unfolding placedAnew
-              bytes-here = ap put lefts ∙ entry-more (l .«length_size») (l .«offset_size») one (anew (met .rest)) ∙ rw far
+              bytes-here =
+                  ap put lefts
+                  ∙ entry-more (l .«length_size») (l .«offset_size») one (anew (met .rest))
+                  ∙ ap (λ (k : Offset). entryOf (l .«length_size») (l .«offset_size») (e .size) (e .state) k ++ put (met .rest)) (sym far)
 
               pub midway-more : {buffer′ : List ℕ} {to′ : ℕ} → PutsPieces buffer to (entryOf (l .«length_size») (l .«offset_size») (e .size) (e .state) z) buffer′ to′
                   → Midway cs buffer₀ at buffer′ to′ (e .next .0) (i + 1)

@@ -93,9 +93,9 @@ fn put_entries(
 ) -> Place
     ensures { λ r. ⌜ ((h : Heading) (s : Segment) → Moving (now (file .entry)) h (now (tops .entry)) (now (places .entry))
         → PlocRead (now (file .entry)) h l (pseg .0) s → anew .0 ≡ newIn (now (file .entry)) h (pseg .0)
-        → Entries (l .length_size) (l .offset_size) (map (placedAnew (newIn (now (file .entry)) h) (pseg .0)) (s .chunks))
+        → Entries (l .«length_size») (l .«offset_size») (map (placedAnew (newIn (now (file .entry)) h) (pseg .0)) (s .chunks))
         → PutsPieces (now (buffer .entry)) (at .0)
-        (entryBytes (l .length_size) (l .offset_size) (map (placedAnew (newIn (now (file .entry)) h) (pseg .0)) (s .chunks))) (now (buffer .exit)) (r .0)) ⌝ }
+        (entryBytes (l .«length_size») (l .«offset_size») (map (placedAnew (newIn (now (file .entry)) h) (pseg .0)) (s .chunks))) (now (buffer .exit)) (r .0)) ⌝ }
 {
     let widths = Widths {
         size: l.length_size,
