@@ -45,7 +45,7 @@ same-length c = search needs
 returns : tie.Need-returns Inv-loop μ-loop
 returns c h s moving read same held =
     let asked = c .before .before in
-    let m = asked .before .before .loop .inv .2 h s moving read same held in
+    let m = asked .before .before .before .loop .inv .2 h s moving read same held in
     absurd (midway-sound _ _ _ _ _ _ _ _ m (omega arith) (asked .entry-at .ensures) (c .enum-told .given .1))
 
 offset-anew-requires : tie.Need-offset-anew-requires Inv-loop μ-loop
@@ -62,10 +62,11 @@ loop-less c = search needs
 
 loop-again : tie.Need-loop-again Inv-loop μ-loop
 loop-again c =
-    let told = c .before .before in
+    let wrote = c .before .before .before in
+    let told = wrote .before .before in
     let found = told .before .before in
     let asked = found .before .before in
-    let inv = asked .before .before .loop .inv in (
+    let inv = asked .before .before .before .loop .inv in (
       omega arith,
       search needs,
       λ h s moving read same held.
@@ -74,14 +75,14 @@ loop-again c =
           let is = found .e .given .1 in
           let there = midway-place _ _ _ _ _ _ _ _ m (omega arith) answer is in
           let far = told .offset-anew .ensures _ h (m .start) _ moving same there in
-          midway-more _ _ _ _ _ _ _ _ m (omega arith) answer is far (c .put-entry .ensures (midway-held _ _ _ _ _ _ _ _ m (omega arith) answer is far)),
+          midway-more _ _ _ _ _ _ _ _ m (omega arith) answer is far (wrote .put-entry .ensures (midway-held _ _ _ _ _ _ _ _ m (omega arith) answer is far)),
     )
 
 same-length-2 : tie.Need-same-length-2 Inv-loop μ-loop
 same-length-2 c = search needs
 
 returns-2 : tie.Need-returns-2 Inv-loop μ-loop
-returns-2 c h s moving read same held = midway-end _ _ _ _ _ _ _ _ (c .before .loop .inv .2 h s moving read same held) (omega arith)
+returns-2 c h s moving read same held = midway-end _ _ _ _ _ _ _ _ (c .before .before .loop .inv .2 h s moving read same held) (omega arith)
 
 pub put-entries-spec : {M : Type 1} → statement M
 put-entries-spec =
