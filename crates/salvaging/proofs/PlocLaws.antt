@@ -1,6 +1,6 @@
 -- Laws of a `ploc` whose entries are put with the offsets of the new places.
-use Prim.Native.Nat.{ℕ, suc, _+_, _-_, _^_, _≤_, _<_, min}
-use mathlib.Core.Bool.{true, false}
+use Prim.Native.Nat.{ℕ, suc, _+_, _-_, _/_, _%_, _^_, _≤_, _<_, min}
+use mathlib.Core.Bool.{true, false, _&&_}
 use mathlib.Core.List.{List, [], _∷_, _++_, map}
 use mathlib.Core.Logic.{inl, inr, _⊎_}
 use mathlib.Core.Option.{Option, none, some}
@@ -17,24 +17,28 @@ use Rattle.numerals.specs.declared.numbers.Offset.{Offset}
 use Rattle.numerals.specs.declared.numbers.Offset.the-variants.{Ahead, Back}
 use Rattle.additions.specs.Append.{Placed, entryBytes}
 use Rattle.fields.specs.Entry.{entryOf as said, entryAnswer}
-use Rattle.fields.specs.Location.{headOf, plocOf}
+use Rattle.fields.specs.Location.{headOf, plocOf, locationAnswer}
 use Rattle.fields.specs.declared.entry.Entry.{Entry as CodeEntry}
 use Rattle.fields.specs.declared.entry.EntryRead.{EntryRead}
 use Rattle.fields.specs.declared.entry.EntryRead.the-variants.{Refused, Given}
 use Rattle.fields.specs.declared.location.Location.{Location}
+use Rattle.fields.specs.declared.location.LocationRead.{LocationRead}
+use Rattle.fields.specs.declared.location.LocationRead.the-variants.{Given as Found}
+use Rattle.fields.proofs.LocationLaws.{location-given}
 use Rattle.partial.specs.Entries.{Ploc, Entry, Cursor, plocHead, entry, mayLie, offsetPlace, placeOf, chunkStep, chunksFrom}
-use Rattle.partial.specs.Heading.{Heading}
+use Rattle.partial.specs.Heading.{Heading, bytesIn}
 use Rattle.partial.specs.Limits.{sourceLimit}
 use Rattle.partial.specs.ReadingDemands.{InData, Whole}
 use Rattle.partial.specs.Segments.{Chunk, Segment, present, hasPlace}
 use Rattle.partial.proofs.Meaning.MappedLaws.{may-be}
-use Rattle.partial.proofs.Meaning.SequenceLaws.{which, both}
+use Rattle.partial.proofs.Meaning.SequenceLaws.{which, both, Each}
 use Rattle.puts.specs.Entries.{entryOf, Entry as Held, Entries}
 use Rattle.puts.specs.Pieces.{PutsPieces}
 use Rattle.puts.proofs.EntryLaws.{entry-more, entry-held, entries-rest}
 use Rattle.puts.proofs.PieceLaws.{Partly, partly-start, partly-same, partly-end, partly-more}
-use Rattle.salvage.specs.Copy.{offsetTo, placedAnew}
+use Rattle.salvage.specs.Copy.{offsetTo, placedAnew, plocBytes}
 use Rattle.salvage.proofs.HeadingLaws.{opened}
+use Rattle.salvage.proofs.PlocLaws.{Lies, told, bytes-are}
 use Rattle.salvaging.specs.Ploc.{offsetFor, chunkBy, PlocRead}
 use Rattle.salvaging.specs.Tables.{Sound, newIn}
 use Rattle.salvaging.proofs.TableLaws.{box-stands}
@@ -254,3 +258,62 @@ module _ (f : List ℕ) (h : Heading) (pseg : ℕ) (l : Location) (new : ℕ →
           let none-left : l .count - i ≡ 0 = omega arith in
           let (ends, e) = held 17 (eqb at-entry (l .end .0)) _ (ap (λ (n : ℕ). from n at-entry (m .start)) (sym none-left) ∙ m .read) in
           partly-end _ _ _ (partly-same _ _ _ (ap put (sym (given-same e))) (m .bytes))
+
+-- ---- the whole `ploc`
+
+-- a head that was read
+module _ (f : List ℕ) (b : Box) {r : LocationRead} (answer : locationAnswer r ≡ plocHead f b) {l : Location} (is : r ≡ Found l) where
+  head : plocHead f b ≡ given (headOf l)
+  unfolding locationAnswer
+  head = sym answer ∙ ap locationAnswer is
+
+  head-known : (b .body + 9 ≤ b .end) × (l .first .0 ≡ b .body + 9) × (l .«length_size» ≤ 8) × (l .«offset_size» ≤ 8)
+  unfolding plocHead
+  head-known =
+      let (whole, e1) = held 17 (leb (b .body + 9) (b .end) && eqb (number f (b .body) 4) 0) _ head in
+      let widths = number f (b .body + 4) 1 in
+      let (narrow, e2) = held 18 (leb (widths / 16) 8 && leb (widths % 16) 8) _ e1 in
+      let (size, offset) = both (leb (widths / 16) 8) (leb (widths % 16) 8) narrow in
+      let same = given-same (held 19 (eqb (number f (b .body + 5) 2) 0) _ e2 .1) in (
+        leb-true (b .body + 9) (b .end) (both (leb (b .body + 9) (b .end)) (eqb (number f (b .body) 4) 0) whole .0),
+        sym (ap (λ (p : Ploc). p .first) same),
+        omega (arith, leb-true (widths / 16) 8 size, ap (λ (p : Ploc). p .lengthSize) same),
+        omega (arith, leb-true (widths % 16) 8 offset, ap (λ (p : Ploc). p .offsetSize) same),
+      )
+
+  -- the first entry is behind the start of the box, and in the file
+  pub first-after : b .at ≤ b .body → b .at ≤ l .first .0
+  first-after typed = omega (arith, head-known .1)
+
+  pub first-inside : b .end ≤ length f → l .first .0 ≤ length f
+  first-inside inside = omega (arith, head-known .0, head-known .1)
+
+  -- its entries were read as the chunks of a segment, which lie in the copy where they may
+  module _ (h copy : Heading) (s : Segment) {l₀ : Location} {pseg : ℕ} (new : ℕ → ℕ) (typed : b .at ≤ b .body) (inside : b .end ≤ length f)
+      (bytes : (k : ℕ) → getD f k 0 < 256) (known : plocHead f b ≡ given (plocOf l₀)) (read : PlocRead f h l₀ pseg s) where
+    pub read-again : PlocRead f h l pseg s
+    read-again =
+        record {
+          start = read .start;
+          low = read .low;
+          place = read .place;
+          chunks = subst (λ (p : Ploc). chunksFrom sourceLimit f h pseg p (p .count) (record { at = p .first; start = read .start }) ≡ given (s .chunks)) (given-same (sym known ∙ location-given f b answer is)) (read .chunks);
+        }
+
+    read-head : chunksFrom sourceLimit f h (s .place) (headOf l) (l .count) (record { at = l .first .0; start = read .start }) ≡ given (s .chunks)
+    read-head =
+        subst (λ (p : Ploc). chunksFrom sourceLimit f h (s .place) p (p .count) (record { at = p .first; start = read .start }) ≡ given (s .chunks)) (given-same (sym known ∙ head))
+        (rw (read .place) (read .chunks))
+
+    pub read-entries : Each (Lies new (s .place) copy) (s .chunks) → Entries (l .«length_size») (l .«offset_size») (map (placedAnew new pseg) (s .chunks))
+    read-entries lie =
+        let all = told sourceLimit f h s b (headOf l) typed inside bytes head (read .start) (read .low) read-head new in
+        subst (λ (place : ℕ). Entries (l .«length_size») (l .«offset_size») (map (placedAnew new place) (s .chunks))) (read .place)
+        (record { narrow = (head-known .2, head-known .3); sizes = all .sizes; offsets = all .tell copy lie .1 })
+
+    -- its bytes: those up to the first entry, and the entries
+    pub read-bytes : bytesIn f (record { place = b .at; size = l .first .0 - b .at }) ++ entryBytes (l .«length_size») (l .«offset_size») (map (placedAnew new pseg) (s .chunks)) ≡ plocBytes f new s b
+    read-bytes =
+        ap₂ (λ (n place : ℕ). bytesIn f (record { place = b .at; size = n - b .at }) ++ entryBytes (l .«length_size») (l .«offset_size») (map (placedAnew new place) (s .chunks)))
+        (head-known .1) (sym (read .place))
+        ∙ sym (bytes-are sourceLimit f h s b (headOf l) typed inside bytes head (read .start) (read .low) read-head new)
