@@ -1,4 +1,6 @@
 // The `ploc` of a segment in the copy: its head as it is, its entries with the offsets of the new places.
+use crate::places::ALL_PLACES;
+use crate::places::new_place;
 use boxes::framing::Framed;
 use fields::entry::Entry;
 use fields::entry::EntryRead;
@@ -7,8 +9,6 @@ use fields::location::Location;
 use fields::location::LocationRead;
 use fields::location::location_of;
 use fields::state::present;
-use crate::places::ALL_PLACES;
-use crate::places::new_place;
 use numerals::numbers::Offset;
 use numerals::order::between;
 use numerals::order::sum_of;
@@ -137,10 +137,6 @@ pub(crate) fn put_ploc(
         return at;
     };
     let first = l.first;
-    let entries = put_bytes(
-        buffer,
-        at,
-        &file[b.at.0 as usize..first.0 as usize],
-    );
+    let entries = put_bytes(buffer, at, &file[b.at.0 as usize..first.0 as usize]);
     put_entries(buffer, entries, file, l, pseg, anew, tops, places)
 }
