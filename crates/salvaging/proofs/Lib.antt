@@ -2,5 +2,6 @@
 pub mod CountingLaws
 pub mod LinesLaws
 pub mod OpensLaws
+pub mod PlocLaws
 pub mod SoundLaws
 pub mod TableLaws
