@@ -90,7 +90,10 @@ fn fate_of(b: Framed, mixed: bool, numbers: &[u64; ALL_NUMBERS], many: u64) -> u
     if b.kind == PDAT.code {
         return STAYS;
     }
-    if mixed && lain_in(b, numbers, many) {
+    if !mixed {
+        return NOTHING_WRONG;
+    }
+    if lain_in(b, numbers, many) {
         return STAYS;
     }
     NOTHING_WRONG
@@ -107,13 +110,14 @@ pub(crate) fn fates_of(file: &[u8], mixed: bool, list: Body, fates: &mut [u64; A
     loop {
         match walk.step(file) {
             Step::Next(b, onward) => {
-                if k < 2 {
-                    fates[k] = STAYS;
-                } else if b.kind != PSEG.code {
-                    fates[k] = fate_of(b, mixed, &numbers, gathered.chunks);
-                }
                 walk = onward;
+                let at = k;
                 k += 1;
+                if at < 2 {
+                    fates[at] = STAYS;
+                } else if b.kind != PSEG.code {
+                    fates[at] = fate_of(b, mixed, &numbers, gathered.chunks);
+                }
             }
             Step::End => return,
             Step::Refused(_) => return,
