@@ -12,7 +12,7 @@ use lib.Seq.{take-suc, length-take-le, getD-take, getD-set-same, getD-set-other}
 use Rattle.boxes.specs.Framing.{Box}
 use Rattle.boxes.specs.Kinds.{ftyp, pfil, pseg, pdat, is, boxAt}
 use Rattle.partial.specs.Heading.{Heading}
-use Rattle.partial.specs.Limits.{fileLimit, sourceLimit, chunkLimit}
+use Rattle.partial.specs.Limits.{fileLimit, sourceLimit}
 use Rattle.partial.specs.Segments.{Chunk, Segment, good, present, chunksOf}
 use Rattle.partial.specs.Sequences.{someOf}
 use Rattle.partial.proofs.Meaning.SequenceLaws.{some-append, some-by}
@@ -127,9 +127,14 @@ module _ (f : List ℕ) (h : Heading) (b : Box) where
   unfolding stays
   stays-pdat kind = rw kind
 
-  pub stays-other : is pdat b ≡ false → stays sourceLimit f h b ≡ (h .mixed && someOf (liesIn b) (chunksOf (keptOf sourceLimit f h)))
-  unfolding stays
-  stays-other kind = rw kind
+  module _ (other : is pdat b ≡ false) where
+    pub stays-plain : h .mixed ≡ false → stays sourceLimit f h b ≡ false
+    unfolding stays
+    stays-plain plain = rw (other, plain)
+
+    pub stays-lain : h .mixed ≡ true → stays sourceLimit f h b ≡ someOf (liesIn b) (chunksOf (keptOf sourceLimit f h))
+    unfolding stays
+    stays-lain mixed = rw other (ap (λ (m : Bool). m && someOf (liesIn b) (chunksOf (keptOf sourceLimit f h))) mixed)
 
 -- ---- a table of them
 
@@ -188,20 +193,20 @@ module _ (f : List ℕ) (h : Heading) where
   fating-end held last = record { long = held .long; each = λ j less. held .each j (omega arith) }
 
   -- the numbers of the kept chunks have room in their table
-  pub kept-few : {t u : List ℕ} {g : Gathered} → Keeps f h t u g → length u ≡ chunkLimit → length (chunksOf (keptOf sourceLimit f h)) ≤ chunkLimit
+  kept-few : {t u : List ℕ} {g : Gathered} → Keeps f h t u g → length (chunksOf (keptOf sourceLimit f h)) ≤ length u
   unfolding numbersOf
-  kept-few {u = u} keeps long =
+  kept-few {u = u} keeps =
       let cs = chunksOf (keptOf sourceLimit f h) in
-      omega (arith, length-take (length cs) u, ap length (keeps .numbers), length-map cs numberOf, long)
+      omega (arith, length-take (length cs) u, ap length (keeps .numbers), length-map cs numberOf)
 
   -- the fate of a box behind the first two that is no `pseg`, by what is told of it beside any segments
-  pub code-told : Sound f h → {t u : List ℕ} {g : Gathered} → Keeps f h t u g → length u ≡ chunkLimit → {k : ℕ} → 2 ≤ k → k < length (h .boxes) → {b : Box} → b ≡ boxAt k (h .boxes) → {code : ℕ}
-      → ((before : List Segment) → AllSmall sourceLimit (keptOf sourceLimit f h) → g .chunks ≤ chunkLimit → take (g .chunks) u ≡ numbersOf (keptOf sourceLimit f h)
+  pub code-told : Sound f h → {t u : List ℕ} {g : Gathered} → Keeps f h t u g → {k : ℕ} → 2 ≤ k → k < length (h .boxes) → {b : Box} → b ≡ boxAt k (h .boxes) → {code : ℕ}
+      → ((before : List Segment) → AllSmall sourceLimit (keptOf sourceLimit f h) → g .chunks ≤ length u → take (g .chunks) u ≡ numbersOf (keptOf sourceLimit f h)
       → code ≡ codeOf (fateOf sourceLimit f h before b))
       → code ≡ getD (codes f h) k 0
-  code-told sound {u = u} {g} keeps long {k} behind there here told =
+  code-told sound {u = u} {g} keeps {k} behind there here told =
       let (before, e) = code-behind k behind there in
       let many = gathered-chunks _ (keeps .gathered) in
-      told before (kept-small sourceLimit f h (opened f h (sound .opens) .small) (sound .boxes)) (omega (arith, many, kept-few keeps long)) (ap (λ (n : ℕ). take n u) many ∙ keeps .numbers)
+      told before (kept-small sourceLimit f h (opened f h (sound .opens) .small) (sound .boxes)) (omega (arith, many, kept-few keeps)) (ap (λ (n : ℕ). take n u) many ∙ keeps .numbers)
       ∙ ap (λ (b : Box). codeOf (fateOf sourceLimit f h before b)) here
       ∙ sym e

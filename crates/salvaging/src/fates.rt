@@ -16,7 +16,6 @@ use gathering::keeping::keep_pass;
 use gathering::numbers::chunk_by;
 use numerals::order::sum_of;
 use numerals::place::Place;
-use partial::limits::CHUNK_LIMIT;
 use partial::position::Position;
 use partial::refusals::FTYP_WRONG;
 use partial::refusals::PFIL_WRONG;
@@ -25,11 +24,11 @@ ghost use Prim.Native.Nat.{ℕ, _≤_};
 ghost use mathlib.Core.Bool.{false};
 ghost use mathlib.Core.List.{List};
 ghost use mathlib.Core.Path.{_≡_};
-ghost use lib.ListN.{take};
+ghost use lib.ListN.{length, take};
 ghost use Rattle.boxes.specs.Framing.{boxOf};
 ghost use Rattle.boxes.specs.Kinds.{pseg, is};
 ghost use Rattle.partial.specs.Heading.{Heading};
-ghost use Rattle.partial.specs.Limits.{sourceLimit, chunkLimit};
+ghost use Rattle.partial.specs.Limits.{sourceLimit};
 ghost use Rattle.partial.specs.Segments.{Segment};
 ghost use Rattle.partial.proofs.Reading.SmallLaws.{AllSmall};
 ghost use Rattle.partial.specs.Sequences.{someOf};
@@ -60,10 +59,10 @@ fn lies_in(b: Framed, number: u64) -> bool
 }
 
 // Whether some good chunk, of so many whose numbers these are, lies in a box.
-fn lain_in(b: Framed, numbers: &[u64; ALL_NUMBERS], many: u64) -> bool
-    ensures { λ r. ⌜ (many ≤ chunkLimit → r ≡ someOf (λ n. liesIn (boxOf b) (chunkBy 0 n)) (take many (now (numbers .entry)))) ⌝ }
+fn lain_in(b: Framed, numbers: &[u64], many: u64) -> bool
+    ensures { λ r. ⌜ (many ≤ length (now (numbers .entry)) → r ≡ someOf (λ n. liesIn (boxOf b) (chunkBy 0 n)) (take many (now (numbers .entry)))) ⌝ }
 {
-    if CHUNK_LIMIT < many {
+    if (numbers.len() as u64) < many {
         return false;
     }
     let mut i = 0;
@@ -77,9 +76,9 @@ fn lain_in(b: Framed, numbers: &[u64; ALL_NUMBERS], many: u64) -> bool
 }
 
 // What becomes of a box behind the first two that is no `pseg`.
-fn fate_of(b: Framed, mixed: bool, numbers: &[u64; ALL_NUMBERS], many: u64) -> u64
+fn fate_of(b: Framed, mixed: bool, numbers: &[u64], many: u64) -> u64
     ensures { λ r. ⌜ ((f : List ℕ) (h : Heading) (kept : List Segment) → mixed ≡ h .mixed → is pseg (boxOf b) ≡ false
-        → AllSmall sourceLimit (keptOf sourceLimit f h) → many ≤ chunkLimit → take many (now (numbers .entry)) ≡ numbersOf (keptOf sourceLimit f h) → r ≡ codeOf (fateOf sourceLimit f h kept (boxOf b))) ⌝ }
+        → AllSmall sourceLimit (keptOf sourceLimit f h) → many ≤ length (now (numbers .entry)) → take many (now (numbers .entry)) ≡ numbersOf (keptOf sourceLimit f h) → r ≡ codeOf (fateOf sourceLimit f h kept (boxOf b))) ⌝ }
 {
     if b.kind == FTYP.code {
         return FTYP_WRONG;

@@ -1,7 +1,6 @@
 -- `salvaging::fates::lies_in` meets its contract.
 use mathlib.Core.Path.{_≡_, sym, ap, _∙_}
 use native.Mathlib.Omega.{arith}
-use borrow.Author.Needs.{needs}
 use Rattle.boxes.specs.Framing.{boxOf}
 use Rattle.salvage.specs.Kept.{liesIn}
 use Rattle.salvaging.proofs.FatesLaws.{lies-not-good, lies-behind, lies-ends}
