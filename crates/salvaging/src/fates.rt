@@ -98,12 +98,17 @@ fn fate_of(b: Framed, mixed: bool, numbers: &[u64], many: u64) -> u64
     NOTHING_WRONG
 }
 
-// Tells the fate of each box of a file.
-pub(crate) fn fates_of(file: &[u8], mixed: bool, list: Body, fates: &mut [u64; ALL_FATES])
+// Tells the fate of each box of a file, by the numbers of the chunks that are kept, which go into a table.
+fn tell_fates(
+    file: &[u8],
+    mixed: bool,
+    list: Body,
+    fates: &mut [u64; ALL_FATES],
+    numbers: &mut [u64; ALL_NUMBERS],
+)
     ensures { λ _. ⌜ ((h : Heading) → Sound (now (file .entry)) h → Boxed (now (file .entry)) mixed list h → FatesHeld (now (file .entry)) h (now (fates .exit))) ⌝ }
 {
-    let mut numbers = [0; ALL_NUMBERS];
-    let gathered = keep_pass(file, mixed, list, fates, &mut numbers);
+    let gathered = keep_pass(file, mixed, list, fates, numbers);
     let mut walk = Walk::new(Container::File, Place(0), Place(file.len() as u64));
     let mut k = 0;
     loop {
@@ -115,11 +120,19 @@ pub(crate) fn fates_of(file: &[u8], mixed: bool, list: Body, fates: &mut [u64; A
                 if at < 2 {
                     fates[at] = STAYS;
                 } else if b.kind != PSEG.code {
-                    fates[at] = fate_of(b, mixed, &numbers, gathered.chunks);
+                    fates[at] = fate_of(b, mixed, numbers, gathered.chunks);
                 }
             }
             Step::End => return,
             Step::Refused(_) => return,
         }
     }
+}
+
+// Tells the fate of each box of a file.
+pub(crate) fn fates_of(file: &[u8], mixed: bool, list: Body, fates: &mut [u64; ALL_FATES])
+    ensures { λ _. ⌜ ((h : Heading) → Sound (now (file .entry)) h → Boxed (now (file .entry)) mixed list h → FatesHeld (now (file .entry)) h (now (fates .exit))) ⌝ }
+{
+    let mut numbers = [0; ALL_NUMBERS];
+    tell_fates(file, mixed, list, fates, &mut numbers);
 }
