@@ -100,14 +100,14 @@ module _ {s : List ℕ} {c : Container} {start end : Place} {w₀ w : Walk} {siz
 -- ---- how many bytes of a box are in the copy
 
 -- the fate of a box behind others is found beside some segments kept before it
-fated-from : (f : List ℕ) (h : Heading) (kept : List Segment) (bs : List Box) (k : ℕ) → k < length bs
+pub fated-from : (f : List ℕ) (h : Heading) (kept : List Segment) (bs : List Box) (k : ℕ) → k < length bs
     → (before : List Segment) × (getD (fatesFrom sourceLimit f h kept bs) k noFated .fate ≡ fateOf sourceLimit f h before (boxAt k bs))
 unfolding fatesFrom boxAt
 fated-from f h kept [] k there = absurd (omega arith)
 fated-from f h kept (b ∷ bs) zero there = (kept, refl)
 fated-from f h kept (b ∷ bs) (suc k) there = fated-from f h (keptWith sourceLimit f h kept b) bs k (omega arith)
 
-two-on : (bs : List Box) (k : ℕ) → boxAt k (drop 2 bs) ≡ boxAt (suc (suc k)) bs
+pub two-on : (bs : List Box) (k : ℕ) → boxAt k (drop 2 bs) ≡ boxAt (suc (suc k)) bs
 unfolding boxAt
 two-on bs k = getD-drop 2 bs k noBox ∙ ap (λ (n : ℕ). getD bs n noBox) (omega arith)
 
