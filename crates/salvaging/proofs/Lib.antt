@@ -1,5 +1,6 @@
 -- Laws of the code of salvage.
 pub mod CountingLaws
+pub mod InnerLaws
 pub mod LinesLaws
 pub mod OpensLaws
 pub mod PlocLaws
