@@ -1,6 +1,8 @@
 -- Laws of the code of salvage.
+pub mod CopyingLaws
 pub mod CountingLaws
 pub mod FatesLaws
+pub mod InnerLaws
 pub mod LinesLaws
 pub mod OpensLaws
 pub mod PlocLaws

@@ -1,4 +1,5 @@
 pub mod Fault
+pub mod Inner
 pub mod Opens
 pub mod Ploc
 pub mod Tables
