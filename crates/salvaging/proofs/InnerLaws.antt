@@ -7,7 +7,6 @@ use mathlib.Core.Option.{none, some}
 use mathlib.Core.Path.{_≡_, refl, sym, ap, subst, _∙_}
 use native.Mathlib.Omega.{arith}
 use borrow.Author.Tests.{eq-eqb, ne-eqb}
-use lib.ListN.{length}
 use Rattle.boxes.specs.Answer.{refused, given}
 use Rattle.boxes.specs.Framing.{Box, boxOf, front, frontSize}
 use Rattle.boxes.specs.Kinds.{fidx, ploc, is}
