@@ -25,7 +25,7 @@ use Rattle.boxes.proofs.KindLaws.{is-there, those-nil, those-one, those-other, 
 use Rattle.partial.specs.Heading.{Heading, heading, ftypRight, brandRight, branded, pfilRight}
 use Rattle.partial.specs.Limits.{fileLimit, segmentLimit, layerLimit}
 use Rattle.partial.specs.Mixed.{allowed}
-use Rattle.partial.specs.Reading.{segment, segmentsFrom, earlierSegments}
+use Rattle.partial.specs.Reading.{segment, segmentsFrom, segments}
 use Rattle.partial.specs.ReadingDemands.{InData}
 use Rattle.partial.specs.Segments.{Chunk, Segment, good, present, hasPlace, chunksOf}
 use Rattle.partial.specs.Sequences.{someOf, allOf}
@@ -36,7 +36,6 @@ use Rattle.partial.proofs.Meaning.SourceLaws.{in-agreement, agreement}
 use Rattle.partial.proofs.Reading.HeadingAppendLaws.{Headed, headed, heading-of, brand-kept}
 use Rattle.partial.proofs.Reading.KeptLaws.{segmented}
 use Rattle.partial.proofs.Reading.LimitLaws.{segments-limited}
-use Rattle.partial.proofs.Reading.RefusalLaws.{earlier-read}
 use Rattle.rescue.specs.Kept.{whole, ofPseg, liesIn, walkOf, framed, firstTwo, opening, beside, keptWith, keptFrom, keptOf, fateOf, fatesFrom, fates}
 use Rattle.rescue.specs.Copy.{salvage}
 use Rattle.rescue.specs.Lines.{salvageText}
@@ -271,7 +270,7 @@ none-of k (b ∷ bs) lacks n less =
       ] less
     ]
 
-module _ (limit : ℕ) (f : List ℕ) (h : Heading) (ss : List Segment) (head : heading f ≡ given h) (read : earlierSegments limit f ≡ given ss) where
+module _ (limit : ℕ) (f : List ℕ) (h : Heading) (ss : List Segment) (head : heading f ≡ given h) (segs : segments limit f h ≡ given ss) where
   -- the boxes behind the first two
   abbrev others : List Box
   others = drop 2 (h .boxes)
@@ -309,7 +308,6 @@ module _ (limit : ℕ) (f : List ℕ) (h : Heading) (ss : List Segment) (head : 
 
   kept-and-stay : (keptFrom limit f h [] others ≡ ss) × (Each (Held limit f h) others → Each (λ x. staying (x .fate) ≡ true) (fatesFrom limit f h [] others))
   kept-and-stay =
-      let segs = earlier-read limit f head read in
       let t = segmented limit f h segs in
       all-kept limit f h ss (segments-limited limit f h segs) (t .agree) (leb-true (sourceCount ss) layerLimit (t .layers)) [] others (rw psegs at (t .read))
 

@@ -8,6 +8,7 @@ pub mod Examples
 pub mod FateLaws
 pub mod FramedLaws
 pub mod HeadingLaws
+pub mod JudgedLaws
 pub mod LieLaws
 pub mod LineLaws
 pub mod MadeLaws
