@@ -38,11 +38,12 @@ use Rattle.rescue.proofs.Shapes.{chunkAnew}
 use Rattle.rescue.proofs.FateLaws.{kept-all}
 use Rattle.rescue.proofs.FramedLaws.{framed-shorter, framed-at, framed-bytes, framed-boxes, framed-opens}
 use Rattle.rescue.proofs.HeadingLaws.{opened}
-use Rattle.rescue.proofs.WholeLaws.{copy-shorter}
+use Rattle.rescue.proofs.WholeLaws.{copy-shorter, headingBack, heading-copied}
 use Rattle.rescue.proofs.LineLaws.{text-named, ascending}
 use Rattle.rescue.proofs.ReadingLaws.{Anew, none-anew, one-anew, anew-fates, segmentsBack, reads-back, only-12, served-back}
 use Rattle.rescue.proofs.AcceptedLaws.{accepted-opens, accepted-framed, accepted-kept, accepted-same, accepted-silent, kept-lies}
 use Rattle.rescue.proofs.JudgedLaws.{walk-fault, walk-faultless, cut-two, cut-fewer, opened-two, fates-boxed, heads-stay, judged-beside}
+use Rattle.rescue.proofs.StandingLaws.{bare-back, carried-back}
 use Rattle.rescue.proofs.MadeLaws.{salvage-made}
 use Rattle.rescue.proofs.TwiceLaws.{salvage-twice, lines-twice}
 
@@ -97,15 +98,17 @@ module _ (limit : ℕ) (f : List ℕ) (h : Heading) (bytes : Bytes f) (opens : o
   bytes-framed : Bytes (framed f)
   bytes-framed = framed-bytes f bytes
 
+  boxes-framed : boxesIn File (framed f) 0 (length (framed f)) ≡ given (h .boxes)
+  boxes-framed = framed-boxes f ∙ ap given (sym (opened f h opens .boxes))
+
   served-framed : (source p : ℕ) → served (framed f) (ofSource source kept) p ≡ served f (ofSource source kept) p
   unfolding served
   served-framed source p =
       let ss : List Segment = ofSource source kept in
       elim (which (supplied ss p)) [
         | inl e ↦
-            let boxes = framed-boxes f ∙ ap given (sym (opened f h opens .boxes)) in
             let lie = chunks-of source (lies h) kept (kept-lies limit (framed f) h opens-framed bytes-framed) in
-            rw (served, e) (ap some (framed-at f (placeOfByte ss p) (place-below (framed f) h ss boxes lie p e)))
+            rw (served, e) (ap some (framed-at f (placeOfByte ss p) (place-below (framed f) h ss boxes-framed lie p e)))
         | inr e ↦ rw (served, e)
       ]
 
@@ -128,7 +131,11 @@ module _ (limit : ℕ) (f : List ℕ) (h : Heading) (bytes : Bytes f) (opens : o
       record {
         segments = back;
         read = read-back;
+        head = headingBack limit (framed f) h opens-framed bytes-framed;
+        headed = heading-copied limit (framed f) h opens-framed bytes-framed;
+        bare = bare-back limit (framed f) h opens-framed bytes-framed;
         same = kept-same;
+        carried = carried-back limit (framed f) h opens-framed bytes-framed boxes-framed f (framed-shorter f) (framed-at f);
         served = λ source p. served-back limit (framed f) h opens-framed bytes-framed source p ∙ served-framed source p;
         shorter = omega (arith, copy-shorter limit (framed f) h opens-framed bytes-framed, framed-shorter f);
       }

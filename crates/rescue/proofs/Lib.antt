@@ -20,6 +20,7 @@ pub mod SameLaws
 pub mod SegmentLaws
 pub mod Shapes
 pub mod SmallLaws
+pub mod StandingLaws
 pub mod TableLaws
 pub mod TwiceLaws
 pub mod WholeLaws

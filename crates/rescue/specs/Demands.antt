@@ -16,7 +16,7 @@ use Rattle.boxes.specs.declared.kinds.Container.the-variants.{File}
 use Rattle.numerals.specs.declared.numbers.Offset.the-variants.{Ahead}
 use Rattle.partial.specs.BoxList.{each, faultLine}
 use Rattle.partial.specs.Entries.{Ploc, Entry, plocHead, entry}
-use Rattle.partial.specs.Heading.{Heading, heading}
+use Rattle.partial.specs.Heading.{Heading, heading, bytesIn}
 use Rattle.partial.specs.Index.{hasIndex}
 use Rattle.partial.specs.Limits.{fileLimit, segmentLimit, layerLimit}
 use Rattle.partial.specs.Map.{refusedLine}
@@ -59,18 +59,6 @@ SameSegments [] (t ∷ ts) = ⊥
 SameSegments (s ∷ ss) [] = ⊥
 SameSegments (s ∷ ss) (t ∷ ts) = SameSegment s t × SameSegments ss ts
 
--- the copy of a file
-pub record Rescued (limit : ℕ) (f : List ℕ) (h : Heading) (g : List ℕ) : Type 0 where
-  -- "Its output is acceptable or has only refusal 12": these are its segments
-  pub segments : List Segment
-  pub read : earlierSegments limit g ≡ given segments
-  -- each kept segment keeps its offset, flags, time, sizes, states and URLs
-  pub same : SameSegments (rescuedOf limit f h) segments
-  -- "Each position supplied by a kept chunk is supplied with its old bytes", per source, and no other
-  pub served : (source p : ℕ) → served g (ofSource source segments) p ≡ served f (ofSource source (rescuedOf limit f h)) p
-  -- it is no longer than the file
-  pub shorter : length g ≤ length f
-
 -- the entries of a `ploc` that have no data have offset 0
 abbrev pub ZeroOffsets : List ℕ → Ploc → ℕ → ℕ → Type 0
 ZeroOffsets f l zero at = Unit {0}
@@ -88,6 +76,28 @@ pub record Bare (f : List ℕ) (h : Heading) (ss : List Segment) : Type 0 where
   pub pfil : hasIndex (h .inner) ≡ false
   pub segments : (s : Segment) → List·Memᴰ s ss → hasIndex (s .inner) ≡ false
   pub zeros : (s : Segment) → List·Memᴰ s ss → (l : Ploc) → plocHead f (firstOf ploc (s .inner)) ≡ given l → ZeroOffsets f l (l .count) (l .first)
+
+-- the bytes of a chunk, of a damaged one too
+abbrev pub chunkBytes : List ℕ → Chunk → List ℕ
+chunkBytes f c = bytesIn f (record { place = c .place; size = elim (hasPlace (c .state) (c .size)) [ true ↦ c .size | false ↦ 0 ] })
+
+-- the copy of a file
+pub record Rescued (limit : ℕ) (f : List ℕ) (h : Heading) (g : List ℕ) : Type 0 where
+  -- "Its output is acceptable or has only refusal 12": these are its segments
+  pub segments : List Segment
+  pub read : earlierSegments limit g ≡ given segments
+  -- it has no other boxes, no index, and offset 0 for each empty chunk
+  pub head : Heading
+  pub headed : heading g ≡ given head
+  pub bare : Bare g head segments
+  -- each kept segment keeps its offset, flags, time, sizes, states and URLs
+  pub same : SameSegments (rescuedOf limit f h) segments
+  -- all its bytes that chunks have are what they were
+  pub carried : map (chunkBytes g) (chunksOf segments) ≡ map (chunkBytes f) (chunksOf (rescuedOf limit f h))
+  -- "Each position supplied by a kept chunk is supplied with its old bytes", per source, and no other
+  pub served : (source p : ℕ) → served g (ofSource source segments) p ≡ served f (ofSource source (rescuedOf limit f h)) p
+  -- it is no longer than the file
+  pub shorter : length g ≤ length f
 
 -- stages 13 to 25 and 40 of these `pseg` boxes, as if the file had no others
 abbrev pub readAlone : ℕ → List ℕ → Heading → List Box → Answer (List Segment)
