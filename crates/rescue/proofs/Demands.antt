@@ -43,7 +43,7 @@ use Rattle.rescue.proofs.LineLaws.{text-named, ascending}
 use Rattle.rescue.proofs.ReadingLaws.{Anew, none-anew, one-anew, anew-fates, segmentsBack, reads-back, only-12, served-back}
 use Rattle.rescue.proofs.AcceptedLaws.{accepted-opens, accepted-framed, accepted-kept, accepted-same, accepted-silent, kept-lies}
 use Rattle.rescue.proofs.JudgedLaws.{walk-fault, walk-faultless, cut-two, cut-fewer, opened-two, fates-boxed, heads-stay, judged-beside}
-use Rattle.rescue.proofs.StandingLaws.{bare-back, carried-back}
+use Rattle.rescue.proofs.StandingLaws.{bare-back, boxes-stand, carried-back}
 use Rattle.rescue.proofs.MadeLaws.{salvage-made}
 use Rattle.rescue.proofs.TwiceLaws.{salvage-twice, lines-twice}
 
@@ -134,6 +134,7 @@ module _ (limit : ℕ) (f : List ℕ) (h : Heading) (bytes : Bytes f) (opens : o
         head = headingBack limit (framed f) h opens-framed bytes-framed;
         headed = heading-copied limit (framed f) h opens-framed bytes-framed;
         bare = bare-back limit (framed f) h opens-framed bytes-framed;
+        boxes = boxes-stand limit (framed f) h opens-framed bytes-framed f (framed-shorter f) (framed-at f);
         same = kept-same;
         carried = carried-back limit (framed f) h opens-framed bytes-framed boxes-framed f (framed-shorter f) (framed-at f);
         served = λ source p. served-back limit (framed f) h opens-framed bytes-framed source p ∙ served-framed source p;

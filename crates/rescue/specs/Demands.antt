@@ -1,6 +1,6 @@
 -- Document 02, [9]: what salvage promises, as statements over its definitions at a source limit below 2 ^ 64; the
 -- product's is `sourceLimit`. Each field has the sentence that it states.
-use Prim.Native.Nat.{ℕ, zero, suc, _+_, _<_, _≤_}
+use Prim.Native.Nat.{ℕ, zero, suc, _+_, _-_, _<_, _≤_}
 use mathlib.Core.Bool.{Bool, true, false, not, _||_, _&&_}
 use mathlib.Core.List.{List, [], _∷_, _++_, map, List·Memᴰ}
 use mathlib.Core.Logic.{_↔_}
@@ -11,8 +11,9 @@ use lib.Dec.{T, leb}
 use Rattle.boxes.specs.Answer.{Answer, refused, given, _>>=_, hold}
 use Rattle.boxes.specs.Faults.{Follow, FirstFault}
 use Rattle.boxes.specs.Framing.{Box, Fault, boxesIn, boxLimit}
-use Rattle.boxes.specs.Kinds.{ftyp, pfil, pseg, pdat, ploc, is, boxAt, firstOf}
-use Rattle.boxes.specs.declared.kinds.Container.the-variants.{File}
+use Rattle.boxes.specs.Kinds.{ftyp, pfil, pseg, pdat, ploc, fidx, is, boxAt, firstOf}
+use Rattle.boxes.specs.declared.kinds.Container.{Container}
+use Rattle.boxes.specs.declared.kinds.Container.the-variants.{File, Pfil, Pseg}
 use Rattle.numerals.specs.declared.numbers.Offset.the-variants.{Ahead}
 use Rattle.partial.specs.BoxList.{each, faultLine}
 use Rattle.partial.specs.Entries.{Ploc, Entry, plocHead, entry}
@@ -81,6 +82,53 @@ pub record Bare (f : List ℕ) (h : Heading) (ss : List Segment) : Type 0 where
 abbrev pub chunkBytes : List ℕ → Chunk → List ℕ
 chunkBytes f c = bytesIn f (record { place = c .place; size = elim (hasPlace (c .state) (c .size)) [ true ↦ c .size | false ↦ 0 ] })
 
+-- whether a box is dropped
+abbrev pub goes : Fated → Bool
+goes x = elim (x .fate) [ dropped n ↦ true | whole ↦ false | ofPfil inner ↦ false | ofPseg s ↦ false ]
+
+-- of some boxes, in their order, those that stay and pass a test
+abbrev pub stayingOf : (Box → Bool) → List Fated → List Box
+stayingOf test [] = []
+stayingOf test (x ∷ xs) = elim (not (goes x) && test (x .box)) [ true ↦ x .box ∷ stayingOf test xs | false ↦ stayingOf test xs ]
+
+-- boxes one by one
+abbrev pub OneByOne : (Box → Box → Type 0) → List Box → List Box → Type 0
+OneByOne P [] [] = Unit {0}
+OneByOne P [] (c ∷ cs) = ⊥
+OneByOne P (b ∷ bs) [] = ⊥
+OneByOne P (b ∷ bs) (c ∷ cs) = P b c × OneByOne P bs cs
+
+-- how many bytes of a box are what they were: all, but of a `ploc` that has new offsets those before its entries
+abbrev pub sameSize : Bool → Box → ℕ
+sameSize located b = elim (located && is ploc b) [ true ↦ b .body + 9 - b .at | false ↦ b .end - b .at ]
+
+-- a box is as long as it was, and so many of its bytes are the same
+abbrev pub AsItWas : Bool → List ℕ → List ℕ → Box → Box → Type 0
+AsItWas located f g b c =
+    (c .end - c .at ≡ b .end - b .at)
+    × (bytesIn g (record { place = c .at; size = sameSize located b }) ≡ bytesIn f (record { place = b .at; size = sameSize located b }))
+
+-- the boxes of a container but each index
+abbrev pub noIndex : List Box → List Box
+noIndex [] = []
+noIndex (b ∷ bs) = elim (is fidx b) [ true ↦ noIndex bs | false ↦ b ∷ noIndex bs ]
+
+-- a container in its header form with its boxes, but each index
+pub record Emptied (k : Container) (located : Bool) (f g : List ℕ) (b c : Box) : Type 0 where
+  pub kind : c .kind ≡ b .kind
+  pub form : c .body - c .at ≡ b .body - b .at
+  pub was : List Box
+  pub now : List Box
+  pub wasFramed : boxesIn k f (b .body) (b .end) ≡ given was
+  pub nowFramed : boxesIn k g (c .body) (c .end) ≡ given now
+  pub boxes : OneByOne (AsItWas located f g) (noIndex was) now
+
+-- what stands in the copy for a box that stays
+pub record StandsFor (f g : List ℕ) (b c : Box) : Type 0 where
+  pub plain : is pfil b ≡ false → is pseg b ≡ false → AsItWas false f g b c
+  pub inPfil : T (is pfil b) → Emptied Pfil false f g b c
+  pub inPseg : T (is pseg b) → Emptied Pseg true f g b c
+
 -- the copy of a file
 pub record Rescued (limit : ℕ) (f : List ℕ) (h : Heading) (g : List ℕ) : Type 0 where
   -- "Its output is acceptable or has only refusal 12": these are its segments
@@ -90,6 +138,8 @@ pub record Rescued (limit : ℕ) (f : List ℕ) (h : Heading) (g : List ℕ) : T
   pub head : Heading
   pub headed : heading g ≡ given head
   pub bare : Bare g head segments
+  -- the boxes that stay, in their order: as they were, or without their index and with new offsets
+  pub boxes : OneByOne (StandsFor f g) (stayingOf (λ _. true) (fates limit (framed f) h)) (head .boxes)
   -- each kept segment keeps its offset, flags, time, sizes, states and URLs
   pub same : SameSegments (rescuedOf limit f h) segments
   -- all its bytes that chunks have are what they were
@@ -107,15 +157,6 @@ readAlone limit f h psegs = do
   _ ← hold 25 (agreed ss)
   _ ← hold 40 (leb (sourceCount ss) layerLimit)
   given ss
-
--- whether a box is dropped
-abbrev pub goes : Fated → Bool
-goes x = elim (x .fate) [ dropped n ↦ true | whole ↦ false | ofPfil inner ↦ false | ofPseg s ↦ false ]
-
--- of some boxes, in their order, those that stay and pass a test
-abbrev pub stayingOf : (Box → Bool) → List Fated → List Box
-stayingOf test [] = []
-stayingOf test (x ∷ xs) = elim (not (goes x) && test (x .box)) [ true ↦ x .box ∷ stayingOf test xs | false ↦ stayingOf test xs ]
 
 -- a good chunk has a byte in a box
 abbrev pub Holds : Box → Chunk → Type 0
