@@ -38,11 +38,11 @@ use Rattle.rescue.proofs.Shapes.{chunkAnew}
 use Rattle.rescue.proofs.FateLaws.{kept-all}
 use Rattle.rescue.proofs.FramedLaws.{framed-shorter, framed-at, framed-bytes, framed-boxes, framed-opens}
 use Rattle.rescue.proofs.HeadingLaws.{opened}
-use Rattle.rescue.proofs.WholeLaws.{copy-shorter, headingBack, heading-copied}
+use Rattle.rescue.proofs.WholeLaws.{fates-boxed, copy-shorter, headingBack, heading-copied}
 use Rattle.rescue.proofs.LineLaws.{text-named, ascending}
 use Rattle.rescue.proofs.ReadingLaws.{Anew, none-anew, one-anew, anew-fates, segmentsBack, reads-back, only-12, served-back}
-use Rattle.rescue.proofs.AcceptedLaws.{accepted-opens, accepted-framed, accepted-kept, accepted-same, accepted-silent, kept-lies}
-use Rattle.rescue.proofs.JudgedLaws.{walk-fault, walk-faultless, cut-two, cut-fewer, opened-two, fates-boxed, heads-stay, judged-beside}
+use Rattle.rescue.proofs.AcceptedLaws.{accepted-opens, accepted-framed, accepted-kept, accepted-same, accepted-silent}
+use Rattle.rescue.proofs.JudgedLaws.{walk-fault, walk-faultless, cut-two, cut-fewer, opened-two, kept-lying, heads-stay, judged-beside}
 use Rattle.rescue.proofs.StandingLaws.{bare-back, boxes-stand, carried-back}
 use Rattle.rescue.proofs.MadeLaws.{salvage-made}
 use Rattle.rescue.proofs.TwiceLaws.{salvage-twice, lines-twice}
@@ -107,7 +107,7 @@ module _ (limit : ℕ) (f : List ℕ) (h : Heading) (bytes : Bytes f) (opens : o
       let ss : List Segment = ofSource source kept in
       elim (which (supplied ss p)) [
         | inl e ↦
-            let lie = chunks-of source (lies h) kept (kept-lies limit (framed f) h opens-framed bytes-framed) in
+            let lie = chunks-of source (lies h) kept (kept-lying limit (framed f) h) in
             rw (served, e) (ap some (framed-at f (placeOfByte ss p) (place-below (framed f) h ss boxes-framed lie p e)))
         | inr e ↦ rw (served, e)
       ]

@@ -9,7 +9,7 @@ use mathlib.Core.Path.{_≡_, refl, sym, ap, subst, _∙_}
 use native.Mathlib.Decide.{decLe}
 use native.Mathlib.Omega.{arith}
 use borrow.Author.Tests.{le-leb, lt-leb, leb-true, eqb-true, lt-ltb}
-use lib.Dec.{T, leb, eqb}
+use lib.Dec.{leb, eqb}
 use lib.ListN.{length, take, drop, length-append, length-map}
 use Rattle.boxes.specs.Answer.{Answer, refused, given, _>>=_, hold}
 use Rattle.boxes.specs.Faults.{Follow, FirstFault}
@@ -24,7 +24,7 @@ use Rattle.partial.specs.Limits.{fileLimit, segmentLimit, layerLimit}
 use Rattle.partial.specs.Mixed.{allowed}
 use Rattle.partial.specs.Reading.{segment, segmentsFrom}
 use Rattle.partial.specs.ReadingDemands.{InData, Whole}
-use Rattle.partial.specs.Segments.{Chunk, Segment, noChunk, good, present, hasPlace, chunksOf}
+use Rattle.partial.specs.Segments.{Chunk, Segment, good, present, hasPlace, chunksOf}
 use Rattle.partial.specs.Sequences.{someOf, allOf}
 use Rattle.partial.specs.Sources.{sourceCount, agreed}
 use Rattle.partial.proofs.Meaning.MappedLaws.{lies, may-be}
@@ -34,10 +34,10 @@ use Rattle.partial.proofs.Reading.LimitLaws.{segments-many}
 use Rattle.additions.proofs.WholeLaws.{allowed-other}
 use Rattle.rescue.specs.Kept.{Fate, dropped, whole, ofPfil, ofPseg, Fated, liesIn, walkOf, firstTwo, opening, beside, keptWith, keptFrom, keptOf, stays, fateOf, fatesFrom, fates}
 use Rattle.rescue.specs.Demands.{readAlone, goes, stayingOf, Holds, Judged}
-use Rattle.rescue.proofs.FateLaws.{segmentsOf, by-fate, fates-boxes, fate-at, fate-data, fate-lain, beside-given}
+use Rattle.rescue.proofs.FateLaws.{segmentsOf, by-fate, fate-at, fate-data, fate-lain, beside-given}
 use Rattle.rescue.proofs.HeadingLaws.{opened, other-kind}
 use Rattle.rescue.proofs.LieLaws.{some-member, segment-lies}
-use Rattle.rescue.proofs.WholeLaws.{two-first}
+use Rattle.rescue.proofs.WholeLaws.{fates-boxed}
 
 -- ---- the whole boxes, and the first two of them
 
@@ -51,7 +51,7 @@ module _ (f : List ℕ) where
   walk-faultless e = rw e
 
   -- the file cut behind the second, or the whole of it
-  cut-behind : (bs : List Box) → 2 ≤ length bs → firstTwo f bs ≡ take (boxAt 1 bs .end) f
+  pub cut-behind : (bs : List Box) → 2 ≤ length bs → firstTwo f bs ≡ take (boxAt 1 bs .end) f
   unfolding firstTwo
   cut-behind bs two = rw (firstTwo, le-leb 2 (length bs) two)
 
@@ -169,7 +169,8 @@ module _ (limit : ℕ) (f : List ℕ) (h : Heading) where
       (λ s _ found.
       rw (chunks-append kept (s ∷ []), append-nil, all-append, lie) (segment-lies limit f h kept b s (beside-given limit f h kept b found .1))))
 
-  kept-lying : allOf (lies h) (chunksOf (keptOf limit f h)) ≡ true
+  -- those of all kept segments do
+  pub kept-lying : allOf (lies h) (chunksOf (keptOf limit f h)) ≡ true
   unfolding keptOf chunksOf allOf
   kept-lying = lies-from [] (drop 2 (h .boxes)) refl
 
@@ -257,10 +258,6 @@ module _ (f : List ℕ) (h : Heading) (boxes : boxesIn File f 0 (length f) ≡ g
       (eqb-true (c .state) good is-good, omega arith, omega arith, omega arith)
 
 module _ (limit : ℕ) (f : List ℕ) (h : Heading) (opens : opening f ≡ given h) where
-  pub fates-boxed : map (λ x. x .box) (fates limit f h) ≡ h .boxes
-  unfolding fates
-  fates-boxed = rw (fates-boxes limit f h [] (drop 2 (h .boxes))) (two-first (h .boxes) (opened f h opens .two))
-
   module _ (boxes : boxesIn File f 0 (length f) ≡ given (h .boxes)) (behind : List Fated) (x : Fated) where
     abbrev front : List Fated → List Fated
     front before = record { box = boxAt 0 (h .boxes); fate = whole } ∷ record { box = boxAt 1 (h .boxes); fate = ofPfil (h .inner) } ∷ before
@@ -280,10 +277,10 @@ module _ (limit : ℕ) (f : List ℕ) (h : Heading) (opens : opening f ≡ given
       all-split = rw split
 
       here : boxAt (length (front before)) (h .boxes) ≡ b
-      here = ap (boxAt (length (front before))) (sym fates-boxed ∙ ap (map (λ (x : Fated). x .box)) all-split) ∙ box-there (front before) x behind
+      here = ap (boxAt (length (front before))) (sym (fates-boxed limit f h opens) ∙ ap (map (λ (x : Fated). x .box)) all-split) ∙ box-there (front before) x behind
 
       inside : length (front before) < length (h .boxes)
-      inside = omega (arith, ap length fates-boxed, length-map (fates limit f h) (λ (x : Fated). x .box), ap length all-split, length-append (front before) (x ∷ behind))
+      inside = omega (arith, ap length (fates-boxed limit f h opens), length-map (fates limit f h) (λ (x : Fated). x .box), ap length all-split, length-append (front before) (x ∷ behind))
 
       alone-read : segmentsFrom limit f h [] (stayingOf (is pseg) (front before)) ≡ given kept
       alone-read =

@@ -30,7 +30,7 @@ use Rattle.additions.proofs.StandsLaws.{Stands, stands-left, stands-right}
 use Rattle.rescue.specs.Kept.{Fate, dropped, whole, ofPfil, ofPseg, Fated, liesIn, opening, keptWith, keptOf, stays, fatesFrom, fates}
 use Rattle.rescue.specs.Copy.{boxBytes, unindexed, sizeOf, innerBytes, copyOf, copySize, copied}
 use Rattle.rescue.specs.Demands.{OnlyData, Bare, chunkBytes, stayingOf, OneByOne, sameSize, AsItWas, noIndex, Emptied, StandsFor}
-use Rattle.rescue.proofs.Shapes.{Alike, resized, row, chunkAnew, segmentAnew, segmentsAnew, boxesAnew}
+use Rattle.rescue.proofs.Shapes.{Alike, resized, row, chunkAnew, segmentsAnew, boxesAnew}
 use Rattle.rescue.proofs.CopyLaws.{staying, pieces-long, copy-stands}
 use Rattle.rescue.proofs.FateLaws.{segmentsOf, by-fate, fate-pseg, fate-whole, fate-no-pfil, beside-given}
 use Rattle.rescue.proofs.HeadingLaws.{Read, other-kind, opened, said, firstFated, secondFated, inner-read}
@@ -40,7 +40,7 @@ use Rattle.rescue.proofs.PlaceLaws.{sizes}
 use Rattle.rescue.proofs.ReadingLaws.{Anew, none-anew, one-anew, anew-many, anew-beside, anew-fates, sizes-more, segmentsBack, all-split, stands-new, new-there, stood-there, fate-there, kept-there, kept-anew}
 use Rattle.rescue.proofs.SegmentLaws.{Piece, kept, body-stands, boxes-back, was, segment-place}
 use Rattle.rescue.proofs.TwiceLaws.{kept-again, copy-clean}
-use Rattle.rescue.proofs.WholeLaws.{fates-stood, fates-ready, headingBack, heading-copied}
+use Rattle.rescue.proofs.WholeLaws.{each-by, fates-stood, fates-ready, headingBack, heading-copied}
 
 -- ---- none but data
 
@@ -142,10 +142,6 @@ no-index (b ∷ bs) = go (is fidx b) (no-index bs)
         → _≡_ {A = List Box} (elim t [ true ↦ unindexed bs | false ↦ b ∷ unindexed bs ]) (elim t [ true ↦ noIndex bs | false ↦ b ∷ noIndex bs ])
     go true e = e
     go false e = ap (λ (l : List Box). b ∷ l) e
-
-each-so : {A : Type 0} (P Q : A → Type 0) → ((x : A) → P x → Q x) → (xs : List A) → Each P xs → Each Q xs
-each-so P Q so [] all = tt
-each-so P Q so (x ∷ xs) (here, there) = (so x here, each-so P Q so xs there)
 
 -- a file and a longer one, and a copy
 module _ (f all g : List ℕ) (longer : length f ≤ length all) (same : (k : ℕ) → k < length f → getD f k 0 ≡ getD all k 0) where
@@ -303,7 +299,7 @@ module _ (limit : ℕ) (f : List ℕ) (h : Heading) (opens : opening f ≡ given
         let body : List ℕ = each (boxBytes f) (unindexed (h .inner)) in
         let stands = rw (add-zero, ← here) at (copy-stands f new (one ∷ []) other others (fates-ready limit f h opens bytes new)) in
         let there = reheaded-body File f (stood .end) (stood .read) no-uuid body copy at stands in
-        let fit = each-so (Read Pfil f (b .end)) (Fitting f all copy longer same false (boxBytes f)) (fit-whole f all copy longer same Pfil (b .end)) (unindexed (h .inner)) (inner-read f h opens) in
+        let fit = each-by (Read Pfil f (b .end)) (Fitting f all copy longer same false (boxBytes f)) (fit-whole f all copy longer same Pfil (b .end)) (unindexed (h .inner)) (inner-read f h opens) in
         let now = rw (← here, zero-add) at (headed copy back (heading-copied limit f h opens bytes) .inner) in
         let ends = ends-copied (one ∷ []) other others refl in
         record {
@@ -333,7 +329,7 @@ module _ (limit : ℕ) (f : List ℕ) (h : Heading) (opens : opening f ≡ given
         let now = boxes-back limit f h before′ b s (stood .end) (stood .read) kind (stood .inside) low bytes read new copy back (segmentsAnew new before) stands refl (anew-many anew) (anew-beside anew) lie in
         let pieces = kept limit f h before′ b s (stood .end) (stood .read) kind (stood .inside) low bytes read new in
         let (_, w) = was limit f h before′ b s (stood .end) (stood .read) kind (stood .inside) low bytes read new in
-        let fit = each-so (λ c. Piece f (innerBytes f new s c) c) (Fitting f all copy longer same true (innerBytes f new s)) (fit-piece f all copy longer same (innerBytes f new s)) (unindexed (s .inner)) pieces in
+        let fit = each-by (λ c. Piece f (innerBytes f new s c) c) (Fitting f all copy longer same true (innerBytes f new s)) (fit-piece f all copy longer same (innerBytes f new s)) (unindexed (s .inner)) pieces in
         let ends = ends-copied (upTo before) x behind (all-split limit f h opens bytes before x behind split) in
         subst (λ (at : ℕ). For b (resized at (copySize x) b)) (put ∙ sym here)
         (record {

@@ -113,7 +113,7 @@ abbrev pub noIndex : List Box → List Box
 noIndex [] = []
 noIndex (b ∷ bs) = elim (is fidx b) [ true ↦ noIndex bs | false ↦ b ∷ noIndex bs ]
 
--- a container in its header form with its boxes, but each index
+-- "as is each `fidx` (its container keeps its header form)": a container with its boxes, but each index
 pub record Emptied (k : Container) (located : Bool) (f g : List ℕ) (b c : Box) : Type 0 where
   pub kind : c .kind ≡ b .kind
   pub form : c .body - c .at ≡ b .body - b .at
@@ -123,7 +123,7 @@ pub record Emptied (k : Container) (located : Bool) (f g : List ℕ) (b c : Box)
   pub nowFramed : boxesIn k g (c .body) (c .end) ≡ given now
   pub boxes : OneByOne (AsItWas located f g) (noIndex was) now
 
--- what stands in the copy for a box that stays
+-- what stands in the copy for a box that stays: the box as it was, or that container
 pub record StandsFor (f g : List ℕ) (b c : Box) : Type 0 where
   pub plain : is pfil b ≡ false → is pseg b ≡ false → AsItWas false f g b c
   pub inPfil : T (is pfil b) → Emptied Pfil false f g b c
@@ -138,11 +138,11 @@ pub record Rescued (limit : ℕ) (f : List ℕ) (h : Heading) (g : List ℕ) : T
   pub head : Heading
   pub headed : heading g ≡ given head
   pub bare : Bare g head segments
-  -- the boxes that stay, in their order: as they were, or without their index and with new offsets
+  -- the boxes that stay, in their order
   pub boxes : OneByOne (StandsFor f g) (stayingOf (λ _. true) (fates limit (framed f) h)) (head .boxes)
   -- each kept segment keeps its offset, flags, time, sizes, states and URLs
   pub same : SameSegments (rescuedOf limit f h) segments
-  -- all its bytes that chunks have are what they were
+  -- each chunk has its old bytes, a damaged one too
   pub carried : map (chunkBytes g) (chunksOf segments) ≡ map (chunkBytes f) (chunksOf (rescuedOf limit f h))
   -- "Each position supplied by a kept chunk is supplied with its old bytes", per source, and no other
   pub served : (source p : ℕ) → served g (ofSource source segments) p ≡ served f (ofSource source (rescuedOf limit f h)) p
@@ -164,16 +164,17 @@ Holds b c = (c .state ≡ good) × (0 < c .size) × (c .place < b .end) × (b .a
 
 -- what becomes of a box that stands behind these
 pub record Judged (limit : ℕ) (f : List ℕ) (h : Heading) (before : List Fated) (x : Fated) : Type 0 where
-  -- "a `pseg` that, beside the ones kept before it, would refuse is left out", with that number
+  -- "A `pseg` with a framing fault inside, or that would refuse by any of 13 to 25, 40 or 41 beside the segments already
+  -- kept, is left out", with that number
   pub leftOut : T (is pseg (x .box)) → (n : ℕ)
       → (x .fate ≡ dropped n) ↔ (readAlone limit f h (stayingOf (is pseg) before ++ (x .box ∷ [])) ≡ refused n)
   -- a later `ftyp` or `pfil` goes with the number of a second one
   pub later : T (is ftyp (x .box)) → x .fate ≡ dropped 7
   pub another : T (is pfil (x .box)) → x .fate ≡ dropped 9
-  -- each `pdat` stays, with data of kept segments or without
+  -- "each whole `pdat`" stays, used or not
   pub stored : T (is pdat (x .box)) → goes x ≡ false
-  -- any other box stays exactly where the file is mixed and a good chunk that is kept has a byte in it; if it goes,
-  -- nothing was wrong with it
+  -- "Other top-level boxes are dropped, .. but in a `pmff` file those that kept chunks lie in stay", and if one goes
+  -- "nothing was wrong"
   pub other : T (allowed (x .box))
       → (goes x ≡ false) ↔ ((h .mixed ≡ true) × ((c : Chunk) × List·Memᴰ c (chunksOf (keptOf limit f h)) × Holds (x .box) c))
   pub nothingWrong : T (allowed (x .box)) → (n : ℕ) → x .fate ≡ dropped n → n ≡ 0
