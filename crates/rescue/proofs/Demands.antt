@@ -42,7 +42,7 @@ use Rattle.rescue.proofs.WholeLaws.{fates-boxed, copy-shorter, headingB
 use Rattle.rescue.proofs.LineLaws.{text-named, ascending}
 use Rattle.rescue.proofs.ReadingLaws.{Anew, none-anew, one-anew, anew-fates, segmentsBack, reads-back, only-12, served-back}
 use Rattle.rescue.proofs.AcceptedLaws.{accepted-opens, accepted-framed, accepted-kept, accepted-same, accepted-silent}
-use Rattle.rescue.proofs.JudgedLaws.{walk-fault, walk-faultless, cut-two, cut-fewer, opened-two, kept-lying, heads-stay, judged-beside}
+use Rattle.rescue.proofs.JudgedLaws.{walk-fault, walk-faultless, cut-two, cut-fewer, opened-two, kept-lying, kept-alone, heads-stay, judged-beside}
 use Rattle.rescue.proofs.StandingLaws.{bare-back, boxes-stand, carried-back}
 use Rattle.rescue.proofs.MadeLaws.{salvage-made}
 use Rattle.rescue.proofs.TwiceLaws.{salvage-twice, lines-twice}
@@ -229,6 +229,7 @@ salvage-demands limit low =
       all = λ f h opens. fates-boxed limit (framed f) h (framed-opens f h opens);
       heads = λ f h x opens. heads-stay limit (framed f) h x;
       judged = λ f h before behind x opens. judged-beside limit (framed f) h (framed-opens f h opens) (framed-boxes f ∙ ap given (sym (opened f h opens .boxes))) behind x before;
+      kept = λ f h opens. kept-alone limit (framed f) h (framed-opens f h opens);
       keeps = λ f h ss head read. (accepted-opens f h head, accepted-framed f h head, rw (accepted-framed f h head) (accepted-kept limit f h ss head read));
       unchanged = λ f h ss bytes head read bare. accepted-same limit f h ss head (earlier-read limit f head read) bytes bare;
       nothingDropped = λ f h ss most bytes head read only few. accepted-silent limit f h ss head (earlier-read limit f head read) bytes only most few;

@@ -34,7 +34,7 @@ use Rattle.partial.proofs.Reading.LimitLaws.{segments-many}
 use Rattle.additions.proofs.WholeLaws.{allowed-other}
 use Rattle.rescue.specs.Kept.{Fate, dropped, whole, ofPfil, ofPseg, Fated, liesIn, walkOf, firstTwo, opening, beside, keptWith, keptFrom, keptOf, stays, fateOf, fatesFrom, fates}
 use Rattle.rescue.specs.Demands.{readAlone, goes, stayingOf, Holds, Judged}
-use Rattle.rescue.proofs.FateLaws.{segmentsOf, by-fate, fate-at, fate-data, fate-lain, beside-given}
+use Rattle.rescue.proofs.FateLaws.{segmentsOf, by-fate, fate-at, fate-data, fate-lain, beside-given, kept-from, kept-sound}
 use Rattle.rescue.proofs.HeadingLaws.{opened, other-kind}
 use Rattle.rescue.proofs.LieLaws.{some-member, segment-lies}
 use Rattle.rescue.proofs.WholeLaws.{fates-boxed}
@@ -258,6 +258,25 @@ module _ (f : List ℕ) (h : Heading) (boxes : boxesIn File f 0 (length f) ≡ g
       (eqb-true (c .state) good is-good, omega arith, omega arith, omega arith)
 
 module _ (limit : ℕ) (f : List ℕ) (h : Heading) (opens : opening f ≡ given h) where
+  -- the first two are no `pseg`
+  not-first : is pseg (boxAt 0 (h .boxes)) ≡ false
+  not-first = other-kind ftyp pseg (boxAt 0 (h .boxes)) refl (opened f h opens .first)
+
+  not-second : is pseg (boxAt 1 (h .boxes)) ≡ false
+  not-second = other-kind pfil pseg (boxAt 1 (h .boxes)) refl (opened f h opens .second)
+
+  -- what is kept is what is read of the `pseg` boxes that stay
+  pub kept-alone : readAlone limit f h (stayingOf (is pseg) (fates limit f h)) ≡ given (keptOf limit f h)
+  unfolding fates keptOf
+  kept-alone =
+      let others : List Fated = fatesFrom limit f h [] (drop 2 (h .boxes)) in
+      let psegs : List Box = stayingOf (is pseg) (fates limit f h) in
+      let all = staying-read limit f h [] (drop 2 (h .boxes)) others [] (sym (append-nil others)) ∙ ap given (sym (kept-from limit f h [] (drop 2 (h .boxes)))) in
+      let read : segmentsFrom limit f h [] psegs ≡ given (keptOf limit f h) = rw (stayingOf, not-first, stayingOf, not-second) all in
+      let (few, agree, layers) = kept-sound limit f h in
+      let many = segments-many limit f h psegs [] read in
+      rw (le-leb (length psegs) segmentLimit (omega arith), read, agree, le-leb (sourceCount (keptOf limit f h)) layerLimit layers)
+
   module _ (boxes : boxesIn File f 0 (length f) ≡ given (h .boxes)) (behind : List Fated) (x : Fated) where
     abbrev front : List Fated → List Fated
     front before = record { box = boxAt 0 (h .boxes); fate = whole } ∷ record { box = boxAt 1 (h .boxes); fate = ofPfil (h .inner) } ∷ before
@@ -283,10 +302,7 @@ module _ (limit : ℕ) (f : List ℕ) (h : Heading) (opens : opening f ≡ given
       inside = omega (arith, ap length (fates-boxed limit f h opens), length-map (fates limit f h) (λ (x : Fated). x .box), ap length all-split, length-append (front before) (x ∷ behind))
 
       alone-read : segmentsFrom limit f h [] (stayingOf (is pseg) (front before)) ≡ given kept
-      alone-read =
-          let first = other-kind ftyp pseg (boxAt 0 (h .boxes)) refl (opened f h opens .first) in
-          let second = other-kind pfil pseg (boxAt 1 (h .boxes)) refl (opened f h opens .second) in
-          rw (stayingOf, first, stayingOf, second) (staying-read limit f h [] (drop 2 (h .boxes)) before (x ∷ behind) split)
+      alone-read = rw (stayingOf, not-first, stayingOf, not-second) (staying-read limit f h [] (drop 2 (h .boxes)) before (x ∷ behind) split)
 
       left-out : is pseg b ≡ true → (n : ℕ) → (x .fate ≡ dropped n) ↔ (readAlone limit f h (stayingOf (is pseg) (front before) ++ (b ∷ [])) ≡ refused n)
       left-out kind n = rw (fate, alone limit f h (stayingOf (is pseg) (front before)) kept b alone-read) (fate-refused limit f h kept b kind n)

@@ -226,6 +226,9 @@ pub record Salvage (limit : ℕ) : Type 0 where
       → fates limit (framed f) h ≡ before ++ (x ∷ behind)
       → 2 ≤ length before
       → Judged limit (framed f) h before x
+  -- what is kept is what reading gives of the `pseg` boxes that stay, as if there were no others
+  pub kept : (f : List ℕ) (h : Heading) → opening f ≡ given h
+      → readAlone limit (framed f) h (stayingOf (is pseg) (fates limit (framed f) h)) ≡ given (rescuedOf limit f h)
   -- every segment of a file is kept that passes 1 to 25 and 40, whatever its index
   pub keeps : (f : List ℕ) (h : Heading) (ss : List Segment) → heading f ≡ given h → segments limit f h ≡ given ss
       → (opening f ≡ given h) × (framed f ≡ f) × (rescuedOf limit f h ≡ ss)
