@@ -1,4 +1,5 @@
 -- Laws of the code of salvage.
+pub mod CallsLaws
 pub mod CopyingLaws
 pub mod CountingLaws
 pub mod FatesLaws
