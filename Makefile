@@ -103,6 +103,7 @@ test-scale: $(OUT)/scale
 
 test-scale-plain: $(OUT)/scale-sanitized
 	python3 tests/scale.py --cases 40000 --seed 7 $(OUT)/scale-sanitized
+	python3 tests/scale.py --salvage --cases 20000 --seed 7 $(OUT)/scale-sanitized
 
 test-command: $(OUT)/paff
 	mandoc -T lint -W warning command/paff.1

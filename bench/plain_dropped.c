@@ -21,7 +21,7 @@ static uint8_t *put_dropped(uint8_t *at, const struct spoiled *spoiled)
 uint64_t vrazhupa_salvage_lines(const uint8_t *file, size_t file_length, uint64_t most, uint8_t *buffer, size_t buffer_length, uint64_t told[1])
 {
     struct spoiled spoiled;
-    uint8_t text[VRAZHUPA_SALVAGE_TEXT], *end;
+    uint8_t text[SALVAGE_TEXT], *end;
     enum refusal refusal = file_length > most ? INPUT_OVER_LIMIT : plain_judge_boxes(file, file_length, &spoiled);
     size_t length;
 

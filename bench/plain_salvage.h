@@ -4,6 +4,13 @@
 
 #include "plain.h"
 
+/* Both calls of salvage, which the library does not have yet: the copy of what can be saved of a spoiled file, and a line
+   with place and number for each box of it that is dropped and for its first framing error. The longest such text has
+   510 lines of boxes, each with a place of ten digits and a number of two, and one of the error, whose number has one. */
+enum { SALVAGE_TEXT = 7153 };
+uint64_t vrazhupa_salvage(const uint8_t *file, size_t file_length, uint8_t *buffer, size_t buffer_length, uint64_t told[1]);
+uint64_t vrazhupa_salvage_lines(const uint8_t *file, size_t file_length, uint64_t most, uint8_t *buffer, size_t buffer_length, uint64_t told[1]);
+
 /* What becomes of a box: it is kept, or dropped with a number, 0 where nothing was wrong with it. */
 enum { KEPT = 255 };
 

@@ -1,4 +1,4 @@
-/* Partial files (ISO/IEC 23001-14): reading, serving, listing, salvaging, beginning and appending, by proved code.
+/* Partial files (ISO/IEC 23001-14): reading, serving, listing, beginning and appending, by proved code.
 
    Build the archive with `rt staticlib vrazhupa`; it is target/staticlib/libvrazhupa.a, for x86-64. `make install` puts
    it where `pkg-config --cflags --libs vrazhupa` finds it.
@@ -19,7 +19,7 @@
 #include <stdint.h>
 
 /* The version: its second number says how many change requests are in it. */
-#define VRAZHUPA_VERSION "1.9"
+#define VRAZHUPA_VERSION "1.8"
 
 #ifdef __cplusplus
 extern "C" {
@@ -54,18 +54,10 @@ enum { VRAZHUPA_LAST_SEGMENT = 1 };
 /* How many of the bytes of an indexed box are served. */
 enum { VRAZHUPA_NONE = 0, VRAZHUPA_SOME = 1, VRAZHUPA_ALL = 2 };
 
-/* The longest text of either map, of the list of boxes and of the list of what salvage drops: 510 boxes, each with a
-   place of ten digits and a number of two, and a framing error, whose number has one digit; what a new file has beside
-   both texts; what an addition that is taken adds at most beside its data and its `surl` boxes; and what each of those
-   has beside its two texts. A buffer of so many bytes is never too short. */
-enum {
-    VRAZHUPA_MAP_TEXT = 36776,
-    VRAZHUPA_BOXES_TEXT = 30733,
-    VRAZHUPA_SALVAGE_TEXT = 7153,
-    VRAZHUPA_BEGUN = 54,
-    VRAZHUPA_ADDED = 10297,
-    VRAZHUPA_ADDED_SURL = 14
-};
+/* The longest text of either map and of the list of boxes; what a new file has beside both texts; what an addition that
+   is taken adds at most beside its data and its `surl` boxes; and what each of those has beside its two texts. A buffer
+   of so many bytes is never too short. */
+enum { VRAZHUPA_MAP_TEXT = 36776, VRAZHUPA_BOXES_TEXT = 30733, VRAZHUPA_BEGUN = 54, VRAZHUPA_ADDED = 10297, VRAZHUPA_ADDED_SURL = 14 };
 
 /* The refusals, by their numbers. */
 enum {
@@ -183,21 +175,6 @@ uint64_t vrazhupa_missmap(const uint8_t *file, size_t file_length, uint64_t most
    the program, or is over its limit, the line of refusal 27 or 1 is the whole text. told: how many bytes, 0 for an
    empty file. Refuses with 33 where the buffer is too short. */
 uint64_t vrazhupa_boxes(const uint8_t *file, size_t file_length, uint64_t most, uint8_t *buffer, size_t buffer_length, uint64_t told[1]);
-
-/* Copies what can be saved of a spoiled file into the buffer: `ftyp` and `pfil`, and then, up to the first box of the
-   file with a framing error, every `pdat` and every segment that nothing is wrong with beside those kept before it; in a
-   mixed file also the boxes that their good chunks are. Each `fidx` goes, offsets lead to the new places, and all else
-   stands as it was. The copy is never longer than the file; it is accepted, or refused with 12 where no segment is kept.
-   Each position that a kept chunk supplies is supplied with its old bytes. Bytes of the buffer behind the copy keep
-   their values. told: the length of the copy. Refuses with 1, 2 to 11 (of the first two boxes) or 33. */
-uint64_t vrazhupa_salvage(const uint8_t *file, size_t file_length, uint8_t *buffer, size_t buffer_length, uint64_t told[1]);
-
-/* Writes the list of what `vrazhupa_salvage` drops into the buffer as the program `salvage` prints it: a line for every
-   top-level box that the copy has not, and one for the first framing error of the file, with its place in the file and
-   its number, 0 where nothing was wrong with the box. Where the file has more than `most` bytes, which are 65,536 for
-   the program, the line of refusal 27 is the whole text; where it is refused, that of 1 or of 2 to 11. told: how many
-   bytes, 0 where nothing is dropped. Refuses with 33 where the buffer is too short. */
-uint64_t vrazhupa_salvage_lines(const uint8_t *file, size_t file_length, uint64_t most, uint8_t *buffer, size_t buffer_length, uint64_t told[1]);
 
 /* Begins a file in the buffer, a mixed one (brand `pmff`) or one with all its data in `pdat` (brand `paff`). told: its
    length. Refuses with 34, 1 or 33. */

@@ -8,8 +8,9 @@ from collections import Counter, namedtuple
 import generate
 import model
 
-# `refusal` is the number that the model refuses with, 0 where it does not.
-Case = namedtuple("Case", "name term numbers refusal source")
+# `refusal` is the number that the model refuses with, 0 where it does not; `dropped` are those of the boxes that salvage
+# drops.
+Case = namedtuple("Case", "name term numbers refusal source dropped", defaults=[()])
 
 # Positions and lists are computed one position after the other, so only sources up to this length are listed whole.
 LISTED = 120
@@ -169,12 +170,18 @@ def texts_case(rng, name, file, made_from):
     return Case(name, term, texts_numbers(file, segment, a, b), number_of(model.texts(file, segment, len(a), len(b))), made_from)
 
 
-def tables_case(rng, name, file, source):
+def tables_case(rng, name, file, source, lend=room):
     answer = model.read(file)
     segments, chunks = ([], []) if answer[0] == "refused" else answer[1:]
-    a, b = room(rng, 8 * len(segments)), room(rng, 6 * len(chunks))
+    a, b = lend(rng, 8 * len(segments)), lend(rng, 6 * len(chunks))
     term = "tablesOf %s (%s) (%s)" % (octets(file), listing(a), listing(b))
     return Case(name, term, tables_numbers(file, a, b), number_of(model.read(file, len(a), len(b))), source)
+
+
+def short_case(rng, name):
+    """26, which chance may leave out: the tables of an accepted file, each one number too short."""
+    file = accepted_file(rng)
+    return tables_case(rng, name, file, "file " + file.hex(), lend=lambda rng, needed: [MARK] * max(0, needed - 1))
 
 
 def lists_case(rng, name, file, made_from):
@@ -315,10 +322,18 @@ def some_file(rng, index):
     return generate.faulty_file(rng, rng.choice([number for number in faults if number != 6]))
 
 
+def accepted_file(rng):
+    """A file as another writer makes it, which reading accepts."""
+    while True:
+        file = generate.foreign_file(rng)
+        if model.read(file)[0] == "read":
+            return file
+
+
 def some_addition(rng, index):
-    """Mostly as a clerk would add, one in four outside, and each fault of append in turn; those that need a large file
-    once."""
-    file = generate.foreign_file(rng)
+    """Mostly as a clerk would add, one in four outside, and each fault of append in turn, to an accepted file, so that
+    it is met; those that need a large file once."""
+    file = accepted_file(rng)
     if index < len(generate.FAULTS_OF_APPEND):
         number = generate.FAULTS_OF_APPEND[index]
         return large_addition(rng, number) if number in LARGE else generate.faulty_addition(rng, file, number)
@@ -371,9 +386,14 @@ def choose(rng, files, additions, beginnings):
     for index in range(beginnings):
         cases.append(beginning_case("beginning%d" % index, some_beginning(rng, index)))
         cases.append(rewriting_case(rng, "again%d" % index))
-    return cases
+    return cases + [short_case(rng, "short")]
 
 
 def refusals(cases):
     """How many cases the model refuses, by number."""
     return Counter(case.refusal for case in cases if case.refusal)
+
+
+def files_of(cases):
+    """The files that cases were made from, each once."""
+    return list(dict.fromkeys(bytes.fromhex(case.source[5:]) for case in cases if case.source.startswith("file ")))

@@ -6,7 +6,7 @@ import shutil
 import subprocess
 
 TOP = os.path.dirname(os.path.dirname(os.path.abspath(__file__)))
-OURS = ["numerals", "boxes", "partial", "additions"]
+OURS = ["numerals", "boxes", "partial", "additions", "rescue"]
 LISTS = """use Prim.Native.Nat.{ℕ, zero, suc}
 use mathlib.Core.Bool.{Bool, true, false}
 use mathlib.Core.List.{List, [], _∷_, _++_}
@@ -45,7 +45,9 @@ use Rattle.additions.specs.Append.{appended, psegPlace, newUrls, newSegment, re
 use Rattle.additions.specs.Runs.{lent, fileIn, append}
 use Rattle.additions.specs.Again.{again, settled, writeAgain}
 use Rattle.additions.specs.Carried.{carried}
-use Rattle.additions.proofs.Computing.{computing}
+use Rattle.rescue.specs.Copy.{salvage, salvaged}
+use Rattle.rescue.specs.Lines.{salvageText}
+use Rattle.rescue.proofs.Computing.{computing}
 
 answered : {A : Type 0} → (A → List ℕ) → Answer A → List ℕ
 answered values (refused n) = 0 ∷ n ∷ []
@@ -247,11 +249,22 @@ missmapOfInput input = missmapText sourceLimit programLimit input
 unfoldable pub boxesOfInput : List ℕ → List ℕ
 unfolding computing
 boxesOfInput input = boxesText programLimit input
+
+-- the copy of a spoiled file, or its refusal; and the answer and the buffer of the call that writes it
+unfoldable pub salvagedOf : List ℕ → List ℕ → List ℕ
+unfolding answered counted computing
+salvagedOf f buffer =
+    let r = salvaged sourceLimit f buffer in
+    answered counted (salvage sourceLimit f) ++ (answered (λ copy. length copy ∷ []) r ++ after (λ copy. copy) r buffer)
+
+unfoldable pub salvageTextOf : ℕ → List ℕ → List ℕ
+unfolding computing
+salvageTextOf most input = salvageText sourceLimit most input
 """
 
 BATCH_USES = """use Rattle.numerals.specs.Numbers.{bytesOf}
 use Rattle.partial.specs.declared.brand.Brand.the-variants.{Paff, Pmff}
-use Rattle.computed.specs.Computed.{readOf, textsOf, tablesOf, listsOf, indexRowsOf, begunOf, appendedOf, demandsOf, mappedOf, againOf, mapOfInput, missmapOfInput, boxesOfInput}
+use Rattle.computed.specs.Computed.{readOf, textsOf, tablesOf, listsOf, indexRowsOf, begunOf, appendedOf, demandsOf, mappedOf, againOf, mapOfInput, missmapOfInput, boxesOfInput, salvagedOf, salvageTextOf}
 """
 
 # A file of more than 1,073,741,824 bytes and an input of more than 65,536 are not written out: only their length is
@@ -265,6 +278,9 @@ use Rattle.partial.specs.Segments.{Segment}
 use Rattle.partial.specs.Heading.{heading, fileBoxes}
 use Rattle.partial.specs.Reading.{reading}
 use Rattle.partial.specs.Map.{mapOf, missmapOf, textFor, mapText, missmapText, refusedLine}
+use Rattle.rescue.specs.Kept.{opening}
+use Rattle.rescue.specs.Copy.{salvage}
+use Rattle.rescue.specs.Lines.{salvageText}
 
 long-file : (f : List ℕ) → leb (length f) fileLimit ≡ false → reading sourceLimit f ≡ refused 1
 unfolding reading heading fileBoxes
@@ -290,6 +306,26 @@ input-too-long = zeros-input mapOf 65_537 refl
 input-too-long-without-names : missmapText sourceLimit programLimit (replicate 65_537 0) ≡ refusedLine 27
 unfolding missmapText
 input-too-long-without-names = zeros-input missmapOf 65_537 refl
+
+long-spoiled : (f : List ℕ) → leb (length f) fileLimit ≡ false → salvage sourceLimit f ≡ refused 1
+unfolding salvage opening
+long-spoiled f h = rw h
+
+zeros-spoiled : (n : ℕ) → leb n fileLimit ≡ false → salvage sourceLimit (replicate n 0) ≡ refused 1
+zeros-spoiled n h = long-spoiled (replicate n 0) (rw length-replicate h)
+
+spoiled-too-long : salvage sourceLimit (replicate 1_073_741_825 0) ≡ refused 1
+spoiled-too-long = zeros-spoiled 1_073_741_825 refl
+
+long-spoiled-input : (f : List ℕ) → leb (length f) programLimit ≡ false → salvageText sourceLimit programLimit f ≡ refusedLine 27
+unfolding salvageText
+long-spoiled-input f h = rw (salvageText, h)
+
+zeros-spoiled-input : (n : ℕ) → leb n programLimit ≡ false → salvageText sourceLimit programLimit (replicate n 0) ≡ refusedLine 27
+zeros-spoiled-input n h = long-spoiled-input (replicate n 0) (rw length-replicate h)
+
+spoiled-input-too-long : salvageText sourceLimit programLimit (replicate 65_537 0) ≡ refusedLine 27
+spoiled-input-too-long = zeros-spoiled-input 65_537 refl
 """
 
 

@@ -66,10 +66,9 @@ def limits(command):
         claim(f"the largest addition, with {count} URLs", command.run("append", "film", *largest, *["--url", "url", "--mime", "mime"] * count), 0, err=b"paff: film: 0 of 1024 chunks are left\n")
         added = os.path.getsize(command.path("film")) - len(begun(b"u")) - 8_400_000 - 1_022 - len("urlmime") * count
         expect(f"what it adds beside its data and its texts, {count}", added, int(stated["ADDED"]) + count * int(stated["ADDED_SURL"]))
-    expect("the longest texts", (int(stated["MAP_TEXT"]), int(stated["BOXES_TEXT"]), int(stated["SALVAGE_TEXT"])),
+    expect("the longest texts", (int(stated["MAP_TEXT"]), int(stated["BOXES_TEXT"])),
            ((8 + 64 + 1_024) * len("held\t1099511627775\t1099511627775\n") + 8 * (len("source\t1099511627775\tclosed\n") + len("total" + 3 * "\t1099511627775" + "\n")),
-            512 * len("1073741824\t1073741824\tuuid\t" + 32 * "f" + "\n") + len("1073741824\t5\n"),
-            (512 - 2) * len("1073741824\t14\n") + len("1073741824\t6\n")))
+            512 * len("1073741824\t1073741824\tuuid\t" + 32 * "f" + "\n") + len("1073741824\t5\n")))
 
 
 def manual(command):

@@ -58,12 +58,10 @@ def send(stream, cases):
     listed = scale_files.of_corpora()
     for file in listed:
         scale_reading.few_cases(stream, rng, file)
-        scale_salvaging.salvage_cases(stream, rng, file, rng.choice([0, 0, 0, 1]))
     chosen = scale_files.chooser(listed)
     while stream.cases < cases:
         scale_reading.file_cases(stream, rng, chosen(rng))
         scale_writing.run_cases(stream, rng)
-        scale_salvaging.spoiled_cases(stream, rng)
     stream.end()
 
 
@@ -97,10 +95,11 @@ def sent_to(driver, stream, given):
 
 def all_met(stream, salvage):
     """Whether so many cases met every refusal; says which they did not."""
-    unmet = {"answers": [] if salvage else sorted(REFUSALS - set(stream.refusals)),
-             "answers of salvage": sorted(scale_salvaging.REFUSALS - set(stream.refusals_of_salvage)),
-             "lines of salvage": sorted(scale_salvaging.DROPPED - set(stream.dropped))}
-    for name, numbers in (OF_SALVAGE if salvage else IN_TEXTS | OF_SALVAGE).items():
+    unmet = {"answers": sorted(REFUSALS - set(stream.refusals))}
+    if salvage:
+        unmet = {"answers of salvage": sorted(scale_salvaging.REFUSALS - set(stream.refusals_of_salvage)),
+                 "lines of salvage": sorted(scale_salvaging.DROPPED - set(stream.dropped))}
+    for name, numbers in (OF_SALVAGE if salvage else IN_TEXTS).items():
         unmet["texts of " + name] = sorted(numbers - set(stream.refusals_in_texts[name]))
     if stream.cases < LONG_ENOUGH or not any(unmet.values()):
         return True

@@ -27,7 +27,6 @@ def salvage_cases_of_largest(stream, rng):
 
 
 def largest_cases(stream, rng):
-    salvage_cases_of_largest(stream, rng)
     for length in (MOST, MOST + 1):
         zeros = bytes(length)
         file_cases(stream, rng, zeros)

@@ -1,15 +1,14 @@
 -- Laws of what append is refused by what was read of the file and counted of the addition: each test, and the answer by
 -- the first that fails.
 use Prim.Native.Nat.{ℕ, _+_, _-_, _%_, _^_, _≤_, _<_, min}
-use mathlib.Core.Bool.{Bool, true, false, _&&_, true≢false}
-use mathlib.Core.List.{List, [], _∷_, _++_, map, append-nil}
-use mathlib.Core.Logic.{inl, inr}
-use mathlib.Core.Path.{_≡_, refl, sym, ap, ap₂, subst, _∙_}
+use mathlib.Core.Bool.{Bool, true, false}
+use mathlib.Core.List.{List, [], _∷_, _++_, map}
+use mathlib.Core.Path.{_≡_, refl, sym, ap, ap₂, _∙_}
 use native.Mathlib.Nat.{mod-lt}
 use native.Mathlib.Decide.{decLe}
 use native.Mathlib.Omega.{arith}
-use borrow.Author.Tests.{le-leb, lt-leb, leb-true, eq-eqb, ne-eqb, eqb-true, eqb-false}
-use lib.Dec.{leb, ltb, eqb, lit<}
+use borrow.Author.Tests.{le-leb, lt-leb, leb-true, eqb-true, eqb-false}
+use lib.Dec.{leb, ltb, lit<}
 use lib.ListN.{length}
 use Rattle.boxes.specs.Answer.{Answer, refused, given, _>>=_}
 use Rattle.boxes.proofs.AnswerLaws.{then-then}
@@ -19,12 +18,9 @@ use Rattle.additions.specs.Append.{added, addedBoxes, innerBoxes, newSegment, p
 use Rattle.partial.specs.Heading.{Heading}
 use Rattle.partial.specs.Index.{indexed}
 use Rattle.partial.specs.Limits.{fileLimit, segmentLimit, chunkLimit, sourceLimit, layerLimit}
-use Rattle.partial.specs.Meaning.{agree}
 use Rattle.partial.specs.Segments.{Segment, isLast, endOf, chunksOf}
 use Rattle.partial.specs.Sequences.{sum}
-use Rattle.partial.specs.Sources.{sourceCount, ofSource, agreed}
-use Rattle.partial.proofs.Meaning.SequenceLaws.{which, all-members}
-use Rattle.partial.proofs.Meaning.SourceLaws.{of-append, agreed-of, source-count-more}
+use Rattle.partial.specs.Sources.{sourceCount, agreed}
 use Rattle.partial.proofs.Reading.KeptLaws.{Segmented, segmented}
 use Rattle.partial.proofs.Reading.RefusalLaws.{earlier-read}
 use Rattle.additions.specs.declared.header.SegmentHeader.{SegmentHeader}
@@ -86,49 +82,9 @@ module _ (ss : List Segment) {s : Segment} {g : Gathered} {header : SegmentHeade
   unfolding endOf
   source-end test = omega (arith, leb-true (header .offset .0 + c .sum) sourceLimit (sym test), tells .offset, tells .sum)
 
--- 25 of the segments with one more: the sizes of its source agree with it, since those of every other source do
-module _ (ss : List Segment) (s : Segment) where
-  own : ofSource (s .source) (ss ++ (s ∷ [])) ≡ ofSource (s .source) ss ++ (s ∷ [])
-  unfolding ofSource
-  own = of-append (s .source) ss (s ∷ []) ∙ rw (ofSource, eq-eqb (s .source) (s .source) refl)
-
-  others : (n : ℕ) → (s .source ≡ n → ⊥) → ofSource n (ss ++ (s ∷ [])) ≡ ofSource n ss
-  unfolding ofSource
-  others n other = of-append n ss (s ∷ []) ∙ rw (ofSource, ne-eqb (s .source) n other) (append-nil (ofSource n ss))
-
-  pub agreed-beside : agreed ss ≡ true → agree (ofSource (s .source) ss ++ (s ∷ [])) ≡ agreed (ss ++ (s ∷ []))
-  unfolding agreed
-  agreed-beside before =
-      elim (which (agree (ofSource (s .source) ss ++ (s ∷ [])))) [
-        | inl e ↦ e ∙ sym (all-members _ (ss ++ (s ∷ [])) (λ t _. each e (t .source)))
-        | inr e ↦
-            elim (which (agreed (ss ++ (s ∷ [])))) [
-              | inl passed ↦ absurd (true≢false (sym (agreed-of (ss ++ (s ∷ [])) passed (s .source)) ∙ ap agree own ∙ e))
-              | inr lacks ↦ e ∙ sym lacks
-            ]
-      ]
-    where
-      each : agree (ofSource (s .source) ss ++ (s ∷ [])) ≡ true → (n : ℕ) → agree (ofSource n (ss ++ (s ∷ []))) ≡ true
-      each e n =
-          elim (which (eqb (s .source) n)) [
-            | inl same ↦
-                let k = eqb-true (s .source) n same in
-                subst (λ (m : ℕ). agree (ofSource m (ss ++ (s ∷ []))) ≡ true) k (ap agree own ∙ e)
-            | inr other ↦ ap agree (others n (eqb-false (s .source) n other)) ∙ agreed-of ss before n
-          ]
-
 -- those of a file that append takes agree, and are of no more sources than may be
 pub earlier-segmented : {f : List ℕ} {h : Heading} {ss : List Segment} {inPfil : Bool} → Known f h ss inPfil → Segmented sourceLimit f h ss
 earlier-segmented {f} {h} file = segmented sourceLimit f h (earlier-read sourceLimit f (file .head) (file .read))
-
--- 40 is told by the number of the new one's source
-module _ (ss : List Segment) (s : Segment) where
-  pub sources-full : layerLimit ≤ s .source → false ≡ leb (sourceCount (ss ++ (s ∷ []))) layerLimit
-  sources-full full = sym (lt-leb (sourceCount (ss ++ (s ∷ []))) layerLimit (omega (arith, source-count-more ss s)))
-
-  pub sources-few : leb (sourceCount ss) layerLimit ≡ true → s .source < layerLimit → true ≡ leb (sourceCount (ss ++ (s ∷ []))) layerLimit
-  sources-few before few =
-      sym (le-leb (sourceCount (ss ++ (s ∷ []))) layerLimit (omega (arith, source-count-more ss s, leb-true (sourceCount ss) layerLimit before)))
 
 -- the tests up to 23, where all are passed
 pub record Passes23 (ss : List Segment) (s : Segment) : Type 0 where

@@ -35,6 +35,11 @@ module _ (limit : ℕ) (buffer : List ℕ) (n : ℕ) (a : Addition) (k : ℕ) (o
   abbrev new : Heading → List Segment → Segment
   new h ss = newSegment h ss (psegPlace n a) a
 
+  -- the segments with the new one are those that are admitted
+  at-admitted : (h : Heading) (us ts : List Segment) → admission limit h us n a ≡ given ts → indexed limit (take n buffer) h ts ≡ refused k
+      → indexed limit (take n buffer) h (us ++ (new h us ∷ [])) ≡ refused k
+  at-admitted h us ts admitted told = ap (indexed limit (take n buffer) h) (sym (admits limit h us n a admitted .1)) ∙ told
+
   -- 36 to 39 of an addition to a file that append takes are those of the index beside the new segment
   beside-new : {ss : List Segment} → earlierSegments limit (take n buffer) ≡ given ss → appended limit buffer n a ≡ refused k
       → (h : Heading) × (heading (take n buffer) ≡ given h) × (indexed limit (take n buffer) h (ss ++ (new h ss ∷ [])) ≡ refused k)
@@ -54,7 +59,7 @@ module _ (limit : ℕ) (buffer : List ℕ) (n : ℕ) (a : Addition) (k : ℕ) (o
       let (_, e6) = passed 34 (isText (a .texts)) _ (λ same. omega arith) e5 in
       let (ts, admitted-there, e7) = passed-on (admission limit h us n a) _ (admission-only NotIt known (λ same. omega arith) (λ same. omega arith) limit h us n a) e6 in
       let told = refused-first (indexed limit f h ts) _ e7 (λ _. only-held NotIt 33 (leb size (length buffer)) _ (λ same. omega arith) (only-given NotIt size)) in
-      let there : indexed limit f h (us ++ (new h us ∷ [])) ≡ refused k = ap (indexed limit f h) (sym (admits limit h us n a admitted-there .1)) ∙ told in
+      let there = at-admitted h us ts admitted-there told in
       (h, head, subst (λ (vs : List Segment). indexed limit f h (vs ++ (new h vs ∷ [])) ≡ refused k) (given-same (sym read ∙ before)) there)
 
   pub by-index : appended limit buffer n a ≡ refused k

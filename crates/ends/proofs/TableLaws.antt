@@ -165,11 +165,11 @@ unfolding ofSource
 holds-none clear = record { long = clear .long; said = clear .none }
 
 -- the segments of a source with one more
-of-last : (ss : List Segment) (s : Segment) → ofSource (s .source) (ss ++ (s ∷ [])) ≡ ofSource (s .source) ss ++ (s ∷ [])
+pub of-last : (ss : List Segment) (s : Segment) → ofSource (s .source) (ss ++ (s ∷ [])) ≡ ofSource (s .source) ss ++ (s ∷ [])
 unfolding ofSource
 of-last ss s = of-append (s .source) ss (s ∷ []) ∙ rw (eq-eqb (s .source) (s .source) refl, ofSource)
 
-of-other : (n : ℕ) (ss : List Segment) (s : Segment) → (s .source ≡ n → ⊥) → ofSource n (ss ++ (s ∷ [])) ≡ ofSource n ss
+pub of-other : (n : ℕ) (ss : List Segment) (s : Segment) → (s .source ≡ n → ⊥) → ofSource n (ss ++ (s ∷ [])) ≡ ofSource n ss
 unfolding ofSource
 of-other n ss s other = of-append n ss (s ∷ []) ∙ rw (ne-eqb (s .source) n other, ofSource) (append-nil (ofSource n ss))
 

@@ -13,7 +13,7 @@ use Rattle.boxes.specs.Framing.{boxOf}
 use Rattle.boxes.proofs.AnswerLaws.{then-then, then-given}
 use Rattle.partial.specs.Entries.{Ploc, Cursor as At, chunkStep, chunksFrom}
 use Rattle.partial.specs.Heading.{Heading}
-use Rattle.partial.specs.Limits.{sourceLimit}
+use Rattle.partial.specs.Limits.{chunkLimit, sourceLimit}
 use Rattle.partial.specs.Segments.{Chunk}
 use Rattle.partial.specs.Sequences.{sum}
 use Rattle.partial.proofs.Reading.ReadingLaws.{step-told}
@@ -26,10 +26,10 @@ use Rattle.segment.specs.declared.chunk.Cursor.{Cursor}
 use Rattle.filling.specs.Rows.{Put}
 use Rattle.filling.proofs.RowLaws.{put-none, put-more, put-same}
 use Rattle.gathering.specs.Forms.{formLength, putOf, putsOf}
-use Rattle.gathering.specs.Chunks.{chunksBy, Ran, Chunked}
+use Rattle.gathering.specs.Chunks.{chunksBy, Ran, Behind, Chunked}
 use Rattle.gathering.specs.declared.chunks.ChunksRead.the-variants.{Given}
 use Rattle.gathering.specs.declared.gathered.Gathered.{Gathered}
-use Rattle.gathering.proofs.FormLaws.{puts-none, puts-long, puts-last}
+use Rattle.gathering.proofs.FormLaws.{puts-none, puts-long, puts-behind, puts-last}
 
 module _ (limit : ℕ) (f : List ℕ) (h : Heading) (pseg : ℕ) (l : Ploc) (c : At) where
   chunks-refused : (more : ℕ) {n : ℕ} → chunkStep limit f h pseg l c ≡ refused n → chunksFrom limit f h pseg l (suc more) c ≡ refused n
@@ -78,6 +78,10 @@ module _ (f : List ℕ) (h : Heading) (pseg : ℕ) (l : Location) (first : Curso
       }
 
   module _ {i : ℕ} {c : Cursor} {t : List ℕ} (m : Midway f h pseg l first before numbered t₀ i c t) where
+    -- what was put leaves the chunks of the segments before
+    pub midway-behind : i ≤ l .count → before .chunks + l .count ≤ chunkLimit → Behind numbered (before .chunks) t₀ t
+    midway-behind most few = puts-behind numbered (before .segments) (before .chunks) (m .done) (omega (arith, m .many)) (m .ran .rows)
+
     module _ (short : i < l .count) where
       left-one : l .count - i ≡ suc (l .count - (i + 1))
       left-one = omega arith

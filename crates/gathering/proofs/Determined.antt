@@ -1,22 +1,26 @@
 -- Each public call's contract determines its answer: two that it allows of the same arguments are equal. The pass over
 -- a file is determined where the file's heading is known, what it leaves in a table where all of it fits, what the ends
 -- say, the sources and the boxes where their lists stand where there are segments; so are the rows that are made of what
--- is kept of a file.
+-- is kept of a file. Salvage's pass is determined where the file's heading is known, with the numbers of the chunks that are
+-- kept and the fate of each `pseg`.
 use Prim.Native.Nat.{ℕ, _<_, _≤_}
-use mathlib.Core.Bool.{Bool}
+use mathlib.Core.Bool.{Bool, true}
 use mathlib.Core.List.{List}
 use mathlib.Core.Path.{_≡_, sym, ap, _∙_}
 use native.Mathlib.Omega.{arith}
 use denote.Ref.{now}
-use lib.ListN.{length, take}
+use lib.ListN.{length, take, getD}
 use Rattle.boxes.specs.Answer.{Answer, given}
 use Rattle.boxes.specs.Framing.{Box, boxesIn}
+use Rattle.boxes.specs.Kinds.{pseg, is, boxAt}
 use Rattle.boxes.proofs.AnswerLaws.{not-both, refused-same, given-same}
 use Rattle.numerals.proofs.Determined.{OneResult, OneKnown, OneLeftKnown}
 use Rattle.partial.specs.Heading.{Heading}
-use Rattle.partial.specs.Segments.{Segment}
+use Rattle.partial.specs.Limits.{sourceLimit}
+use Rattle.partial.specs.Segments.{Segment, chunksOf}
 use Rattle.partial.specs.Sources.{sourceCount}
 use Rattle.partial.specs.Tables.{segmentRows, chunkRows}
+use Rattle.rescue.specs.Kept.{keptOf}
 use Rattle.surls.specs.declared.body.Body.{Body}
 use Rattle.partial.specs.Texts.{listBoxes}
 use Rattle.sources.specs.Held.{ListHeld}
@@ -26,11 +30,13 @@ use Rattle.segment.proofs.ChunkLaws.{chunk-told}
 use Rattle.filling.specs.Rows.{Put}
 use Rattle.gathering.specs.Forms.{allPuts}
 use Rattle.gathering.specs.Gathered.{gatheredOf}
+use Rattle.gathering.specs.Keeping.{Boxed}
 use Rattle.gathering.specs.Kept.{Kept}
 use Rattle.gathering.specs.Pass.{segmentsBy, Opened, Gathers}
 use Rattle.gathering.specs.declared.pass.Passed.{Passed}
 use Rattle.gathering.specs.declared.pass.Passed.the-variants.{Refused, Given}
 use Rattle.gathering.proofs.PassLaws.{rows-put}
+use Rattle.gathering.proofs.keeping.keep_pass.Reads as keep-pass
 use Rattle.gathering.proofs.kept.fill_rows.Reads as fill-rows
 use Rattle.gathering.proofs.numbers.chunk_by.Reads as chunk-by
 use Rattle.gathering.proofs.pass.pass.Reads as pass
@@ -104,3 +110,15 @@ fill-rows-chunks : OneLeftKnown fill-rows.Post
     (λ κs args ((sources, ss) : List ℕ × List Segment). Kept (now (args .0)) (args .1 .0) sources (now (args .1 .1 .0)) ss × (length (chunkRows ss) ≤ length (now (args .1 .1 .1 .0))))
     (λ κs after. now (after .1 .1 .1 .0))
 fill-rows-chunks κs args (sources, ss) (kept, room) x y after after′ p q = one-put room (p sources ss kept) (q sources ss kept)
+
+keep-pass-result : OneKnown keep-pass.Post (λ κs args. Boxed (now (args .0)) (args .1 .0) (args .1 .1 .0))
+keep-pass-result κs args h boxed x y after after′ p q = p h boxed .gathered ∙ sym (q h boxed .gathered)
+
+keep-pass-numbers : OneRead keep-pass.Post (λ κs args. Boxed (now (args .0)) (args .1 .0) (args .1 .1 .0))
+    (λ κs args after h. take (length (chunksOf (keptOf sourceLimit (now (args .0)) h))) (now (after .1 .1 .1 .1 .0)))
+keep-pass-numbers κs args h boxed x y after after′ p q = p h boxed .numbers ∙ sym (q h boxed .numbers)
+
+keep-pass-fates : OneRead keep-pass.Post
+    (λ κs args ((h, k) : Heading × ℕ). Boxed (now (args .0)) (args .1 .0) (args .1 .1 .0) h × (k < length (h .boxes)) × (is pseg (boxAt k (h .boxes)) ≡ true))
+    (λ κs args after (h, k). getD (now (after .1 .1 .1 .0)) k 0)
+keep-pass-fates κs args (h, k) (boxed, there, kind) x y after after′ p q = p h boxed .psegs k there kind ∙ sym (q h boxed .psegs k there kind)

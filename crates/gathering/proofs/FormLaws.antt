@@ -1,16 +1,20 @@
 -- Laws of the two forms of chunks in a table: how long they are, and those with one more.
-use Prim.Native.Nat.{ℕ, suc, _+_, _*_}
+use Prim.Native.Nat.{ℕ, suc, _+_, _*_, _≤_}
 use mathlib.Core.Bool.{Bool, true, false}
 use mathlib.Core.List.{List, [], _∷_, _++_, map, append-nil}
 use mathlib.Core.Path.{_≡_, refl, sym, ap, _∙_}
 use native.Mathlib.Omega.{arith}
-use lib.ListN.{length, length-append}
+use lib.ListN.{length, take, length-append}
+use lib.Seq.{take-at, length-take-le}
+use Rattle.numerals.proofs.StoredLaws.{stored-room}
+use Rattle.partial.specs.Limits.{chunkLimit}
 use Rattle.partial.specs.Segments.{Chunk, Segment, chunksOf}
 use Rattle.partial.specs.Tables.{chunkRowLength, chunkRow, chunkRowsOf, chunkRowsFrom, chunkRows}
 use Rattle.partial.proofs.Meaning.SupplyLaws.{chunks-append}
 use Rattle.partial.proofs.Reading.RowLaws.{chunk-rows-long, chunk-rows-last, all-rows-long, all-rows-last}
 use Rattle.filling.specs.Rows.{Put}
 use Rattle.filling.proofs.RowLaws.{put-same}
+use Rattle.gathering.specs.Chunks.{Behind}
 use Rattle.gathering.specs.Forms.{formLength, putOf, putsOf, allPuts}
 use Rattle.gathering.specs.Numbers.{numberOf, numbersOf}
 
@@ -41,6 +45,20 @@ pub puts-long : (numbered : Bool) (n : ℕ) (cs : List Chunk) → length (putsOf
 unfolding putsOf formLength
 puts-long true n cs = omega (arith, map-long cs)
 puts-long false n cs = chunk-rows-long n 0 cs
+
+-- they leave those before them, where the table has room for all chunks of a file
+forms-fit : (numbered : Bool) (a b : ℕ) → a + b ≤ chunkLimit → formLength numbered * a + formLength numbered * b ≤ formLength numbered * chunkLimit
+unfolding formLength
+forms-fit true a b few = omega arith
+forms-fit false a b few = omega arith
+
+pub puts-behind : (numbered : Bool) (n many : ℕ) (cs : List Chunk) {t₀ t : List ℕ} → many + length cs ≤ chunkLimit → Put t₀ (formLength numbered * many) (putsOf numbered n cs) t
+    → Behind numbered many t₀ t
+puts-behind numbered n many cs {t₀} few put room =
+    let at = formLength numbered * many in
+    let rows = putsOf numbered n cs in
+    let fits : at + length rows ≤ length t₀ = omega (arith, puts-long numbered n cs, forms-fit numbered many (length cs) few) in
+    ap (take at) (put .held fits ∙ stored-room t₀ at rows fits) ∙ take-at (take at t₀) _ at (length-take-le at t₀ (omega arith))
 
 -- with one chunk more
 pub puts-last : (numbered : Bool) (n : ℕ) (cs : List Chunk) (c : Chunk) → putsOf numbered n (cs ++ (c ∷ [])) ≡ putsOf numbered n cs ++ putOf numbered n (length cs) c

@@ -25,7 +25,7 @@ use Rattle.gathering.proofs.FormLaws.{map-long, map-both}
 use Rattle.gathering.proofs.NumberLaws.{Narrow, number-back}
 
 -- a chunk of an accepted file has room in its number
-narrow-small : (c : Chunk) → Small sourceLimit c → Narrow c
+pub narrow-small : (c : Chunk) → Small sourceLimit c → Narrow c
 unfolding hasPlace
 narrow-small c small =
     record {

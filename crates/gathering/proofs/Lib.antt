@@ -8,4 +8,7 @@ pub mod StepLaws
 pub mod PassLaws
 pub mod KeptLaws
 pub mod KeptPutLaws
+pub mod LateLaws
+pub mod KeepingLaws
+pub mod KeepingPassLaws
 pub mod Determined

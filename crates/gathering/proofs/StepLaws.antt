@@ -42,7 +42,7 @@ use Rattle.gathering.specs.Forms.{formLength, putsOf}
 use Rattle.gathering.specs.Gathered.{gatheredOf}
 use Rattle.gathering.specs.Parts.{Parts, headerIn, hasSurl, partsIn, partsOf}
 use Rattle.gathering.specs.Rows.{rowBy}
-use Rattle.gathering.specs.Step.{chosenList, Beside, Entered, Segmented}
+use Rattle.gathering.specs.Step.{firstEntry, chosenList, Beside, Entered, Segmented}
 use Rattle.gathering.specs.declared.gathered.Gathered.{Gathered}
 use Rattle.gathering.specs.declared.parts.Parts.{Parts as CodeParts}
 use Rattle.gathering.specs.declared.step.SegmentRead.the-variants.{Given}
@@ -213,7 +213,7 @@ module _ (f : List ℕ) (h : Heading) (ss : List Segment) (b : Framed) {inPfil :
       module _ (near : p .fields .offset .0 ≤ sourceLimit) (last : Framed) where
         -- the cursor at the first entry
         abbrev first : Cursor
-        first = record { at = p .location .first; start = p .fields .offset; last = last }
+        first = firstEntry p last
 
         by-chunks : segment sourceLimit f h ss (boxOf b) ≡ (chunksBy f h (b .at .0) (p .location) first >>= λ cs. given (built f h ss (b .at .0) (inside .0) (partsOf p) cs))
         by-chunks = by-parts ∙ rw (le-leb (length (chunksOf ss) + p .location .count) chunkLimit few, le-leb (p .fields .offset .0) sourceLimit near)

@@ -1,15 +1,15 @@
 -- Document 01, "Chunks follow each other in the source from `source_byte_offset`": what is told of the chunks of a
 -- `ploc`.
-use Prim.Native.Nat.{ℕ, _+_, _*_}
+use Prim.Native.Nat.{ℕ, _+_, _*_, _≤_}
 use mathlib.Core.Bool.{Bool}
 use mathlib.Core.List.{List, map}
 use mathlib.Core.Path.{_≡_}
-use lib.ListN.{length}
+use lib.ListN.{length, take}
 use Rattle.boxes.specs.Answer.{Answer, refused, given}
 use Rattle.boxes.specs.Framing.{Box, boxOf}
 use Rattle.partial.specs.Entries.{chunksFrom}
 use Rattle.partial.specs.Heading.{Heading}
-use Rattle.partial.specs.Limits.{sourceLimit}
+use Rattle.partial.specs.Limits.{chunkLimit, sourceLimit}
 use Rattle.partial.specs.Segments.{Chunk}
 use Rattle.partial.specs.Sequences.{sum}
 use Rattle.fields.specs.Location.{plocOf}
@@ -34,8 +34,13 @@ pub record Ran (f : List ℕ) (bs : List Box) (first : Cursor) (before : Gathere
   pub known : Searched f (boxOf (c .last)) bs
   pub rows : Put t₀ (formLength numbered * before .chunks) (putsOf numbered (before .segments) cs) t
 
--- what an answer about them says: their refusal, or that they were read
+-- where a table has room for all chunks of a file, those before so many are as they were
+abbrev pub Behind : Bool → ℕ → List ℕ → List ℕ → Type 0
+Behind numbered many t₀ t = formLength numbered * chunkLimit ≤ length t₀ → take (formLength numbered * many) t ≡ take (formLength numbered * many) t₀
+
+-- what an answer about them says: their refusal, which leaves those of the segments before, or that they were read
 unfoldable pub Chunked : List ℕ → Heading → ℕ → Location → Cursor → Gathered → Bool → List ℕ → List ℕ → ChunksRead → Type 0
-Chunked f h pseg l first before numbered t₀ t (Refused n) = chunksBy f h pseg l first ≡ refused n
+Chunked f h pseg l first before numbered t₀ t (Refused n) =
+    (chunksBy f h pseg l first ≡ refused n) × Behind numbered (before .chunks) t₀ t
 Chunked f h pseg l first before numbered t₀ t (Given c) =
     (cs : List Chunk) × (chunksBy f h pseg l first ≡ given cs) × (length cs ≡ l .count) × Ran f (h .boxes) first before numbered t₀ cs c t

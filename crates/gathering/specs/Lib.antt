@@ -7,3 +7,4 @@ pub mod Gathered
 pub mod Chunks
 pub mod Step
 pub mod Pass
+pub mod Keeping

@@ -14,21 +14,49 @@ use Rattle.partial.specs.Index.{hasIndex}
 use Rattle.partial.specs.Limits.{segmentLimit, chunkLimit, sourceLimit}
 use Rattle.partial.specs.Reading.{segment}
 use Rattle.partial.specs.ReadingDemands.{Numbered}
-use Rattle.partial.specs.Segments.{Segment, chunksOf, endOf}
+use Rattle.partial.specs.Segments.{Chunk, Segment, chunksOf, endOf}
 use Rattle.partial.specs.Tables.{segmentRowLength, segmentRow}
 use Rattle.surls.specs.declared.body.Body.{Body}
 use Rattle.sources.specs.Held.{PfilList, Sourced, Joins}
 use Rattle.ends.specs.Table.{sources, Holds}
 use Rattle.segment.specs.Data.{Searched}
+use Rattle.segment.specs.declared.chunk.Cursor.{Cursor}
 use Rattle.filling.specs.Rows.{Put}
+use Rattle.gathering.specs.Chunks.{chunksBy, Behind, Ran}
 use Rattle.gathering.specs.Forms.{formLength, putsOf}
 use Rattle.gathering.specs.Gathered.{gatheredOf}
-use Rattle.gathering.specs.Parts.{hasSurl}
+use Rattle.gathering.specs.Parts.{hasSurl, partsIn, partsOf}
 use Rattle.gathering.specs.Rows.{rowBy}
 use Rattle.gathering.specs.declared.gathered.Gathered.{Gathered}
 use Rattle.gathering.specs.declared.parts.Parts.{Parts}
+use Rattle.gathering.specs.declared.step.PsegRead.{PsegRead}
+use Rattle.gathering.specs.declared.step.PsegRead.the-variants as PsegRead
 use Rattle.gathering.specs.declared.step.SegmentRead.{SegmentRead}
 use Rattle.gathering.specs.declared.step.SegmentRead.the-variants.{Refused, Given}
+
+-- the chunks of a box that was read are not too many, and its `pshd` ends behind the start of its body
+unfoldable pub Fitting : Gathered → PsegRead → Type 0
+Fitting before (PsegRead.Refused n) = Unit {0}
+Fitting before (PsegRead.Given p c) = (before .chunks + p .location .count ≤ chunkLimit) × (p .header .body .0 ≤ p .header .end .0)
+
+-- the cursor at the first entry of a `ploc`
+abbrev pub firstEntry : Parts → Framed → Cursor
+firstEntry p last = record { at = p .location .first; start = p .fields .offset; last = last }
+
+-- the box of a segment was read: its parts, and its chunks, put behind those of the segments before
+pub record PsegOf (f : List ℕ) (h : Heading) (b : Framed) (inPfil : Bool) (before : Gathered) (last : Framed) (numbered : Bool) (u₀ u : List ℕ) (p : Parts) (c : Cursor) : Type 0 where
+  pub parts : partsIn f inPfil (boxOf b) ≡ given (partsOf p)
+  pub near : p .fields .offset .0 ≤ sourceLimit
+  pub chunks : List Chunk
+  pub read : chunksBy f h (b .at .0) (p .location) (firstEntry p last) ≡ given chunks
+  pub many : length chunks ≡ p .location .count
+  pub ran : Ran f (h .boxes) (firstEntry p last) before numbered u₀ chunks c u
+
+-- what an answer about it says: the refusal of its segment, which leaves the chunks of those before, or that it was read
+unfoldable pub PsegTold : List ℕ → Heading → List Segment → Framed → Bool → Gathered → Framed → Bool → List ℕ → List ℕ → PsegRead → Type 0
+PsegTold f h ss b inPfil before last numbered u₀ u (PsegRead.Refused n) =
+    (segment sourceLimit f h ss (boxOf b) ≡ refused n) × Behind numbered (before .chunks) u₀ u
+PsegTold f h ss b inPfil before last numbered u₀ u (PsegRead.Given p c) = PsegOf f h b inPfil before last numbered u₀ u p c
 
 -- with one segment more the numbers stay within the limits
 unfoldable pub Counted : Gathered → SegmentRead → Type 0

@@ -1,7 +1,8 @@
 // One pass over the segments of a file: each is judged beside those before it, its rows are put into the lent tables,
-// and what all of them say is gathered.
+// and what all of them say is gathered. Salvage's pass leaves out those that refuse.
 mod chunks;
 pub mod gathered;
+pub mod keeping;
 pub mod kept;
 pub mod numbers;
 mod parts;

@@ -32,7 +32,7 @@ pub enum Passed {
 }
 
 // Makes the caller's own tables those of no segment.
-fn clear_tables(
+pub(crate) fn clear_tables(
     sizes: &mut [u64; ALL_SIZES],
     sources: &mut [u64; ALL_SOURCES],
     lists: &mut [u64; ALL_LISTS],

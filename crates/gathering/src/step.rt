@@ -25,14 +25,15 @@ use surls::body::Body;
 ghost use Prim.Native.Nat.{_+_, _≤_};
 ghost use mathlib.Core.List.{List};
 ghost use mathlib.Core.Path.{_≡_};
+ghost use lib.Dec.{ltb};
 ghost use lib.ListN.{length};
 ghost use Rattle.boxes.specs.Framing.{boxLimit, boxOf};
 ghost use Rattle.partial.specs.Heading.{Heading};
 ghost use Rattle.partial.specs.Limits.{chunkLimit};
-ghost use Rattle.partial.specs.Segments.{Segment};
+ghost use Rattle.partial.specs.Segments.{Segment, chunksOf};
 ghost use Rattle.segment.specs.Data.{Searched};
 ghost use Rattle.segment.specs.Tops.{Tops};
-ghost use Rattle.gathering.specs.Step.{chosenList, Entered, Beside, Counted, Segmented};
+ghost use Rattle.gathering.specs.Step.{chosenList, Entered, Fitting, PsegTold, Beside, Counted, Segmented};
 
 // What is gathered with one segment more, and the data box that held the last chunk; or the number of a refusal.
 pub enum SegmentRead {
@@ -42,7 +43,7 @@ pub enum SegmentRead {
 
 // Puts the row, the source and the end of a segment that was read into the tables: its chunks end at that position, and
 // its list of URLs stands in that container. What is gathered with it.
-fn put_read(
+pub(crate) fn put_read(
     file: &[u8],
     list: Body,
     before: Gathered,
@@ -76,7 +77,7 @@ fn put_read(
 }
 
 // Where the list of URLs of a segment stands: in its own box, or in `pfil` where it has none.
-fn list_of(b: Framed, own: bool, in_pfil: Body) -> Body
+pub(crate) fn list_of(b: Framed, own: bool, in_pfil: Body) -> Body
     ensures { λ r. ⌜ r ≡ chosenList b own in_pfil ⌝ }
 {
     if own {
@@ -89,6 +90,55 @@ fn list_of(b: Framed, own: bool, in_pfil: Body) -> Body
         };
     }
     in_pfil
+}
+
+// What the box of a segment holds, and the cursor behind its last entry; or the number of a refusal.
+pub enum PsegRead {
+    Refused(u64),
+    Given(Parts, Cursor),
+}
+
+// The box of a segment, judged beside what was gathered before it, by the table of the file's boxes; its chunks are put
+// behind those before. In `pfil` stands a list of URLs or none.
+pub(crate) fn pseg_of(
+    file: &[u8],
+    tops: &[u32; TOPS],
+    mixed: bool,
+    in_pfil: bool,
+    b: Framed,
+    before: Gathered,
+    last: Framed,
+    numbered: bool,
+    chunks: &mut [u64],
+) -> PsegRead
+    requires { ⌜ (before .chunks ≤ chunkLimit) × (b .end .0 ≤ length (now file)) ⌝ }
+    ensures { λ r. ⌜ Fitting before r × ((h : Heading) (ss : List Segment) → mixed ≡ h .mixed
+        → Searched (now (file .entry)) (boxOf last) (h .boxes) → Tops (h .boxes) (now (tops .entry))
+        → in_pfil ≡ ltb 0 (length (h .urls)) → before .chunks ≡ length (chunksOf ss)
+        → PsegTold (now (file .entry)) h ss b in_pfil before last numbered (now (chunks .entry)) (now (chunks .exit)) r) ⌝ }
+{
+    let place = b.at;
+    match parts_of(file, b, in_pfil) {
+        PartsRead::Refused(n) => PsegRead::Refused(n),
+        PartsRead::Given(p) => {
+            let fields = p.fields;
+            let l = p.location;
+            let at = l.first;
+            let count = l.count;
+            let start = fields.offset;
+            if CHUNK_LIMIT - before.chunks < count {
+                return PsegRead::Refused(TOO_MANY_CHUNKS);
+            }
+            if SOURCE_LIMIT < start.0 {
+                return PsegRead::Refused(SOURCE_TOO_LONG);
+            }
+            let first = Cursor { at, start, last };
+            match chunks_of(file, tops, mixed, place, l, first, before, numbered, chunks) {
+                ChunksRead::Refused(n) => PsegRead::Refused(n),
+                ChunksRead::Given(cursor) => PsegRead::Given(p, cursor),
+            }
+        }
+    }
 }
 
 // The segment of a `pseg` box, beside what was gathered before it, by the table of the file's boxes. In `pfil` a list of
@@ -116,42 +166,34 @@ pub(crate) fn segment_of(
         → Segmented (now (file .entry)) h ss (boxOf b) numbered (now (segments .entry)) (now (segments .exit))
         (now (chunks .entry)) (now (chunks .exit)) (now (sizes .exit)) (now (sources .exit)) (now (lists .exit)) r) ⌝ }
 {
-    let place = b.at;
-    match parts_of(file, b, in_pfil) {
-        PartsRead::Refused(n) => SegmentRead::Refused(n),
-        PartsRead::Given(p) => {
-            let fields = p.fields;
-            let l = p.location;
-            let at = l.first;
-            let count = l.count;
-            let start = fields.offset;
-            if CHUNK_LIMIT - before.chunks < count {
-                return SegmentRead::Refused(TOO_MANY_CHUNKS);
-            }
-            if SOURCE_LIMIT < start.0 {
-                return SegmentRead::Refused(SOURCE_TOO_LONG);
-            }
-            let first = Cursor { at, start, last };
-            match chunks_of(file, tops, mixed, place, l, first, before, numbered, chunks) {
-                ChunksRead::Refused(n) => SegmentRead::Refused(n),
-                ChunksRead::Given(cursor) => {
-                    let end = cursor.start;
-                    let held = cursor.last;
-                    let gathered = put_read(
-                        file,
-                        list_of(b, p.listed, list),
-                        before,
-                        place,
-                        p,
-                        end,
-                        segments,
-                        sizes,
-                        sources,
-                        lists,
-                    );
-                    SegmentRead::Given(gathered, held)
-                }
-            }
+    match pseg_of(
+        file,
+        tops,
+        mixed,
+        in_pfil,
+        b,
+        before,
+        last,
+        numbered,
+        chunks,
+    ) {
+        PsegRead::Refused(n) => SegmentRead::Refused(n),
+        PsegRead::Given(p, cursor) => {
+            let end = cursor.start;
+            let held = cursor.last;
+            let gathered = put_read(
+                file,
+                list_of(b, p.listed, list),
+                before,
+                b.at,
+                p,
+                end,
+                segments,
+                sizes,
+                sources,
+                lists,
+            );
+            SegmentRead::Given(gathered, held)
         }
     }
 }

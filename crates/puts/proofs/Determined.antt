@@ -1,6 +1,7 @@
 -- Each public call's contract determines its answer and what it leaves in the buffer: two that it allows of the same
 -- arguments are equal. Where pieces follow one another that is said where they end within the buffer; of a box, too,
--- that 32 bits hold its size, and of `pdat` and `pseg` that what is handed over of their chunk list is right.
+-- that 32 bits hold its size, of an entry that its widths hold its size
+-- and offset, and of `pdat` and `pseg` that what is handed over of their chunk list is right.
 use Prim.Native.Nat.{ℕ, _+_, _^_, _≤_, _<_}
 use mathlib.Core.List.{List, []}
 use mathlib.Core.Path.{_≡_, sym, _∙_}
@@ -15,17 +16,19 @@ use Rattle.adding.specs.Counts.{Whole}
 use Rattle.adding.specs.Layout.{PsegLaid}
 use Rattle.partial.specs.Limits.{fileLimit}
 use Rattle.puts.specs.Boxes.{ftypBox, pfhdBox, pfilBox, chosen, dataPart, psegBox}
-use Rattle.puts.specs.Entries.{Fits}
+use Rattle.puts.specs.Entries.{entryOf, Entry, Fits}
 use Rattle.puts.specs.Pieces.{PutsPieces}
 use Rattle.puts.proofs.ftyp.put_ftyp.Reads as put-ftyp
 use Rattle.puts.proofs.pdat.put_chosen.Reads as put-chosen
 use Rattle.puts.proofs.pdat.put_pdat.Reads as put-pdat
 use Rattle.puts.proofs.pfil.put_pfhd.Reads as put-pfhd
 use Rattle.puts.proofs.pfil.put_pfil.Reads as put-pfil
-use Rattle.puts.proofs.pieces.put_back.Reads as put-back
 use Rattle.puts.proofs.pieces.put_bytes.Reads as put-bytes
 use Rattle.puts.proofs.pieces.put_field.Reads as put-field
 use Rattle.puts.proofs.pieces.put_front.Reads as put-front
+use Rattle.puts.proofs.pieces.put_large_front.Reads as put-large-front
+use Rattle.puts.proofs.pieces.put_offset.Reads as put-offset
+use Rattle.puts.proofs.ploc.put_entry.Reads as put-entry
 use Rattle.puts.proofs.pseg.put_pseg.Reads as put-pseg
 use Rattle.puts.proofs.surls.put_surl.Reads as put-surl
 use Rattle.puts.proofs.surls.put_surls.Reads as put-surls
@@ -48,17 +51,23 @@ put-field-result κs args x y after after′ p q = same-place (p .end ∙ sym (q
 put-field-bytes : OneLeft put-field.Post (λ κs after. now (after .0))
 put-field-bytes κs args x y after after′ p q = p .left ∙ sym (q .left)
 
-put-back-result : OneResult put-back.Post
-put-back-result κs args x y after after′ p q = same-place (p .end ∙ sym (q .end))
+put-offset-result : OneResult put-offset.Post
+put-offset-result κs args x y after after′ p q = same-place (p .end ∙ sym (q .end))
 
-put-back-bytes : OneLeft put-back.Post (λ κs after. now (after .0))
-put-back-bytes κs args x y after after′ p q = p .left ∙ sym (q .left)
+put-offset-bytes : OneLeft put-offset.Post (λ κs after. now (after .0))
+put-offset-bytes κs args x y after after′ p q = p .left ∙ sym (q .left)
 
 put-front-result : OneResult put-front.Post
 put-front-result κs args x y after after′ p q = same-place (p .end ∙ sym (q .end))
 
 put-front-bytes : OneLeft put-front.Post (λ κs after. now (after .0))
 put-front-bytes κs args x y after after′ p q = p .left ∙ sym (q .left)
+
+put-large-front-result : OneResult put-large-front.Post
+put-large-front-result κs args x y after after′ p q = same-place (p .end ∙ sym (q .end))
+
+put-large-front-bytes : OneLeft put-large-front.Post (λ κs after. now (after .0))
+put-large-front-bytes κs args x y after after′ p q = p .left ∙ sym (q .left)
 
 -- ---- pieces one behind the other
 
@@ -114,6 +123,12 @@ put-pdat-result κs args _ (a, b, room) x y after after′ p q = one-end (p a b)
 
 put-pdat-bytes : OneLeftKnown put-pdat.Post (λ κs args (_ : Unit {0}). ((args .1 .1 .1 .1 .0) ≡ length (dataFor (goesIn (args .1 .1 .0)) (items (now (args .1 .1 .1 .1 .1 .0))) (now (args .1 .1 .1 .1 .1 .1 .0)))) × (length (dataPart (args .1 .1 .0) (args .1 .1 .1 .0) (now (args .1 .1 .1 .1 .1 .0)) (now (args .1 .1 .1 .1 .1 .1 .0))) < 2 ^ 32) × Room (now (args .0)) (args .1 .0 .0) (dataPart (args .1 .1 .0) (args .1 .1 .1 .0) (now (args .1 .1 .1 .1 .1 .0)) (now (args .1 .1 .1 .1 .1 .1 .0)))) (λ κs after. now (after .0))
 put-pdat-bytes κs args _ (a, b, room) x y after after′ p q = one-left (p a b) (q a b) room
+
+put-entry-result : OneKnown put-entry.Post (λ κs args (_ : Unit {0}). Entry (args .1 .1 .0 .size) (args .1 .1 .0 .offset) (args .1 .1 .1 .0) (args .1 .1 .1 .1 .0) (args .1 .1 .1 .1 .1 .0) × Room (now (args .0)) (args .1 .0 .0) (entryOf (args .1 .1 .0 .size) (args .1 .1 .0 .offset) (args .1 .1 .1 .0) (args .1 .1 .1 .1 .0) (args .1 .1 .1 .1 .1 .0)))
+put-entry-result κs args _ (a, room) x y after after′ p q = one-end (p a) (q a) room
+
+put-entry-bytes : OneLeftKnown put-entry.Post (λ κs args (_ : Unit {0}). Entry (args .1 .1 .0 .size) (args .1 .1 .0 .offset) (args .1 .1 .1 .0) (args .1 .1 .1 .1 .0) (args .1 .1 .1 .1 .1 .0) × Room (now (args .0)) (args .1 .0 .0) (entryOf (args .1 .1 .0 .size) (args .1 .1 .0 .offset) (args .1 .1 .1 .0) (args .1 .1 .1 .1 .0) (args .1 .1 .1 .1 .1 .0))) (λ κs after. now (after .0))
+put-entry-bytes κs args _ (a, room) x y after after′ p q = one-left (p a) (q a) room
 
 put-pseg-result : OneKnown put-pseg.Post (λ κs args (_ : Unit {0}). Whole (items (now (args .1 .1 .1 .1 .1 .1 .1 .0))) (args .1 .1 .1 .0) × PsegLaid (asks (args .1 .1 .0) (args .1 .1 .1 .1 .1 .0) (now (args .1 .1 .1 .1 .1 .1 .1 .0)) [] (now (args .1 .1 .1 .1 .1 .1 .1 .1 .0)) (now (args .1 .1 .1 .1 .1 .1 .1 .1 .1 .0))) (args .1 .1 .1 .1 .0) × Fits (items (now (args .1 .1 .1 .1 .1 .1 .1 .0))) × ((args .1 .1 .1 .1 .1 .1 .0) ≡ sizeOf (goesOut (args .1 .1 .1 .1 .1 .0)) (items (now (args .1 .1 .1 .1 .1 .1 .1 .0)))) × (length (psegBox (args .1 .1 .0) (args .1 .1 .1 .1 .1 .0) (now (args .1 .1 .1 .1 .1 .1 .1 .0)) (now (args .1 .1 .1 .1 .1 .1 .1 .1 .0)) (now (args .1 .1 .1 .1 .1 .1 .1 .1 .1 .0))) ≤ fileLimit) × Room (now (args .0)) (args .1 .0 .0) (psegBox (args .1 .1 .0) (args .1 .1 .1 .1 .1 .0) (now (args .1 .1 .1 .1 .1 .1 .1 .0)) (now (args .1 .1 .1 .1 .1 .1 .1 .1 .0)) (now (args .1 .1 .1 .1 .1 .1 .1 .1 .1 .0))))
 put-pseg-result κs args _ (a, b, c, d, e, room) x y after after′ p q = one-end (p a b c d e) (q a b c d e) room

@@ -4,13 +4,12 @@ use mathlib.Core.Bool.{Bool, true, false, true≢false}
 use mathlib.Core.List.{List, [], _∷_, _++_, append-nil, append-assoc}
 use mathlib.Core.Path.{_≡_, refl, sym, ap, subst, _∙_}
 use native.Mathlib.Omega.{arith}
-use lib.ListN.{length, getD, length-append}
+use lib.ListN.{length, getD}
 use Rattle.numerals.specs.Numbers.{bytesOf, twosComplement, holds, holdsOffset}
 use Rattle.numerals.specs.declared.numbers.Offset.{Offset}
-use Rattle.numerals.specs.declared.numbers.Offset.the-variants.{Ahead, Back}
-use Rattle.numerals.proofs.NumberLaws.{length-bytesOf}
+use Rattle.numerals.specs.declared.numbers.Offset.the-variants.{Back}
 use Rattle.additions.specs.Addition.{Item, items, sizeOf, dataSize, goesOut, goesIn}
-use Rattle.additions.specs.Append.{back, placedWith, placed, flagByte, entryBytes}
+use Rattle.additions.specs.Append.{Placed, back, placedWith, placed, flagByte, entryBytes}
 use Rattle.partial.specs.Segments.{present}
 use Rattle.partial.specs.Sequences.{allOf}
 use Rattle.partial.proofs.Meaning.SequenceLaws.{both}
@@ -25,54 +24,75 @@ use Rattle.puts.proofs.PieceLaws.{Partly, partly-start, partly-same, pa
 
 -- ---- an entry
 
-module _ (l w size state back : ℕ) where
-  pub entry-absent : {flags : ℕ} → flags ≡ flagByte state → present state ≡ false → bytesOf 1 flags ++ bytesOf l size ≡ entryOf l w size state back
-  entry-absent flags absent = rw (flags, one-byte (flagByte state) (flags-low state), absent, entryOf) (sym (ap (λ (s : List ℕ). flagByte state ∷ s) (append-nil (bytesOf l size))))
+module _ (l w size state : ℕ) where
+  pub entry-absent : (z : Offset) {flags : ℕ} → flags ≡ flagByte state → present state ≡ false → bytesOf 1 flags ++ bytesOf l size ≡ entryOf l w size state z
+  entry-absent z flags absent = rw (flags, one-byte (flagByte state) (flags-low state), absent, entryOf) (sym (ap (λ (s : List ℕ). flagByte state ∷ s) (append-nil (bytesOf l size))))
 
-  pub entry-there : {flags : ℕ} → flags ≡ flagByte state → present state ≡ true
-      → bytesOf 1 flags ++ (bytesOf l size ++ bytesOf w (twosComplement w (Back back))) ≡ entryOf l w size state back
-  entry-there flags there = rw (flags, one-byte (flagByte state) (flags-low state), there, entryOf)
+  pub entry-there : (z : Offset) {flags : ℕ} → flags ≡ flagByte state → present state ≡ true
+      → bytesOf 1 flags ++ (bytesOf l size ++ bytesOf w (twosComplement w z)) ≡ entryOf l w size state z
+  entry-there z flags there = rw (flags, one-byte (flagByte state) (flags-low state), there, entryOf)
+
+  -- an offset counts where the chunk is present
+  pub entry-same : {z z′ : Offset} → (present state ≡ true → z ≡ z′) → entryOf l w size state z ≡ entryOf l w size state z′
+  entry-same {z} {z′} far = go (present state) refl
+    where
+      go : (there : Bool) → present state ≡ there → entryOf l w size state z ≡ entryOf l w size state z′
+      go true e = ap (entryOf l w size state) (far e)
+      go false e = rw (entryOf, e)
+
+-- ---- the first of some
+
+module _ (l w : ℕ) (p : Placed) (ps : List Placed) where
+  pub entry-more : entryBytes l w (p ∷ ps) ≡ entryOf l w (p .size) (p .state) (p .offset) ++ entryBytes l w ps
+  unfolding entryBytes
+  entry-more =
+      let offset : List ℕ = elim (present (p .state)) [ true ↦ bytesOf w (twosComplement w (p .offset)) | false ↦ [] ] in
+      ap (λ (s : List ℕ). flagByte (p .state) ∷ s) (sym (append-assoc (bytesOf l (p .size)) offset (entryBytes l w ps)))
+
+  -- what holds every entry holds the first, and those behind it
+  module _ (held : Entries l w (p ∷ ps)) where
+    pub entry-held : Entry l w (p .size) (p .state) (p .offset)
+    unfolding allOf
+    entry-held =
+        record {
+          narrow = held .narrow;
+          sized = both (holds l (p .size)) _ (held .sizes) .0;
+          offset = λ _. both (holdsOffset w (p .offset)) _ (held .offsets) .0;
+        }
+
+    pub entries-rest : Entries l w ps
+    unfolding allOf
+    entries-rest =
+        record {
+          narrow = held .narrow;
+          sizes = both (holds l (p .size)) _ (held .sizes) .1;
+          offsets = both (holdsOffset w (p .offset)) _ (held .offsets) .1;
+        }
 
 -- ---- an item
 
 module _ (o : Bool) (out : ℕ) (i : Item) (is : List Item) (l w : ℕ) where
-  pub entry-first : entryBytes l w (placedWith o out (i ∷ is))
-      ≡ entryOf l w (i .size) (i .state) (back o out i is) ++ entryBytes l w (placedWith o out is)
-  unfolding placedWith entryBytes
+  entry-first : entryBytes l w (placedWith o out (i ∷ is))
+      ≡ entryOf l w (i .size) (i .state) (Back (back o out i is)) ++ entryBytes l w (placedWith o out is)
+  unfolding placedWith
   entry-first =
-      let n = back o out i is in
-      let offset : List ℕ = elim (present (i .state)) [ true ↦ bytesOf w (twosComplement w (Back n)) | false ↦ [] ] in
-      let rest = entryBytes l w (placedWith o out is) in
-      ap (λ (s : List ℕ). flagByte (i .state) ∷ (bytesOf l (i .size) ++ (s ++ rest))) (same n (present (i .state)) _ (λ e. rw e))
-      ∙ ap (λ (s : List ℕ). flagByte (i .state) ∷ s) (sym (append-assoc (bytesOf l (i .size)) offset rest))
-    where
-      same : (n : ℕ) (there : Bool) (z : Offset) → (there ≡ true → z ≡ Back n)
-          → _≡_ {A = List ℕ} (elim there [ true ↦ bytesOf w (twosComplement w z) | false ↦ [] ])
-          (elim there [ true ↦ bytesOf w (twosComplement w (Back n)) | false ↦ [] ])
-      same n true z far = ap (λ (z : Offset). bytesOf w (twosComplement w z)) (far refl)
-      same n false z far = refl
+      entry-more l w _ (placedWith o out is)
+      ∙ ap (λ (s : List ℕ). s ++ entryBytes l w (placedWith o out is)) (entry-same l w (i .size) (i .state) (λ e. rw e))
 
-  -- what holds every entry holds the first, and those behind it
   module _ (held : Entries l w (placedWith o out (i ∷ is))) where
-    pub entry-held : Entry l w (i .size) (i .state) (back o out i is)
-    unfolding placedWith allOf
-    entry-held =
+    first-held : Entry l w (i .size) (i .state) (Back (back o out i is))
+    unfolding placedWith
+    first-held =
+        let first = entry-held l w _ (placedWith o out is) held in
         record {
-          narrow = held .narrow;
-          sized = both (holds l (i .size)) _ (held .sizes) .0;
-          offset = λ e.
-              ap (λ (z : Offset). holdsOffset w z) (sym (rw e))
-              ∙ both (holdsOffset w (elim (present (i .state)) [ true ↦ Back (back o out i is) | false ↦ Ahead 0 ])) _ (held .offsets) .0;
+          narrow = first .narrow;
+          sized = first .sized;
+          offset = λ e. ap (holdsOffset w) (sym (rw e)) ∙ first .offset e;
         }
 
-    pub entries-rest : Entries l w (placedWith o out is)
-    unfolding placedWith allOf
-    entries-rest =
-        record {
-          narrow = held .narrow;
-          sizes = both (holds l (i .size)) _ (held .sizes) .1;
-          offsets = both (holdsOffset w (elim (present (i .state)) [ true ↦ Back (back o out i is) | false ↦ Ahead 0 ])) _ (held .offsets) .1;
-        }
+    rest-held : Entries l w (placedWith o out is)
+    unfolding placedWith
+    rest-held = entries-rest l w _ (placedWith o out is) held
 
 -- ---- how far the data lies
 
@@ -156,18 +176,18 @@ module _ (o : Bool) (list : List ℕ) (l w : ℕ) (buffer₀ : List ℕ) (at : �
       -- the entry of an item whose data lies so far back, and those behind it
       module _ {n : ℕ} (far : n ≡ back o (sizeOf (goesOut o) (items list)) (itemAt list i) (itemsFrom list (i + 1))) where
         abbrev entry : List ℕ
-        entry = entryOf l w (getD list (2 * i) 0) (getD list (2 * i + 1) 0) n
+        entry = entryOf l w (getD list (2 * i) 0) (getD list (2 * i + 1) 0) (Back n)
 
         bytes-from : Partly (entryBytes l w (placed o (items list))) buffer₀ at buffer next (entry ++ entriesOf o list l w (itemsFrom list (i + 1)))
         bytes-from =
             partly-same _ _ _
             (ap (entriesOf o list l w) from
             ∙ entry-first o _ (itemAt list i) (itemsFrom list (i + 1)) l w
-            ∙ ap (λ (k : ℕ). entryOf l w (getD list (2 * i) 0) (getD list (2 * i + 1) 0) k ++ entriesOf o list l w (itemsFrom list (i + 1))) (sym far))
+            ∙ ap (λ (k : ℕ). entryOf l w (getD list (2 * i) 0) (getD list (2 * i + 1) 0) (Back k) ++ entriesOf o list l w (itemsFrom list (i + 1))) (sym far))
             (m .bytes)
 
-        pub midway-entry : Entry l w (getD list (2 * i) 0) (getD list (2 * i + 1) 0) n
-        midway-entry = rw far (entry-held o _ (itemAt list i) (itemsFrom list (i + 1)) l w held-from)
+        pub midway-entry : Entry l w (getD list (2 * i) 0) (getD list (2 * i + 1) 0) (Back n)
+        midway-entry = rw far (first-held o _ (itemAt list i) (itemsFrom list (i + 1)) l w held-from)
 
         pub midway-more : {buffer′ : List ℕ} {next′ : ℕ} {left′ : Backs} → PutsPieces buffer next entry buffer′ next′
             → Distances o (sizeOf (goesOut o) (items list)) (itemsFrom list (i + 1)) left′
@@ -176,7 +196,7 @@ module _ (o : Bool) (list : List ℕ) (l w : ℕ) (buffer₀ : List ℕ) (at : �
             record {
               bytes = partly-more _ _ _ entry _ bytes-from puts;
               distances = far-rest;
-              held = entries-rest o _ (itemAt list i) (itemsFrom list (i + 1)) l w held-from;
+              held = rest-held o _ (itemAt list i) (itemsFrom list (i + 1)) l w held-from;
             }
 
     pub midway-end : length list / 2 ≤ i → PutsPieces buffer₀ at (entryBytes l w (placed o (items list))) buffer next

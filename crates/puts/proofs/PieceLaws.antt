@@ -5,17 +5,20 @@ use mathlib.Core.List.{List, [], _++_, append-nil, append-assoc}
 use mathlib.Core.Path.{_≡_, refl, sym, ap, ap₂, subst, _∙_}
 use native.Mathlib.Nat.{add-zero, min-eq-left}
 use native.Mathlib.Omega.{arith}
-use lib.ListN.{length, length-append}
+use lib.ListN.{length, drop, length-append}
+use lib.Seq.{drop-length}
 use Rattle.boxes.specs.Framing.{frontSize, front, boxed}
 use Rattle.numerals.specs.Numbers.{bytesOf, twosComplement, holds, holdsOffset}
 use Rattle.numerals.specs.Stored.{stored}
-use Rattle.numerals.specs.declared.numbers.Offset.the-variants.{Back}
+use Rattle.numerals.specs.declared.numbers.Offset.{Offset}
+use Rattle.numerals.proofs.NumberLaws.{length-bytesOf, bytesOf-joined}
+use Rattle.numerals.proofs.WidthLaws.{below-holds}
 use Rattle.boxes.proofs.BoxedLaws.{front-size, size-held, length-boxed, boxed-parts}
 use Rattle.filling.specs.Rows.{Puts}
 use Rattle.filling.proofs.PutsLaws.{puts-stored, puts-same, puts-more}
-use Rattle.filling.proofs.RowLaws.{put-stored, put-none}
+use Rattle.filling.proofs.RowLaws.{put-stored, put-fills, put-none}
 use Rattle.texts.specs.Pieces.{PutsPiece}
-use Rattle.puts.specs.Pieces.{PutsField, PutsPieces}
+use Rattle.puts.specs.Pieces.{PutsField, PutsPieces, largeFront}
 
 module _ {s t : List ℕ} {at m : ℕ} where
   stored-put : {bytes : List ℕ} → t ≡ stored s at bytes → m ≡ min (at + length bytes) (2 ^ 64 - 1) → PutsPieces s at bytes t m
@@ -34,20 +37,19 @@ module _ {s t : List ℕ} {at m : ℕ} where
   pub pieces-same : {a b : List ℕ} → a ≡ b → PutsPieces s at a t m → PutsPieces s at b t m
   pieces-same e p = subst (λ (bytes : List ℕ). PutsPieces s at bytes t m) e p
 
-  -- a number, and an offset so many back, of a width up to 8 that holds it
+  -- a number, and an offset, of a width up to 8 that holds it
   pub number-put : (w n : ℕ) → w ≤ 8 → holds w n ≡ true → PutsField (holds (min w 8) n) s at (bytesOf (min w 8) n) t m
       → PutsPieces s at (bytesOf w n) t m
   number-put w n low held p =
       let same : min w 8 ≡ w = min-eq-left low in
       pieces-same (ap (λ (k : ℕ). bytesOf k n) same) (field-put (ap (λ (k : ℕ). holds k n) same ∙ held) p)
 
-  pub back-put : (w n : ℕ) → w ≤ 8 → holdsOffset w (Back n) ≡ true
-      → PutsField (holdsOffset (min w 8) (Back n)) s at (bytesOf (min w 8) (twosComplement (min w 8) (Back n))) t m
-      → PutsPieces s at (bytesOf w (twosComplement w (Back n))) t m
-  back-put w n low held p =
+  pub offset-put : (w : ℕ) (z : Offset) → w ≤ 8 → holdsOffset w z ≡ true
+      → PutsField (holdsOffset (min w 8) z) s at (bytesOf (min w 8) (twosComplement (min w 8) z)) t m
+      → PutsPieces s at (bytesOf w (twosComplement w z)) t m
+  offset-put w z low held p =
       let same : min w 8 ≡ w = min-eq-left low in
-      pieces-same (ap (λ (k : ℕ). bytesOf k (twosComplement k (Back n))) same)
-      (field-put (ap (λ (k : ℕ). holdsOffset k (Back n)) same ∙ held) p)
+      pieces-same (ap (λ (k : ℕ). bytesOf k (twosComplement k z)) same) (field-put (ap (λ (k : ℕ). holdsOffset k z) same ∙ held) p)
 
   -- pieces that are put behind others are put with them
   pub pieces-more : {a b : List ℕ} {u : List ℕ} {n : ℕ} → PutsPieces s at a t m → PutsPieces t m b u n → PutsPieces s at (a ++ b) u n
@@ -70,9 +72,39 @@ module _ {s t : List ℕ} {at m : ℕ} where
       (ap (λ (n : ℕ). front kind n ++ body) size ∙ sym (boxed-parts kind body))
       (pieces-more (field-put held p) q)
 
+  -- so is one behind its header in the large form, where 64 bits hold the size
+  pub pieces-large : (kind : ℕ) {n : ℕ} {body : List ℕ} {u : List ℕ} {k : ℕ} → 16 + length body < 2 ^ 64
+      → PutsField (holds 8 (16 + n)) s at (largeFront kind n) t m → n ≡ length body → PutsPieces t m body u k
+      → PutsPieces s at (bytesOf 4 1 ++ (bytesOf 4 kind ++ (bytesOf 8 (16 + length body) ++ body))) u k
+  pieces-large kind {n} {body} {u} {k} small p size q =
+      subst (λ (bytes : List ℕ). PutsPieces s at bytes u k)
+      (ap (λ (n : ℕ). largeFront kind n ++ body) size
+      ∙ append-assoc (bytesOf 4 1) (bytesOf 4 kind ++ bytesOf 8 (16 + length body)) body
+      ∙ ap (λ (rest : List ℕ). bytesOf 4 1 ++ rest) (append-assoc (bytesOf 4 kind) (bytesOf 8 (16 + length body)) body))
+      (pieces-more (field-put (below-holds 8 (16 + n) (omega arith)) p) q)
+
 -- nothing is put
 pub pieces-none : (s : List ℕ) (at : ℕ) → PutsPieces s at [] s at
 pieces-none s at = record { long = refl; puts = λ low. record { put = put-none s at; end = sym (add-zero at) } }
+
+-- ---- a header in the large form
+
+module _ (kind n : ℕ) where
+  pub length-large : length (largeFront kind n) ≡ 16
+  length-large = simp (length-append, length-bytesOf)
+
+  -- it is two numbers, which fill its bytes
+  pub large-numbers : (s t : List ℕ) {u : List ℕ} → length s ≡ 16 → kind < 2 ^ 32 → t ≡ stored s 0 (bytesOf 8 (0x1_0000_0000 + kind)) → u ≡ stored t 8 (bytesOf 8 (16 + n))
+      → u ≡ largeFront kind n
+  large-numbers s t {u} long code first second =
+      let joined = bytesOf-joined 4 4 1 kind code in
+      let typed = puts-stored {m = 8} _ first (omega (arith, length-bytesOf 8 (0x1_0000_0000 + kind))) in
+      let sized = puts-stored {m = 16} _ second (omega (arith, length-bytesOf 8 (16 + n))) in
+      let all = puts-same (ap (λ (a : List ℕ). a ++ bytesOf 8 (16 + n)) joined ∙ append-assoc (bytesOf 4 1) (bytesOf 4 kind) (bytesOf 8 (16 + n))) (puts-more typed sized) in
+      put-fills (largeFront kind n) (all .put) (omega (arith, length-large))
+      ∙ (λ i. largeFront kind n ++ drop ((length-large ∙ sym long) i) s)
+      ∙ ap (λ (rest : List ℕ). largeFront kind n ++ rest) (drop-length s)
+      ∙ append-nil (largeFront kind n)
 
 -- ---- part by part
 

@@ -5,23 +5,22 @@ use mathlib.Core.List.{List, [], _∷_, _++_, map}
 use mathlib.Core.Path.{_≡_}
 use lib.ListN.{length}
 use Rattle.numerals.specs.Numbers.{bytesOf, twosComplement, holds, holdsOffset}
-use Rattle.numerals.specs.declared.numbers.Offset.the-variants.{Back}
+use Rattle.numerals.specs.declared.numbers.Offset.{Offset}
 use Rattle.additions.specs.Addition.{Item, sizeOf, dataSize, goesOut, goesIn}
 use Rattle.additions.specs.Append.{Placed, flagByte}
 use Rattle.partial.specs.Segments.{present}
 use Rattle.partial.specs.Sequences.{allOf, sum}
 use Rattle.puts.specs.declared.ploc.Backs.{Backs}
 
--- an entry with these widths, its data so many bytes before the `pseg`
-abbrev pub entryOf : ℕ → ℕ → ℕ → ℕ → ℕ → List ℕ
-entryOf l o size state back =
-    flagByte state ∷ (bytesOf l size ++ elim (present state) [ true ↦ bytesOf o (twosComplement o (Back back)) | false ↦ [] ])
+-- an entry with these widths, its data at an offset from the `pseg`
+abbrev pub entryOf : ℕ → ℕ → ℕ → ℕ → Offset → List ℕ
+entryOf l o size state z = flagByte state ∷ (bytesOf l size ++ elim (present state) [ true ↦ bytesOf o (twosComplement o z) | false ↦ [] ])
 
 -- the widths hold its size and, where the chunk is present, its offset
-pub record Entry (l o size state back : ℕ) : Type 0 where
+pub record Entry (l o size state : ℕ) (z : Offset) : Type 0 where
   pub narrow : (l ≤ 8) × (o ≤ 8)
   pub sized : holds l size ≡ true
-  pub offset : present state ≡ true → holdsOffset o (Back back) ≡ true
+  pub offset : present state ≡ true → holdsOffset o z ≡ true
 
 -- the widths hold every size and offset
 pub record Entries (l o : ℕ) (ps : List Placed) : Type 0 where

@@ -4,7 +4,7 @@ pub mod ftyp;
 pub mod pdat;
 pub mod pfil;
 pub mod pieces;
-mod ploc;
+pub mod ploc;
 pub mod pseg;
 mod pshd;
 pub mod surls;

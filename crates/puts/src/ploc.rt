@@ -1,7 +1,7 @@
 // The `ploc` box, as it is written.
-use crate::pieces::put_back;
 use crate::pieces::put_field;
 use crate::pieces::put_front;
+use crate::pieces::put_offset;
 use adding::counts::Counts;
 use adding::layout::Layout;
 use boxes::kinds::PLOC;
@@ -9,6 +9,7 @@ use fields::state::DAMAGED;
 use fields::state::GOOD;
 use fields::state::LOST;
 use fields::state::present;
+use numerals::numbers::Offset;
 use numerals::numbers::within;
 use numerals::order::between;
 use numerals::place::Place;
@@ -41,30 +42,29 @@ fn flags_of(state: u64) -> u64
 }
 
 // Two widths: of the sizes and of the offsets.
-struct Widths {
-    size: usize,
-    offset: usize,
+pub struct Widths {
+    pub size: usize,
+    pub offset: usize,
 }
 
-// Puts an entry: flags, size and, where the chunk is present, the offset of its data, which lies so many bytes before
-// the `pseg`.
-fn put_entry(
+// Puts an entry: flags, size and, where the chunk is present, the offset of its data.
+pub fn put_entry(
     buffer: &mut [u8],
     at: Place,
     widths: Widths,
     size: u64,
     state: u64,
-    back: u64,
+    offset: Offset,
 ) -> Place
-    ensures { λ r. ⌜ (Entry (widths .size) (widths .offset) size state back
-        → PutsPieces (now (buffer .entry)) (at .0) (entryOf (widths .size) (widths .offset) size state back) (now (buffer .exit)) (r .0)) ⌝ }
+    ensures { λ r. ⌜ (Entry (widths .size) (widths .offset) size state offset
+        → PutsPieces (now (buffer .entry)) (at .0) (entryOf (widths .size) (widths .offset) size state offset) (now (buffer .exit)) (r .0)) ⌝ }
 {
     let sized = put_field(buffer, at, 1, flags_of(state));
     let next = put_field(buffer, sized, widths.size, size);
     if !present(state) {
         return next;
     }
-    put_back(buffer, next, widths.offset, back)
+    put_offset(buffer, next, widths.offset, offset)
 }
 
 // How far before the `pseg` the next data lies: in `pdat`, and outside.
@@ -127,7 +127,7 @@ fn put_entries(
         let size = list[2 * i];
         let state = list[2 * i + 1];
         let back = left.of(outside, state);
-        next = put_entry(buffer, next, widths, size, state, back);
+        next = put_entry(buffer, next, widths, size, state, Offset::Back(back));
         left = left.past(outside, size, state);
         i += 1;
     }

@@ -1,4 +1,7 @@
 -- Laws of the code of salvage.
 pub mod CountingLaws
 pub mod LinesLaws
+pub mod OpensLaws
+pub mod PlocLaws
 pub mod SoundLaws
+pub mod TableLaws

@@ -11,11 +11,11 @@ use Rattle.filling.specs.Rows.{Puts}
 use Rattle.filling.proofs.RowLaws.{put-none}
 use Rattle.filling.proofs.PutsLaws.{puts-same, puts-more}
 use Rattle.partial.specs.BoxList.{each, faultLine}
-use Rattle.salvage.specs.Kept.{Fate, dropped, whole, ofPfil, ofPseg, Fated}
-use Rattle.salvage.specs.Lines.{droppedLine, droppedLines}
-use Rattle.salvage.proofs.CopyLaws.{staying}
+use Rattle.rescue.specs.Kept.{Fate, dropped, whole, ofPfil, ofPseg, Fated}
+use Rattle.rescue.specs.Lines.{droppedLine, droppedLines}
+use Rattle.rescue.proofs.CopyLaws.{staying}
 use Rattle.salvaging.specs.Fault.{faultAt}
-use Rattle.salvage.proofs.TableLaws.{Coded, noFated}
+use Rattle.rescue.proofs.TableLaws.{Coded, noFated}
 
 module _ (x : Fated) {code : ℕ} (coded : Coded (x .fate) code) where
   pub line-none : code ≡ 255 → [] ≡ droppedLine x

@@ -6,8 +6,8 @@ use lib.ListN.{length, getD}
 use Rattle.boxes.specs.Framing.{Box}
 use Rattle.boxes.specs.Kinds.{boxAt}
 use Rattle.partial.specs.Heading.{Heading}
-use Rattle.salvage.proofs.HeadingLaws.{opened}
-use Rattle.salvage.proofs.TableLaws.{Coded, code-at, fates-many, fated-box}
+use Rattle.rescue.proofs.HeadingLaws.{opened}
+use Rattle.rescue.proofs.TableLaws.{Coded, code-at, fates-many, fated-box}
 use Rattle.salvaging.specs.Tables.{fatesIn, fateAt, FatesHeld, Sound}
 
 module _ (f : List ℕ) (h : Heading) (sound : Sound f h) where

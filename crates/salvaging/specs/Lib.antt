@@ -1,3 +1,4 @@
 pub mod Fault
 pub mod Opens
+pub mod Ploc
 pub mod Tables

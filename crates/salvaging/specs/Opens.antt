@@ -9,8 +9,8 @@ use Rattle.boxes.specs.Answer.{refused, given}
 use Rattle.boxes.specs.Framing.{Fault}
 use Rattle.partial.specs.Heading.{Heading}
 use Rattle.heading.specs.Facts.{pfilBody}
-use Rattle.salvage.specs.Kept.{walkOf, framed, opening}
-use Rattle.salvaging.specs.declared.opening.Open.{Open}
+use Rattle.rescue.specs.Kept.{walkOf, framed, opening}
+use Rattle.salvaging.specs.declared.opening.OpenFile.{OpenFile}
 use Rattle.salvaging.specs.declared.opening.Opening.{Opening}
 use Rattle.salvaging.specs.declared.opening.Opening.the-variants.{Refused, Found}
 
@@ -20,14 +20,14 @@ faultNumber none = 0
 faultNumber (some x) = x .number
 
 -- where the whole boxes of a file end, and the number of the framing error there
-pub record Whole (f : List ℕ) (end fault : ℕ) : Type 0 where
-  pub cut : take end f ≡ framed f
-  pub end : end ≡ length (framed f)
+pub record Whole (f : List ℕ) (at fault : ℕ) : Type 0 where
+  pub cut : take at f ≡ framed f
+  pub end : at ≡ length (framed f)
   pub number : fault ≡ faultNumber (walkOf f .fault)
 
 -- what is told of an opened file: whether it is mixed, where the list of URLs in its `pfil` stands, and where its whole
 -- boxes end
-pub record Told (f : List ℕ) (h : Heading) (o : Open) : Type 0 where
+pub record Told (f : List ℕ) (h : Heading) (o : OpenFile) : Type 0 where
   pub mix : o .mixed ≡ h .mixed
   pub list : o .list ≡ pfilBody (h .boxes)
   pub whole : Whole f (o .end .0) (o .fault)

@@ -11,9 +11,9 @@ use Rattle.partial.specs.Heading.{Heading}
 use Rattle.partial.specs.Limits.{sourceLimit}
 use Rattle.partial.specs.Sequences.{sum}
 use Rattle.segment.specs.Tops.{Tops}
-use Rattle.salvage.specs.Kept.{dropped, Fated, opening, fates}
-use Rattle.salvage.specs.Copy.{copySize, newPlace}
-use Rattle.salvage.specs.Table.{codes}
+use Rattle.rescue.specs.Kept.{dropped, Fated, opening, fates}
+use Rattle.rescue.specs.Copy.{copySize, newPlace}
+use Rattle.rescue.specs.Table.{codes}
 
 -- the fates of the boxes of a file
 abbrev pub fatesIn : List ℕ → Heading → List Fated

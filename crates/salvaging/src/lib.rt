@@ -3,3 +3,4 @@
 mod lines;
 mod opening;
 mod places;
+mod ploc;

@@ -2,9 +2,9 @@
 use boxes::kinds::Container;
 use boxes::walk::Step;
 use boxes::walk::Walk;
-use salvage::table::ALL_FATES;
-use salvage::table::STAYS;
 use numerals::place::Place;
+use rescue::table::ALL_FATES;
+use rescue::table::STAYS;
 use texts::lines::put_fault;
 ghost use Prim.Native.Nat.{_+_, _*_, _≤_};
 ghost use mathlib.Core.Path.{_≡_};
@@ -12,9 +12,9 @@ ghost use lib.ListN.{length};
 ghost use Rattle.filling.specs.Rows.{Puts};
 ghost use Rattle.partial.specs.BoxList.{each};
 ghost use Rattle.partial.specs.Heading.{Heading};
-ghost use Rattle.salvage.specs.Kept.{Fated};
-ghost use Rattle.salvage.proofs.TableLaws.{Coded};
-ghost use Rattle.salvage.specs.Lines.{droppedLine, droppedLines};
+ghost use Rattle.rescue.specs.Kept.{Fated};
+ghost use Rattle.rescue.proofs.TableLaws.{Coded};
+ghost use Rattle.rescue.specs.Lines.{droppedLine, droppedLines};
 ghost use Rattle.salvaging.specs.Fault.{faultAt};
 ghost use Rattle.salvaging.specs.Tables.{fatesIn, FatesHeld, Sound};
 
@@ -51,12 +51,7 @@ fn put_dropped(buffer: &mut [u8], file: &[u8], fates: &[u64; ALL_FATES]) -> u64
 }
 
 // Puts these lines and that of the framing error that stands behind the file's boxes, of that number, 0 for none.
-pub(crate) fn put_lines(
-    buffer: &mut [u8],
-    file: &[u8],
-    fates: &[u64; ALL_FATES],
-    fault: u64,
-) -> u64
+pub(crate) fn put_lines(buffer: &mut [u8], file: &[u8], fates: &[u64; ALL_FATES], fault: u64) -> u64
     ensures { λ r. ⌜ ((h : Heading) → Sound (now (file .entry)) h → FatesHeld (now (file .entry)) h (now (fates .entry))
         → Puts (now (buffer .entry)) 0 (droppedLines (fatesIn (now (file .entry)) h) (faultAt (length (now (file .entry))) fault)) (now (buffer .exit)) r) ⌝ }
 {

@@ -11,12 +11,12 @@ use surls::body::Body;
 ghost use Prim.Native.Nat.{_≤_};
 ghost use mathlib.Core.Path.{_≡_};
 ghost use lib.ListN.{length, take};
-ghost use Rattle.salvage.specs.Kept.{walkOf, firstTwo};
+ghost use Rattle.rescue.specs.Kept.{walkOf, firstTwo};
 ghost use Rattle.salvaging.specs.Opens.{Whole, Opens};
 
 // Whether the file is mixed, where the list of URLs in its `pfil` stands, where its whole boxes end, and the number of
 // the framing error there, 0 for none.
-pub struct Open {
+pub struct OpenFile {
     pub mixed: bool,
     pub list: Body,
     pub end: Place,
@@ -26,7 +26,7 @@ pub struct Open {
 // A refusal, or what is told of the file.
 pub enum Opening {
     Refused(u64),
-    Found(Open),
+    Found(OpenFile),
 }
 
 // Where the whole boxes of a file end, and the number of the framing error there, 0 for none.
@@ -77,10 +77,12 @@ pub(crate) fn open(file: &[u8]) -> Opening
         Headed::Refused(n) => Opening::Refused(n),
         Headed::Found(head) => {
             let whole = whole_end(file);
-            Opening::Found(Open {
+            let list = head.list;
+            let end = whole.at;
+            Opening::Found(OpenFile {
                 mixed: head.mixed,
-                list: head.list,
-                end: whole.at,
+                list,
+                end,
                 fault: whole.fault,
             })
         }

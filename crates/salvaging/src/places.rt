@@ -8,10 +8,11 @@ use boxes::walk::Walk;
 use numerals::order::between;
 use numerals::order::sum_of;
 use numerals::place::Place;
-use salvage::table::ALL_FATES;
-use salvage::table::STAYS;
+use rescue::table::ALL_FATES;
+use rescue::table::STAYS;
 use segment::tops::TOPS;
 use segment::tops::top_before;
+use segment::tops::wide;
 ghost use Prim.Native.Nat.{ℕ, _^_, _<_};
 ghost use mathlib.Core.List.{List};
 ghost use mathlib.Core.Path.{_≡_};
@@ -20,8 +21,8 @@ ghost use Rattle.boxes.specs.Answer.{given};
 ghost use Rattle.boxes.specs.Framing.{Box, boxOf, boxesIn};
 ghost use Rattle.boxes.specs.Kinds.{boxAt};
 ghost use Rattle.partial.specs.Heading.{Heading};
-ghost use Rattle.salvage.specs.Copy.{copySize, unindexed, sizeOf};
-ghost use Rattle.salvage.specs.Table.{codes};
+ghost use Rattle.rescue.specs.Copy.{copySize, unindexed, sizeOf};
+ghost use Rattle.rescue.specs.Table.{codes};
 ghost use Rattle.salvaging.specs.Tables.{fateAt, startOf, FatesHeld, PlacesHeld, Sound, Moving, newIn};
 
 // As many places as a file may have boxes.
@@ -79,6 +80,8 @@ pub(crate) fn places_of(
     ensures { λ r. ⌜ ((h : Heading) → Sound (now (file .entry)) h → FatesHeld (now (file .entry)) h (now (fates .entry))
         → PlacesHeld (now (file .entry)) h (now (places .exit)) × (r ≡ startOf (now (file .entry)) h (length (h .boxes)))) ⌝ }
 {
+    // Nothing is left there of another file.
+    *places = [0; ALL_PLACES];
     let mut walk = Walk::new(Container::File, Place(0), Place(file.len() as u64));
     let mut size = 0;
     let mut k = 0;
@@ -102,6 +105,6 @@ pub(crate) fn new_place(tops: &[u32; TOPS], places: &[u64; ALL_PLACES], place: P
 {
     // The last box that does not start behind it.
     let number = top_before(tops, Place(sum_of(place.0, 1)));
-    let at = tops[number] as u64;
+    let at = wide(tops[number]);
     Place(sum_of(places[number], between(at, place.0)))
 }

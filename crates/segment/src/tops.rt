@@ -44,7 +44,7 @@ pub fn tops_of(s: &[u8], tops: &mut [u32; TOPS])
 }
 
 // A place of the table as a number of a file's places.
-fn wide(top: u32) -> u64
+pub fn wide(top: u32) -> u64
     ensures { λ r. ⌜ r ≡ top ⌝ }
 {
     top as u64

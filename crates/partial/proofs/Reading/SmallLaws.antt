@@ -10,7 +10,7 @@ use borrow.Author.Tests.{leb-true}
 use lib.Dec.{leb, ltb, eqb}
 use lib.ListN.{length, getD}
 use Rattle.boxes.specs.Answer.{given}
-use Rattle.boxes.specs.Framing.{Box}
+use Rattle.boxes.specs.Framing.{Box, boxesIn}
 use Rattle.boxes.specs.Kinds.{pseg, those, boxAt}
 use Rattle.boxes.specs.declared.kinds.Container.the-variants.{File}
 use Rattle.boxes.proofs.AnswerLaws.{given-same, both-given, held}
@@ -42,7 +42,7 @@ abbrev pub AllSmall : ℕ → List Segment → Type 0
 AllSmall limit [] = Unit {0}
 AllSmall limit (s ∷ ss) = SmallFrom limit (s .sourceOffset) (s .chunks) × AllSmall limit ss
 
-all-append : (limit : ℕ) (ss ts : List Segment) → AllSmall limit ss → AllSmall limit ts → AllSmall limit (ss ++ ts)
+pub all-append : (limit : ℕ) (ss ts : List Segment) → AllSmall limit ss → AllSmall limit ts → AllSmall limit (ss ++ ts)
 all-append limit [] ts a b = b
 all-append limit (s ∷ ss) ts (one, rest) b = (one, all-append limit ss ts rest b)
 
@@ -69,15 +69,13 @@ place-none : (h : Heading) (from : ℕ) (e : Entry) {place : ℕ} → placeOf h 
 unfolding placeOf
 place-none h from e g none = sym (given-same (rw (placeOf, none) at g))
 
--- ---- a file
+-- ---- a file with the boxes of a heading
 
-module _ (limit : ℕ) (f : List ℕ) (h : Heading) (known : heading f ≡ given h) where
+module _ (limit : ℕ) (f : List ℕ) (h : Heading) (small : length f ≤ fileLimit) (known : boxesIn File f 0 (length f) ≡ given (h .boxes)) where
   -- what lies in the file ends in it
   inside : (c : Chunk) → InData h c ⊎ Whole h c → c .place + c .size ≤ fileLimit
   inside c lies =
-      let t = headed f h known in
-      let small = leb-true (length f) fileLimit (t .small) in
-      let ends : (k : ℕ) → k < length (h .boxes) → boxAt k (h .boxes) .end ≤ length f = λ k less. boxes-standing File f 0 (length f) (t .boxes) k less .inside .ends in
+      let ends : (k : ℕ) → k < length (h .boxes) → boxAt k (h .boxes) .end ≤ length f = λ k less. boxes-standing File f 0 (length f) known k less .inside .ends in
       elim lies [
         | inl d ↦ omega (arith, ends (d .number) (d .there), d .to)
         | inr w ↦ omega (arith, ends (w .first + w .more) (w .there), w .ends)
@@ -103,7 +101,7 @@ module _ (limit : ℕ) (f : List ℕ) (h : Heading) (known : heading f ≡ given
       let (starts, on, _) = step-told limit f h from l c read in
       subst (SmallFrom limit (c .start)) (given-same g) (starts, step-small from l c read, rw on at (chunks-small from l n (met .1) others))
 
-  segment-small : (before : List Segment) (b : Box) {s : Segment} → segment limit f h before b ≡ given s → SmallFrom limit (s .sourceOffset) (s .chunks)
+  pub segment-small : (before : List Segment) (b : Box) {s : Segment} → segment limit f h before b ≡ given s → SmallFrom limit (s .sourceOffset) (s .chunks)
   segment-small before b g =
       let (inner, l, cs, t, same) = stepped limit f h before b g in
       subst (λ s. SmallFrom limit (s .sourceOffset) (s .chunks)) same (chunks-small (b .at) l (l .count) _ (t .chunks))
@@ -115,5 +113,8 @@ module _ (limit : ℕ) (f : List ℕ) (h : Heading) (known : heading f ≡ given
       let (s, read, g) = both-given (segment limit f h before b) _ g in
       segments-small (before ++ (s ∷ [])) bs (all-append limit before (s ∷ []) all (segment-small before b read, tt)) g
 
-  pub all-small : {ss : List Segment} → segments limit f h ≡ given ss → AllSmall limit ss
-  all-small g = segments-small [] (those pseg (h .boxes)) tt (segmented limit f h g .read)
+-- a file with a heading
+pub all-small : (limit : ℕ) (f : List ℕ) (h : Heading) → heading f ≡ given h → {ss : List Segment} → segments limit f h ≡ given ss → AllSmall limit ss
+all-small limit f h known g =
+    let t = headed f h known in
+    segments-small limit f h (leb-true (length f) fileLimit (t .small)) (t .boxes) [] (those pseg (h .boxes)) tt (segmented limit f h g .read)

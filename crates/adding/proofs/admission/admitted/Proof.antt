@@ -14,8 +14,9 @@ use Rattle.partial.specs.Sources.{sourceBeside, ofSource}
 use Rattle.ends.specs.Sizes.{sizesOf}
 use Rattle.gathering.specs.Gathered.{gatheredOf}
 use Rattle.gathering.proofs.GatheredLaws.{gathered-segments}
+use Rattle.gathering.proofs.LateLaws.{agreed-beside, sources-full, sources-few}
 use Rattle.adding.specs.Admission.{Tells, Goes, admittedAnswer}
-use Rattle.adding.proofs.AdmissionLaws.{segments-full, segments-few, chunk-test, source-test, source-end, agreed-beside, earlier-segmented, sources-full, sources-few}
+use Rattle.adding.proofs.AdmissionLaws.{segments-full, segments-few, chunk-test, source-test, source-end, earlier-segmented}
 use Rattle.adding.proofs.AdmissionLaws.{Passes23, admitted-13, admitted-41, admitted-22, admitted-23, admitted-25, admitted-40, admitted-by}
 use Rattle.adding.proofs.admission.admitted.Statement.{statement}
 use Rattle.adding.proofs.admission.admitted.Tie as tie

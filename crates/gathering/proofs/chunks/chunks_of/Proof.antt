@@ -11,7 +11,7 @@ use Rattle.segment.specs.Data.{Searched}
 use Rattle.segment.specs.Tops.{Tops}
 use Rattle.segment.proofs.ChunkLaws.{chunk-given, chunk-refused}
 use Rattle.gathering.specs.Chunks.{Chunked}
-use Rattle.gathering.proofs.ChunksLaws.{Midway, midway-none, midway-refused, midway-more, midway-left, midway-end}
+use Rattle.gathering.proofs.ChunksLaws.{Midway, midway-none, midway-behind, midway-refused, midway-more, midway-left, midway-end}
 use Rattle.gathering.proofs.chunks.chunks_of.Statement.{statement}
 use Rattle.gathering.proofs.chunks.chunks_of.Tie as tie
 
@@ -41,7 +41,7 @@ unfolding Chunked
 returns c = λ h mix known listed.
     let so-far = c .before .before .before .before .before .before .loop .inv .2 h mix known listed in
     let step = c .before .before .before .step .ensures .answer h mix (so-far .ran .known) listed in
-    midway-refused _ h _ _ _ _ _ _ so-far (omega arith) (chunk-refused step (c .before .n .given .1))
+    (midway-refused _ h _ _ _ _ _ _ so-far (omega arith) (chunk-refused step (c .before .n .given .1)), midway-behind _ h _ _ _ _ _ _ so-far (omega arith) (omega arith))
 
 enum-known-chunk : tie.Need-enum-known-chunk Inv-loop μ-loop
 enum-known-chunk c = search needs
@@ -78,7 +78,8 @@ same-length-2 c = search needs
 returns-2 : tie.Need-returns-2 Inv-loop μ-loop
 unfolding Chunked
 returns-2 c = λ h mix known listed.
-    midway-left _ h _ _ _ _ _ _ (c .before .before .before .before .before .loop .inv .2 h mix known listed) (omega arith) (c .if2 .taken)
+    let so-far = c .before .before .before .before .before .loop .inv .2 h mix known listed in
+    (midway-left _ h _ _ _ _ _ _ so-far (omega arith) (c .if2 .taken), midway-behind _ h _ _ _ _ _ _ so-far (omega arith) (omega arith))
 
 same-length-3 : tie.Need-same-length-3 Inv-loop μ-loop
 same-length-3 c = search needs

@@ -1,27 +1,17 @@
--- `gathering::step::segment_of` meets its contract: each test is one of the definition's.
-use Prim.Native.Nat.{ℕ, _+_, _≤_}
-use mathlib.Core.Path.{sym, ap, subst, _∙_}
+-- `gathering::step::segment_of` meets its contract: it goes by its box, and what was read of that is put.
+use Prim.Native.Nat.{ℕ, _≤_}
+use mathlib.Core.Path.{sym, subst}
 use native.Mathlib.Omega.{arith}
 use borrow.Author.Needs.{needs}
-use Rattle.boxes.proofs.ToldLaws.{box-fields}
 use Rattle.partial.specs.Limits.{chunkLimit}
-use Rattle.gathering.specs.Chunks.{Chunked}
-use Rattle.gathering.specs.Parts.{partsAnswer}
-use Rattle.gathering.specs.Step.{Counted, Segmented}
+use Rattle.gathering.specs.Step.{Fitting, PsegTold, Counted, Segmented}
 use Rattle.gathering.proofs.GatheredLaws.{gathered-chunks}
-use Rattle.gathering.proofs.StepLaws.{header-whole, segment-fault, segment-crowded, segment-far, segment-cut, segment-told, any-told}
+use Rattle.gathering.proofs.StepLaws.{segment-told, any-told}
 use Rattle.gathering.proofs.step.segment_of.Statement.{statement}
 use Rattle.gathering.proofs.step.segment_of.Tie as tie
 
--- what was before the segment, and what its parts are
-abbrev at-parts : tie.Else2 → tie.After-p
-at-parts c = c .before .before .before .before .before .before .before .before .before
-
-few : (c : tie.Else2) → at-parts c .before .before .before .before .before .before .before .args .before .chunks + at-parts c .p .given .0 .0 .location .count ≤ chunkLimit
-few c = omega arith
-
-parts-of-requires : tie.Need-parts-of-requires
-parts-of-requires c κs = search needs
+pseg-of-requires : tie.Need-pseg-of-requires
+pseg-of-requires c κs = search needs
 
 enum-known-n : tie.Need-enum-known-n
 enum-known-n c = search needs
@@ -29,62 +19,26 @@ enum-known-n c = search needs
 enum-known-p : tie.Need-enum-known-p
 enum-known-p c = search needs
 
-sub-if1 : tie.Need-sub-if1
-sub-if1 c = search needs
-
-returns : tie.Need-returns
-unfolding Counted Segmented partsAnswer
-returns c =
-    let met = c .before .before .before .before .before .before .before in
-    let parts = sym (met .before .before .parts-of .ensures) ∙ ap partsAnswer (met .p .given .1) in
-    (tt, λ h ss mix known listed beside. segment-crowded _ h ss _ (any-told _ h beside) _ parts (omega (arith, gathered-chunks ss (beside .gathered))))
-
-returns-2 : tie.Need-returns-2
-unfolding Counted Segmented partsAnswer
-returns-2 c =
-    let met = c .before .before .before .before .before .before .before .before .before in
-    let parts = sym (met .before .before .parts-of .ensures) ∙ ap partsAnswer (met .p .given .1) in
-    (tt, λ h ss mix known listed beside. segment-far _ h ss _ (any-told _ h beside) _ parts (omega (arith, gathered-chunks ss (beside .gathered))) (omega arith))
-
-chunks-of-requires : tie.Need-chunks-of-requires
-chunks-of-requires c κs = search needs
-
-enum-known-n-2 : tie.Need-enum-known-n-2
-enum-known-n-2 c = search needs
-
-enum-known-cursor : tie.Need-enum-known-cursor
-enum-known-cursor c = search needs
-
 list-of-requires : tie.Need-list-of-requires
 list-of-requires c κs = search needs
 
 put-read-requires : tie.Need-put-read-requires
-unfolding partsAnswer
+unfolding Fitting
 put-read-requires c κs =
-    let near = c .before .before .before .before .before .before .before .before .before .before .before .before .before .before in
-    let met = at-parts near in
-    let parts = sym (met .before .before .parts-of .ensures) ∙ ap partsAnswer (met .p .given .1) in
-    (search needs, few near, rw (box-fields _) at (header-whole _ _ _ parts))
-
-returns-3 : tie.Need-returns-3
-unfolding Counted Segmented partsAnswer
-returns-3 c =
-    (tt, λ h ss mix known listed beside. segment-fault _ h ss _ (any-told _ h beside) (sym (c .before .before .before .parts-of .ensures) ∙ ap partsAnswer (c .before .n .given .1)))
+    let met = c .before .before .before .before .before .before .before .before in
+    let (few, whole) = subst (Fitting _) (met .p .given .1) (met .before .before .before .before .pseg-of .ensures .0) in
+    (search needs, few, whole)
 
 same-length : tie.Need-same-length
 same-length c = search needs
 
-returns-4 : tie.Need-returns-4
-unfolding Counted Segmented Chunked partsAnswer
-returns-4 c =
-    let near = c .before .before .before .before .before .before .before in
-    let met = at-parts near in
-    let parts = sym (met .before .before .parts-of .ensures) ∙ ap partsAnswer (met .p .given .1) in
-    let ran = c .before .before .before .before .before .chunks-of .ensures in (
+returns : tie.Need-returns
+unfolding Counted Segmented PsegTold
+returns c =
+    let judged = c .before .before .before .before .before .pseg-of .ensures in (
       tt,
       λ h ss mix known listed beside.
-          segment-cut _ h ss _ (any-told _ h beside) _ parts (omega (arith, few near, gathered-chunks ss (beside .gathered))) (omega arith) (met .before .before .before .before .before .before .before .args .last)
-          (subst (Chunked _ h _ _ _ _ _ _ _) (c .before .n2 .given .1) (ran h mix known listed)),
+          subst (PsegTold _ h ss _ _ _ _ _ _ _) (c .before .n .given .1) (judged .1 h ss mix known listed (any-told _ h beside) (gathered-chunks ss (beside .gathered))) .0,
     )
 
 same-length-2 : tie.Need-same-length-2
@@ -93,40 +47,35 @@ same-length-2 c = search needs
 same-length-3 : tie.Need-same-length-3
 same-length-3 c = search needs
 
-returns-5 : tie.Need-returns-5
-unfolding Counted Segmented Chunked partsAnswer
-returns-5 c =
-    let read = c .before .before .before .before .before .before .before .before .before .before .before in
-    let near = read .before .before .before .before .before .before in
-    let met = at-parts near in
-    let parts = sym (met .before .before .parts-of .ensures) ∙ ap partsAnswer (met .p .given .1) in
-    let ran = read .before .before .before .before .chunks-of .ensures in
-    let start = met .before .before .before .before .before .before .before in
-    let entered = c .before .before .put-read .ensures in (
-      (entered .segments, subst (λ (n : ℕ). n ≤ chunkLimit) (sym (entered .chunks)) (few near)),
+returns-2 : tie.Need-returns-2
+unfolding Counted Segmented Fitting PsegTold
+returns-2 c =
+    let put = c .before .before in
+    let met = put .before .before .before .before .before .before .before .before .before in
+    let judged = met .before .before .before .before .pseg-of .ensures in
+    let start = met .before .before .before .before .before .before .before .before .before in
+    let (few, _) = subst (Fitting _) (met .p .given .1) (judged .0) in
+    let entered = put .put-read .ensures in (
+      (entered .segments, subst (λ (n : ℕ). n ≤ chunkLimit) (sym (entered .chunks)) few),
       λ h ss mix known listed beside.
-          let (cs, e, many, here) = subst (Chunked _ h _ _ _ _ _ _ _) (read .cursor .given .1) (ran h mix known listed) in
-          segment-told _ h ss _ (any-told _ h beside) _ parts (omega (arith, few near, gathered-chunks ss (beside .gathered))) (omega arith) (start .args .last) (start .pre .2) beside e many here (rw (c .before .before .before .before .before .before .before .list-of .ensures) at entered),
+          let any = any-told _ h beside in
+          let chunks = gathered-chunks ss (beside .gathered) in
+          let r = subst (PsegTold _ h ss _ _ _ _ _ _ _) (met .p .given .1) (judged .1 h ss mix known listed any chunks) in
+          segment-told _ h ss _ any _ (r .parts) (omega (arith, few)) (r .near) (start .args .last) (start .pre .2) beside (r .read) (r .many) (r .ran)
+          (rw (put .before .before .before .before .before .list-of .ensures) at entered),
     )
 
 pub segment-of-spec : {M : Type 1} → statement M
 segment-of-spec =
     tie.close
     (tie.spec
-    parts-of-requires
+    pseg-of-requires
     enum-known-n
     enum-known-p
-    sub-if1
-    returns
-    returns-2
-    chunks-of-requires
-    enum-known-n-2
-    enum-known-cursor
     list-of-requires
     put-read-requires
-    returns-3
     same-length
-    returns-4
+    returns
     same-length-2
     same-length-3
-    returns-5)
+    returns-2)

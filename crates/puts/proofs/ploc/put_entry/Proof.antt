@@ -6,7 +6,7 @@ use borrow.Author.Needs.{needs}
 use Rattle.numerals.proofs.WidthLaws.{below-holds}
 use Rattle.puts.proofs.BoxLaws.{flags-low}
 use Rattle.puts.proofs.EntryLaws.{entry-absent, entry-there}
-use Rattle.puts.proofs.PieceLaws.{number-put, back-put, pieces-same, pieces-more}
+use Rattle.puts.proofs.PieceLaws.{number-put, offset-put, pieces-same, pieces-more}
 use Rattle.puts.proofs.ploc.put_entry.Statement.{statement}
 use Rattle.puts.proofs.ploc.put_entry.Tie as tie
 
@@ -36,8 +36,8 @@ returns c held =
     pieces-same (entry-absent _ _ _ _ _ (told .flags-of .ensures) absent)
     (pieces-more (number-put 1 _ (omega arith) is-flags (first .put-field .ensures)) (number-put _ _ (held .narrow .0) (held .sized) (second .put-field2 .ensures)))
 
-put-back-requires : tie.Need-put-back-requires
-put-back-requires c κs = search needs
+put-offset-requires : tie.Need-put-offset-requires
+put-offset-requires c κs = search needs
 
 same-length-2 : tie.Need-same-length-2
 same-length-2 c = search needs
@@ -54,7 +54,7 @@ returns-2 c held =
     pieces-same (entry-there _ _ _ _ _ (told .flags-of .ensures) there)
     (pieces-more (number-put 1 _ (omega arith) is-flags (first .put-field .ensures))
     (pieces-more (number-put _ _ (held .narrow .0) (held .sized) (second .put-field2 .ensures))
-    (back-put _ _ (held .narrow .1) (held .offset there) (third .put-back .ensures))))
+    (offset-put _ _ (held .narrow .1) (held .offset there) (third .put-offset .ensures))))
 
 pub put-entry-spec : {M : Type 1} → statement M
 put-entry-spec =
@@ -66,6 +66,6 @@ put-entry-spec =
     present-requires
     same-length
     returns
-    put-back-requires
+    put-offset-requires
     same-length-2
     returns-2)

@@ -10,8 +10,8 @@ use Rattle.filling.specs.Rows.{Puts}
 use Rattle.filling.proofs.PutsLaws.{puts-same, puts-more}
 use Rattle.partial.specs.BoxList.{each}
 use Rattle.partial.specs.Heading.{Heading}
-use Rattle.salvage.specs.Lines.{droppedLine}
-use Rattle.salvage.proofs.TableLaws.{noFated}
+use Rattle.rescue.specs.Lines.{droppedLine}
+use Rattle.rescue.proofs.TableLaws.{noFated}
 use Rattle.salvaging.specs.Tables.{fatesIn, fateAt, FatesHeld, Sound}
 use Rattle.salvaging.proofs.CountingLaws.{Counting, counting-none, counting-more, counting-end, counting-sound}
 use Rattle.salvaging.proofs.LinesLaws.{each-more, each-none, take-all}
@@ -87,7 +87,7 @@ loop-again c =
           let (less, here, onward) = counting-more counting step in (
             onward,
             puts-same (each-more droppedLine (fatesIn f h) noFated k (omega (arith, less, fates-long f h sound)))
-            (puts-more puts (line (fateAt f h k) (ap (λ b. b .at) (box-held f h sound k ∙ sym here)) (code-held f h sound held k less) (omega (arith, inv .1, inv .2)))),
+                (puts-more puts (line (fateAt f h k) (ap (λ b. b .at) (box-held f h sound k ∙ sym here)) (code-held f h sound held k less) (omega (arith, inv .1, inv .2)))),
           ),
     )
 

@@ -1,0 +1,24 @@
+-- Laws of salvage: the copy reads back as the segments that are kept.
+pub mod AcceptedLaws
+pub mod CarriedLaws
+pub mod Computing
+pub mod CopyLaws
+pub mod Demands
+pub mod Examples
+pub mod FateLaws
+pub mod FramedLaws
+pub mod HeadingLaws
+pub mod LieLaws
+pub mod LineLaws
+pub mod MadeLaws
+pub mod PieceLaws
+pub mod PlaceLaws
+pub mod PlocLaws
+pub mod ReadingLaws
+pub mod SameLaws
+pub mod SegmentLaws
+pub mod Shapes
+pub mod SmallLaws
+pub mod TableLaws
+pub mod TwiceLaws
+pub mod WholeLaws
