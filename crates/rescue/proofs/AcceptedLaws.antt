@@ -1,6 +1,6 @@
 -- Every segment of an acceptable file is kept, and where nothing else is in it, it is its own copy.
 use Prim.Native.Nat.{ℕ, zero, suc, _+_, _-_, _%_, _<_, _≤_}
-use mathlib.Core.Bool.{Bool, true, false, _&&_, true≢false}
+use mathlib.Core.Bool.{true, false, _&&_, true≢false}
 use mathlib.Core.List.{List, [], _∷_, _++_, append-nil, append-assoc, Memᴰ·append-left}
 use mathlib.Core.Logic.{inl, inr, ⊎-elim}
 use mathlib.Core.Option.{none}
@@ -25,19 +25,18 @@ use Rattle.boxes.proofs.KindLaws.{is-there, those-nil, those-one, those-other, 
 use Rattle.partial.specs.Heading.{Heading, heading, ftypRight, brandRight, branded, pfilRight}
 use Rattle.partial.specs.Limits.{fileLimit, segmentLimit, layerLimit}
 use Rattle.partial.specs.Mixed.{allowed}
-use Rattle.partial.specs.Reading.{segment, segmentsFrom, earlierSegments}
+use Rattle.partial.specs.Reading.{segment, segmentsFrom, segments}
 use Rattle.partial.specs.ReadingDemands.{InData}
 use Rattle.partial.specs.Segments.{Chunk, Segment, good, present, hasPlace, chunksOf}
 use Rattle.partial.specs.Sequences.{someOf, allOf}
 use Rattle.partial.specs.Sources.{sourceCount, agreed}
 use Rattle.partial.proofs.Meaning.MappedLaws.{lies, may-be}
-use Rattle.partial.proofs.Meaning.SequenceLaws.{which, both, passes, Each, all-append, all-members, none-by, largest-append}
+use Rattle.partial.proofs.Meaning.SequenceLaws.{which, both, passes, Each, none-by, largest-append}
 use Rattle.partial.proofs.Meaning.SourceLaws.{in-agreement, agreement}
 use Rattle.partial.proofs.Reading.HeadingAppendLaws.{Headed, headed, heading-of, brand-kept}
 use Rattle.partial.proofs.Reading.KeptLaws.{segmented}
 use Rattle.partial.proofs.Reading.LimitLaws.{segments-limited}
-use Rattle.partial.proofs.Reading.RefusalLaws.{earlier-read}
-use Rattle.rescue.specs.Kept.{whole, ofPseg, liesIn, walkOf, framed, firstTwo, opening, beside, keptWith, keptFrom, keptOf, fateOf, fatesFrom, fates}
+use Rattle.rescue.specs.Kept.{whole, ofPseg, liesIn, walkOf, framed, opening, beside, keptWith, keptFrom, keptOf, fateOf, fatesFrom, fates}
 use Rattle.rescue.specs.Copy.{salvage}
 use Rattle.rescue.specs.Lines.{salvageText}
 use Rattle.rescue.specs.Demands.{OnlyData, Bare}
@@ -46,8 +45,9 @@ use Rattle.rescue.proofs.CarriedLaws.{paired-pfhd, paired-surls, paired
 use Rattle.rescue.proofs.CopyLaws.{staying}
 use Rattle.rescue.proofs.FateLaws.{fate-data, fate-lain}
 use Rattle.rescue.proofs.FramedLaws.{faultless-framed}
+use Rattle.rescue.proofs.JudgedLaws.{cut-behind, kept-lying}
 use Rattle.rescue.proofs.LineLaws.{lines-none}
-use Rattle.rescue.proofs.LieLaws.{each-by, may-lie}
+use Rattle.rescue.proofs.LieLaws.{each-by}
 use Rattle.rescue.proofs.WholeLaws.{two-first}
 use Rattle.rescue.proofs.SameLaws.{Clean, copy-same}
 use Rattle.rescue.proofs.HeadingLaws.{cut-filled, Says, says, other-kind, ftyp-right, pfil-right}
@@ -115,13 +115,9 @@ module _ (f : List ℕ) (h : Heading) (head : heading f ≡ given h) where
         mixed = rw (← kept) (said .mixed);
       }
 
-  first-cut : firstTwo f (h .boxes) ≡ cut
-  unfolding firstTwo
-  first-cut = rw (firstTwo, le-leb 2 (length (h .boxes)) two-boxes)
-
   pub accepted-opens : opening f ≡ given h
   unfolding opening
-  accepted-opens = rw (headed f h head .small, accepted-walk, first-cut, heading-of cut _ cut-headed)
+  accepted-opens = rw (headed f h head .small, accepted-walk, cut-behind f (h .boxes) two-boxes, heading-of cut _ cut-headed)
 
 -- ---- each of its segments is kept
 
@@ -182,25 +178,6 @@ module _ (limit : ℕ) (f : List ℕ) (h : Heading) where
         ]
 
 -- ---- where the chunks of kept segments lie
-
--- chunks pass a test where those of each segment do
-all-chunks : (test : Chunk → Bool) (ss : List Segment) → Each (λ s. allOf test (s .chunks) ≡ true) ss → allOf test (chunksOf ss) ≡ true
-unfolding allOf chunksOf
-all-chunks test [] all = refl
-all-chunks test (s ∷ ss) (here, there) = rw (all-append, here) (all-chunks test ss there)
-
-pub kept-lies : (limit : ℕ) (f : List ℕ) (h : Heading) → opening f ≡ given h → ((k : ℕ) → getD f k 0 < 256) → allOf (lies h) (chunksOf (keptOf limit f h)) ≡ true
-unfolding lies
-kept-lies limit f h opens bytes =
-    all-chunks (lies h) (keptOf limit f h)
-    (each-by (λ s. allOf (lies h) (s .chunks) ≡ true) (keptOf limit f h)
-    (λ s kept.
-    all-members (lies h) (s .chunks)
-    (λ c chunk.
-    elim (which (hasPlace (c .state) (c .size))) [
-      | inl placed ↦ rw (placed, may-lie limit f h opens bytes s kept c chunk placed)
-      | inr empty ↦ rw empty
-    ])))
 
 -- a chunk of a file that is not mixed lies in one `pdat`, so that no other box lies in it
 module _ (f : List ℕ) (h : Heading) (boxes : boxesIn File f 0 (length f) ≡ given (h .boxes)) (plain : h .mixed ≡ false) (k : ℕ) (less : k < length (h .boxes)) where
@@ -271,7 +248,7 @@ none-of k (b ∷ bs) lacks n less =
       ] less
     ]
 
-module _ (limit : ℕ) (f : List ℕ) (h : Heading) (ss : List Segment) (head : heading f ≡ given h) (read : earlierSegments limit f ≡ given ss) where
+module _ (limit : ℕ) (f : List ℕ) (h : Heading) (ss : List Segment) (head : heading f ≡ given h) (segs : segments limit f h ≡ given ss) where
   -- the boxes behind the first two
   abbrev others : List Box
   others = drop 2 (h .boxes)
@@ -309,7 +286,6 @@ module _ (limit : ℕ) (f : List ℕ) (h : Heading) (ss : List Segment) (head : 
 
   kept-and-stay : (keptFrom limit f h [] others ≡ ss) × (Each (Held limit f h) others → Each (λ x. staying (x .fate) ≡ true) (fatesFrom limit f h [] others))
   kept-and-stay =
-      let segs = earlier-read limit f head read in
       let t = segmented limit f h segs in
       all-kept limit f h ss (segments-limited limit f h segs) (t .agree) (leb-true (sourceCount ss) layerLimit (t .layers)) [] others (rw psegs at (t .read))
 
@@ -330,7 +306,7 @@ module _ (limit : ℕ) (f : List ℕ) (h : Heading) (ss : List Segment) (head : 
           | inl e ↦ fate-data limit f h kept b e
           | inr e ↦
               let lain : someOf (liesIn b) (chunksOf ss) ≡ true = passes (someOf (liesIn b) (chunksOf ss)) (rw (same, e, no-pseg) at (only k (omega arith) there)) in
-              let lie = rw accepted-kept at (kept-lies limit f h (accepted-opens f h head) bytes) in
+              let lie = rw accepted-kept at (kept-lying limit f h) in
               let free : allowed b ≡ true = rw (no-ftyp n less, no-pfil n less, no-pseg, e) in
               fate-lain limit f h kept b free
               (elim (which (h .mixed)) [

@@ -29,7 +29,7 @@ use Rattle.partial.proofs.Meaning.MappedLaws.{lies, may-be}
 use Rattle.partial.proofs.Meaning.SequenceLaws.{which, inside, within-true, all-at}
 use Rattle.partial.proofs.Meaning.SourceLaws.{chunks-of}
 use Rattle.partial.proofs.Meaning.SupplyLaws.{supplier-good, supplier-covers}
-use Rattle.partial.proofs.Reading.RefusalLaws.{takes}
+use Rattle.partial.proofs.Reading.RefusalLaws.{earlier-read, takes}
 use Rattle.rescue.specs.Kept.{walkOf, framed, firstTwo, opening, fates}
 use Rattle.rescue.specs.Copy.{copied, salvage, salvaged}
 use Rattle.rescue.specs.Lines.{salvageText}
@@ -38,10 +38,12 @@ use Rattle.rescue.proofs.Shapes.{chunkAnew}
 use Rattle.rescue.proofs.FateLaws.{kept-all}
 use Rattle.rescue.proofs.FramedLaws.{framed-shorter, framed-at, framed-bytes, framed-boxes, framed-opens}
 use Rattle.rescue.proofs.HeadingLaws.{opened}
-use Rattle.rescue.proofs.WholeLaws.{copy-shorter}
+use Rattle.rescue.proofs.WholeLaws.{fates-boxed, copy-shorter, headingBack, heading-copied}
 use Rattle.rescue.proofs.LineLaws.{text-named, ascending}
 use Rattle.rescue.proofs.ReadingLaws.{Anew, none-anew, one-anew, anew-fates, segmentsBack, reads-back, only-12, served-back}
-use Rattle.rescue.proofs.AcceptedLaws.{accepted-opens, accepted-framed, accepted-kept, accepted-same, accepted-silent, kept-lies}
+use Rattle.rescue.proofs.AcceptedLaws.{accepted-opens, accepted-framed, accepted-kept, accepted-same, accepted-silent}
+use Rattle.rescue.proofs.JudgedLaws.{walk-fault, walk-faultless, cut-two, cut-fewer, opened-two, kept-lying, kept-alone, heads-stay, judged-beside}
+use Rattle.rescue.proofs.StandingLaws.{bare-back, boxes-stand, carried-back}
 use Rattle.rescue.proofs.MadeLaws.{salvage-made}
 use Rattle.rescue.proofs.TwiceLaws.{salvage-twice, lines-twice}
 
@@ -96,15 +98,17 @@ module _ (limit : ℕ) (f : List ℕ) (h : Heading) (bytes : Bytes f) (opens : o
   bytes-framed : Bytes (framed f)
   bytes-framed = framed-bytes f bytes
 
+  boxes-framed : boxesIn File (framed f) 0 (length (framed f)) ≡ given (h .boxes)
+  boxes-framed = framed-boxes f ∙ ap given (sym (opened f h opens .boxes))
+
   served-framed : (source p : ℕ) → served (framed f) (ofSource source kept) p ≡ served f (ofSource source kept) p
   unfolding served
   served-framed source p =
       let ss : List Segment = ofSource source kept in
       elim (which (supplied ss p)) [
         | inl e ↦
-            let boxes = framed-boxes f ∙ ap given (sym (opened f h opens .boxes)) in
-            let lie = chunks-of source (lies h) kept (kept-lies limit (framed f) h opens-framed bytes-framed) in
-            rw (served, e) (ap some (framed-at f (placeOfByte ss p) (place-below (framed f) h ss boxes lie p e)))
+            let lie = chunks-of source (lies h) kept (kept-lying limit (framed f) h) in
+            rw (served, e) (ap some (framed-at f (placeOfByte ss p) (place-below (framed f) h ss boxes-framed lie p e)))
         | inr e ↦ rw (served, e)
       ]
 
@@ -127,7 +131,12 @@ module _ (limit : ℕ) (f : List ℕ) (h : Heading) (bytes : Bytes f) (opens : o
       record {
         segments = back;
         read = read-back;
+        head = headingBack limit (framed f) h opens-framed bytes-framed;
+        headed = heading-copied limit (framed f) h opens-framed bytes-framed;
+        bare = bare-back limit (framed f) h opens-framed bytes-framed;
+        boxes = boxes-stand limit (framed f) h opens-framed bytes-framed f (framed-shorter f) (framed-at f);
         same = kept-same;
+        carried = carried-back limit (framed f) h opens-framed bytes-framed boxes-framed f (framed-shorter f) (framed-at f);
         served = λ source p. served-back limit (framed f) h opens-framed bytes-framed source p ∙ served-framed source p;
         shorter = omega (arith, copy-shorter limit (framed f) h opens-framed bytes-framed, framed-shorter f);
       }
@@ -180,6 +189,9 @@ module _ (limit : ℕ) (f : List ℕ) where
       let bs : List Box = walkOf f .boxes in
       rw (le-leb (length f) fileLimit small) (then-refuses (λ h. record { boxes = bs; inner = h .inner; urls = h .urls; mixed = h .mixed }) (heading (firstTwo f bs)) n)
 
+  two-refuses : (n : ℕ) → length f ≤ fileLimit → (salvage limit f ≡ refused n) ↔ (heading (firstTwo f (walkOf f .boxes)) ≡ refused n)
+  two-refuses n small = (λ e. two-refuse n small .0 (salvage-refuses n .0 e), λ e. salvage-refuses n .1 (two-refuse n small .1 e))
+
   text-long : (most : ℕ) → most < length f → salvageText limit most f ≡ refusedLine 27
   unfolding salvageText
   text-long most over = rw (salvageText, lt-leb (length f) most over)
@@ -209,10 +221,18 @@ salvage-demands limit low =
       refuses = salvage-refuses limit;
       numbers = λ f n e. opening-numbers limit f n (salvage-refuses limit f n .0 e);
       overLimit = λ f over. salvage-refuses limit f 1 .1 (opening-long limit f over);
-      firstTwo = λ f n small. (λ e. two-refuse limit f n small .0 (salvage-refuses limit f n .0 e), λ e. salvage-refuses limit f n .1 (two-refuse limit f n small .1 e));
+      ofTwo = λ f a b n small follow. rw (cut-two f a b follow) at (two-refuses limit f n small);
+      ofFewer = λ f n small fewer. rw (cut-fewer f (walkOf f .boxes) fewer) at (two-refuses limit f n small);
+      fault = walk-fault;
+      noFault = walk-faultless;
+      opened = opened-two;
+      all = λ f h opens. fates-boxed limit (framed f) h (framed-opens f h opens);
+      heads = λ f h x opens. heads-stay limit (framed f) h x;
+      judged = λ f h before behind x opens. judged-beside limit (framed f) h (framed-opens f h opens) (framed-boxes f ∙ ap given (sym (opened f h opens .boxes))) behind x before;
+      kept = λ f h opens. kept-alone limit (framed f) h (framed-opens f h opens);
       keeps = λ f h ss head read. (accepted-opens f h head, accepted-framed f h head, rw (accepted-framed f h head) (accepted-kept limit f h ss head read));
-      unchanged = λ f h ss bytes head read bare. accepted-same limit f h ss head read bytes bare;
-      nothingDropped = λ f h ss most bytes head read only few. accepted-silent limit f h ss head read bytes only most few;
+      unchanged = λ f h ss bytes head read bare. accepted-same limit f h ss head (earlier-read limit f head read) bytes bare;
+      nothingDropped = λ f h ss most bytes head read only few. accepted-silent limit f h ss head (earlier-read limit f head read) bytes only most few;
       made = salvage-made limit low;
       twice = salvage-twice limit;
       noLine = λ f g most bytes once few. lines-twice limit f g bytes once most few;

@@ -37,7 +37,7 @@ segments-split (x ∷ xs) behind =
 
 module _ (limit : ℕ) (f : List ℕ) (h : Heading) where
   -- what holds of a box's fate and of the segments kept with it, by what was found of it
-  by-fate : (P : Fate → List Segment → Type 0) (kept : List Segment) (b : Box)
+  pub by-fate : (P : Fate → List Segment → Type 0) (kept : List Segment) (b : Box)
       → ((n : ℕ) → P (dropped n) kept)
       → ((is pseg b ≡ false) × (is ftyp b ≡ false) × (is pfil b ≡ false) × (stays limit f h b ≡ true) → P whole kept)
       → ((s : Segment) → is pseg b ≡ true → beside limit f h kept b ≡ given s → P (ofPseg s) (kept ++ (s ∷ [])))

@@ -205,7 +205,7 @@ row-unindexed (b ∷ bs) at =
 
 module _ (c : Container) (f : List ℕ) (end : ℕ) where
   -- a box that is read in f, and lies there
-  abbrev Read : Box → Type 0
+  abbrev pub Read : Box → Type 0
   Read b = (header c f (b .at) end ≡ given b) × (b .end ≤ length f)
 
   filled-read : {at : ℕ} {bs : List Box} → end ≤ length f → Filled c f end at bs → Each Read (unindexed bs)
@@ -364,7 +364,7 @@ module _ (f : List ℕ) (h : Heading) (opens : opening f ≡ given h) where
   no-uuid = rw (eqb-true (boxAt 1 (h .boxes) .kind) (pfil .code) (said .second))
 
   -- and so do the boxes in `pfil`
-  inner-read : Each (Read Pfil f (boxAt 1 (h .boxes) .end)) (unindexed (h .inner))
+  pub inner-read : Each (Read Pfil f (boxAt 1 (h .boxes) .end)) (unindexed (h .inner))
   inner-read =
       let b = boxAt 1 (h .boxes) in
       filled-read Pfil f (b .end) (within-file 1 (lit< tt)) (boxes-filled Pfil f (b .body) (b .end) (said .inner))

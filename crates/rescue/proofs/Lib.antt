@@ -8,6 +8,7 @@ pub mod Examples
 pub mod FateLaws
 pub mod FramedLaws
 pub mod HeadingLaws
+pub mod JudgedLaws
 pub mod LieLaws
 pub mod LineLaws
 pub mod MadeLaws
@@ -19,6 +20,7 @@ pub mod SameLaws
 pub mod SegmentLaws
 pub mod Shapes
 pub mod SmallLaws
+pub mod StandingLaws
 pub mod TableLaws
 pub mod TwiceLaws
 pub mod WholeLaws

@@ -57,7 +57,7 @@ module _ {A : Type 0} where
   each-by P (x ∷ xs) all = (all x (List·Memᴰ·head refl), each-by P xs (λ y there. all y (List·Memᴰ·tail there)))
 
   -- a member that passes a test
-  some-member : (test : A → Bool) (xs : List A) (x : A) → List·Memᴰ x xs → test x ≡ true → someOf test xs ≡ true
+  pub some-member : (test : A → Bool) (xs : List A) (x : A) → List·Memᴰ x xs → test x ≡ true → someOf test xs ≡ true
   unfolding someOf
   some-member test [] x there h = absurd (List·Memᴰ·not-nil there)
   some-member test (y ∷ ys) x there h =
@@ -319,7 +319,7 @@ module _ (limit : ℕ) (f : List ℕ) (h : Heading) where
       subst (λ (cs : List Chunk). allOf (lies h) cs ≡ true) (given-same e2)
       (rw (step-told limit f h from l c read .2) (chunks-lie from l n (met .1) rest others))
 
-  segment-lies : (before : List Segment) (b : Box) (s : Segment) → segment limit f h before b ≡ given s → allOf (lies h) (s .chunks) ≡ true
+  pub segment-lies : (before : List Segment) (b : Box) (s : Segment) → segment limit f h before b ≡ given s → allOf (lies h) (s .chunks) ≡ true
   segment-lies before b s e =
       let (inner, l, cs, t, same) = stepped limit f h before b e in
       subst (λ (s : Segment). allOf (lies h) (s .chunks) ≡ true) same (chunks-lie (b .at) l (l .count) _ cs (t .chunks))

@@ -430,4 +430,4 @@ pub salvage-made : (limit : ℕ) → limit < 2 ^ 64
     → salvage limit f ≡ given f
 salvage-made limit below buffer brand u m additions bytes h head =
     let (ss, read, bare) = bare-made limit below buffer brand u m additions h head in
-    accepted-same limit _ h ss head read bytes bare
+    accepted-same limit _ h ss head (earlier-read limit _ head read) bytes bare

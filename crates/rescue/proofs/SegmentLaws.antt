@@ -33,22 +33,26 @@ use Rattle.rescue.specs.Copy.{unindexed, sizeOf, innerBytes, boxBytes, p
 use Rattle.rescue.proofs.Shapes.{Alike, resized, row, Paired, chunkAnew, innerAnew, segmentAnew}
 use Rattle.rescue.proofs.PieceLaws.{OneBox, front-alone, length-boxBytes, bytes-alike, whole-alone, rowOf, pieces-stand}
 use Rattle.rescue.proofs.PieceLaws.{length-reheaded, reheaded-alone, reheaded-body}
-use Rattle.rescue.proofs.PlocLaws.{Lies, length-ploc, ploc-front, headAnew, head-back, chunks-anew}
+use Rattle.rescue.proofs.PlocLaws.{Lies, bytes-are, front-long, length-ploc, ploc-front, headAnew, head-back, chunks-anew}
 use Rattle.rescue.proofs.CarriedLaws.{paired-many, paired-right, paired-first, paired-surls, paired-urls, paired-pshd, paired-fields}
 use Rattle.rescue.proofs.CarriedLaws.{unindexed-those, unindexed-right, unindexed-few, unindexed-surls, unindexed-urls, unindexed-pshd, unindexed-none}
 
 -- a piece of the copy for a box of f: one box with its header and its size and, unless it is a `ploc`, its bytes
-record Piece (f p : List ℕ) (b : Box) : Type 0 where
+pub record Piece (f p : List ℕ) (b : Box) : Type 0 where
   typed : b .at ≤ b .user
   headed : b .user ≤ b .body
-  ended : b .body ≤ b .end
-  long : length p ≡ b .end - b .at
+  pub ended : b .body ≤ b .end
+  pub started : b .at ≤ b .body
+  pub inside : b .end ≤ length f
+  pub long : length p ≡ b .end - b .at
   alone : OneBox Pseg p b
-  bytes : is ploc b ≡ false → Alike f (b .at) p 0 (b .end - b .at)
+  pub bytes : is ploc b ≡ false → Alike f (b .at) p 0 (b .end - b .at)
+  -- of a `ploc` those before its entries
+  pub front : is ploc b ≡ true → (b .body + 9 ≤ b .end) × Alike f (b .at) p 0 (b .body + 9 - b .at)
 
 -- pieces for some boxes, one behind the other
 module _ (f : List ℕ) (text : Box → List ℕ) where
-  abbrev Pieces : List Box → Type 0
+  abbrev pub Pieces : List Box → Type 0
   Pieces bs = Each (λ b. Piece f (text b) b) bs
 
   pieces-alone : (bs : List Box) → Pieces bs → Each (λ b. OneBox Pseg (text b) b) bs
@@ -155,22 +159,31 @@ module _ (limit : ℕ) (f : List ℕ) (h : Heading) (s : Segment) (l : Ploc) (en
       go box true e =
           let long = length-ploc limit f h s b l (omega arith) (omega arith) bytes (head e) (s .sourceOffset) low read new in
           let front = ploc-front limit f h s b l (omega arith) (omega arith) bytes (head e) (s .sourceOffset) low read new in
+          let parts = bytes-are limit f h s b l (omega arith) (omega arith) bytes (head e) (s .sourceOffset) low read new in
+          let size = front-long limit f h s b l (omega arith) (omega arith) bytes (head e) (s .sourceOffset) low read new in
+          let room = simp (parts, length-append, size) at long in
           record {
             typed = omega arith;
             headed = omega arith;
             ended = box .whole;
+            started = omega arith;
+            inside = omega arith;
             long = long;
             alone = front-alone Pseg f end stood (plocBytes f new s b) long (λ i less. front i (omega arith));
             bytes = λ other. absurd (false≢true (sym other ∙ e));
+            front = λ _. (omega arith, front);
           }
       go box false e =
           record {
             typed = omega arith;
             headed = omega arith;
             ended = box .whole;
+            started = omega arith;
+            inside = omega arith;
             long = length-boxBytes Pseg f end stood (omega arith);
             alone = whole-alone Pseg f end stood (omega arith);
             bytes = λ _. bytes-alike Pseg f end stood (omega arith);
+            front = λ one. absurd (false≢true (sym e ∙ one));
           }
 
   pieces : {at : ℕ} {bs : List Box} → Filled Pseg f end at bs → Each (λ b. plocHead f b ≡ given l) (those ploc bs) → Pieces f (innerBytes f new s) bs
@@ -217,7 +230,7 @@ module _ (limit : ℕ) (f : List ℕ) (h : Heading) (before : List Segment) (b :
   abbrev inner : List Box
   inner = unindexed (s .inner)
 
-  kept : Pieces f (innerBytes f new s) inner
+  pub kept : Pieces f (innerBytes f new s) inner
   kept =
       let one = right-one Pseg ploc (s .inner) refl (was .1 .step .single) in
       let heads = each-only (λ c. plocHead f c ≡ given (was .0)) ploc (s .inner) one (was .1 .step .head) in
@@ -284,14 +297,14 @@ module _ (limit : ℕ) (f : List ℕ) (h : Heading) (before : List Segment) (b :
     abbrev inner′ : List Box
     inner′ = innerAnew new b s
 
-    body-stands : Stands g start body
+    pub body-stands : Stands g start body
     unfolding copyOf
     body-stands = reheaded-body File f end stood other body g (new (s .place)) stands
 
     paired : Paired f g inner inner′
     paired = paired-row f (innerBytes f new s) g start inner kept body-stands
 
-    boxes-back : boxesIn Pseg g start (new (s .place) + copySize (record { box = b; fate = ofPseg s })) ≡ given inner′
+    pub boxes-back : boxesIn Pseg g start (new (s .place) + copySize (record { box = b; fate = ofPseg s })) ≡ given inner′
     unfolding copySize
     boxes-back =
         let all = pieces-stand (innerBytes f new s) (λ b. b) Pseg g start inner (pieces-alone f (innerBytes f new s) inner kept) body-stands in

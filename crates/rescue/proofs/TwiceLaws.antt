@@ -412,7 +412,7 @@ module _ (limit : ℕ) (f : List ℕ) (h : Heading) (opens : opening f ≡ given
   unfolding segmentsAnew
   on = all-on others [] refl _ (unfold sum in omega arith)
 
-  kept-again : keptOf limit copy back ≡ kept
+  pub kept-again : keptOf limit copy back ≡ kept
   unfolding keptOf fates boxesAnew segmentsAnew
   kept-again = on .again
 

@@ -34,7 +34,7 @@ pub record Stood (f : List ℕ) (x : Fated) : Type 0 where
   pub inside : x .box .end ≤ length f
 
 -- what holds of each where something else does
-each-by : {A : Type 0} (P Q : A → Type 0) → ((x : A) → P x → Q x) → (xs : List A) → Each P xs → Each Q xs
+pub each-by : {A : Type 0} (P Q : A → Type 0) → ((x : A) → P x → Q x) → (xs : List A) → Each P xs → Each Q xs
 each-by P Q so [] all = tt
 each-by P Q so (x ∷ xs) (here, there) = (so x here, each-by P Q so xs there)
 
@@ -123,11 +123,14 @@ module _ (limit : ℕ) (f : List ℕ) (h : Heading) (bytes : (k : ℕ) → getD 
   behind-all kept (b ∷ bs) (here, there) =
       (by-fate kept b (fateOf limit f h kept b) refl here, behind-all (keptWith limit f h kept b) bs there)
 
+-- the fates are those of the boxes, in their order
+pub fates-boxed : (limit : ℕ) (f : List ℕ) (h : Heading) → opening f ≡ given h → map (λ x. x .box) (fates limit f h) ≡ h .boxes
+unfolding fates
+fates-boxed limit f h opens = rw (fates-boxes limit f h [] (drop 2 (h .boxes))) (two-first (h .boxes) (opened f h opens .two))
+
 module _ (limit : ℕ) (f : List ℕ) (h : Heading) (opens : opening f ≡ given h) (bytes : (k : ℕ) → getD f k 0 < 256) where
-  -- the fates are those of the boxes, in their order
   pub fates-all : map (λ x. x .box) (fates limit f h) ≡ h .boxes
-  unfolding fates
-  fates-all = rw (fates-boxes limit f h [] (drop 2 (h .boxes))) (two-first (h .boxes) (opened f h opens .two))
+  fates-all = fates-boxed limit f h opens
 
   fates-filled : Filled File f (opened f h opens .end) 0 (map (λ x. x .box) (fates limit f h))
   fates-filled = rw fates-all (opened f h opens .filled)

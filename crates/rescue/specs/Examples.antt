@@ -15,7 +15,7 @@ use Rattle.partial.specs.Segments.{Chunk, Segment, noChunk}
 use Rattle.partial.specs.Lesson.{begunBytes, firstBytes, secondBytes}
 use Rattle.partial.specs.Examples.{Example, says}
 use Rattle.rescue.specs.Kept.{opening, beside}
-use Rattle.rescue.specs.Copy.{salvage}
+use Rattle.rescue.specs.Copy.{salvage, salvaged}
 use Rattle.rescue.specs.Lines.{salvageText}
 
 -- ---- the bytes of files, written out: no box has 256 bytes
@@ -60,18 +60,21 @@ lines text copy = map pos (ascii text ++ copy)
 -- ---- which boxes stay
 
 -- P10's file that ends in the body of its last box, in the header of that, in the box before it, and behind a whole
--- box; and with a size of 0 in its fifth box: nothing from the first framing error on stays
+-- box; with a size of 0 in its fifth box; and that ends in the header of the third box: nothing from the first framing
+-- error on stays
 abbrev cut : Example
 cut =
     record {
       defined =
           told (take 183 lesson)
           ++ (told (take 140 lesson)
-          ++ (told (take 130 lesson) ++ (told (take 134 lesson) ++ told (take 121 lesson ++ (replicate 4 0x00 ++ drop 125 lesson)))));
+          ++ (told (take 130 lesson)
+          ++ (told (take 134 lesson) ++ (told (take 121 lesson ++ (replicate 4 0x00 ++ drop 125 lesson)) ++ told (take 58 lesson)))));
       paper =
           lines "134\t5\n" (take 134 lesson)
           ++ (lines "134\t2\n" (take 134 lesson)
-          ++ (lines "121\t5\n" (take 121 lesson) ++ (lines "" (take 134 lesson) ++ lines "121\t3\n" (take 121 lesson))));
+          ++ (lines "121\t5\n" (take 121 lesson)
+          ++ (lines "" (take 134 lesson) ++ (lines "121\t3\n" (take 121 lesson) ++ lines "55\t2\n" begunBytes))));
     }
 
 -- 24 among all whole boxes before the first framing error: of the segment at 67 one chunk lies before it and one, at
@@ -307,12 +310,26 @@ refusals =
           ++ (refused "refused\t10\n" 10 ++ (refused "refused\t11\n" 11 ++ lines "" begunBytes))))))))));
     }
 
+-- an input of 55 bytes where 55 and where 54 are taken, acceptable or not; a copy of 134 in a buffer of 134 and of 133;
+-- a refused file in a buffer of none
+abbrev room : Example
+room =
+    let into : List ℕ → ℕ → List ℤ = λ f n. says (salvaged sourceLimit f (replicate n 9) >>= λ g. given (pos (length g) ∷ [])) in
+    record {
+      defined =
+          map
+          pos
+          (salvageText sourceLimit 55 begunBytes ++ (salvageText sourceLimit 54 begunBytes ++ salvageText sourceLimit 54 (replicate 55 9)))
+          ++ (into (take 183 lesson) 134 ++ (into (take 183 lesson) 133 ++ into [] 0));
+      paper = lines "refused\t27\nrefused\t27\n" (134 ∷ 33 ∷ 7 ∷ []);
+    }
+
 unfoldable pub table : List Example
 table =
     cut ∷ dataBehind ∷ contradicting ∷ leftOut ∷ noList ∷ many ∷ layers ∷ others ∷
     fragment ∷ fragmentBehind ∷
     offsets ∷ empty ∷ indexes ∷
-    refusals ∷ []
+    refusals ∷ room ∷ []
 
 -- at every row the definitions say what the paper says
 abbrev pub AsThePaperSays : Type 0

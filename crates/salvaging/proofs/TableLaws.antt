@@ -25,6 +25,7 @@ use Rattle.numerals.specs.declared.place.Place.{Place}
 use Rattle.tallying.proofs.FoundLaws.{Asked, asked-more, asked-end, asked-sound}
 use Rattle.partial.specs.Heading.{Heading}
 use Rattle.partial.specs.Limits.{sourceLimit}
+use Rattle.partial.specs.Reading.{segment}
 use Rattle.partial.specs.Segments.{Segment}
 use Rattle.partial.specs.Sequences.{sum}
 use Rattle.partial.proofs.Reading.KeptLaws.{stepped as read-step}
@@ -100,25 +101,32 @@ module _ {s : List ℕ} {c : Container} {start end : Place} {w₀ w : Walk} {siz
 -- ---- how many bytes of a box are in the copy
 
 -- the fate of a box behind others is found beside some segments kept before it
-fated-from : (f : List ℕ) (h : Heading) (kept : List Segment) (bs : List Box) (k : ℕ) → k < length bs
+pub fated-from : (f : List ℕ) (h : Heading) (kept : List Segment) (bs : List Box) (k : ℕ) → k < length bs
     → (before : List Segment) × (getD (fatesFrom sourceLimit f h kept bs) k noFated .fate ≡ fateOf sourceLimit f h before (boxAt k bs))
 unfolding fatesFrom boxAt
 fated-from f h kept [] k there = absurd (omega arith)
 fated-from f h kept (b ∷ bs) zero there = (kept, refl)
 fated-from f h kept (b ∷ bs) (suc k) there = fated-from f h (keptWith sourceLimit f h kept b) bs k (omega arith)
 
-two-on : (bs : List Box) (k : ℕ) → boxAt k (drop 2 bs) ≡ boxAt (suc (suc k)) bs
+pub two-on : (bs : List Box) (k : ℕ) → boxAt k (drop 2 bs) ≡ boxAt (suc (suc k)) bs
 unfolding boxAt
 two-on bs k = getD-drop 2 bs k noBox ∙ ap (λ (n : ℕ). getD bs n noBox) (omega arith)
 
+-- a segment that was read has the boxes of its `pseg`
+pub segment-inner : (f : List ℕ) (h : Heading) (before : List Segment) (b : Box) {s : Segment} → segment sourceLimit f h before b ≡ given s
+    → boxesIn Pseg f (b .body) (b .end) ≡ given (s .inner)
+segment-inner f h before b read =
+    let (inner, l, cs, t, same) = read-step sourceLimit f h before b read in
+    t .boxes ∙ ap (λ (s : Segment). given (s .inner)) same
+
 module _ (f : List ℕ) (h : Heading) (sound : Sound f h) where
   -- what holds of a box's fate, by its number and its kind
-  by-fate : (P : Fate → Type 0) (k : ℕ) → k < length (h .boxes)
+  pub by-fate : (P : Fate → Type 0) (k : ℕ) → k < length (h .boxes)
       → let b = boxAt k (h .boxes) in
       ((n : ℕ) → P (dropped n))
       → ((k ≡ 1 → ⊥) → is pseg b ≡ false → P whole)
       → (k ≡ 1 → boxesIn Pfil f (b .body) (b .end) ≡ given (h .inner) → P (ofPfil (h .inner)))
-      → ((k ≡ 1 → ⊥) → is pseg b ≡ true → (s : Segment) → boxesIn Pseg f (b .body) (b .end) ≡ given (s .inner) → P (ofPseg s))
+      → ((k ≡ 1 → ⊥) → is pseg b ≡ true → (s : Segment) (before : List Segment) → segment sourceLimit f h before b ≡ given s → P (ofPseg s))
       → P (fateAt f h k .fate)
   unfolding fates
   by-fate P zero there gone stay first one = stay (λ e. omega arith) (other-kind ftyp pseg (boxAt 0 (h .boxes)) refl (opened f h (sound .opens) .first))
@@ -136,8 +144,7 @@ module _ (f : List ℕ) (h : Heading) (sound : Sound f h) where
       go before (ofPfil inner) e = absurd (fate-no-pfil sourceLimit f h before b e)
       go before (ofPseg s) e =
           let (kind, found) = fate-pseg sourceLimit f h before b e in
-          let (inner, l, cs, t, same) = read-step sourceLimit f h before b (beside-given sourceLimit f h before b found .1) in
-          one (λ e. omega arith) kind s (t .boxes ∙ ap (λ (s : Segment). given (s .inner)) same)
+          one (λ e. omega arith) kind s before (beside-given sourceLimit f h before b found .1)
 
   module _ (k : ℕ) (there : k < length (h .boxes)) where
     -- it stands in the file
@@ -164,11 +171,11 @@ module _ (f : List ℕ) (h : Heading) (sound : Sound f h) where
         let lies = box-stands in
         rw (← size-by)
         (by-fate (λ t. sizeAs t ≤ boxAt k (h .boxes) .end - boxAt k (h .boxes) .at) k there (λ n. omega arith) (λ _ _. le-refl _)
-        (λ _ known. omega (arith, inner-short Pfil (h .inner) known)) (λ _ _ s known. omega (arith, inner-short Pseg (s .inner) known)))
+        (λ _ known. omega (arith, inner-short Pfil (h .inner) known)) (λ _ _ s before read. omega (arith, inner-short Pseg (s .inner) (segment-inner f h before _ read))))
 
     -- as it is told of the box that was read
     module _ {code : ℕ} (coded : code ≡ getD (codes f h) k 0) {b : Box} (same : b ≡ boxAt k (h .boxes)) where
-      told : Coded (fateAt f h k .fate) code
+      pub told : Coded (fateAt f h k .fate) code
       told = rw coded (code-at f h k (rw (fates-long f h sound) there))
 
       pub size-none : (code ≡ 255 → ⊥) → 0 ≡ copySize (fateAt f h k)
@@ -185,7 +192,7 @@ module _ (f : List ℕ) (h : Heading) (sound : Sound f h) where
         by-staying {n} stay first one =
             rw (← size-by)
             (by-fate (λ t. staying t ≡ true → n ≡ sizeAs t) k there (λ m stays. absurd (false≢true stays)) (λ other kind _. stay other kind)
-            (λ second known _. first second known) (λ other kind s known _. one other kind s known) (told .stays stays))
+            (λ second known _. first second known) (λ other kind s before read _. one other kind s (segment-inner f h before _ read)) (told .stays stays))
 
         -- a container has its header and what was counted in it
         module _ {front n : ℕ} (inner : ℕ) (headed : front ≡ b .body - b .at) (sums : n ≡ min (front + inner) (2 ^ 64 - 1)) where
@@ -249,11 +256,11 @@ module _ (f : List ℕ) (h : Heading) (sound : Sound f h) where
   all-filled : Filled File f (length f) 0 (h .boxes)
   all-filled = boxes-filled File f 0 (length f) (sound .boxes)
 
-  start-more : (k : ℕ) → k < length (h .boxes) → startOf f h (suc k) ≡ startOf f h k + copySize (fateAt f h k)
+  pub start-more : (k : ℕ) → k < length (h .boxes) → startOf f h (suc k) ≡ startOf f h k + copySize (fateAt f h k)
   start-more k there = sizes-more (fatesIn f h) k (rw (fates-long f h sound) there)
 
   -- no box is further on there
-  start-low : (k : ℕ) → k < length (h .boxes) → startOf f h k ≤ boxAt k (h .boxes) .at
+  pub start-low : (k : ℕ) → k < length (h .boxes) → startOf f h k ≤ boxAt k (h .boxes) .at
   unfolding sum
   start-low zero there = omega arith
   start-low (suc k) there =
@@ -305,6 +312,17 @@ new-in start (x ∷ xs) zero place there past high = rw (newPlace, lt-leb (x .bo
 new-in start (x ∷ xs) (suc k) place there past high =
     rw (newPlace, le-leb (x .box .end) place (past 0 (omega arith)))
     (new-in (start + copySize x) xs k place (omega arith) (λ j less. past (suc j) (omega arith)) high ∙ omega arith)
+
+-- a box itself is where the copies of those before it end
+pub new-start : (f : List ℕ) (h : Heading) (sound : Sound f h) (k : ℕ) → k < length (h .boxes) → newIn f h (boxAt k (h .boxes) .at) ≡ startOf f h k
+new-start f h sound k there =
+    let box = box-held f h sound in
+    let lies = box-stands f h sound k there in
+    let new =
+    new-in 0 (fatesIn f h) k (boxAt k (h .boxes) .at) (rw (fates-long f h sound) there)
+    (λ j less. rw box (boxes-apart File f 0 (length f) (sound .boxes) j k less there))
+    (rw box (omega arith)) in
+    omega (arith, new, ap (λ (b : Box). b .at) (box k))
 
 module _ (f : List ℕ) (h : Heading) {tops places : List ℕ} (moving : Moving f h tops places) {place : ℕ} (inside : place < length f) where
   -- the box that it is in is the last one that does not start behind it
