@@ -63,7 +63,7 @@ fn added_boxes(counts: Counts, outside: Outside) -> u64
 }
 
 // Whether a segment is admitted beside those before it, or the number of its refusal.
-#[derive(Drop)]
+#[derive(Clone, Copy)]
 pub enum Verdict {
     Refused(u64),
     Taken,
@@ -71,7 +71,7 @@ pub enum Verdict {
 
 // The source that an addition goes to: its number, what the ends of its segments say, whether its list of URLs is that in
 // `pfil`, and whether it has one at all.
-#[derive(Drop)]
+#[derive(Clone, Copy)]
 pub struct Target {
     pub source: u64,
     pub sizes: Sizes,
@@ -80,7 +80,7 @@ pub struct Target {
 }
 
 // The file that is added to: its length, what was read of it, and the source that the addition goes to.
-#[derive(Drop)]
+#[derive(Clone, Copy)]
 pub struct Onto {
     pub length: u64,
     pub judged: Judged,
@@ -89,7 +89,7 @@ pub struct Onto {
 
 // What is asked of append: the header, the chunk list as it is counted, what of it goes outside, the texts as they are
 // counted, and the layout of the boxes.
-#[derive(Drop)]
+#[derive(Clone, Copy)]
 pub struct Asked {
     pub header: SegmentHeader,
     pub counts: Counts,

@@ -9,7 +9,7 @@ use numerals::order::{larger, sum_of};
 // Whether no size is 0 and every state is one; how many items there are, and how many of them are present; the largest
 // size; the bytes of those that are present, and of all. A sum past 64 bits counts as the largest number that they
 // hold.
-#[derive(Drop)]
+#[derive(Clone, Copy)]
 pub struct Counts {
     pub right: bool,
     pub items: u64,

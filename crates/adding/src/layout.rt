@@ -31,7 +31,7 @@ const SURL_REST: u64 = FRONT_SIZE + 6;
 
 // Both widths of `ploc`, the bytes of `source_byte_offset`, the bodies of `pshd`, `ploc` and `pseg`, and all that is
 // added.
-#[derive(Drop)]
+#[derive(Clone, Copy)]
 pub struct Layout {
     pub length_size: usize,
     pub offset_size: usize,

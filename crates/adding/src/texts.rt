@@ -9,7 +9,7 @@ use numerals::order::sum_of;
 
 // Whether there is a length for each URL and each MIME text, whether there are as many bytes as the lengths say, and
 // whether none is zero; how many `surl` boxes there are, and how many bytes.
-#[derive(Drop)]
+#[derive(Clone, Copy)]
 pub struct Texts {
     pub even: bool,
     pub whole: bool,

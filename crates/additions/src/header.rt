@@ -6,7 +6,7 @@ use partial::flags::LAST_SEGMENT;
 use partial::position::Position;
 
 // The fields of `pshd` that a segment is written with.
-#[derive(Drop)]
+#[derive(Clone, Copy)]
 pub struct SegmentHeader {
     pub offset: Position,
     pub repair: u64,

@@ -11,7 +11,7 @@ use numerals::place::Place;
 
 // A box that was read: its kind, its first byte, the first bytes of its user type and of its body, and the first byte
 // after it. The user type ends where the body starts; only a `uuid` box has one that is not empty.
-#[derive(Drop)]
+#[derive(Clone, Copy)]
 pub struct Framed {
     pub kind: u32,
     pub at: Place,
@@ -21,7 +21,7 @@ pub struct Framed {
 }
 
 // What stands at a place of a container: a box, or the number of the fault in its header.
-#[derive(Drop)]
+#[derive(Clone, Copy)]
 pub enum Header {
     Found(Framed),
     Refused(u64),

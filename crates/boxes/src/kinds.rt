@@ -3,7 +3,7 @@ ghost use Rattle.std.specs.Prelude.{◌≡◌};
 ghost use Rattle.boxes.specs.Kinds.{rules};
 
 // A kind of box: its type.
-#[derive(Drop)]
+#[derive(Clone, Copy)]
 pub struct Kind {
     pub code: u32,
 }
@@ -31,7 +31,7 @@ pub const BIDX: Kind = Kind { code: 0x62696478 };
 pub const FRPA: Kind = Kind { code: 0x66727061 };
 
 // Where a kind of box stands.
-#[derive(Drop)]
+#[derive(Clone, Copy)]
 pub enum Container {
     File,
     Pfil,
@@ -41,7 +41,7 @@ pub enum Container {
 }
 
 // How many of a kind a container holds.
-#[derive(Drop)]
+#[derive(Clone, Copy)]
 pub enum Count {
     One,
     OneOrMore,
@@ -50,7 +50,7 @@ pub enum Count {
 }
 
 // A row of the table: a kind, a container that it stands in, and how many of it that holds.
-#[derive(Drop)]
+#[derive(Clone, Copy)]
 pub struct Rule {
     pub kind: Kind,
     pub container: Container,

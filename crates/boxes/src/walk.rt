@@ -9,7 +9,7 @@ use crate::refusals::TOO_MANY_BOXES;
 use numerals::place::Place;
 
 // Which container is walked, where its next box stands, where it ends, and how many more boxes it may hold.
-#[derive(Drop)]
+#[derive(Clone, Copy)]
 pub struct Walk {
     pub container: Container,
     pub at: Place,
@@ -18,7 +18,7 @@ pub struct Walk {
 }
 
 // What the next step of a walk finds: a box with the walk after it, the container's end, or the number of a fault.
-#[derive(Drop)]
+#[derive(Clone, Copy)]
 pub enum Step {
     Next(Framed, Walk),
     End,

@@ -10,7 +10,7 @@ use partial::position::Position;
 
 // Whether the size is known, and that size; the largest end; whether every segment that makes the size known ends
 // there.
-#[derive(Drop)]
+#[derive(Clone, Copy)]
 pub struct Sizes {
     pub known: bool,
     pub size: Position,

@@ -12,7 +12,7 @@ use numerals::place::Place;
 use partial::refusals::PLOC_WRONG;
 
 // The state and the size of its chunk, the offset of the chunk's place, and the place after the entry.
-#[derive(Drop)]
+#[derive(Clone, Copy)]
 pub struct Entry {
     pub state: u64,
     pub size: u64,
@@ -21,7 +21,7 @@ pub struct Entry {
 }
 
 // What an entry says, or the number of its refusal.
-#[derive(Drop)]
+#[derive(Clone, Copy)]
 pub enum EntryRead {
     Refused(u64),
     Given(Entry),

@@ -11,7 +11,7 @@ use partial::position::Position;
 use partial::refusals::PSHD_WRONG;
 
 // The flags, `source_byte_offset`, which is not yet held against its limit, and `last_repair_time`.
-#[derive(Drop)]
+#[derive(Clone, Copy)]
 pub struct Fields {
     pub flags: u64,
     pub offset: Position,
@@ -19,7 +19,7 @@ pub struct Fields {
 }
 
 // What the body of a `pshd` says, or the number of its refusal.
-#[derive(Drop)]
+#[derive(Clone, Copy)]
 pub enum FieldsRead {
     Refused(u64),
     Given(Fields),

@@ -11,7 +11,7 @@ use numerals::place::Place;
 use partial::refusals::{DATA_ELSEWHERE, PLOC_WRONG, WIDTH_WRONG};
 
 // The two widths of its entries, its `chunk_count`, and the places of its first entry and of its end.
-#[derive(Drop)]
+#[derive(Clone, Copy)]
 pub struct Location {
     pub length_size: usize,
     pub offset_size: usize,
@@ -21,7 +21,7 @@ pub struct Location {
 }
 
 // What the head of a `ploc` says, or the number of its refusal.
-#[derive(Drop)]
+#[derive(Clone, Copy)]
 pub enum LocationRead {
     Refused(u64),
     Given(Location),

@@ -16,7 +16,7 @@ pub const LOST: u64 = 0;
 pub const ELSEWHERE: u64 = 3;
 
 // What a flag byte says: the number of a state, or that of a refusal.
-#[derive(Drop)]
+#[derive(Clone, Copy)]
 pub enum StateRead {
     Refused(u64),
     Given(u64),

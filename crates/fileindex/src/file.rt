@@ -17,7 +17,7 @@ use numerals::place::Place;
 use sources::numbers::ALL_SOURCES;
 
 // What is marked with the boxes of a file's index, or 36.
-#[derive(Drop)]
+#[derive(Clone, Copy)]
 pub enum FileIndex {
     Refused(u64),
     Given(Marks),

@@ -16,7 +16,7 @@ use segment::chunk::{ChunkStep, Cursor};
 use segment::tops::TOPS;
 
 // The cursor behind the last entry, or the number of a refusal.
-#[derive(Drop)]
+#[derive(Clone, Copy)]
 pub enum ChunksRead {
     Refused(u64),
     Given(Cursor),

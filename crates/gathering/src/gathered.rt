@@ -14,7 +14,7 @@ use partial::position::Position;
 
 // How many segments there are, how many chunks they have, of how many sources they are, and whether some segment has an
 // index.
-#[derive(Drop)]
+#[derive(Clone, Copy)]
 pub struct Gathered {
     pub segments: u64,
     pub chunks: u64,

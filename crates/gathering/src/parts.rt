@@ -18,7 +18,7 @@ use tallying::rules::keeps;
 use tallying::tally::Tally;
 
 // Its `pshd`, the fields of that, the head of its `ploc`, and whether it has an index and a list of URLs of its own.
-#[derive(Drop)]
+#[derive(Clone, Copy)]
 pub struct Parts {
     pub header: Framed,
     pub fields: Fields,
@@ -28,14 +28,14 @@ pub struct Parts {
 }
 
 // What a segment's box holds, or the number of its refusal.
-#[derive(Drop)]
+#[derive(Clone, Copy)]
 pub enum PartsRead {
     Refused(u64),
     Given(Parts),
 }
 
 // The `pshd` of a segment's box and its fields, or the number of its refusal.
-#[derive(Drop)]
+#[derive(Clone, Copy)]
 pub enum HeaderRead {
     Refused(u64),
     Given(Framed, Fields),

@@ -18,7 +18,7 @@ use surls::first::has_surl;
 use tallying::find::NO_BOX;
 
 // What is gathered of all segments, or the number of a refusal.
-#[derive(Drop)]
+#[derive(Clone, Copy)]
 pub enum Passed {
     Refused(u64),
     Given(Gathered),

@@ -27,7 +27,7 @@ use sources::numbers::ALL_SOURCES;
 use surls::body::Body;
 
 // What is gathered with one segment more, and the data box that held the last chunk; or the number of a refusal.
-#[derive(Drop)]
+#[derive(Clone, Copy)]
 pub enum SegmentRead {
     Refused(u64),
     Given(Gathered, Framed),
@@ -85,7 +85,7 @@ pub(crate) fn list_of(b: Framed, own: bool, in_pfil: Body) -> Body
 }
 
 // What the box of a segment holds, and the cursor behind its last entry; or the number of a refusal.
-#[derive(Drop)]
+#[derive(Clone, Copy)]
 pub enum PsegRead {
     Refused(u64),
     Given(Parts, Cursor),

@@ -16,14 +16,14 @@ use surls::body::Body;
 use surls::texts::url_of;
 
 // Where the texts that are left begin, and the pair of lengths that comes next.
-#[derive(Drop)]
+#[derive(Clone, Copy)]
 struct Cut {
     from: usize,
     pair: usize,
 }
 
 // What a box of the container says: the lists may be equal, by what is left of both; or they are not.
-#[derive(Drop)]
+#[derive(Clone, Copy)]
 enum Past {
     On(Cut),
     Differ,

@@ -4,7 +4,7 @@ use surls::part::Part;
 
 // How many boxes the file has, how many of them are `pseg`, whether it is mixed, whether its `pfil` has an index, where
 // the list of URLs in `pfil` stands, and the URL and the MIME text of the first `surl` there.
-#[derive(Drop)]
+#[derive(Clone, Copy)]
 pub struct Head {
     pub boxes: u64,
     pub segments: u64,
@@ -16,7 +16,7 @@ pub struct Head {
 }
 
 // A refusal, or what the heading tells.
-#[derive(Drop)]
+#[derive(Clone, Copy)]
 pub enum Headed {
     Refused(u64),
     Found(Head),

@@ -2,7 +2,7 @@
 use partial::position::Position;
 
 // An end, which counts for nothing where it is not known.
-#[derive(Drop)]
+#[derive(Clone, Copy)]
 pub struct End {
     pub known: bool,
     pub at: Position,

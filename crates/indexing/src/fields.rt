@@ -13,7 +13,7 @@ use partial::refusals::INDEX_WRONG;
 
 // What they say of a box of the source: whether it has a size and which, how many bytes its header has, its type; and
 // where the list of the `bidx` starts.
-#[derive(Drop)]
+#[derive(Clone, Copy)]
 pub struct IndexFields {
     pub sized: bool,
     pub size: u64,
@@ -23,7 +23,7 @@ pub struct IndexFields {
 }
 
 // The fields, or the number of their refusal.
-#[derive(Drop)]
+#[derive(Clone, Copy)]
 pub enum FieldsRead {
     Refused(u64),
     Given(IndexFields),

@@ -15,14 +15,14 @@ use partial::position::Position;
 use partial::refusals::INDEX_WRONG;
 
 // An end, or the number of its refusal.
-#[derive(Drop)]
+#[derive(Clone, Copy)]
 pub enum EndRead {
     Refused(u64),
     Given(End),
 }
 
 // The fields and the end of an indexed box, or the number of a refusal.
-#[derive(Drop)]
+#[derive(Clone, Copy)]
 pub enum HeadRead {
     Refused(u64),
     Given(IndexFields, End),

@@ -19,7 +19,7 @@ use tallying::find::first_of;
 use tallying::rules::keeps;
 
 // Whether there is an index, and what is marked with its boxes; or the number of a refusal.
-#[derive(Drop)]
+#[derive(Clone, Copy)]
 pub enum IndexRead {
     Refused(u64),
     Given(bool, Marks),

@@ -12,14 +12,14 @@ use partial::refusals::INDEX_WRONG;
 use tallying::rules::keeps;
 
 // How many `bidx` a list has and how many bytes its front part has, or the number of a refusal.
-#[derive(Drop)]
+#[derive(Clone, Copy)]
 pub enum InnerRead {
     Refused(u64),
     Given(u64, u64),
 }
 
 // What is counted along a list: its `bidx` boxes, its front parts, and the bytes of the last of these.
-#[derive(Drop)]
+#[derive(Clone, Copy)]
 pub struct InnerCounts {
     pub many: u64,
     pub parts: u64,

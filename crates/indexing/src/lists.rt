@@ -20,7 +20,7 @@ use partial::position::Position;
 use partial::refusals::INDEX_WRONG;
 
 // What is marked with the boxes of a list or of one box, and where the last of them ends; or the number of a refusal.
-#[derive(Drop)]
+#[derive(Clone, Copy)]
 pub enum ListRead {
     Refused(u64),
     Given(Marks, End),

@@ -14,7 +14,7 @@ use partial::position::Position;
 use partial::rows::INDEX_ROW;
 
 // How many rows there are, whether a box of a ninth level was met, and whether an end that is not known.
-#[derive(Drop)]
+#[derive(Clone, Copy)]
 pub struct Marks {
     pub count: u64,
     pub deep: bool,

@@ -11,7 +11,7 @@ use partial::rows::RANGE_ROW;
 use sweeping::ranges::{HAD, Range, range_at};
 
 // How many ranges each list has, and how many positions they hold.
-#[derive(Drop)]
+#[derive(Clone, Copy)]
 pub struct Totals {
     pub had: u64,
     pub missing: u64,

@@ -10,7 +10,7 @@ use printing::records;
 use printing::records::{eight, pair};
 
 // The numbers of the next record.
-#[derive(Drop)]
+#[derive(Clone, Copy)]
 enum Head {
     End,
     Given {

@@ -6,7 +6,7 @@ use printing::marks::mark;
 use serving::calls::{ask, serve};
 
 // How many numbers are lent for the rows of each table and for the ranges of each list.
-#[derive(Drop)]
+#[derive(Clone, Copy)]
 pub struct Rooms {
     pub segments: usize,
     pub chunks: usize,

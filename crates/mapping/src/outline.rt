@@ -16,7 +16,7 @@ use spans::files::file_spans;
 
 // How many spans there are of what good chunks supply and of what damaged ones cover, the described length, whether the
 // size is known, and whether the missing positions are named.
-#[derive(Drop)]
+#[derive(Clone, Copy)]
 pub struct Outline {
     pub good: usize,
     pub damaged: usize,

@@ -12,7 +12,7 @@ use partial::position::Position;
 use sweeping::naming::{Sweeps, named_at};
 
 // Where the lines of the ranges end, and what the ranges hold together.
-#[derive(Drop)]
+#[derive(Clone, Copy)]
 pub struct RangesPut {
     pub next: u64,
     pub totals: Totals,

@@ -9,7 +9,7 @@ use sweeping::ranges::{HAD, Range};
 
 // How many positions are received, held and lost. Where the missing ones are not named,
 // all of them are among the lost.
-#[derive(Drop)]
+#[derive(Clone, Copy)]
 pub struct Totals {
     pub received: u64,
     pub held: u64,

@@ -9,7 +9,7 @@ use printing::records::pair;
 const LARGEST_FILE: usize = 65_537;
 
 // The three numbers of the next record.
-#[derive(Drop)]
+#[derive(Clone, Copy)]
 enum Head {
     End,
     Given {

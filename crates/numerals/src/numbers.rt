@@ -7,7 +7,7 @@ use crate::place::Place;
 
 // A signed number: so many ahead, or so many back. Its size stands apart from its sign, so that adding it to a place
 // can neither lose the sign nor wrap.
-#[derive(Drop)]
+#[derive(Clone, Copy)]
 pub enum Offset {
     Ahead(u64),
     Back(u64),

@@ -9,7 +9,7 @@ use crate::whole::{Whole, whole_of};
 
 // Whether each chunk is whole allowed boxes; how many chunks there are, how many bytes they have, and how many boxes
 // those are that are whole.
-#[derive(Drop)]
+#[derive(Clone, Copy)]
 pub struct Outside {
     pub right: bool,
     pub chunks: u64,

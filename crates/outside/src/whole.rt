@@ -8,7 +8,7 @@ use fields::allowed::may_stand;
 use numerals::place::Place;
 
 // What bytes are: so many whole allowed boxes from the first byte to the last, or not.
-#[derive(Drop)]
+#[derive(Clone, Copy)]
 pub enum Whole {
     Boxes(u64),
     Not,

@@ -3,7 +3,7 @@ use crate::position::Position;
 
 // Reading: how many rows of each table were filled, how many sources there are, the described length of one, and
 // whether its size is known.
-#[derive(Drop)]
+#[derive(Clone, Copy)]
 pub enum Read {
     Refused(u64),
     Tables {
@@ -16,7 +16,7 @@ pub enum Read {
 }
 
 // Asking of a position: served or missing, each with how many positions in a row, or not below the described length.
-#[derive(Drop)]
+#[derive(Clone, Copy)]
 pub enum Asked {
     Refused(u64),
     Served(u64),
@@ -25,7 +25,7 @@ pub enum Asked {
 }
 
 // Listing: how many ranges each list has, and the received and missing totals.
-#[derive(Drop)]
+#[derive(Clone, Copy)]
 pub enum Listed {
     Refused(u64),
     Lists {
@@ -37,14 +37,14 @@ pub enum Listed {
 }
 
 // The index: how many rows were filled.
-#[derive(Drop)]
+#[derive(Clone, Copy)]
 pub enum Counted {
     Refused(u64),
     Rows(u64),
 }
 
 // Begin and append: the length of the file that was written.
-#[derive(Drop)]
+#[derive(Clone, Copy)]
 pub enum Written {
     Refused(u64),
     Length(u64),

@@ -7,7 +7,7 @@ pub const PAFF: u64 = 0x70616666;
 pub const PMFF: u64 = 0x706d6666;
 
 // What a file is begun as.
-#[derive(Drop)]
+#[derive(Clone, Copy)]
 pub enum Brand {
     Paff,
     Pmff,

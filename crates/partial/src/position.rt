@@ -1,5 +1,5 @@
 // Positions in the source.
 
 // How many bytes of the source stand before it. A place in the partial file is another type.
-#[derive(Drop)]
+#[derive(Clone, Copy)]
 pub struct Position(pub u64);

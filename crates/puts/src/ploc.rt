@@ -33,7 +33,7 @@ fn flags_of(state: u64) -> u64
 }
 
 // Two widths: of the sizes and of the offsets.
-#[derive(Drop)]
+#[derive(Clone, Copy)]
 pub struct Widths {
     pub size: usize,
     pub offset: usize,
@@ -60,7 +60,7 @@ pub fn put_entry(
 }
 
 // How far before the `pseg` the next data lies: in `pdat`, and outside.
-#[derive(Drop)]
+#[derive(Clone, Copy)]
 struct Backs {
     inside: u64,
     outside: u64,

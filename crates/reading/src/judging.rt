@@ -28,7 +28,7 @@ use sources::numbers::ALL_SOURCES;
 use tallying::rules::keeps;
 
 // What the heading of a file tells, what is gathered of its segments, and how many rows its index has.
-#[derive(Drop)]
+#[derive(Clone, Copy)]
 pub struct Judged {
     pub head: Head,
     pub gathered: Gathered,
@@ -36,7 +36,7 @@ pub struct Judged {
 }
 
 // What a file says, or the number of its refusal.
-#[derive(Drop)]
+#[derive(Clone, Copy)]
 pub enum Judgement {
     Refused(u64),
     Given(Judged),

@@ -5,7 +5,7 @@ use numerals::order::ends_by;
 use surls::part::Part;
 
 // Where a part of a file lies, or the number of a refusal.
-#[derive(Drop)]
+#[derive(Clone, Copy)]
 pub enum Located {
     Refused(u64),
     At(Part),

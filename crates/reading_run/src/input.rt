@@ -8,7 +8,7 @@ use printing::records;
 use printing::records::pair;
 
 // The six numbers of the next record.
-#[derive(Drop)]
+#[derive(Clone, Copy)]
 enum Head {
     End,
     Given {

@@ -6,7 +6,7 @@ use reading::texts::{mime, source_mime, source_url, url};
 use surltexts::calls::segment_texts;
 
 // How many numbers are lent for the rows of each table, and the numbers of a source and of a segment.
-#[derive(Drop)]
+#[derive(Clone, Copy)]
 pub struct Wanted {
     pub segments: usize,
     pub chunks: usize,

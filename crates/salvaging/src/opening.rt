@@ -14,7 +14,7 @@ use surls::body::Body;
 
 // Whether the file is mixed, where the list of URLs in its `pfil` stands, where its whole boxes end, and the number of
 // the framing error there, 0 for none.
-#[derive(Drop)]
+#[derive(Clone, Copy)]
 pub struct OpenFile {
     pub mixed: bool,
     pub list: Body,
@@ -23,14 +23,14 @@ pub struct OpenFile {
 }
 
 // A refusal, or what is told of the file.
-#[derive(Drop)]
+#[derive(Clone, Copy)]
 pub enum Opening {
     Refused(u64),
     Found(OpenFile),
 }
 
 // Where the whole boxes of a file end, and the number of the framing error there, 0 for none.
-#[derive(Drop)]
+#[derive(Clone, Copy)]
 pub struct WholeEnd {
     pub at: Place,
     pub fault: u64,

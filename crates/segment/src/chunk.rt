@@ -16,7 +16,7 @@ use partial::refusals::SOURCE_TOO_LONG;
 
 // A cursor over entries: the place of the next one, where its chunk starts in the source, and the data box that held
 // the last chunk.
-#[derive(Drop)]
+#[derive(Clone, Copy)]
 pub struct Cursor {
     pub at: Place,
     pub start: Position,
@@ -24,7 +24,7 @@ pub struct Cursor {
 }
 
 // Where a chunk starts in the source, its size, its state, and its place in the file: 0 if it is not present or empty.
-#[derive(Drop)]
+#[derive(Clone, Copy)]
 pub struct Chunk {
     pub start: Position,
     pub size: u64,
@@ -33,7 +33,7 @@ pub struct Chunk {
 }
 
 // What a cursor meets: a chunk with the cursor behind it, or the number of a refusal.
-#[derive(Drop)]
+#[derive(Clone, Copy)]
 pub enum ChunkStep {
     Refused(u64),
     Given(Chunk, Cursor),

@@ -10,7 +10,7 @@ use numerals::order::ends_by;
 use numerals::place::Place;
 
 // The data box that holds a chunk, if there is one.
-#[derive(Drop)]
+#[derive(Clone, Copy)]
 pub enum Held {
     In(Framed),
     Nowhere,

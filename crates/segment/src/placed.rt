@@ -16,14 +16,14 @@ use partial::refusals::OUTSIDE_DATA;
 
 // The place of a chunk, 0 if it is not present or empty, with the data box that held the last chunk; or the number of a
 // refusal.
-#[derive(Drop)]
+#[derive(Clone, Copy)]
 pub enum Placed {
     Refused(u64),
     At(Place, Framed),
 }
 
 // The place that an offset gives, if it is not before the file's first byte or past every place.
-#[derive(Drop)]
+#[derive(Clone, Copy)]
 enum Reached {
     At(Place),
     Nowhere,

@@ -14,7 +14,7 @@ use segment::chunk::Chunk;
 use sources::numbers::ALL_SOURCES;
 
 // Whether a chunk supplies a position, which one, and how many positions from there on are alike.
-#[derive(Drop)]
+#[derive(Clone, Copy)]
 pub struct Run {
     pub supplied: bool,
     pub chunk: Chunk,

@@ -3,7 +3,7 @@ use boxes::kinds::Container;
 use numerals::place::Place;
 
 // Which container it is, and where its body starts and ends.
-#[derive(Drop)]
+#[derive(Clone, Copy)]
 pub struct Body {
     pub container: Container,
     pub start: Place,

@@ -15,7 +15,7 @@ use numerals::place::Place;
 use tallying::find::first_of;
 
 // Which of the two texts of a `surl`.
-#[derive(Drop)]
+#[derive(Clone, Copy)]
 pub enum Text {
     Url,
     Mime,

@@ -2,7 +2,7 @@
 use numerals::place::Place;
 
 // Its place and its size.
-#[derive(Drop)]
+#[derive(Clone, Copy)]
 pub struct Part {
     pub place: Place,
     pub size: u64,

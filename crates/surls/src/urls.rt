@@ -15,7 +15,7 @@ use boxes::walk::{Step, Walk};
 
 // What the next URLs of two walks say: they are equal, with both walks after them; neither walk has one; or the lists
 // are not equal.
-#[derive(Drop)]
+#[derive(Clone, Copy)]
 enum Both {
     Equal(Walk, Walk),
     Ended,

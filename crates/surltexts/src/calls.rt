@@ -17,7 +17,7 @@ use sources::numbers::ALL_SOURCES;
 use surls::body::Body;
 
 // How many bytes the texts have and how many lengths there are, or the number of a refusal.
-#[derive(Drop)]
+#[derive(Clone, Copy)]
 pub enum Told {
     Refused(u64),
     Texts { bytes: u64, lengths: u64 },

@@ -20,7 +20,7 @@ use surls::texts::{mime_of, url_of};
 use texts::puts::put_text;
 
 // How many bytes the texts have, and how many lengths there are.
-#[derive(Drop)]
+#[derive(Clone, Copy)]
 pub struct Amount {
     pub bytes: u64,
     pub lengths: u64,

@@ -15,7 +15,7 @@ use partial::position::Position;
 pub const HELD: u64 = 2;
 
 // The sweep over the spans of the good chunks, and that over those of the damaged ones.
-#[derive(Drop)]
+#[derive(Clone, Copy)]
 pub struct Sweeps {
     pub good: Sweep,
     pub damaged: Sweep,
@@ -34,7 +34,7 @@ impl Sweeps {
 }
 
 // A range, and the sweeps where it ends.
-#[derive(Drop)]
+#[derive(Clone, Copy)]
 pub struct Named {
     pub range: Range,
     pub sweeps: Sweeps,

@@ -13,14 +13,14 @@ pub const MISSING: u64 = 0;
 pub const HAD: u64 = 1;
 
 // A range of positions from one on: their class, and how many they are.
-#[derive(Drop)]
+#[derive(Clone, Copy)]
 pub struct Range {
     pub class: u64,
     pub length: u64,
 }
 
 // A range, and how many spans are passed where it ends.
-#[derive(Drop)]
+#[derive(Clone, Copy)]
 pub struct Found {
     pub range: Range,
     pub passed: usize,
@@ -40,7 +40,7 @@ fn nothing(passed: usize, length: u64) -> Found
 }
 
 // How far the positions from one on are had, and how many spans are passed there.
-#[derive(Drop)]
+#[derive(Clone, Copy)]
 pub struct Reach {
     pub to: Position,
     pub passed: usize,

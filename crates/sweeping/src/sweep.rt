@@ -8,7 +8,7 @@ use partial::position::Position;
 
 // Over the first n spans of a table: the class of the range that it stands in, where that ends, and how many spans are
 // passed there.
-#[derive(Drop)]
+#[derive(Clone, Copy)]
 pub struct Sweep {
     pub n: usize,
     pub class: u64,

@@ -7,7 +7,7 @@ use boxes::kinds::{Kind, RULE_COUNT};
 
 // The number of the first fault, 0 for none; how many boxes there are, and how many of the kind of each row of the
 // table, none where there is a fault.
-#[derive(Drop)]
+#[derive(Clone, Copy)]
 pub struct Tally {
     pub fault: u64,
     pub boxes: u64,

@@ -9,7 +9,7 @@ use printing::records::pair;
 use reading::tables::read;
 
 // The numbers of the next record.
-#[derive(Drop)]
+#[derive(Clone, Copy)]
 enum Head {
     End,
     Given {
