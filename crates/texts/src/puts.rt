@@ -5,7 +5,6 @@ ghost use Rattle.std.specs.Prelude.{◌+◌, ◌≤◌};
 ghost use Rattle.partial.specs.Map.{decimal};
 ghost use Rattle.texts.specs.Pieces.{PutsPiece};
 
-use bytes::copy;
 use io::decimal;
 
 // Puts bytes.
@@ -20,7 +19,7 @@ pub fn put_text(buffer: &mut [u8], at: u64, text: &[u8]) -> u64
     if (buffer.len() as u64) < next {
         return next;
     }
-    copy(text, &mut buffer[at as usize..next as usize]);
+    buffer[at as usize..next as usize].copy_from_slice(text);
     next
 }
 
