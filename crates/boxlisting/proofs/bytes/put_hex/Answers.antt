@@ -1,0 +1,13 @@
+-- `boxlisting::bytes::put_hex` meets its contract: two digits hold a byte.
+use mathlib.Core.Path.{◌∙◌}
+use native.Mathlib.Omega.{arith}
+use Rattle.boxlisting.proofs.BytesLaws.{hex_two, hex_by}
+use Rattle.texts.proofs.TextLaws.{piece_same, piece_puts}
+use Rattle.boxlisting.proofs.bytes.put_hex.Goals as goal
+
+pub returns : goal.returns
+returns c =
+    let said = c.hex-count.ensures in
+    let piece = c.put_text.ensures in
+    let two = hex_two _ _ (omega arith) said.1.0 in
+    (piece_puts (omega (arith, piece.end, said.0.1, two)) (piece_same (said.1.1 ∙ hex_by _ _ (omega arith) said.1.0) piece), omega (arith, piece.end, said.0.1, two))

@@ -1,0 +1,37 @@
+-- `fields::entry::rest_of` meets its contract: the one test is the definition's.
+use Prim.Native.Nat.{◌+◌, ◌≤◌}
+use mathlib.Core.Path.{sym, ◌∙◌}
+use native.Mathlib.Omega.{arith}
+use borrow.Author.Tests.{leb-true, not-true, not-false}
+use Rattle.fields.specs.Entry.{entry_answer}
+use Rattle.fields.specs.Location.{ploc_of}
+use Rattle.fields.proofs.EntryLaws.{bytes_most, rest_cut, rest_whole}
+use Rattle.fields.proofs.entry.rest_of.Goals as goal
+
+-- the entry ends by the end
+
+room : (c : goal.Else-not-ends_by) → let a = c.args in a.at.0 + 1 + (c.within-length_size.result + c.offset_size-offset_size.result) ≤ a.l.end.0
+room c =
+    leb-true _ _ (sym c.ends_by.ensures ∙ not-false _ c.if-not-ends_by.false-raw)
+
+pub overflow_add-length_size : goal.overflow_add-length_size
+overflow_add-length_size c =
+    let a = c.args in
+    omega (arith, bytes_most (ploc_of a.l) a.state, c.offset_size-offset_size.ensures, c.within-length_size.ensures)
+
+pub returns-then-not-ends_by : goal.returns-then-not-ends_by
+unfolding entry_answer
+returns-then-not-ends_by c =
+    sym (rest_cut _ _ _ _ c.within-length_size.ensures c.offset_size-offset_size.ensures (sym c.ends_by.ensures ∙ not-true _ c.if-not-ends_by.true-raw))
+
+pub overflow_add-offset_at : goal.overflow_add-offset_at
+overflow_add-offset_at c = omega (arith, room c)
+
+pub overflow_add-result : goal.overflow_add-result
+overflow_add-result c = omega (arith, room c)
+
+pub returns : goal.returns
+unfolding entry_answer
+returns c =
+    sym
+    (rest_whole _ _ _ _ c.within-length_size.ensures c.offset_size-offset_size.ensures (sym c.ends_by.ensures ∙ not-false _ c.if-not-ends_by.false-raw) (omega arith) (omega arith) c.unsigned.ensures c.signed.ensures)

@@ -1,0 +1,67 @@
+-- `fileindex::file::index_of` meets its contract. The loop's invariant: the indexes so far are marked, and the boxes
+-- that are left decide.
+use Prim.Native.Nat.{ℕ, ◌≤◌}
+use mathlib.Core.Path.{refl, sym, subst, ◌∙◌}
+use borrow.Author.Tests.{leb-true}
+use Rattle.boxes.specs.Framing.{box_of}
+use Rattle.boxes.proofs.WalkLaws.{fewer, next_box, no_more, a_fault, walk_boxes}
+use Rattle.partial.specs.Limits.{segment_limit}
+use Rattle.partial.proofs.Reading.HeadingAppendLaws.{headed}
+use Rattle.indexing.specs.Index.{CountedIn}
+use Rattle.fileindex.specs.File.{end_in, Tells}
+use Rattle.fileindex.specs.Parts.{Adds}
+use Rattle.fileindex.proofs.FileLaws.{by_parts, tells_file}
+use Rattle.fileindex.proofs.HeadingLaws.{heading-holds}
+use Rattle.fileindex.proofs.PartLaws.{ends_as}
+use Rattle.fileindex.proofs.PassLaws.{Midway, midway_none, next, next_inside, few_passed, midway_refused, midway_more, midway_end, midway_sound}
+use Rattle.fileindex.proofs.file.index_of.Goals as goal
+
+pub loop-b-init : goal.loop-b-init
+loop-b-init c =
+    let new = c.new-walk.ensures in (
+      refl,
+      λ h ss number head known numbered.
+          let t = headed _ h head in
+          midway_none _ _ _ _ _ new (sym (walk_boxes _ new) ∙ t.boxes) (heading-holds _ _ h ss t known numbered) (leb-true _ _ t.small),
+    )
+
+pub returns-in-Refused-index_at : goal.returns-in-Refused-index_at
+unfolding Tells Adds
+returns-in-Refused-index_at c =
+    λ h ss number head known numbered.
+    let so_far = c.loop-b.invariant.1 h ss number head known numbered in
+    let step = next_box c.step.ensures c.in-Next.is in
+    let box = next _ _ _ _ _ so_far step in
+    let (told, _) = c.index_at.ensures _ _ _ box.here box.held (next_inside _ _ _ _ _ so_far step) (ends_as number _ (end_in _) _ box.here (c.source_of-source.ensures _ number box.here box.held).each c.end_of-size.ensures) in
+    sym (by_parts _ h _ ss) ∙ midway_refused _ _ _ _ _ so_far step (subst (Adds _ _ _ _) c.in-Refused-index_at.is told)
+
+pub loop-b-smaller : goal.loop-b-smaller
+loop-b-smaller c = fewer _ _ (next_box c.step.ensures c.in-Next.is)
+
+pub loop-b-preserved : goal.loop-b-preserved
+unfolding CountedIn box_of
+loop-b-preserved c =
+    let inv = c.loop-b.invariant in
+    let step = next_box c.step.ensures c.in-Next.is in
+    let given-more = c.in-Given.is in (
+      c.put_source.ensures.long ∙ c.index_at.auto.1.1.1.1.0 ∙ inv.0,
+      λ h ss number head known numbered.
+          let so_far = inv.1 h ss number head known numbered in
+          let box = next _ _ _ _ _ so_far step in
+          let source = c.source_of-source.ensures _ number box.here box.held in
+          let low = source.most segment_limit (subst (λ (n : ℕ). n ≤ segment_limit) (sym numbered.pfil) (numbered.small _)) numbered.small in
+          let ends = ends_as number _ (end_in _) _ box.here source.each c.end_of-size.ensures in
+          let (told, counted) = c.index_at.ensures _ _ _ box.here box.held (next_inside _ _ _ _ _ so_far step) ends in
+          subst (Midway _ _ _ _ _ _ _ _) (sym (c.segments_with-segments.ensures (few_passed _ _ _ _ _ so_far step)))
+          (midway_more _ _ _ _ _ so_far step _ _ _ (subst (Adds _ _ _ _) given-more told) (subst (CountedIn _) given-more counted) _ _ source.each low c.put_source.ensures),
+    )
+
+pub returns-in-End : goal.returns-in-End
+returns-in-End c =
+    λ h ss number head known numbered.
+    tells_file _ h _ number ss _ _ _ (midway_end _ _ _ _ _ (c.loop-b.invariant.1 h ss number head known numbered) (no_more c.step.ensures c.in-End.is))
+
+pub returns-in-Refused : goal.returns-in-Refused
+returns-in-Refused c =
+    λ h ss number head known numbered.
+    absurd (midway_sound _ _ _ _ _ (c.loop-b.invariant.1 h ss number head known numbered) (a_fault c.step.ensures c.in-Refused.is))

@@ -1,0 +1,18 @@
+-- `fileindex::parts::segments_with` meets its contract: a file has too few segments for the sum to be cut.
+use Prim.Native.Nat.{suc, ◌+◌, ◌-◌, ◌^◌, min}
+use mathlib.Core.Path.{◌≡◌, sym, ◌∙◌}
+use native.Mathlib.Omega.{arith}
+use Rattle.boxes.specs.Kinds.{pseg}
+use Rattle.tallying.proofs.FoundLaws.{is_kind, is_other}
+use Rattle.fileindex.proofs.PartLaws.{with_segment, with_other}
+use Rattle.fileindex.proofs.parts.segments_with.Goals as goal
+
+pub returns-then-b : goal.returns-then-b
+returns-then-b c =
+    λ few.
+    let n = c.args.segments in
+    let sum : min (n + 1) (2 ^ 64 - 1) ≡ suc n = omega arith in
+    c.sum_of.ensures ∙ sum ∙ sym (with_segment _ _ (is_kind pseg _ c.if-b.true))
+
+pub returns : goal.returns
+returns c = λ few. sym (with_other _ _ (is_other pseg _ c.if-b.false))

@@ -1,0 +1,20 @@
+-- `indexrows::marking::mark_all` meets its contract. The loop's invariant: the sources so far are marked.
+use Prim.Native.Nat.{◌-◌, ◌≤◌}
+use mathlib.Core.List.{List}
+use mathlib.Core.Path.{◌≡◌}
+use lib.ListN.{length}
+use Rattle.partial.specs.Index.{SourceBox}
+use Rattle.partial.specs.Memory.{filled}
+use Rattle.partial.specs.Segments.{Segment}
+use Rattle.indexrows.specs.Marking.{AcceptedIn, rows_with, marked_below}
+use Rattle.indexrows.proofs.marking.mark_all.Given as goal
+
+abbrev pub invariant-loop-source : goal.invariant-loop-source
+invariant-loop-source l = (l.source ≤ l.below)
+    × (length l.table ≡ length l.initial.table)
+    × ((ss : List Segment) (is : List SourceBox) → AcceptedIn l.segments l.many l.sources l.numbers l.sizes ss → l.count ≡ length is
+    → l.initial.table ≡ filled (rows_with (marked_below ss 0) is) l.initial.table
+    → l.table ≡ filled (rows_with (marked_below ss l.source) is) l.initial.table)
+
+abbrev pub decreases-loop-source : goal.decreases-loop-source
+decreases-loop-source l = l.below - l.source

@@ -1,0 +1,41 @@
+-- `outside::chunks::outside_of` meets its contract. The loop's invariant: what was found of the items passed, with what
+-- is found of the others, is all.
+use Prim.Native.Nat.{ℕ, ◌-◌, ◌*◌, ◌/◌, ◌<◌}
+use mathlib.Core.Logic.{⊎_elim}
+use mathlib.Core.Path.{refl, sym, ◌∙◌}
+use native.Mathlib.Omega.{arith}
+use borrow.Author.Rules.{rules}
+use lib.ListN.{length, drop, get_or, length-take, length-drop}
+use Rattle.outside.proofs.ChunkLaws.{midway_start, midway_in, midway_out, midway_end}
+use Rattle.outside.proofs.chunks.outside_of.Goals as goal
+
+pub loop-i-init : goal.loop-i-init
+loop-i-init c = (search rules, rw c.none-stored.ensures (midway_start _ _ _))
+
+pub slice_bounds-with-count : goal.slice_bounds-with-count
+slice_bounds-with-count c = omega (arith, c.end_of-end.ensures, c.loop-i.invariant.1.inside)
+-- LEFT part_with_start : tie.Need-slice-bounds-with-start invariant-loop decreases-loop
+part_with_start c = omega (arith, c.before.before.end_of_lem.ensures, c.before.before.before.before.before.before.loop.invariant.1.inside)
+-- LEFT part_with_end : tie.Need-slice-bounds-with-end invariant-loop decreases-loop
+part_with_end c = omega (arith, c.before.before.end_of_lem.ensures, c.before.before.before.before.before.before.loop.invariant.1.inside)
+
+pub with-stored-requires : goal.with-stored-requires
+with-stored-requires c =
+    let m = c.loop-i.invariant.1 in
+    let bytes = c.args.«data».now in
+    let end : ℕ = c.end_of-end.result in
+    let part = length-take (end - c.loop-i.at) (drop c.loop-i.at bytes) in
+    omega (arith, m.chunks, m.size, m.boxes, m.inside, part, length-drop c.loop-i.at bytes, c.end_of-end.ensures)
+
+pub loop-i-preserved : goal.loop-i-preserved
+loop-i-preserved c =
+    let m = c.loop-i.invariant.1 in
+    let ends = c.end_of-end.ensures in
+    let less : c.loop-i.i < length c.args.list.now / 2 = omega arith in
+    let out = c.goes_out.ensures (get_or c.args.list.now (2 * c.loop-i.i) 0) in (
+      omega arith,
+      ⊎_elim (λ w. rw (w.3, w.2.ensures) (midway_out _ _ _ m less ends (sym out ∙ w.0.taken) refl)) (λ w. rw w.1 (midway_in _ _ _ m less ends (sym out ∙ w.0.left))) c.if-goes_out.branch,
+    )
+
+pub returns : goal.returns
+returns c = midway_end _ _ _ c.loop-i.invariant.1 (omega arith)

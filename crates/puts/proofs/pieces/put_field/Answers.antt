@@ -1,0 +1,9 @@
+-- `puts::pieces::put_field` meets its contract: what the width says is how far a number goes.
+use mathlib.Core.Path.{◌∙◌}
+use Rattle.numerals.proofs.NumberLaws.{length-bytes_of}
+use Rattle.puts.proofs.pieces.put_field.Goals as goal
+
+pub returns : goal.returns
+returns c =
+    let number = c.put_number.ensures in
+    record { left = number.left; end = c.sum_of.ensures ∙ rw (c.within.ensures, length-bytes_of) }

@@ -1,0 +1,13 @@
+-- `sources::lists::put_list` meets its contract: by whether the table has the entry.
+use native.Mathlib.Omega.{arith}
+use Rattle.sources.proofs.ListLaws.{container_low, list_put_past, list_put_there}
+use Rattle.sources.proofs.lists.put_list.Goals as goal
+
+pub returns-then-source : goal.returns-then-source
+returns-then-source c = list_put_past _ _ _ c.if-source.true
+
+pub overflow_add-lists-2 : goal.overflow_add-lists-2
+overflow_add-lists-2 c = omega (arith, c.number_of.ensures, container_low c.args.list.container)
+
+pub returns : goal.returns
+returns c = list_put_there _ _ _ c.number_of.ensures c.smaller-start.ensures c.smaller-end.ensures (omega arith)

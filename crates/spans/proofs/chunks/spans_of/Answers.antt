@@ -1,0 +1,69 @@
+-- `spans::chunks::spans_of` meets its contract. The loop's invariant: the segments so far have the spans of their
+-- chunks, and the others are kept ahead.
+use Prim.Native.Nat.{◌<◌}
+use mathlib.Core.List.{List}
+use mathlib.Core.Logic.{⊎_elim}
+use mathlib.Core.Path.{refl, ap}
+use native.Mathlib.Omega.{arith}
+use lib.ListN.{length}
+use lib.Seq.{take_all}
+use Rattle.partial.specs.Segments.{Segment, chunks_of}
+use Rattle.partial.specs.Sources.{of_source}
+use Rattle.gathering.proofs.KeptLaws.{next_segment}
+use Rattle.spans.proofs.ChunkLaws.{spans_none, spans_same, spans_segment, spans_other}
+use Rattle.spans.proofs.SpanLaws.{no_spans}
+use borrow.Author.Rules.{rules}
+use Rattle.spans.proofs.chunks.spans_of.Goals as goal
+
+pub returns-then-many-gt-SEGMENT_LIMIT : goal.returns-then-many-gt-SEGMENT_LIMIT
+returns-then-many-gt-SEGMENT_LIMIT c = (no_spans _ _, λ ss kept. absurd (omega (arith, kept.count, kept.few)))
+
+pub loop-k-init : goal.loop-k-init
+unfolding chunks_of of_source
+loop-k-init c =
+    (omega arith, omega arith, refl, no_spans _ _, λ ss kept room. (refl, kept.segments, spans_none _ _ _))
+
+pub returns-then-at-count : goal.returns-then-at-count
+returns-then-at-count c =
+    let (low, under, long, spans, so_far) = c.loop-k.invariant in (
+      spans,
+      λ ss kept room.
+          let (here, ahead, _) = so_far ss kept room in
+          let some : c.loop-k.k < length ss = omega (arith, kept.count) in
+          absurd (omega (arith, (next_segment _ _ _ ss _ _ some kept.chunks here ahead).fits)),
+    )
+
+pub loop-k-preserved : goal.loop-k-preserved
+loop-k-preserved c =
+    let (low, under, long, spans, so_far) = c.loop-k.invariant in
+    let k = c.loop-k.k in
+    ⊎_elim
+    (λ w.
+    let (still, more) = w.2.ensures in
+    rw (w.5, w.6) (
+      omega arith,
+      omega arith,
+      search rules,
+      still spans,
+      λ ss kept room.
+          let (here, ahead, made) = so_far ss kept room in
+          let n = next_segment _ _ _ ss k _ (omega (arith, kept.count)) kept.chunks here ahead in
+          (n.behind, n.ahead, spans_segment _ _ _ ss k n w.0.taken (omega (arith, room, long)) made (more _ n.s.chunks n.count n.kept)),
+    ))
+    (λ w.
+    rw (w.1, w.2) (
+      omega arith,
+      omega arith,
+      long,
+      spans,
+      λ ss kept room.
+          let (here, ahead, made) = so_far ss kept room in
+          let n = next_segment _ _ _ ss k _ (omega (arith, kept.count)) kept.chunks here ahead in
+          (n.behind, n.ahead, spans_other _ _ _ ss k n w.0.left made),
+    ))
+    c.if-sources-k.branch
+
+pub returns : goal.returns
+returns c =
+    let (low, under, long, spans, so_far) = c.loop-k.invariant in
+    (spans, λ ss kept room. spans_same (ap (λ (x : List Segment). chunks_of (of_source c.args.source x)) (take_all c.loop-k.k ss (omega (arith, kept.count)))) (so_far ss kept room).2)

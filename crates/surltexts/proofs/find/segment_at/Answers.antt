@@ -1,0 +1,42 @@
+-- `surltexts::find::segment_at` meets its contract. The loop's invariant: the box of the number is among those that are
+-- left, behind so many fewer of its kind.
+use mathlib.Core.Path.{sym, ◌∙◌}
+use Rattle.boxes.specs.Kinds.{pseg}
+use Rattle.boxes.proofs.ToldLaws.{box_fields}
+use Rattle.boxes.proofs.WalkLaws.{fewer, next_box, no_more, a_fault}
+use Rattle.tallying.proofs.FoundLaws.{asked_none, asked_more, asked_next, asked_end, asked_sound, is_kind, is_other}
+use Rattle.surltexts.proofs.FindLaws.{pseg_at, pseg_none, pseg_other, pseg_first, pseg_later}
+use Rattle.surltexts.proofs.find.segment_at.Goals as goal
+
+pub loop-b-init : goal.loop-b-init
+loop-b-init c = asked_none _ _ _
+
+pub returns-then-before-eq0 : goal.returns-then-before-eq0
+returns-then-before-eq0 c bs known =
+    sym
+    (asked_next c.new-walk.ensures c.loop-b.invariant known (next_box c.step.ensures c.in-Next.is)
+    (λ rest. pseg_first _ rest (is_kind pseg _ c.if-b.true) c.if-before-eq0.true))
+
+pub loop-b-smaller-then-b : goal.loop-b-smaller-then-b
+loop-b-smaller-then-b c = fewer _ _ (next_box c.step.ensures c.in-Next.is)
+
+pub loop-b-preserved-then-b : goal.loop-b-preserved-then-b
+loop-b-preserved-then-b c =
+    asked_more (pseg_at _) c.loop-b.invariant (next_box c.step.ensures c.in-Next.is)
+    (λ rest. pseg_later _ rest _ (is_kind pseg _ c.if-b.true) c.if-before-eq0.false)
+
+pub loop-b-smaller : goal.loop-b-smaller
+loop-b-smaller c = fewer _ _ (next_box c.step.ensures c.in-Next.is)
+
+pub loop-b-preserved : goal.loop-b-preserved
+loop-b-preserved c =
+    asked_more (pseg_at _) c.loop-b.invariant (next_box c.step.ensures c.in-Next.is) (λ rest. pseg_other _ rest _ (is_other pseg _ c.if-b.false))
+
+pub returns-in-End : goal.returns-in-End
+returns-in-End c bs known =
+    let end = no_more c.step.ensures c.in-End.is in
+    box_fields _ ∙ sym (asked_end c.new-walk.ensures c.loop-b.invariant known end ∙ pseg_none _)
+
+pub returns-in-Refused : goal.returns-in-Refused
+returns-in-Refused c bs known =
+    absurd (asked_sound c.new-walk.ensures c.loop-b.invariant known (a_fault c.step.ensures c.in-Refused.is))

@@ -1,0 +1,32 @@
+-- `tallying::counting::counted_by` meets its contract. The loop's invariant: the rows passed have counted the box, and
+-- the others have not.
+use mathlib.Core.Logic.{⊎_elim}
+use mathlib.Core.Path.{◌≡◌}
+use lib.ListN.{length}
+use borrow.Author.Rules.{rules}
+use native.Mathlib.Omega.{arith}
+use Rattle.boxes.specs.Kinds.{rules}
+use Rattle.tallying.proofs.RuleLaws.{rows_none, rows_found, rows_passed}
+use Rattle.tallying.proofs.counting.counted_by.Goals as goal
+
+pub loop-i-init : goal.loop-i-init
+loop-i-init c = (search rules, search rules, rows_none _ _ _ _)
+
+pub overflow_add-after : goal.overflow_add-after
+overflow_add-after c =
+    omega (arith, c.loop-i.invariant.2.left c.loop-i.i (λ h. omega arith), c.requires.2 c.loop-i.i (omega arith))
+
+pub loop-i-preserved : goal.loop-i-preserved
+loop-i-preserved c =
+    let long : length c.args.counts ≡ length rules = search rules in (
+      search rules,
+      search rules,
+      ⊎_elim (λ w. rw w.1 (rows_found c.loop-i.invariant.2 (omega arith) c.row_at-row.ensures (omega (arith, long)) w.0.taken))
+          (λ w. rw w.1 (rows_passed c.loop-i.invariant.2 (omega arith) c.row_at-row.ensures w.0.left))
+          c.if-code-row.branch,
+    )
+
+pub returns : goal.returns
+returns c =
+    let all : c.loop-i.i ≡ c.args.to = omega arith in
+    rw all at c.loop-i.invariant.2

@@ -1,0 +1,69 @@
+-- `writing::append::append_to` meets its contract: 31 and 32 in their order, then what is right by its counts.
+use mathlib.Core.Bool.{true}
+use mathlib.Core.Path.{◌≡◌, sym, ◌∙◌}
+use native.Mathlib.Omega.{arith}
+use borrow.Author.Tests.{not-true, not-false}
+use Rattle.additions.specs.Addition.{asks, list_right, lists_right}
+use Rattle.writing.proofs.AppendLaws.{appends_refused, list_odd, list_unright, list_right_lem, data_differs, counted_of}
+use Rattle.writing.proofs.AppendLaws.{list_first, lengths_second, lists_both, data_first, texts_second, even_told, whole_told}
+use Rattle.writing.proofs.AppendLaws.{earlier, wrong_lists, wrong_bytes}
+use Rattle.writing.proofs.append.append_to.Goals as goal
+
+pub returns-then-list-ne0 : goal.returns-then-list-ne0
+unfolding asks
+returns-then-list-ne0 c =
+    let ready = c.requires in
+    appends_refused _ _ _ (wrong_lists _ _ _ ready.enough _ (earlier _ _ ready.told) (list_first _ (list_odd _ c.if-list-ne0.true)))
+
+pub returns-then-not-counts : goal.returns-then-not-counts
+unfolding asks
+returns-then-not-counts c =
+    let ready = c.requires in
+    let counts = c.counts_of-counts.ensures in
+    appends_refused _ _ _ (wrong_lists _ _ _ ready.enough _ (earlier _ _ ready.told) (list_first _ (list_unright _ counts (not-true _ c.if-not-counts.true))))
+
+pub returns-then-not-said : goal.returns-then-not-said
+unfolding asks
+returns-then-not-said c =
+    let ready = c.requires in
+    let uneven = sym (even_told _ _ c.texts_of-said.ensures) ∙ not-true _ c.if-not-said.true in
+    appends_refused _ _ _ (wrong_lists _ _ _ ready.enough _ (earlier _ _ ready.told) (lengths_second _ uneven))
+
+-- past 31 both lists are right
+
+list_is-right : (c : goal.Else-not-counts) → list_right c.args.list.now ≡ true
+list_is-right c =
+    list_right_lem _ c.counts_of-counts.ensures c.if-list-ne0.false (not-false _ c.if-not-counts.false)
+
+lists_are_right : (c : goal.Else-not-said) → lists_right (asks c.args.header c.args.outside c.args.list.now c.args.bytes.now c.args.texts.now c.args.lengths.now) ≡ true
+unfolding asks
+lists_are_right c =
+    lists_both _ (list_is-right c) (sym (even_told _ _ c.texts_of-said.ensures) ∙ not-false _ c.if-not-said.false)
+
+pub returns-then-bytes-counts : goal.returns-then-bytes-counts
+returns-then-bytes-counts c =
+    let ready = c.requires in
+    let differ = data_differs c.args.header c.args.outside c.args.list.now c.args.bytes.now c.args.texts.now c.args.lengths.now c.counts_of-counts.ensures (omega (arith, c.well-formed)) c.if-bytes-counts.true in
+    appends_refused _ _ _ (wrong_bytes _ _ _ ready.enough _ (earlier _ _ ready.told) (lists_are_right c) (data_first _ differ))
+
+pub returns-then-not-said-2 : goal.returns-then-not-said-2
+unfolding asks
+returns-then-not-said-2 c =
+    let ready = c.requires in
+    let differ = sym (whole_told _ _ c.texts_of-said.ensures c.args.header c.args.outside c.args.list.now c.args.bytes.now) ∙ not-true _ c.if-not-said-2.true in
+    appends_refused _ _ _ (wrong_bytes _ _ _ ready.enough _ (earlier _ _ ready.told) (lists_are_right c) (texts_second _ differ))
+
+pub append_counted-requires : goal.append_counted-requires
+unfolding asks
+append_counted-requires c =
+    let ready = c.requires in
+    let texts = c.texts_of-said.ensures in (
+      ready,
+      list_is-right c,
+      counted_of c.args.header c.args.outside c.args.list.now c.args.bytes.now c.args.texts.now c.args.lengths.now c.counts_of-counts.ensures (omega (arith, c.well-formed)) c.if-bytes-counts.false,
+      record {
+        counts = texts;
+        lengths = sym (even_told _ _ texts) ∙ not-false _ c.if-not-said.false;
+        bytes = sym (whole_told _ _ texts c.args.header c.args.outside c.args.list.now c.args.bytes.now) ∙ not-false _ c.if-not-said-2.false;
+      },
+    )
