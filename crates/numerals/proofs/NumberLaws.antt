@@ -136,8 +136,8 @@ unfolding number bytes_of
 number-bytes_of-mod p t zero n = omega arith
 number-bytes_of-mod p t (suc w) n =
     let rest : List ℕ = n % 256 ∷ t in
-    let split : bytes_of (suc w) n ++ t ≡ bytes_of w (n / 256) ++ rest = append_assoc (bytes_of w (n / 256)) (n % 256 ∷ []) t in
-    rw (split, pow-suc 256 w, mod-mul n (power_pos w) (zero-lt-suc 255))
+    ap (λ (s : List ℕ). number (p ++ s) (length p) (suc w)) (append_assoc (bytes_of w (n / 256)) (n % 256 ∷ []) t)
+    ∙ rw (pow-suc 256 w, mod-mul n (power_pos w) (zero-lt-suc 255))
     (ap₂ (λ (m d : ℕ). m * 256 + d) (number-bytes_of-mod p rest w (n / 256))
     (get_or-append-add p (bytes_of w (n / 256) ++ rest) w 0 ∙ get_or_at (bytes_of w (n / 256)) (n % 256) t 0 w (length-bytes_of w (n / 256))))
 

@@ -1,16 +1,16 @@
 -- `tallying::counting::counted_by` meets its contract. The loop's invariant: the rows passed have counted the box, and
 -- the others have not.
-use mathlib.Core.Logic.{⊎_elim}
 use mathlib.Core.Path.{◌≡◌}
 use lib.ListN.{length}
-use borrow.Author.Rules.{rules}
+use borrow.Author.Rules.{rules as goal_rules}
 use native.Mathlib.Omega.{arith}
 use Rattle.boxes.specs.Kinds.{rules}
 use Rattle.tallying.proofs.RuleLaws.{rows_none, rows_found, rows_passed}
 use Rattle.tallying.proofs.counting.counted_by.Goals as goal
+use Rattle.tallying.proofs.counting.counted_by.Goals.{then-code-row, else-code-row}
 
 pub loop-i-init : goal.loop-i-init
-loop-i-init c = (search rules, search rules, rows_none _ _ _ _)
+loop-i-init c = (search goal_rules, search goal_rules, rows_none _ _ _ _)
 
 pub overflow_add-after : goal.overflow_add-after
 overflow_add-after c =
@@ -18,12 +18,13 @@ overflow_add-after c =
 
 pub loop-i-preserved : goal.loop-i-preserved
 loop-i-preserved c =
-    let long : length c.args.counts ≡ length rules = search rules in (
-      search rules,
-      search rules,
-      ⊎_elim (λ w. rw w.1 (rows_found c.loop-i.invariant.2 (omega arith) c.row_at-row.ensures (omega (arith, long)) w.0.taken))
-          (λ w. rw w.1 (rows_passed c.loop-i.invariant.2 (omega arith) c.row_at-row.ensures w.0.left))
-          c.if-code-row.branch,
+    let long : length c.args.counts ≡ length rules = search goal_rules in (
+      search goal_rules,
+      search goal_rules,
+      elim c.if-code-row.branch [
+        | then-code-row w ↦ rw w.after-is (rows_found c.loop-i.invariant.2 (omega arith) c.row_at-row.ensures (omega (arith, long)) w.if-code-row.true)
+        | else-code-row w ↦ rw w.after-is (rows_passed c.loop-i.invariant.2 (omega arith) c.row_at-row.ensures w.if-code-row.false)
+      ],
     )
 
 pub returns : goal.returns

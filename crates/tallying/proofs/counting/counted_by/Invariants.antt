@@ -1,7 +1,6 @@
 -- `tallying::counting::counted_by` meets its contract. The loop's invariant: the rows passed have counted the box, and
 -- the others have not.
 use Prim.Native.Nat.{◌-◌, ◌≤◌}
-use borrow.Author.Rules.{rules}
 use Rattle.boxes.specs.Kinds.{rules}
 use Rattle.tallying.specs.Rules.{CountedBy}
 use Rattle.tallying.proofs.counting.counted_by.Given as goal

@@ -2,7 +2,6 @@
 -- decide.
 use Prim.Native.Nat.{◌-◌, ◌≤◌}
 use mathlib.Core.Path.{◌≡◌}
-use borrow.Author.Rules.{rules}
 use lib.ListN.{length, drop}
 use Rattle.boxes.specs.Kinds.{rules, rule_in}
 use Rattle.tallying.proofs.rules.rule_of.Given as goal

@@ -1,7 +1,7 @@
 -- `tallying::tally::Tally::of` meets its contract. The loop's invariant: the rows passed are of other kinds, so those
 -- left decide.
 use mathlib.Core.Path.{◌≡◌, refl, sym, ◌∙◌}
-use borrow.Author.Rules.{rules}
+use borrow.Author.Rules.{rules as goal_rules}
 use native.Mathlib.Omega.{arith}
 use lib.ListN.{length}
 use Rattle.boxes.specs.Kinds.{rules}
@@ -11,7 +11,7 @@ use Rattle.tallying.proofs.tally.Tally.of.Goals as goal
 
 pub loop-i-init : goal.loop-i-init
 unfolding tally_for
-loop-i-init c = (search rules, refl)
+loop-i-init c = (search goal_rules, refl)
 
 pub returns-then-row-kind : goal.returns-then-row-kind
 returns-then-row-kind c =
@@ -19,7 +19,7 @@ returns-then-row-kind c =
 
 pub loop-i-preserved : goal.loop-i-preserved
 loop-i-preserved c =
-    (search rules, c.loop-i.invariant.1 ∙ count_passed rules _ _ c.loop-i.i c.row_at-row.ensures (omega arith) c.if-row-kind.false)
+    (search goal_rules, c.loop-i.invariant.1 ∙ count_passed rules _ _ c.loop-i.i c.row_at-row.ensures (omega arith) c.if-row-kind.false)
 
 pub returns : goal.returns
 unfolding count_in

@@ -2,7 +2,6 @@
 -- left decide.
 use Prim.Native.Nat.{◌-◌, ◌≤◌}
 use mathlib.Core.Path.{◌≡◌}
-use borrow.Author.Rules.{rules}
 use lib.ListN.{length, drop}
 use Rattle.boxes.specs.Kinds.{rules}
 use Rattle.tallying.specs.Rules.{count_in, tally_for}
