@@ -1,4 +1,6 @@
 // The box layer: box headers, the walk over one container, and the table of the eight kinds.
+#![tactic(auto)]
+
 pub mod framing;
 pub mod kinds;
 pub mod limits;

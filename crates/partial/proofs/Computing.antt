@@ -37,7 +37,7 @@ unfolding
     Entries.ploc_head Entries.state Entries.state_of Entries.entry Entries.in_data Entries.may_lie Entries.offset_place Entries.place_of
     Entries.chunk_step Entries.chunks_from
     Sources.urls_for Sources.same_list Sources.same_text Sources.same_urls Sources.source_count Sources.source_among Sources.source_beside Sources.of_source Sources.of_urls Sources.agreed
-    Reading.offset_width Reading.pshd_fields Reading.pshd_right Reading.segment Reading.segments_from Reading.segments Reading.reading
+    Reading.offset_width_of Reading.pshd_fields Reading.pshd_right Reading.segment Reading.segments_from Reading.segments Reading.reading
     Reading.earlier_segments
     Meaning.gives_size Meaning.known_size Meaning.described_length Meaning.is_closed Meaning.agree Meaning.covers Meaning.supplier
     Meaning.supplied Meaning.place_of_byte Meaning.served Meaning.onward Meaning.served_run Meaning.missing_run Meaning.reply

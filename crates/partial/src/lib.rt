@@ -1,6 +1,8 @@
 // Partial files: the types of the answers, the brand, positions, the flags of a segment, limits, the lengths of rows
 // and numbers of refusals. The definitions of reading and their laws stand beside them in specs/ and proofs/, and the
 // calls in the layers above.
+#![tactic(auto)]
+
 pub mod answers;
 pub mod brand;
 pub mod flags;

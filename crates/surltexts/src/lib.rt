@@ -1,4 +1,6 @@
 // The texts of the `surl` boxes of a segment, in lent memory as append takes them.
+#![tactic(auto)]
+
 pub mod calls;
 mod find;
 mod putting;

@@ -139,6 +139,7 @@ module _ (P : ℕ → Type 0) (known : (n : ℕ) → T (up_to24 n) → P n) wher
 -- a test that passes beside another
 pub beside : (b c : Bool) → T b → T (b || c)
 beside true c t = tt
+beside false c t = elim t [ ]
 
 -- or is the other
 behind : (b c : Bool) → T c → T (b || c)
