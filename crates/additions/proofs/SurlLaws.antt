@@ -141,7 +141,7 @@ cut-joined texts (urlLength ∷ mimeLength ∷ rest) even long =
 pub surls-many : (at : ℕ) (ss : List Surl) → length (surls_at at ss) ≡ length ss
 unfolding surls_at
 surls-many at [] = refl
-surls-many at (s ∷ ss) = ap suc (surls-many _ ss)
+surls-many at (s ∷ ss) = ap suc (surls-many (at + (front_size + length (surl_body s.url s.mime))) ss)
 
 pub surls_moved : (n at : ℕ) (ss : List Surl) → map (moved n) (surls_at at ss) ≡ surls_at (n + at) ss
 unfolding surls_at
@@ -170,14 +170,14 @@ unfolding surls_at
 those-surls at [] = those-nil surl
 those-surls at (s ∷ ss) =
     let b = boxed_at at surl.code (length (surl_body s.url s.mime)) in
-    those_one surl b _ (is-eqb surl b) ∙ ap (λ (bs : List Box). b ∷ bs) (those-surls _ ss)
+    those_one surl b _ (is-eqb surl b) ∙ ap (λ (bs : List Box). b ∷ bs) (those-surls (at + (front_size + length (surl_body s.url s.mime))) ss)
 
 pub those_but_surls : (k : Kind) → eqb surl.code k.code ≡ false → (at : ℕ) (ss : List Surl) → those k (surls_at at ss) ≡ []
 unfolding surls_at
 those_but_surls k other at [] = those-nil k
 those_but_surls k other at (s ∷ ss) =
     let b = boxed_at at surl.code (length (surl_body s.url s.mime)) in
-    those_other k b _ (is-eqb k b ∙ other) ∙ those_but_surls k other _ ss
+    those_other k b _ (is-eqb k b ∙ other) ∙ those_but_surls k other (at + (front_size + length (surl_body s.url s.mime))) ss
 
 -- where they stand in a file each is well-formed, and their texts are read back
 module _ (g : List ℕ) where
