@@ -93,6 +93,7 @@ named_dropped (x ∷ xs) y named =
 -- and each dropped one named
 pub dropped_named : (xs : List Fated) (x : Fated) (n : ℕ) → Memᴰ x xs → x.fate ≡ dropped n
     → Memᴰ (record { at = x.box.at; number = n }) (dropped_of xs)
+dropped_named [] x n m e = elim m [ ]
 dropped_named (z ∷ xs) x n (mathlib.Core.List.Memᴰ.head same) e =
     by_first (Memᴰ (record { at = x.box.at; number = n })) z xs (λ m e'. mathlib.Core.List.Memᴰ.head (cc)) (λ stays. absurd (false≢true (rw (← same, e) at stays)))
 dropped_named (z ∷ xs) x n (mathlib.Core.List.Memᴰ.tail there) e =
@@ -107,11 +108,13 @@ module _ {A : Type 0} (place : A → ℕ) where
   from_lower low low' (x ∷ xs) h (here, there) = (omega arith, there)
 
   none_lower : (low : ℕ) (xs : List A) → Ascending place low xs → (x : A) → Memᴰ x xs → low ≤ place x
+  none_lower low [] up x m = elim m [ ]
   none_lower low (y ∷ xs) (here, there) x (mathlib.Core.List.Memᴰ.head same) = rw same here
   none_lower low (y ∷ xs) (here, there) x (mathlib.Core.List.Memᴰ.tail m) = omega (arith, none_lower (place y + 1) xs there x m)
 
   -- no two have one place
   one_place : (low : ℕ) (xs : List A) → Ascending place low xs → (x y : A) → Memᴰ x xs → Memᴰ y xs → place x ≡ place y → x ≡ y
+  one_place low [] up x y m n same = elim m [ ]
   one_place low (z ∷ xs) (here, there) x y (mathlib.Core.List.Memᴰ.head p) (mathlib.Core.List.Memᴰ.head q) same = p ∙ sym q
   one_place low (z ∷ xs) (here, there) x y (mathlib.Core.List.Memᴰ.head p) (mathlib.Core.List.Memᴰ.tail m) same =
       absurd (omega (arith, none_lower (place z + 1) xs there y m, ap place p))
@@ -131,6 +134,7 @@ module _ (c : Container) (s : List ℕ) (end : ℕ) where
       (omega arith, from_lower place_of x.box.end (x.box.at + 1) xs (omega arith) (filled_ascending xs rest))
 
   filled_before : {at : ℕ} (xs : List Fated) → Filled c s end at (map (λ x. x.box) xs) → (x : Fated) → Memᴰ x xs → x.box.at < end
+  filled_before [] all x m = elim m [ ]
   filled_before {at} (z ∷ xs) (next short read rest) x (mathlib.Core.List.Memᴰ.head same) =
       let i = header_inside c s at end read in
       omega (arith, ap place_of same)

@@ -99,9 +99,9 @@ module _ {A : Type 0} (text : A → List ℕ) (box : A → Box) (c : Container) 
   pieces_back : {at : ℕ} (xs : List A) → Filled c f end at (map box xs) → Each (λ x. text x ≡ box_bytes f (box x)) xs → each text xs ≡ part f at end
   unfolding each box_bytes bytes_in
   pieces_back {at} [] (full e) same = let none : end - at ≡ 0 = omega arith in rw none
-  pieces_back (x ∷ xs) (next {at = at} short read rest) (here, there) =
+  pieces_back {at} (x ∷ xs) (next short read rest) (here, there) =
       let i = header_inside c f at end read in
-      rw (here, i.starts, pieces_back xs rest there) (part_join f at (box x).end end (omega arith) i.ends)
+      rw (here, i.starts, pieces_back {at = (box x).end} xs rest there) (part_join f at (box x).end end (omega arith) i.ends)
 
 boxes-back : (text : Box → List ℕ) (c : Container) (f : List ℕ) (at end : ℕ) (bs : List Box) → Filled c f end at bs → Each (λ b. text b ≡ box_bytes f b) bs
     → each text bs ≡ part f at end
