@@ -57,6 +57,8 @@ module _ (f : List ℕ) where
       → (inner : List Box) × (boxes_in Pseg f (box_at n bs).body (box_at n bs).end ≡ given inner) × (segment_surls f ss n ≡ surls_in f inner)
   unfolding segment_surls surls_in box_at
   inner_known n [] [] known = ([], empty_boxes, rw those-nil)
+  inner_known n [] (s ∷ ss) known = elim known [ ]
+  inner_known n (b ∷ bs) [] known = elim known [ ]
   inner_known zero (b ∷ bs) (s ∷ ss) (known, rest) = (s.inner, known.boxes, refl)
   inner_known (suc n) (b ∷ bs) (s ∷ ss) (known, rest) = inner_known n bs ss rest
 

@@ -10,7 +10,7 @@ use Rattle.reading.proofs.indexed.index_stages.Goals as goal
 pub returns-then-not-in_pfil-in_segments : goal.returns-then-not-in_pfil-in_segments
 unfolding counted_answer
 returns-then-not-in_pfil-in_segments c =
-    λ h ss number head known by has. sym (nothing-staged _ _ h ss has (not-true _ c.if-not-in_pfil-in_segments.true-raw))
+    λ h ss number head known by has. sym (nothing-staged _ _ h ss has (c.if-not-in_pfil-in_segments.true))
 
 pub returns-in-Refused : goal.returns-in-Refused
 unfolding counted_answer

@@ -15,7 +15,7 @@ returns-then-not-has_segment c =
     let (h, known, same) = heading-found _ c.heading_of.ensures c.in-Found.is in
     let rule = c.has_segment.ensures _ h same in
     let (answer, _, noted) = c.segments_of.ensures h known same in
-    (sym (earlier_begun _ known (sym rule ∙ not-true _ c.if-not-has_segment.true-raw) (answer_given answer c.in-Given.is) same), kept_earlier _ h known (noted_sized _ h known noted), kept_earlier _ h known (noted_sourced _ h known noted))
+    (sym (earlier_begun _ known (sym rule ∙ c.if-not-has_segment.true) (answer_given answer c.in-Given.is) same), kept_earlier _ h known (noted_sized _ h known noted), kept_earlier _ h known (noted_sourced _ h known noted))
 
 pub returns-in-Refused : goal.returns-in-Refused
 unfolding judged_answer
@@ -36,4 +36,4 @@ returns-else-not-has_segment c =
     let rule = c.has_segment.ensures _ h same in
     let (answer, _, noted) = c.segments_of.ensures h known same in
     let (ss, all, of) = gathered_known _ h (answer_given answer c.in-Given.is) in
-    (c.with_index.ensures h ss known same all of (noted ss all) ∙ sym (earlier_by _ known (sym rule ∙ not-false _ c.if-not-has_segment.false-raw)), kept_earlier _ h known (noted_sized _ h known noted), kept_earlier _ h known (noted_sourced _ h known noted))
+    (c.with_index.ensures h ss known same all of (noted ss all) ∙ sym (earlier_by _ known (sym rule ∙ c.if-not-has_segment.false)), kept_earlier _ h known (noted_sized _ h known noted), kept_earlier _ h known (noted_sourced _ h known noted))

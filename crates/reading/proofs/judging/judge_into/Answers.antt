@@ -11,7 +11,7 @@ unfolding judged_answer
 returns-then-not-has_segment c =
     let (h, known, same) = heading-found _ c.heading_of.ensures c.in-Found.is in
     let rule = c.has_segment.ensures _ h same in
-    let none = reading_none _ known (sym rule ∙ not-true _ c.if-not-has_segment.true-raw) in
+    let none = reading_none _ known (sym rule ∙ c.if-not-has_segment.true) in
     (sym none, kept_refused _ (read_refused _ none), kept_refused _ (read_refused _ none), kept_refused _ (read_refused _ none))
 
 pub returns-in-Refused : goal.returns-in-Refused
@@ -26,7 +26,7 @@ returns-in-Refused-segments_of c =
     let (h, known, same) = heading-found _ c.heading_of.ensures c.in-Found.is in
     let rule = c.has_segment.ensures _ h same in
     let (answer, rows, noted) = c.segments_of.ensures h known same in
-    let by = reading_by _ known (sym rule ∙ not-false _ c.if-not-has_segment.false-raw) in
+    let by = reading_by _ known (sym rule ∙ c.if-not-has_segment.false) in
     (sym (by ∙ judged_refused _ h (answer_refused answer c.in-Refused-segments_of.is)), kept_read _ h known rows, kept_read _ h known (noted_sized _ h known noted), kept_read _ h known (noted_sourced _ h known noted))
 
 pub returns-in-Given : goal.returns-in-Given
@@ -34,6 +34,6 @@ returns-in-Given c =
     let (h, known, same) = heading-found _ c.heading_of.ensures c.in-Found.is in
     let rule = c.has_segment.ensures _ h same in
     let (answer, rows, noted) = c.segments_of.ensures h known same in
-    let by = reading_by _ known (sym rule ∙ not-false _ c.if-not-has_segment.false-raw) in
+    let by = reading_by _ known (sym rule ∙ c.if-not-has_segment.false) in
     let (ss, all, of) = gathered_known _ h (answer_given answer c.in-Given.is) in
     (c.with_index.ensures h ss known same all of (noted ss all) ∙ sym by, kept_read _ h known rows, kept_read _ h known (noted_sized _ h known noted), kept_read _ h known (noted_sourced _ h known noted))

@@ -26,7 +26,7 @@ returns-then-not-all_agree c =
     λ h known same.
     let gathers = c.pass.ensures h (opened _ h known same (omega (arith, facts_segments _ h _ same))) in
     let (ss, read, of, noted) = passed_given _ h _ _ _ _ _ _ _ _ gathers c.in-Given.is in
-    let differ = sym (c.all_agree.ensures ss (gathered-sources ss of) noted.sizes) ∙ not-true _ c.if-not-all_agree.true-raw in
+    let differ = sym (c.all_agree.ensures ss (gathered-sources ss of) noted.sizes) ∙ c.if-not-all_agree.true in
     (sym (gathered_differ _ h (omega (arith, facts_segments _ h _ same)) read differ), passed_kept _ h _ _ _ _ _ _ _ _ gathers, passed_noted _ h _ _ _ _ _ _ _ _ gathers)
 
 pub returns-then-gathered-gt-LAYER_LIMIT : goal.returns-then-gathered-gt-LAYER_LIMIT
@@ -36,7 +36,7 @@ returns-then-gathered-gt-LAYER_LIMIT c =
     let few : length (those pseg h.boxes) ≤ segment_limit = omega (arith, c.if-head-gt-SEGMENT_LIMIT.false, facts_segments _ h _ same) in
     let gathers = c.pass.ensures h (opened _ h known same few) in
     let (ss, read, of, noted) = passed_given _ h _ _ _ _ _ _ _ _ gathers c.in-Given.is in
-    let agrees = sym (c.all_agree.ensures ss (gathered-sources ss of) noted.sizes) ∙ not-false _ c.if-not-all_agree.false-raw in
+    let agrees = sym (c.all_agree.ensures ss (gathered-sources ss of) noted.sizes) ∙ c.if-not-all_agree.false in
     let ninth = gathered_ninth _ h few read agrees (omega (arith, gathered-sources ss of)) in
     (sym ninth, passed_kept _ h _ _ _ _ _ _ _ _ gathers, passed_noted _ h _ _ _ _ _ _ _ _ gathers)
 
@@ -55,6 +55,6 @@ returns-else-gathered-gt-LAYER_LIMIT c =
     let few : length (those pseg h.boxes) ≤ segment_limit = omega (arith, c.if-head-gt-SEGMENT_LIMIT.false, facts_segments _ h _ same) in
     let gathers = c.pass.ensures h (opened _ h known same few) in
     let (ss, read, of, noted) = passed_given _ h _ _ _ _ _ _ _ _ gathers c.in-Given.is in
-    let agrees = sym (c.all_agree.ensures ss (gathered-sources ss of) noted.sizes) ∙ not-false _ c.if-not-all_agree.false-raw in
+    let agrees = sym (c.all_agree.ensures ss (gathered-sources ss of) noted.sizes) ∙ c.if-not-all_agree.false in
     let all = gathered_given _ h few read agrees (omega (arith, gathered-sources ss of)) in
     (ap given of ∙ sym all, passed_kept _ h _ _ _ _ _ _ _ _ gathers, passed_noted _ h _ _ _ _ _ _ _ _ gathers)

@@ -14,19 +14,16 @@ use Rattle.reading.proofs.parts.part_of.Goals as goal
 inside : (c : goal.Else-not-ends_by) → let part = c.in-At.part in
     part.place.0 + part.size ≤ length c.args.file.now
 inside c =
-    leb-true _ _ (sym c.ends_by.ensures ∙ not-false _ c.if-not-ends_by.false-raw)
+    leb-true _ _ (sym c.ends_by.ensures ∙ c.if-not-ends_by.false)
 
 pub returns-then-not-ends_by : goal.returns-then-not-ends_by
 unfolding bytes_in nowhere
 returns-then-not-ends_by c =
-    let past = sym c.ends_by.ensures ∙ not-true _ c.if-not-ends_by.true-raw in
+    let past = sym c.ends_by.ensures ∙ c.if-not-ends_by.true in
     handed_same (sym (handed_past _ c.in-At.is past)) (record { memory = refl; place = omega arith; holds = refl })
 
 pub overflow_add-end : goal.overflow_add-end
 overflow_add-end c = omega (arith, inside c)
--- LEFT part_result_end_3 : tie.Need-slice-bounds-result-end-3
-part_result_end_3 c = omega (arith, inside c)
-
 pub returns-in-Refused : goal.returns-in-Refused
 unfolding bytes_in nowhere
 returns-in-Refused c =
@@ -36,7 +33,7 @@ pub returns-else-not-ends_by : goal.returns-else-not-ends_by
 unfolding bytes_in
 returns-else-not-ends_by c =
     let part = c.in-At.part in
-    let lies = sym c.ends_by.ensures ∙ not-false _ c.if-not-ends_by.false-raw in
+    let lies = sym c.ends_by.ensures ∙ c.if-not-ends_by.false in
     let long : (part.place.0 + part.size) - part.place.0 ≡ part.size = omega arith in
     handed_same (sym (handed_at _ c.in-At.is lies))
     (record {

@@ -15,11 +15,11 @@ use Rattle.surltexts.proofs.putting.put_part.Goals as goal
 inside : (c : goal.Else-not-ends_by) → let args = c.args in
     args.part.place.0 + args.part.size ≤ length args.file.now
 inside c =
-    leb-true _ _ (sym c.ends_by.ensures ∙ not-false _ c.if-not-ends_by.false-raw)
+    leb-true _ _ (sym c.ends_by.ensures ∙ c.if-not-ends_by.false)
 
 pub returns-then-not-ends_by : goal.returns-then-not-ends_by
 returns-then-not-ends_by c lies =
-    part_none _ (part_of _) _ _ (omega arith) lies (leb-false _ _ (sym c.ends_by.ensures ∙ not-true _ c.if-not-ends_by.true-raw))
+    part_none _ (part_of _) _ _ (omega arith) lies (leb-false _ _ (sym c.ends_by.ensures ∙ c.if-not-ends_by.true))
 
 pub overflow_add-end : goal.overflow_add-end
 overflow_add-end c = omega (arith, inside c)
