@@ -23,9 +23,6 @@ returns-then-not-ends_by c lies =
 
 pub overflow_add-end : goal.overflow_add-end
 overflow_add-end c = omega (arith, inside c)
--- LEFT part_put_text_end : tie.Need-slice-bounds-put-text-end
-part_put_text_end c = omega (arith, inside c.before)
-
 pub returns : goal.returns
 unfolding bytes_in
 returns c lies =
