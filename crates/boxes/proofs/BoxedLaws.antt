@@ -11,7 +11,7 @@ use lib.Dec.{eqb}
 use lib.ListN.{length, get_or, length-append}
 use Rattle.boxes.specs.Answer.{given}
 use Rattle.numerals.specs.Numbers.{number, bytes_of, holds}
-use Rattle.boxes.specs.Framing.{Box, uuid, header, front_size, front, boxed, boxed_at, boxes_in}
+use Rattle.boxes.specs.Framing.{uuid, header, front_size, front, boxed, boxed_at, boxes_in}
 use Rattle.boxes.specs.declared.kinds.Container.{Container}
 use Rattle.boxes.proofs.ContainerLaws.{Filled, full, next, box-limit, filled_boxes, filled_moved, filled-appended}
 use Rattle.boxes.proofs.HeaderLaws.{user_none, sized-fits, header_short, moved}

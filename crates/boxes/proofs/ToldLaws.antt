@@ -6,9 +6,7 @@ use Rattle.boxes.specs.Framing.{Box, box_of, header_answer}
 use Rattle.boxes.specs.Walk.{step_answer}
 use Rattle.boxes.specs.declared.framing.Framed.{Framed}
 use Rattle.boxes.specs.declared.framing.Header.{Header}
-use Rattle.boxes.specs.declared.framing.Header.TheVariants as Header
 use Rattle.boxes.specs.declared.walk.Step.{Step}
-use Rattle.boxes.specs.declared.walk.Step.TheVariants as Step
 use Rattle.boxes.specs.declared.walk.Walk.{Walk}
 
 abbrev pub Tells : {R A : Type 0} → (R → A) → Type 0

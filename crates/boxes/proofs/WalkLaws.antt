@@ -16,7 +16,6 @@ use Rattle.boxes.specs.declared.framing.Framed.{Framed}
 use Rattle.boxes.specs.declared.kinds.Container.{Container}
 use Rattle.numerals.specs.declared.place.Place.{Place}
 use Rattle.boxes.specs.declared.walk.Step.{Step}
-use Rattle.boxes.specs.declared.walk.Step.TheVariants as Step
 use Rattle.boxes.specs.declared.walk.Walk.{Walk}
 use Rattle.boxes.proofs.AnswerLaws.{not_both, given_same, both_given, held, then-given}
 use Rattle.boxes.proofs.ContainerLaws.{faultless-followed}

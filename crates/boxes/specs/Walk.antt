@@ -8,7 +8,6 @@ use Rattle.boxes.specs.declared.kinds.Container.{Container}
 use Rattle.numerals.specs.declared.place.Place.{Place}
 use Rattle.boxes.specs.declared.walk.Walk.{Walk}
 use Rattle.boxes.specs.declared.walk.Step.{Step}
-use Rattle.boxes.specs.declared.walk.Step.TheVariants as Step
 
 -- the walk over a container that starts and ends at these places
 abbrev pub walk_over : Container → Place → Place → Walk

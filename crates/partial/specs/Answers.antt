@@ -3,15 +3,10 @@
 use Rattle.std.specs.Prelude.{ℕ}
 use Rattle.boxes.specs.Answer.{Answer, refused, given}
 use Rattle.partial.specs.declared.answers.Read.{Read}
-use Rattle.partial.specs.declared.answers.Read.TheVariants as Read
 use Rattle.partial.specs.declared.answers.Asked.{Asked}
-use Rattle.partial.specs.declared.answers.Asked.TheVariants as Asked
 use Rattle.partial.specs.declared.answers.Listed.{Listed}
-use Rattle.partial.specs.declared.answers.Listed.TheVariants as Listed
 use Rattle.partial.specs.declared.answers.Counted.{Counted}
-use Rattle.partial.specs.declared.answers.Counted.TheVariants as Counted
 use Rattle.partial.specs.declared.answers.Written.{Written}
-use Rattle.partial.specs.declared.answers.Written.TheVariants as Written
 use Rattle.partial.specs.Meaning.{Reply, served_for, missing_for, not_below}
 use Rattle.partial.specs.Tables.{Summary, Totals}
 

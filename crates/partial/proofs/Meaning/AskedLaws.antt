@@ -2,14 +2,14 @@
 -- file.
 use Prim.Native.Nat.{ℕ, ◌≤◌}
 use mathlib.Core.List.{List, []}
-use mathlib.Core.Path.{◌≡◌, refl, ap}
+use mathlib.Core.Path.{refl, ap}
 use native.Mathlib.Omega.{arith}
 use Rattle.boxes.specs.Answer.{given}
 use Rattle.partial.specs.Sequences.{largest}
 use Rattle.partial.specs.Segments.{Segment, chunks_of}
 use Rattle.partial.specs.Heading.{bytes_in}
 use Rattle.partial.specs.Meaning.{known_size, described_length, is_closed, supplier, supplied, Reply}
-use Rattle.partial.specs.Sources.{source_count, of_source}
+use Rattle.partial.specs.Sources.{source_count}
 use Rattle.partial.specs.Ranges.{ranges, ranges_of, of_class, had_list, missing_list}
 use Rattle.partial.specs.Tables.{range_rows, had_rows, missing_rows, summary, totals, nowhere, part_of, served_part, asked}
 use Rattle.partial.specs.Texts.{source_text}

@@ -15,7 +15,7 @@ use lib.ListN.{length, length-append}
 use Rattle.partial.specs.Sequences.{all_of, largest}
 use Rattle.partial.specs.Segments.{Chunk, Segment, chunks_of}
 use Rattle.partial.specs.Meaning.{agree}
-use Rattle.partial.specs.Sources.{same_text, same_urls, source_count, source_among, source_beside, of_source, of_urls, agreed}
+use Rattle.partial.specs.Sources.{same_urls, source_count, source_among, source_beside, of_source, of_urls, agreed}
 use Rattle.partial.specs.ReadingDemands.{Numbered, InAgreement}
 use Rattle.partial.proofs.Meaning.SequenceLaws.{which, both, all_append, member_passes, all_members}
 use Rattle.partial.proofs.Meaning.SameLaws.{urls_equal, urls_same}

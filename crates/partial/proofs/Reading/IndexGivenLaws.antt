@@ -20,7 +20,7 @@ use Rattle.partial.specs.Segments.{Segment}
 use Rattle.partial.specs.Heading.{Heading}
 use Rattle.partial.specs.Index.{IndexFields, front_by, index_fields, is_known, end_from, wherever, end_right, front_part, list_framed, Indexed, Told, last_or_sized}
 use Rattle.partial.specs.Index.{none_follows, with_rest, in_aRow, index_list, indexed_box, level_limit, call_limit, index_in, has_index}
-use Rattle.partial.specs.Index.{SourceBox, boxes_alone, belonging, size_for, index_for, index_of_segments, index_of, indexed}
+use Rattle.partial.specs.Index.{SourceBox, boxes_alone, size_for, index_for, index_of_segments, index_of, indexed}
 use Rattle.partial.proofs.Meaning.SequenceLaws.{both, all_append}
 
 -- ---- every refusal is 36

@@ -1,19 +1,17 @@
 -- The lists of URLs of a file's segments: each has its own or that in `pfil`, so a file whose segments have none of their
 -- own has one source, number 0; and none is empty, which is 41.
-use Prim.Native.Nat.{ℕ, zero, suc, ◌≤◌, ◌<◌}
-use mathlib.Core.Bool.{true}
+use Prim.Native.Nat.{ℕ, ◌≤◌, ◌<◌}
 use mathlib.Core.List.{List, [], ◌∷◌, ◌++◌, Memᴰ}
 use mathlib.Core.Path.{◌≡◌, refl, sym, subst, ◌∙◌}
 use native.Mathlib.Decide.{dec_le}
 use native.Mathlib.Omega.{arith}
-use borrow.Author.Tests.{lt-ltb, ltb-true}
-use lib.Dec.{T, ltb, leb}
+use borrow.Author.Tests.{ltb-true}
 use lib.ListN.{length}
-use Rattle.boxes.specs.Answer.{given, refused}
-use Rattle.boxes.specs.Framing.{Box, boxes_in}
-use Rattle.boxes.specs.Kinds.{pseg, ploc, surl, those, right, first_of}
-use Rattle.boxes.specs.declared.kinds.Container.TheVariants.{File, Pseg}
-use Rattle.boxes.proofs.AnswerLaws.{both_given, given_same, Only, only_given, only_then}
+use Rattle.boxes.specs.Answer.{given}
+use Rattle.boxes.specs.Framing.{Box}
+use Rattle.boxes.specs.Kinds.{pseg, surl, those}
+use Rattle.boxes.specs.declared.kinds.Container.TheVariants.{File}
+use Rattle.boxes.proofs.AnswerLaws.{both_given, given_same}
 use Rattle.boxes.proofs.KindLaws.{right_some}
 use Rattle.partial.specs.Sequences.{largest}
 use Rattle.partial.specs.Segments.{Segment}

@@ -31,7 +31,7 @@ use Rattle.partial.specs.Reading.{pshd_fields, pshd_right, segment, segments_fro
 use Rattle.partial.specs.Index.{indexed, index_rows}
 use Rattle.partial.specs.Memory.{fits, after, text_written}
 use Rattle.partial.specs.Tables.{segment_rows, chunk_rows, had_rows, missing_rows, tabled, listed, index_tabled, index_table, asked, text_of, nowhere}
-use Rattle.partial.specs.Texts.{Surl, source_text_of, segment_surls, texts_for, lengths_for, texts_tabled}
+use Rattle.partial.specs.Texts.{source_text_of, segment_surls, texts_for, lengths_for, texts_tabled}
 use Rattle.partial.specs.ReadingDemands.{up_to24, before_agreement, from_agreement, of_stages, NeverRead, Demand1OfReading, Takes}
 use Rattle.partial.proofs.Meaning.SequenceLaws.{inside, which}
 use Rattle.partial.proofs.Reading.ReadingLaws.{later_stages, reading_headless, reading_none, reading_some, reading-segments}

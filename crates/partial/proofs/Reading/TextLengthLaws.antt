@@ -13,7 +13,7 @@ use lib.ListN.{length, length-append, length-map}
 use Rattle.io.specs.Digits.{last_digits as digits}
 use Rattle.boxes.specs.Answer.{Answer, refused, given}
 use Rattle.numerals.specs.Numbers.{least}
-use Rattle.partial.specs.Limits.{segment_limit, chunk_limit, source_limit, program_buffer}
+use Rattle.partial.specs.Limits.{source_limit, program_buffer}
 use Rattle.partial.specs.Segments.{Segment, chunks_of}
 use Rattle.partial.specs.Meaning.{described_length, is_closed, agree}
 use Rattle.partial.specs.Sources.{source_count, of_source}

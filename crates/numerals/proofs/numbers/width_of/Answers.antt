@@ -1,6 +1,5 @@
 -- `numerals::numbers::width_of` meets its contract. The loop's invariant: no width passed holds the number.
 use Prim.Native.Nat.{◌≤◌}
-use mathlib.Core.Bool.{false}
 use native.Mathlib.Omega.{arith}
 use borrow.Author.Count.{below_none, below_more}
 use borrow.Author.Rules.{rules}
