@@ -25,7 +25,6 @@ use Rattle.additions.specs.Append.{admitted}
 use Rattle.additions.specs.Addition.{items, Addition, flags_for, data_right, texts_right, surls, outside_right}
 use Rattle.additions.specs.Append.{inside_data, outside_data, any_inside, data_box, stored, added_boxes, placed, ploc_body, version_for}
 use Rattle.additions.specs.Append.{pshd_body, surl_boxes, pseg_body, inner_boxes, added, pseg_place, new_urls, new_segment, admission}
-use Rattle.additions.specs.Carried.{carried}
 use Rattle.partial.proofs.Meaning.SequenceLaws.{which, all_append, all_same}
 use Rattle.partial.proofs.Meaning.SourceLaws.{of-append, beside_last, source_count_more}
 use Rattle.partial.proofs.Reading.IndexedLaws.{indexed_alike}

@@ -1,6 +1,6 @@
 -- The data of each kept chunk lies in the copy where it may, no further from its `pseg`, and is what it was.
 use Prim.Native.Nat.{ℕ, zero, suc, ◌+◌, ◌-◌, ◌^◌, ◌<◌, ◌≤◌}
-use mathlib.Core.Bool.{Bool, true, false, ◌&&◌, or-true, true≢false}
+use mathlib.Core.Bool.{Bool, true, ◌&&◌, or-true, true≢false}
 use mathlib.Core.List.Memᴰ
 use mathlib.Core.List.{List, [], ◌∷◌, ◌++◌, map, append_assoc, Memᴰ}
 use mathlib.Core.Logic.{inl, inr, ⊎_elim}

@@ -12,7 +12,7 @@ use lib.ListN.{length, get_or, take, drop, length-drop}
 use lib.Seq.{drop-append-le, get_or-drop}
 use Rattle.boxes.specs.Answer.{Answer, refused, given}
 use Rattle.boxes.specs.Framing.{Box, boxed_at}
-use Rattle.boxes.specs.Kinds.{pfil, pseg, ploc, pdat, fidx, is, right, first_of, those, no_box}
+use Rattle.boxes.specs.Kinds.{pseg, ploc, pdat, fidx, is, right, first_of, those, no_box}
 use Rattle.boxes.specs.declared.kinds.Container.TheVariants.{File}
 use Rattle.boxes.proofs.HeaderLaws.{moved}
 use Rattle.boxes.proofs.KindLaws.{is-eqb, box_at_get_d}

@@ -7,7 +7,7 @@ use lib.ListN.{get_or}
 use Rattle.boxes.specs.Framing.{Box}
 use Rattle.boxes.specs.Kinds.{ploc, pshd, is, first_of}
 use Rattle.partial.specs.Segments.{Chunk, Segment, has_place}
-use Rattle.rescue.specs.Kept.{Fate, dropped, whole, of_pfil, of_pseg, Fated}
+use Rattle.rescue.specs.Kept.{dropped, whole, of_pfil, of_pseg, Fated}
 use Rattle.rescue.specs.Copy.{unindexed, copy_size}
 
 -- the bytes of g from c on are those of f from a on, so many of them

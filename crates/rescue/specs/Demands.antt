@@ -25,7 +25,7 @@ use Rattle.partial.specs.Sources.{of_source, source_count, agreed}
 use Rattle.partial.specs.declared.brand.Brand.{Brand}
 use Rattle.additions.specs.Addition.{Addition}
 use Rattle.additions.specs.Runs.{file_in, begin, append_all}
-use Rattle.rescue.specs.Kept.{Fate, dropped, whole, of_pfil, of_pseg, Fated, lies_in, walk_of, framed, opening, kept_of, fates}
+use Rattle.rescue.specs.Kept.{dropped, whole, of_pfil, of_pseg, Fated, lies_in, walk_of, framed, opening, kept_of, fates}
 use Rattle.rescue.specs.Copy.{salvage, salvaged}
 use Rattle.rescue.specs.Lines.{salvage_text}
 

@@ -1,6 +1,6 @@
 -- Document 02, [9]: worked examples of salvage as one table with one statement, computed over the definitions. The
 -- files, the places and numbers of the lines and the bytes of the copies are worked out from the papers.
-use Rattle.std.specs.Prelude.{ℕ, ◌+◌, false, List, [], ◌∷◌, ◌++◌, map, ◌≡◌, length, take, drop, replicate, ℤ, pos}
+use Rattle.std.specs.Prelude.{ℕ, ◌+◌, List, [], ◌∷◌, ◌++◌, map, ◌≡◌, length, take, drop, replicate, ℤ, pos}
 use Prim.Native.String.{String}
 use Rattle.boxes.specs.Answer.{given, ◌>>=◌}
 use Rattle.boxes.specs.Kinds.{box_at}
