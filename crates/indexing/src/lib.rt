@@ -1,4 +1,6 @@
 // The box index: index lists and the indexed boxes in them, which may hold lists.
+#![tactic(auto)]
+
 pub mod end;
 mod fields;
 mod head;

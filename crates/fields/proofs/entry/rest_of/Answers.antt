@@ -8,12 +8,6 @@ use Rattle.fields.specs.Location.{ploc_of}
 use Rattle.fields.proofs.EntryLaws.{bytes_most, rest_cut, rest_whole}
 use Rattle.fields.proofs.entry.rest_of.Goals as goal
 
--- the entry ends by the end
-
-room : (c : goal.Else-not-ends_by) → let a = c.args in a.at.0 + 1 + (c.within-length_size.result + c.offset_size-offset_size.result) ≤ a.l.end.0
-room c =
-    leb-true _ _ (sym c.ends_by.ensures ∙ not-false _ c.if-not-ends_by.false-raw)
-
 pub overflow_add-length_size : goal.overflow_add-length_size
 overflow_add-length_size c =
     let a = c.args in
@@ -22,16 +16,16 @@ overflow_add-length_size c =
 pub returns-then-not-ends_by : goal.returns-then-not-ends_by
 unfolding entry_answer
 returns-then-not-ends_by c =
-    sym (rest_cut _ _ _ _ c.within-length_size.ensures c.offset_size-offset_size.ensures (sym c.ends_by.ensures ∙ not-true _ c.if-not-ends_by.true-raw))
+    sym (rest_cut _ _ _ _ c.within-length_size.ensures c.offset_size-offset_size.ensures (sym c.ends_by.ensures ∙ c.if-not-ends_by.true))
 
 pub overflow_add-offset_at : goal.overflow_add-offset_at
-overflow_add-offset_at c = omega (arith, room c)
+overflow_add-offset_at c = omega (arith, leb-true _ _ (sym c.ends_by.ensures ∙ c.if-not-ends_by.false))
 
 pub overflow_add-result : goal.overflow_add-result
-overflow_add-result c = omega (arith, room c)
+overflow_add-result c = omega (arith, leb-true _ _ (sym c.ends_by.ensures ∙ c.if-not-ends_by.false))
 
 pub returns : goal.returns
 unfolding entry_answer
 returns c =
     sym
-    (rest_whole _ _ _ _ c.within-length_size.ensures c.offset_size-offset_size.ensures (sym c.ends_by.ensures ∙ not-false _ c.if-not-ends_by.false-raw) (omega arith) (omega arith) c.unsigned.ensures c.signed.ensures)
+    (rest_whole _ _ _ _ c.within-length_size.ensures c.offset_size-offset_size.ensures (sym c.ends_by.ensures ∙ c.if-not-ends_by.false) (omega arith) (omega arith) c.unsigned.ensures c.signed.ensures)

@@ -8,24 +8,18 @@ use Rattle.fields.specs.Fields.{fields_answer}
 use Rattle.fields.proofs.FieldsLaws.{width_most, fields_other, fields_whole}
 use Rattle.fields.proofs.fields.fields_of.Goals as goal
 
--- the version decides the width
-
-read : (c : goal.After-offset_width-width) → c.offset_width-width.result ≡ offset_width_of (number c.args.s.now c.args.b.body.0 1)
-read c =
-    c.offset_width-width.ensures ∙ ap offset_width_of c.unsigned.ensures
-
 pub returns-then-end-body : goal.returns-then-end-body
 unfolding fields_answer
-returns-then-end-body c = rw box_fields (sym (fields_other _ _ (read c) (λ h. omega arith)))
+returns-then-end-body c = rw box_fields (sym (fields_other _ _ (c.offset_width-width.ensures ∙ ap offset_width_of c.unsigned.ensures) (λ h. omega arith)))
 
 pub overflow_add-width : goal.overflow_add-width
 overflow_add-width c = omega (arith, width_most c.unsigned.result, c.offset_width-width.ensures)
 
 pub returns-then-end-body-2 : goal.returns-then-end-body-2
 unfolding fields_answer
-returns-then-end-body-2 c = rw box_fields (sym (fields_other _ _ (read c) (λ h. omega arith)))
+returns-then-end-body-2 c = rw box_fields (sym (fields_other _ _ (c.offset_width-width.ensures ∙ ap offset_width_of c.unsigned.ensures) (λ h. omega arith)))
 
 pub returns : goal.returns
 unfolding fields_answer
 returns c =
-    rw box_fields (sym (fields_whole _ _ (read c) (omega arith) c.unsigned-2.ensures c.unsigned-3.ensures c.unsigned-4.ensures))
+    rw box_fields (sym (fields_whole _ _ (c.offset_width-width.ensures ∙ ap offset_width_of c.unsigned.ensures) (omega arith) c.unsigned-2.ensures c.unsigned-3.ensures c.unsigned-4.ensures))

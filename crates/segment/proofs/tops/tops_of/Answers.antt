@@ -13,24 +13,17 @@ use Rattle.segment.specs.Tops.{Tops}
 use Rattle.segment.proofs.TopsLaws.{room_left, ends_inside, tops_more}
 use Rattle.segment.proofs.tops.tops_of.Goals as goal
 
--- where a box was met the table has room for it
-
-room : (c : goal.After-at-1) → c.loop-b.i < 512
-room c =
-    let inv = c.loop-b.invariant in
-    omega (arith, room_left c.new-walk.ensures inv.1 (next_box c.step.ensures c.in-Next.is), inv.2)
-
 pub loop-b-init : goal.loop-b-init
 loop-b-init c = ([], passed_none _ _, refl, λ short none. none)
 
 pub offset_bounds-tops-i : goal.offset_bounds-tops-i
-offset_bounds-tops-i c = omega (arith, room c)
+offset_bounds-tops-i c = omega (arith, room_left c.new-walk.ensures c.loop-b.invariant.1 (next_box c.step.ensures c.in-Next.is), c.loop-b.invariant.2)
 
 pub bounds-tops-i : goal.bounds-tops-i
-bounds-tops-i c = omega (arith, room c)
+bounds-tops-i c = omega (arith, room_left c.new-walk.ensures c.loop-b.invariant.1 (next_box c.step.ensures c.in-Next.is), c.loop-b.invariant.2)
 
 pub overflow_add-i : goal.overflow_add-i
-overflow_add-i c = omega (arith, room c)
+overflow_add-i c = omega (arith, room_left c.new-walk.ensures c.loop-b.invariant.1 (next_box c.step.ensures c.in-Next.is), c.loop-b.invariant.2)
 
 pub loop-b-smaller : goal.loop-b-smaller
 loop-b-smaller c = fewer _ _ (next_box c.step.ensures c.in-Next.is)
@@ -38,14 +31,15 @@ loop-b-smaller c = fewer _ _ (next_box c.step.ensures c.in-Next.is)
 pub loop-b-preserved : goal.loop-b-preserved
 loop-b-preserved c =
     let inv = c.loop-b.invariant in
-    let b = c.in-Next.b in (
+    let b = c.in-Next.b in
+    let room : c.loop-b.i < 512 = omega (arith, room_left c.new-walk.ensures inv.1 (next_box c.step.ensures c.in-Next.is), inv.2) in (
       inv.0 ++ (box_of b ∷ []),
       passed_more inv.1 (next_box c.step.ensures c.in-Next.is),
       omega (arith, length-append inv.0 (box_of b ∷ []), inv.2),
       (λ short none.
           let (low, ends) = ends_inside c.new-walk.ensures inv.1 (next_box c.step.ensures c.in-Next.is) in
           let at = ap (λ (x : Box). x.at) (box_fields b) in
-          tops_more (box_of b) inv.2 (at ∙ sym (mod-eq_of_lt (omega arith))) (room c) (omega arith) (inv.3 short none)),
+          tops_more (box_of b) inv.2 (at ∙ sym (mod-eq_of_lt (omega arith))) room (omega arith) (inv.3 short none)),
     )
 
 pub returns-in-End : goal.returns-in-End

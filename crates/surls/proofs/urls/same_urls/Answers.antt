@@ -2,7 +2,6 @@
 -- walks decide, and each walk ends where it did, which is in the file.
 use mathlib.Core.Path.{sym, ap}
 use native.Mathlib.Omega.{arith}
-use Rattle.surls.specs.Next.{Follows}
 use Rattle.surls.proofs.BothLaws.{step_none, step_more, step_decided, both_followed, both_ended, both_differ}
 use Rattle.surls.proofs.urls.same_urls.Goals as goal
 
@@ -22,18 +21,11 @@ both_next-requires c =
       omega (arith, ap (λ p. p.0) inv.other, ap (λ w. w.end.0) c.over-right.ensures),
     )
 
--- both walks after two URLs that are equal
-
-followed : (c : goal.In-Equal-2)
-    → Follows c.args.file.now c.loop-a.left c.loop-a.right c.in-Equal.a c.in-Equal.b
-followed c =
-    both_followed _ _ _ _ c.both_next.ensures c.in-Equal.is
-
 pub loop-a-smaller : goal.loop-a-smaller
-loop-a-smaller c = (followed c).one.fewer
+loop-a-smaller c = (both_followed _ _ _ _ c.both_next.ensures c.in-Equal.is).one.fewer
 
 pub loop-a-preserved : goal.loop-a-preserved
-loop-a-preserved c = step_more c.loop-a.invariant (followed c)
+loop-a-preserved c = step_more c.loop-a.invariant (both_followed _ _ _ _ c.both_next.ensures c.in-Equal.is)
 
 pub returns-in-Ended : goal.returns-in-Ended
 returns-in-Ended c bs cs known known' inside inside' =

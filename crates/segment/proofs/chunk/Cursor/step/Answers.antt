@@ -11,24 +11,11 @@ use Rattle.segment.specs.Placed.{place_answer}
 use Rattle.segment.proofs.ChunkLaws.{step_refused, step_far, step_unplaced, step_placed, steps_refused, steps_given}
 use Rattle.segment.proofs.chunk.Cursor.step.Goals as goal
 
--- the chunk ends by the limit
-
-near : (c : goal.Else-not-ends_by) → leb (c.args.self.start.0 + c.in-Given.e.size) source_limit ≡ true
-near c =
-    sym c.ends_by.ensures ∙ not-false _ c.if-not-ends_by.false-raw
-
-ends : (c : goal.Else-not-ends_by) → c.args.self.start.0 + c.in-Given.e.size ≤ source_limit
-ends c =
-    leb-true _ _ (near c)
-
 pub returns-then-not-ends_by : goal.returns-then-not-ends_by
 unfolding entry_answer
 returns-then-not-ends_by c =
     let read = sym c.entry_at.ensures ∙ ap entry_answer c.in-Given.is in
-    steps_refused (λ h mix p t. step_far _ _ h _ _ _ read (sym c.ends_by.ensures ∙ not-true _ c.if-not-ends_by.true-raw))
--- LEFT add_t23 : tie.Need-overflow-add-t23
-add_t23 c = omega (arith, ends c.before.before.before.before.before)
-
+    steps_refused (λ h mix p t. step_far _ _ h _ _ _ read (sym c.ends_by.ensures ∙ c.if-not-ends_by.true))
 pub returns-in-Refused : goal.returns-in-Refused
 unfolding entry_answer
 returns-in-Refused c =
@@ -39,7 +26,7 @@ pub returns-in-Refused-placed_at : goal.returns-in-Refused-placed_at
 unfolding entry_answer place_answer
 returns-in-Refused-placed_at c =
     let read = sym c.entry_at.ensures ∙ ap entry_answer c.in-Given.is in
-    steps_refused (λ h mix p t. step_unplaced _ _ h _ _ _ read (near c) (sym (c.placed_at.ensures.answer h mix p t) ∙ ap place_answer c.in-Refused-placed_at.is))
+    steps_refused (λ h mix p t. step_unplaced _ _ h _ _ _ read (sym c.ends_by.ensures ∙ c.if-not-ends_by.false) (sym (c.placed_at.ensures.answer h mix p t) ∙ ap place_answer c.in-Refused-placed_at.is))
 
 pub returns-in-At : goal.returns-in-At
 unfolding entry_answer place_answer
@@ -47,4 +34,4 @@ returns-in-At c =
     let read = sym c.entry_at.ensures ∙ ap entry_answer c.in-Given.is in
     let placed = c.placed_at.ensures in
     let at = c.in-At.is in
-    steps_given (λ h mix p t. step_placed _ _ h _ _ _ read (near c) (sym (placed.answer h mix p t) ∙ ap place_answer at)) (λ h mix p t. placed.onward h mix p t at)
+    steps_given (λ h mix p t. step_placed _ _ h _ _ _ read (sym c.ends_by.ensures ∙ c.if-not-ends_by.false) (sym (placed.answer h mix p t) ∙ ap place_answer at)) (λ h mix p t. placed.onward h mix p t at)
