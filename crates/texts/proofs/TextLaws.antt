@@ -1,11 +1,11 @@
 -- Laws of pieces of text: those that are copied, those that are put behind others, and the lines that tell a
 -- number.
 use Prim.Native.Nat.{ℕ, ◌+◌, ◌-◌, ◌^◌, ◌≤◌, ◌<◌}
-use mathlib.Core.List.{List, [], ◌∷◌, ◌++◌, append-nil}
+use mathlib.Core.List.{List, [], ◌∷◌, ◌++◌}
 use mathlib.Core.Path.{◌≡◌, refl, sym, ap, subst, ◌∙◌}
 use native.Mathlib.Omega.{arith}
-use lib.ListN.{length, take, drop, length-take, length-drop}
-use lib.Seq.{take-length, drop-drop, drop-length}
+use lib.ListN.{length, take, drop}
+use lib.Seq.{drop-drop}
 use Rattle.numerals.specs.Stored.{stored}
 use Rattle.numerals.proofs.StoredLaws.{stored-room, take-stored}
 use Rattle.filling.specs.Rows.{Puts}
@@ -15,14 +15,10 @@ use Rattle.partial.specs.Map.{ascii, decimal, line, refused_line}
 use Rattle.texts.specs.Pieces.{PutsPiece}
 
 -- a copy into a part of the buffer that is as long
-pub copied : (s : List ℕ) (at : ℕ) (bytes part : List ℕ) → at + length bytes ≤ length s
-    → part ≡ take (length bytes) bytes ++ drop (length bytes) (take (at + length bytes - at) (drop at s))
+pub copied : (s : List ℕ) (at : ℕ) (bytes part : List ℕ) → at + length bytes ≤ length s → part ≡ bytes
     → take at s ++ (part ++ drop (at + length bytes - at) (drop at s)) ≡ stored s at bytes
-copied s at bytes part room e =
+copied s at bytes part room whole =
     let many : at + length bytes - at ≡ length bytes = omega arith in
-    let long : length (take (at + length bytes - at) (drop at s)) ≡ length bytes = omega (arith, length-take (at + length bytes - at) (drop at s), length-drop at s) in
-    let none = ap (λ (n : ℕ). drop n (take (at + length bytes - at) (drop at s))) (sym long) ∙ drop-length (take (at + length bytes - at) (drop at s)) in
-    let whole : part ≡ bytes = e ∙ (λ i. take-length bytes i ++ none i) ∙ append-nil bytes in
     (λ i. take at s ++ (whole i ++ drop (many i) (drop at s)))
     ∙ ap (λ (rest : List ℕ). take at s ++ (bytes ++ rest)) (drop-drop (length bytes) at s)
     ∙ sym (stored-room s at bytes room)

@@ -1,23 +1,19 @@
 -- `outside::chunks::outside_of` meets its contract. The loop's invariant: what was found of the items passed, with what
 -- is found of the others, is all.
 use Prim.Native.Nat.{ℕ, ◌-◌, ◌*◌, ◌/◌, ◌<◌}
-use mathlib.Core.Logic.{⊎_elim}
 use mathlib.Core.Path.{refl, sym, ◌∙◌}
 use native.Mathlib.Omega.{arith}
 use borrow.Author.Rules.{rules}
 use lib.ListN.{length, drop, get_or, length-take, length-drop}
 use Rattle.outside.proofs.ChunkLaws.{midway_start, midway_in, midway_out, midway_end}
 use Rattle.outside.proofs.chunks.outside_of.Goals as goal
+use Rattle.outside.proofs.chunks.outside_of.Goals.{then-goes_out, else-goes_out}
 
 pub loop-i-init : goal.loop-i-init
 loop-i-init c = (search rules, rw c.none-stored.ensures (midway_start _ _ _))
 
 pub slice_bounds-with-count : goal.slice_bounds-with-count
 slice_bounds-with-count c = omega (arith, c.end_of-end.ensures, c.loop-i.invariant.1.inside)
--- LEFT part_with_start : tie.Need-slice-bounds-with-start invariant-loop decreases-loop
-part_with_start c = omega (arith, c.before.before.end_of_lem.ensures, c.before.before.before.before.before.before.loop.invariant.1.inside)
--- LEFT part_with_end : tie.Need-slice-bounds-with-end invariant-loop decreases-loop
-part_with_end c = omega (arith, c.before.before.end_of_lem.ensures, c.before.before.before.before.before.before.loop.invariant.1.inside)
 
 pub with-stored-requires : goal.with-stored-requires
 with-stored-requires c =
@@ -34,7 +30,10 @@ loop-i-preserved c =
     let less : c.loop-i.i < length c.args.list.now / 2 = omega arith in
     let out = c.goes_out.ensures (get_or c.args.list.now (2 * c.loop-i.i) 0) in (
       omega arith,
-      ⊎_elim (λ w. rw (w.3, w.2.ensures) (midway_out _ _ _ m less ends (sym out ∙ w.0.taken) refl)) (λ w. rw w.1 (midway_in _ _ _ m less ends (sym out ∙ w.0.left))) c.if-goes_out.branch,
+      elim c.if-goes_out.branch [
+        | then-goes_out w ↦ rw (w.stored-is, w.with-stored.ensures) (midway_out _ _ _ m less ends (sym out ∙ w.if-goes_out.true) refl)
+        | else-goes_out w ↦ rw w.stored-is (midway_in _ _ _ m less ends (sym out ∙ w.if-goes_out.false))
+      ],
     )
 
 pub returns : goal.returns

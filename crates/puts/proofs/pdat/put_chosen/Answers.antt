@@ -1,7 +1,6 @@
 -- `puts::pdat::put_chosen` meets its contract. The loop's invariant: the data of the items passed that are chosen is
 -- copied.
 use Prim.Native.Nat.{◌*◌, ◌/◌, ◌<◌}
-use mathlib.Core.Logic.{⊎_elim}
 use mathlib.Core.Path.{sym, ◌∙◌}
 use native.Mathlib.Omega.{arith}
 use borrow.Author.Rules.{rules}
@@ -9,16 +8,13 @@ use lib.ListN.{length, get_or}
 use Rattle.puts.proofs.CopyLaws.{copied_start, copied_more, copied_past, copied_end}
 use Rattle.puts.proofs.PieceLaws.{piece_put}
 use Rattle.puts.proofs.pdat.put_chosen.Goals as goal
+use Rattle.puts.proofs.pdat.put_chosen.Goals.{then-is_chosen, else-is_chosen}
 
 pub loop-i-init : goal.loop-i-init
 loop-i-init c = (search rules, copied_start _ _ _ _ _)
 
 pub slice_bounds-put_bytes-count : goal.slice_bounds-put_bytes-count
 slice_bounds-put_bytes-count c = omega (arith, c.end_of-end.ensures, c.loop-i.invariant.1.inside)
--- LEFT part_put_bytes_start : tie.Need-slice-bounds-put-bytes-start invariant-loop decreases-loop
-part_put_bytes_start c = omega (arith, c.before.before.before.end_of_lem.ensures, c.before.before.before.before.before.before.before.loop.invariant.1.inside)
--- LEFT part_put_bytes_end : tie.Need-slice-bounds-put-bytes-end invariant-loop decreases-loop
-part_put_bytes_end c = omega (arith, c.before.before.before.end_of_lem.ensures, c.before.before.before.before.before.before.before.loop.invariant.1.inside)
 
 pub loop-i-preserved : goal.loop-i-preserved
 loop-i-preserved c =
@@ -28,7 +24,10 @@ loop-i-preserved c =
     let less : c.loop-i.i < length list / 2 = omega arith in
     let told = c.is_chosen.ensures (get_or list (2 * c.loop-i.i) 0) in (
       omega arith,
-      ⊎_elim (λ w. rw (w.6, w.7) (copied_more _ _ _ _ _ m less ends (sym told ∙ w.0.taken) (piece_put w.3.ensures))) (λ w. rw (w.1, w.2) (copied_past _ _ _ _ _ m less ends (sym told ∙ w.0.left))) c.if-is_chosen.branch,
+      elim c.if-is_chosen.branch [
+        | then-is_chosen w ↦ rw (w.buffer-is, w.next-is) (copied_more _ _ _ _ _ m less ends (sym told ∙ w.if-is_chosen.true) (piece_put w.put_bytes-next.ensures))
+        | else-is_chosen w ↦ rw (w.buffer-is, w.next-is) (copied_past _ _ _ _ _ m less ends (sym told ∙ w.if-is_chosen.false))
+      ],
     )
 
 pub shape_of-buffer : goal.shape_of-buffer

@@ -18,8 +18,8 @@ returns c laid =
     let version = c.version_of.ensures offset width in
     let is-version = below_holds 1 c.version_of.result (omega (arith, version_low offset)) in
     let is-flags = below_holds 3 (header.flags % 2) (omega arith) in
-    let is-offset = ap (λ (w : ℕ). holds w offset) width ∙ offset_held offset (omega (arith, c.well-formed)) in
-    let is-repair = below_holds 8 header.repair (omega (arith, c.well-formed)) in
+    let is-offset = ap (λ (w : ℕ). holds w offset) width ∙ offset_held offset (omega (arith, c.well_formed)) in
+    let is-repair = below_holds 8 header.repair (omega (arith, c.well_formed)) in
     pieces_box pshd.code (omega (arith, pshd-box_long header)) c.put_front-version.ensures (laid.body ∙ sym (pshd_long header))
     (pieces_same (pshd_numbers header version width)
     (pieces_more (number_put 1 _ (omega arith) is-version c.put_field-flags.ensures)

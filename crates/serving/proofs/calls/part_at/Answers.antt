@@ -26,6 +26,6 @@ unfolding located_answer
 returns-else-not-run c =
     let (reads, held) = c.read_source.ensures in
     let t = told_given reads held c.in-Tables.is in
-    let short = c.well-formed in
+    let short = c.well_formed in
     let there = part_there t _ c.run_at-run.ensures (not-false _ c.if-not-run.false) (omega (arith, short)) c.place_of.ensures in
     record { answer = sym there; tables = reads.tables }

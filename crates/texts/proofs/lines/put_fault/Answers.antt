@@ -1,12 +1,8 @@
 -- `texts::lines::put_fault` meets its contract: four pieces make the line, which is put as one.
 use native.Mathlib.Omega.{arith}
-use lib.ListN.{length-take}
 use Rattle.filling.proofs.PutsLaws.{puts_same, puts_more}
 use Rattle.texts.proofs.TextLaws.{piece_same, piece_puts, put_front, fault_words}
 use Rattle.texts.proofs.lines.put_fault.Goals as goal
-
--- LEFT slice_aggregate_put_text_5 : tie.Need-slice-aggregate-put-text-5
-slice_aggregate_put_text_5 c = omega (arith, length-take c.before.before.before.put-text2.result c.before.before.before.put-text2.new.0)
 
 pub returns : goal.returns
 returns c =

@@ -9,4 +9,4 @@ pub returns : goal.returns
 returns c =
     let said = c.decimal-count.ensures in
     let piece = c.put_text.ensures in
-    (piece_same (said.1.1 ∙ decimal_by _ _ said.1.0) piece, omega (arith, piece.end, said.0.1, digits_few _ _ (omega arith) said.1.0))
+    (piece_same (said.digits ∙ decimal_by _ _ said.len) piece, omega (arith, piece.end, said.in_bounds, digits_few _ _ (omega arith) said.len))

@@ -12,4 +12,4 @@ pub returns-then-buffer-next : goal.returns-then-buffer-next
 returns-then-buffer-next c = record { left = sym (stored_none _ _ _ (omega arith)); end = omega arith }
 
 pub returns : goal.returns
-returns c = record { left = copied _ _ _ _ (omega arith) c.copy.ensures.1; end = omega arith }
+returns c = record { left = copied _ _ _ _ (omega arith) c.copy_from_slice.ensures.after; end = omega arith }

@@ -43,7 +43,7 @@ lists_are_right c =
 pub returns-then-bytes-counts : goal.returns-then-bytes-counts
 returns-then-bytes-counts c =
     let ready = c.requires in
-    let differ = data_differs c.args.header c.args.outside c.args.list.now c.args.bytes.now c.args.texts.now c.args.lengths.now c.counts_of-counts.ensures (omega (arith, c.well-formed)) c.if-bytes-counts.true in
+    let differ = data_differs c.args.header c.args.outside c.args.list.now c.args.bytes.now c.args.texts.now c.args.lengths.now c.counts_of-counts.ensures (omega (arith, c.well_formed)) c.if-bytes-counts.true in
     appends_refused _ _ _ (wrong_bytes _ _ _ ready.enough _ (earlier _ _ ready.told) (lists_are_right c) (data_first _ differ))
 
 pub returns-then-not-said-2 : goal.returns-then-not-said-2
@@ -60,7 +60,7 @@ append_counted-requires c =
     let texts = c.texts_of-said.ensures in (
       ready,
       list_is-right c,
-      counted_of c.args.header c.args.outside c.args.list.now c.args.bytes.now c.args.texts.now c.args.lengths.now c.counts_of-counts.ensures (omega (arith, c.well-formed)) c.if-bytes-counts.false,
+      counted_of c.args.header c.args.outside c.args.list.now c.args.bytes.now c.args.texts.now c.args.lengths.now c.counts_of-counts.ensures (omega (arith, c.well_formed)) c.if-bytes-counts.false,
       record {
         counts = texts;
         lengths = sym (even_told _ _ texts) ∙ not-false _ c.if-not-said.false;
