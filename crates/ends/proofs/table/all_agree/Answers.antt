@@ -2,7 +2,6 @@
 use mathlib.Core.Path.{sym, ◌∙◌}
 use native.Mathlib.Decide.{ℕ_discrete}
 use native.Mathlib.Omega.{arith}
-use borrow.Author.Tests.{not-true, not-false}
 use Rattle.partial.specs.Meaning.{agree}
 use Rattle.ends.proofs.TableLaws.{all-agree, one_differs}
 use Rattle.ends.proofs.table.all_agree.Goals as goal
@@ -13,7 +12,7 @@ loop-n-init c = (omega arith, λ ss holds k less. absurd (omega arith))
 pub returns-then-not-agree : goal.returns-then-not-agree
 returns-then-not-agree c =
     λ ss many holds.
-    one_differs ss _ (sym (c.agree.ensures _ (c.sizes_at-said.ensures ∙ holds.said _)) ∙ not-true _ c.if-not-agree.true-raw)
+    one_differs ss _ (sym (c.agree.ensures _ (c.sizes_at-said.ensures ∙ holds.said _)) ∙ c.if-not-agree.true)
 
 pub loop-n-preserved : goal.loop-n-preserved
 loop-n-preserved c = (
@@ -22,7 +21,7 @@ loop-n-preserved c = (
       elim (ℕ_discrete k c.loop-n.n) [
         | yes last ↦
             rw last
-            (sym (c.agree.ensures _ (c.sizes_at-said.ensures ∙ holds.said _)) ∙ not-false _ c.if-not-agree.false-raw)
+            (sym (c.agree.ensures _ (c.sizes_at-said.ensures ∙ holds.said _)) ∙ c.if-not-agree.false)
         | no earlier ↦ c.loop-n.invariant.1 ss holds k (omega arith)
       ],
 )

@@ -4,7 +4,7 @@ use mathlib.Core.List.{List, [], ◌∷◌, ◌++◌}
 use lib.ListN.{length}
 use mathlib.Core.Bool.{true}
 use native.Mathlib.Omega.{arith}
-use borrow.Author.Tests.{not-true, not-false, le-leb}
+use borrow.Author.Tests.{le-leb}
 use Rattle.partial.specs.Limits.{layer_limit}
 use Rattle.partial.specs.Segments.{Segment, end_of}
 use Rattle.partial.specs.Sources.{source_count, of_source, agreed}
@@ -29,16 +29,16 @@ agreement c ss s source holds flags count ends agrees =
 pub returns-then-not-agree : goal.returns-then-not-agree
 returns-then-not-agree c =
     λ ss s source holds flags count ends agrees few.
-    late_25 (ss ++ (s ∷ [])) (sym (agreement c ss s source holds flags count ends agrees) ∙ not-true _ c.if-not-agree.true-raw)
+    late_25 (ss ++ (s ∷ [])) (sym (agreement c ss s source holds flags count ends agrees) ∙ c.if-not-agree.true)
 
 pub returns-then-source-ge-LAYER_LIMIT : goal.returns-then-source-ge-LAYER_LIMIT
 returns-then-source-ge-LAYER_LIMIT c =
     λ ss s source holds flags count ends agrees few.
-    late_40 (ss ++ (s ∷ [])) (sym (agreement c ss s source holds flags count ends agrees) ∙ not-false _ c.if-not-agree.false-raw)
+    late_40 (ss ++ (s ∷ [])) (sym (agreement c ss s source holds flags count ends agrees) ∙ c.if-not-agree.false)
     (sym (sources_full ss s (omega arith)))
 
 pub returns : goal.returns
 returns c =
     λ ss s source holds flags count ends agrees few.
-    late_none (ss ++ (s ∷ [])) (sym (agreement c ss s source holds flags count ends agrees) ∙ not-false _ c.if-not-agree.false-raw)
+    late_none (ss ++ (s ∷ [])) (sym (agreement c ss s source holds flags count ends agrees) ∙ c.if-not-agree.false)
     (sym (sources_few ss s (le-leb (source_count ss) layer_limit few) (omega arith)))

@@ -1,6 +1,5 @@
 -- `gathering::parts::header_of` meets its contract: the count rule, the first box, its kind and its fields.
 use mathlib.Core.Path.{refl, sym, ◌∙◌}
-use borrow.Author.Tests.{not-true, not-false}
 use Rattle.boxes.specs.Kinds.{pshd}
 use Rattle.boxes.specs.declared.kinds.Container.TheVariants.{Pseg}
 use Rattle.boxes.proofs.ToldLaws.{header-found, header_fault}
@@ -15,14 +14,14 @@ unfolding pshd_answer
 returns-then-not-keeps c =
     λ bs known tallied.
     let rule = rule_kept bs tallied Pseg pshd refl c.of.ensures c.keeps.ensures in
-    sym (header_lone _ bs (sym rule ∙ not-true _ c.if-not-keeps.true-raw))
+    sym (header_lone _ bs (sym rule ∙ c.if-not-keeps.true))
 
 pub returns-in_default : goal.returns-in_default
 unfolding pshd_answer
 returns-in_default c =
     λ bs known tallied.
     let rule = rule_kept bs tallied Pseg pshd refl c.of.ensures c.keeps.ensures in
-    let single = sym rule ∙ not-false _ c.if-not-keeps.false-raw in
+    let single = sym rule ∙ c.if-not-keeps.false in
     absurd (first_sound _ _ _ bs known single (header_fault c.header_at.ensures c.in_default.is))
 
 pub returns-then-first : goal.returns-then-first
@@ -30,7 +29,7 @@ unfolding pshd_answer
 returns-then-first c =
     λ bs known tallied.
     let rule = rule_kept bs tallied Pseg pshd refl c.of.ensures c.keeps.ensures in
-    let single = sym rule ∙ not-false _ c.if-not-keeps.false-raw in
+    let single = sym rule ∙ c.if-not-keeps.false in
     sym (first_other _ _ _ bs known single _ (header-found c.header_at.ensures c.in-Found.is) c.if-first.true)
 
 pub returns-in-Given : goal.returns-in-Given
@@ -38,7 +37,7 @@ unfolding pshd_answer
 returns-in-Given c =
     λ bs known tallied.
     let rule = rule_kept bs tallied Pseg pshd refl c.of.ensures c.keeps.ensures in
-    let single = sym rule ∙ not-false _ c.if-not-keeps.false-raw in
+    let single = sym rule ∙ c.if-not-keeps.false in
     let found = header-found c.header_at.ensures c.in-Found.is in
     sym (first_by _ _ _ bs known single _ found c.if-first.false ∙ rw (fields_given c.fields_of.ensures c.in-Given.is))
 
@@ -47,6 +46,6 @@ unfolding pshd_answer
 returns-in-Refused c =
     λ bs known tallied.
     let rule = rule_kept bs tallied Pseg pshd refl c.of.ensures c.keeps.ensures in
-    let single = sym rule ∙ not-false _ c.if-not-keeps.false-raw in
+    let single = sym rule ∙ c.if-not-keeps.false in
     let found = header-found c.header_at.ensures c.in-Found.is in
     sym (first_by _ _ _ bs known single _ found c.if-first.false ∙ rw (fields_refused c.fields_of.ensures c.in-Refused.is))

@@ -1,6 +1,5 @@
 -- `gathering::parts::parts_of` meets its contract: framing, 14, 15, 16 and 41, and what the head of the `ploc` says.
 use mathlib.Core.Path.{refl, sym, ap, ◌∙◌}
-use borrow.Author.Tests.{not-true, not-false}
 use Rattle.boxes.specs.Kinds.{ploc, surl, fidx}
 use Rattle.boxes.specs.declared.kinds.Container.TheVariants.{Pseg}
 use Rattle.tallying.specs.Rules.{tally_of}
@@ -30,7 +29,7 @@ returns-then-not-keeps c =
     let counted = c.tally-inner.ensures ∙ ap tally_of known in
     let header = pshd_given (c.header_of.ensures bs known counted) c.in-Given.is in
     let rule = rule_kept bs counted Pseg ploc refl c.of.ensures c.keeps.ensures in
-    sym (parts_lone _ _ _ known header (sym rule ∙ not-true _ c.if-not-keeps.true-raw))
+    sym (parts_lone _ _ _ known header (sym rule ∙ c.if-not-keeps.true))
 
 pub returns-then-fault-ne0 : goal.returns-then-fault-ne0
 unfolding parts_answer
@@ -39,7 +38,7 @@ returns-then-fault-ne0 c =
     let counted = c.tally-inner.ensures ∙ ap tally_of known in
     let header = pshd_given (c.header_of.ensures bs known counted) c.in-Given.is in
     let rule = rule_kept bs counted Pseg ploc refl c.of.ensures c.keeps.ensures in
-    let single = sym rule ∙ not-false _ c.if-not-keeps.false-raw in
+    let single = sym rule ∙ c.if-not-keeps.false in
     let own = surl_counted bs (c.of-listed.ensures ∙ counts.of surl refl) in
     sym (parts_listless _ _ _ known header single (c.list_fault-fault.ensures bs known own) c.if-fault-ne0.true)
 
@@ -50,7 +49,7 @@ returns-in-Given-location_of c =
     let counted = c.tally-inner.ensures ∙ ap tally_of known in
     let header = pshd_given (c.header_of.ensures bs known counted) c.in-Given.is in
     let rule = rule_kept bs counted Pseg ploc refl c.of.ensures c.keeps.ensures in
-    let single = sym rule ∙ not-false _ c.if-not-keeps.false-raw in
+    let single = sym rule ∙ c.if-not-keeps.false in
     let own = surl_counted bs (c.of-listed.ensures ∙ counts.of surl refl) in
     let none = sym (c.list_fault-fault.ensures bs known own) ∙ c.if-fault-ne0.false in
     let first = ap (ploc_head _) (sym (c.first_of.ensures bs known)) in
@@ -64,7 +63,7 @@ returns-in-Refused c =
     let counted = c.tally-inner.ensures ∙ ap tally_of known in
     let header = pshd_given (c.header_of.ensures bs known counted) c.in-Given.is in
     let rule = rule_kept bs counted Pseg ploc refl c.of.ensures c.keeps.ensures in
-    let single = sym rule ∙ not-false _ c.if-not-keeps.false-raw in
+    let single = sym rule ∙ c.if-not-keeps.false in
     let own = surl_counted bs (c.of-listed.ensures ∙ counts.of surl refl) in
     let none = sym (c.list_fault-fault.ensures bs known own) ∙ c.if-fault-ne0.false in
     let first = ap (ploc_head _) (sym (c.first_of.ensures bs known)) in

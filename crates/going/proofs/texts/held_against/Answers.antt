@@ -3,7 +3,6 @@
 use Prim.Native.Nat.{◌+◌, ◌-◌, ◌*◌, min}
 use mathlib.Core.Path.{◌≡◌, sym, ap, ◌∙◌}
 use native.Mathlib.Omega.{arith}
-use borrow.Author.Tests.{not-true, not-false}
 use lib.ListN.{length, take, drop, get_or}
 use Rattle.boxes.specs.Kinds.{surl}
 use Rattle.partial.specs.Heading.{Part, bytes_in}
@@ -43,7 +42,7 @@ returns-then-not-same_part c =
     let more = urls_more f texts lengths cut (omega (arith, c.if-lengths-pair.false)) first second in
     let url = url-told f b c.url_of.result c.requires.1 c.url_of.ensures in
     let told = sym (ap (λ (p : Part). same_text (bytes_in f p) text) url.same) ∙ sym c.same_part.ensures in
-    past_differs f texts lengths cut b one rest left more (told ∙ not-true _ c.if-not-same_part.true-raw)
+    past_differs f texts lengths cut b one rest left more (told ∙ c.if-not-same_part.true)
 
 pub returns : goal.returns
 returns c =
@@ -62,4 +61,4 @@ returns c =
     let more = urls_more f texts lengths cut (omega (arith, c.if-lengths-pair.false)) first second in
     let url = url-told f b c.url_of.result c.requires.1 c.url_of.ensures in
     let told = sym (ap (λ (p : Part). same_text (bytes_in f p) text) url.same) ∙ sym c.same_part.ensures in
-    (omega (arith, second), λ rest. past_same f texts lengths cut b one rest left more (told ∙ not-false _ c.if-not-same_part.false-raw))
+    (omega (arith, second), λ rest. past_same f texts lengths cut b one rest left more (told ∙ c.if-not-same_part.false))

@@ -2,7 +2,7 @@
 use Prim.Native.Nat.{◌+◌, ◌≤◌}
 use mathlib.Core.Bool.{true}
 use mathlib.Core.Path.{◌≡◌, sym, ◌∙◌}
-use borrow.Author.Tests.{leb-true, not-true, not-false}
+use borrow.Author.Tests.{leb-true}
 use native.Mathlib.Omega.{arith}
 use lib.Dec.{leb}
 use Rattle.numerals.proofs.NumberLaws.{number_below}
@@ -11,29 +11,13 @@ use Rattle.indexing.specs.Fields.{fields_answer}
 use Rattle.indexing.proofs.FieldsLaws.{fields_short, fields_cut, fields_whole}
 use Rattle.indexing.proofs.fields.index_fields.Goals as goal
 
--- size and type are there
-
-whole : (c : goal.Else-not-ends_by) → leb (c.args.b.body.0 + 8) c.args.b.end.0 ≡ true
-whole c =
-    sym c.ends_by.ensures ∙ not-false _ c.if-not-ends_by.false-raw
-
-enough : (c : goal.Else-not-ends_by) → c.args.b.body.0 + 8 ≤ c.args.b.end.0
-enough c =
-    leb-true _ _ (whole c)
-
--- and so is the whole header
-
-all : (c : goal.Else-not-ends_by-2) → c.args.b.body.0 + c.front_of-front.result ≤ c.args.b.end.0
-all c =
-    leb-true _ _ (sym c.ends_by-2.ensures ∙ not-false _ c.if-not-ends_by-2.false-raw)
-
 pub returns-then-not-ends_by : goal.returns-then-not-ends_by
 unfolding fields_answer
 returns-then-not-ends_by c =
-    rw box_fields (sym (fields_short _ _ (sym c.ends_by.ensures ∙ not-true _ c.if-not-ends_by.true-raw)))
+    rw box_fields (sym (fields_short _ _ (sym c.ends_by.ensures ∙ c.if-not-ends_by.true)))
 
 pub overflow_add-body : goal.overflow_add-body
-overflow_add-body c = omega (arith, enough c)
+overflow_add-body c = omega (arith, leb-true _ _ (sym c.ends_by.ensures ∙ c.if-not-ends_by.false))
 
 pub overflow_cast-kind : goal.overflow_cast-kind
 overflow_cast-kind c =
@@ -43,17 +27,17 @@ pub returns-then-not-ends_by-2 : goal.returns-then-not-ends_by-2
 unfolding fields_answer
 returns-then-not-ends_by-2 c =
     rw box_fields
-    (sym (fields_cut _ _ c.unsigned-short.ensures c.unsigned-kind.ensures c.front_of-front.ensures (whole c) (sym c.ends_by-2.ensures ∙ not-true _ c.if-not-ends_by-2.true-raw)))
+    (sym (fields_cut _ _ c.unsigned-short.ensures c.unsigned-kind.ensures c.front_of-front.ensures (sym c.ends_by.ensures ∙ c.if-not-ends_by.false) (sym c.ends_by-2.ensures ∙ c.if-not-ends_by-2.true)))
 
 pub size_of-requires : goal.size_of-requires
-size_of-requires c = omega (arith, enough c)
+size_of-requires c = omega (arith, leb-true _ _ (sym c.ends_by.ensures ∙ c.if-not-ends_by.false))
 
 pub overflow_add-result : goal.overflow_add-result
-overflow_add-result c = omega (arith, all c)
+overflow_add-result c = omega (arith, leb-true _ _ (sym c.ends_by-2.ensures ∙ c.if-not-ends_by-2.false))
 
 pub returns : goal.returns
 unfolding fields_answer
 returns c =
     rw box_fields
     (sym
-    (fields_whole _ _ c.unsigned-short.ensures c.unsigned-kind.ensures c.front_of-front.ensures (whole c) c.type_size.ensures (sym c.ends_by-2.ensures ∙ not-false _ c.if-not-ends_by-2.false-raw)))
+    (fields_whole _ _ c.unsigned-short.ensures c.unsigned-kind.ensures c.front_of-front.ensures (sym c.ends_by.ensures ∙ c.if-not-ends_by.false) c.size_of.ensures (sym c.ends_by-2.ensures ∙ c.if-not-ends_by-2.false)))

@@ -1,6 +1,5 @@
 -- `indexing::head::head_of` meets its contract: the fields, whether a size of 0 is last, and the end.
 use mathlib.Core.Path.{sym, ◌∙◌}
-use borrow.Author.Tests.{not-true, not-false}
 use Rattle.indexing.specs.Head.{head_answer}
 use Rattle.indexing.proofs.FieldsLaws.{fields_given, fields_refused}
 use Rattle.indexing.proofs.HeadLaws.{head_cut, head_not_last, head_end_wrong, head_whole, end_given, end_refused}
@@ -10,7 +9,7 @@ pub returns-then-not-last_or_sized : goal.returns-then-not-last_or_sized
 unfolding head_answer
 returns-then-not-last_or_sized c =
     let read = fields_given c.index_fields.ensures c.in-Given.is in
-    sym (head_not_last _ _ _ _ _ read (sym c.last_or_sized.ensures ∙ not-true _ c.if-not-last_or_sized.true-raw))
+    sym (head_not_last _ _ _ _ _ read (sym c.last_or_sized.ensures ∙ c.if-not-last_or_sized.true))
 
 pub returns-in-Refused : goal.returns-in-Refused
 unfolding head_answer
@@ -20,12 +19,12 @@ pub returns-in-Refused-judged_end : goal.returns-in-Refused-judged_end
 unfolding head_answer
 returns-in-Refused-judged_end c =
     let read = fields_given c.index_fields.ensures c.in-Given.is in
-    let sized = sym c.last_or_sized.ensures ∙ not-false _ c.if-not-last_or_sized.false-raw in
+    let sized = sym c.last_or_sized.ensures ∙ c.if-not-last_or_sized.false in
     sym (head_end_wrong _ _ _ _ _ read sized (end_refused c.judged_end.ensures c.in-Refused-judged_end.is))
 
 pub returns-in-Given-judged_end : goal.returns-in-Given-judged_end
 unfolding head_answer
 returns-in-Given-judged_end c =
     let read = fields_given c.index_fields.ensures c.in-Given.is in
-    let sized = sym c.last_or_sized.ensures ∙ not-false _ c.if-not-last_or_sized.false-raw in
+    let sized = sym c.last_or_sized.ensures ∙ c.if-not-last_or_sized.false in
     sym (head_whole _ _ _ _ _ read sized (end_given c.judged_end.ensures c.in-Given-judged_end.is))

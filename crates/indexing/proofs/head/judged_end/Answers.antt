@@ -11,12 +11,6 @@ use Rattle.indexing.proofs.HeadLaws.{size_stated, size_open, from_size, from_enc
 use Rattle.indexing.proofs.EndLaws.{end_known, end_unknown}
 use Rattle.indexing.proofs.head.judged_end.Goals as goal
 
--- the end is within the limit
-
-near : (c : goal.Else-not-ends_by) → c.args.place.0 + c.args.x.size ≤ source_limit
-near c =
-    leb-true _ _ (sym c.ends_by.ensures ∙ not-false _ c.if-not-ends_by.false-raw)
-
 pub returns-then-x-2 : goal.returns-then-x-2
 unfolding end_answer
 returns-then-x-2 c = sym (end_under _ _ _ (from_size _ _ _ (size_stated c.args.x c.if-x.true)) (omega arith))
@@ -24,16 +18,16 @@ returns-then-x-2 c = sym (end_under _ _ _ (from_size _ _ _ (size_stated c.args.x
 pub returns-then-not-ends_by : goal.returns-then-not-ends_by
 unfolding end_answer
 returns-then-not-ends_by c =
-    let far = leb-false _ _ (sym c.ends_by.ensures ∙ not-true _ c.if-not-ends_by.true-raw) in
+    let far = leb-false _ _ (sym c.ends_by.ensures ∙ c.if-not-ends_by.true) in
     sym (end_far _ _ _ (from_size _ _ _ (size_stated c.args.x c.if-x.true)) far)
 
 pub overflow_add-result : goal.overflow_add-result
-overflow_add-result c = omega (arith, near c)
+overflow_add-result c = omega (arith, leb-true _ _ (sym c.ends_by.ensures ∙ c.if-not-ends_by.false))
 
 pub returns-then-x : goal.returns-then-x
 unfolding end_answer end_of
 returns-then-x c =
-    sym (end-right _ _ _ (from_size _ _ _ (size_stated c.args.x c.if-x.true)) (omega arith) (near c))
+    sym (end-right _ _ _ (from_size _ _ _ (size_stated c.args.x c.if-x.true)) (omega arith) (leb-true _ _ (sym c.ends_by.ensures ∙ c.if-not-ends_by.false)))
 
 pub returns-then-not-enclosing : goal.returns-then-not-enclosing
 unfolding end_answer
@@ -51,11 +45,11 @@ pub returns-then-not-ends_by-2 : goal.returns-then-not-ends_by-2
 unfolding end_answer
 returns-then-not-ends_by-2 c =
     let ends = from_enclosing _ _ _ (size_open c.args.x c.if-x.false) ∙ end_known _ (not-false _ c.if-not-enclosing.false) in
-    sym (end_under _ _ _ ends (leb-false _ _ (sym c.ends_by-2.ensures ∙ not-true _ c.if-not-ends_by-2.true-raw)))
+    sym (end_under _ _ _ ends (leb-false _ _ (sym c.ends_by-2.ensures ∙ c.if-not-ends_by-2.true)))
 
 pub returns : goal.returns
 unfolding end_answer
 returns c =
     let is_Known = end_known _ (not-false _ c.if-not-enclosing.false) in
     let ends = from_enclosing _ _ _ (size_open c.args.x c.if-x.false) ∙ is_Known in
-    ap given is_Known ∙ sym (end-right _ _ _ ends (leb-true _ _ (sym c.ends_by-2.ensures ∙ not-false _ c.if-not-ends_by-2.false-raw)) c.if-at-gt-SOURCE_LIMIT.false)
+    ap given is_Known ∙ sym (end-right _ _ _ ends (leb-true _ _ (sym c.ends_by-2.ensures ∙ c.if-not-ends_by-2.false)) c.if-at-gt-SOURCE_LIMIT.false)

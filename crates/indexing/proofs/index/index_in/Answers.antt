@@ -2,7 +2,6 @@
 use Prim.Native.Nat.{◌<◌}
 use mathlib.Core.Path.{refl, sym, ap, subst, ◌∙◌}
 use native.Mathlib.Omega.{arith}
-use borrow.Author.Tests.{not-true, not-false}
 use lib.ListN.{length}
 use Rattle.boxes.specs.Kinds.{fidx, those}
 use Rattle.tallying.specs.Rules.{tally_of}
@@ -18,7 +17,7 @@ returns-then-not-keeps c =
     λ bs contained.
     let tallied = c.tally-counts.ensures ∙ ap tally_of contained.framed in
     let rule = rule_kept bs tallied _ fidx refl c.of-many.ensures c.keeps.ensures in
-    (index_second _ _ bs _ _ (sym rule ∙ not-true _ c.if-not-keeps.true-raw), tt)
+    (index_second _ _ bs _ _ (sym rule ∙ c.if-not-keeps.true), tt)
 
 pub returns-then-many-eq0 : goal.returns-then-many-eq0
 unfolding CountedIn
@@ -27,7 +26,7 @@ returns-then-many-eq0 c =
     let tallied = c.tally-counts.ensures ∙ ap tally_of contained.framed in
     let rule = rule_kept bs tallied _ fidx refl c.of-many.ensures c.keeps.ensures in
     let many = c.of-many.ensures ∙ (tally_given tallied refl).of fidx refl in
-    (indexes_none _ _ bs _ _ (sym rule ∙ not-false _ c.if-not-keeps.false-raw) _ _ (sym many ∙ c.if-many-eq0.true), omega (arith, contained.rows, contained.ordered))
+    (indexes_none _ _ bs _ _ (sym rule ∙ c.if-not-keeps.false) _ _ (sym many ∙ c.if-many-eq0.true), omega (arith, contained.rows, contained.ordered))
 
 pub returns-in-Refused : goal.returns-in-Refused
 unfolding Indexes CountedIn Listed
@@ -40,7 +39,7 @@ returns-in-Refused c =
     let first = c.first_of-list.ensures bs contained.framed in
     let (within, inside) = first_bounded _ contained there first in
     let fault = subst (Listed _ _ _ _) c.in-Refused.is (c.list_of.ensures.1 within) in
-    (indexes_wrong _ _ bs _ _ (sym rule ∙ not-false _ c.if-not-keeps.false-raw) there first fault, tt)
+    (indexes_wrong _ _ bs _ _ (sym rule ∙ c.if-not-keeps.false) there first fault, tt)
 
 pub returns-in-Given : goal.returns-in-Given
 unfolding CountedIn Counted Listed
@@ -54,4 +53,4 @@ returns-in-Given c =
     let (within, inside) = first_bounded _ contained there first in
     let (told, read, ends, marked) = subst (Listed _ _ _ _) c.in-Given.is (c.list_of.ensures.1 within) in
     let rows = subst (Counted _) c.in-Given.is c.list_of.ensures.0 in
-    (indexes-told _ _ bs _ _ (sym rule ∙ not-false _ c.if-not-keeps.false-raw) there first read marked, omega arith)
+    (indexes-told _ _ bs _ _ (sym rule ∙ c.if-not-keeps.false) there first read marked, omega arith)

@@ -1,7 +1,6 @@
 -- `indexing::index::list_of` meets its contract: the framing, then the list on the first level.
 use mathlib.Core.Bool.{false≢true}
 use mathlib.Core.Path.{refl, sym, ◌∙◌}
-use borrow.Author.Tests.{not-true, not-false}
 use Rattle.boxes.specs.Framing.{box_of}
 use Rattle.boxes.specs.Kinds.{bidx}
 use Rattle.boxes.specs.declared.kinds.Container.TheVariants.{Fidx}
@@ -13,7 +12,7 @@ use Rattle.indexing.proofs.index.list_of.Goals as goal
 pub returns-then-not-bounded : goal.returns-then-not-bounded
 unfolding Counted
 returns-then-not-bounded c =
-    (tt, λ within. absurd (false≢true (sym (not-true _ c.if-not-bounded.true-raw) ∙ c.bounded.ensures.1 within)))
+    (tt, λ within. absurd (false≢true (sym c.if-not-bounded.true ∙ c.bounded.ensures.1 within)))
 
 pub returns-then-inner-ne0 : goal.returns-then-inner-ne0
 unfolding Counted Listed box_of
@@ -22,7 +21,7 @@ returns-then-inner-ne0 c =
 
 pub index_list-requires : goal.index_list-requires
 index_list-requires c =
-    let within = c.bounded.ensures.0 (not-false _ c.if-not-bounded.false-raw) in
+    let within = c.bounded.ensures.0 c.if-not-bounded.false in
     let (bs, known, counts) = tally_sound Fidx _ _ _ c.tally-inner.ensures c.if-inner-ne0.false in
     first_ready _ c.args.b within known (c.of.ensures ∙ counts.of bidx refl)
 

@@ -3,7 +3,6 @@ use Prim.Native.Nat.{ℕ}
 use mathlib.Core.List.{List, [], ◌∷◌, ◌++◌}
 use mathlib.Core.Path.{◌≡◌, sym, ap, ap₂, ◌∙◌}
 use native.Mathlib.Omega.{arith}
-use borrow.Author.Tests.{not-true, not-false}
 use Rattle.boxes.specs.Answer.{given}
 use Rattle.boxes.specs.Framing.{Box, boxes_in, box_limit, box_of}
 use Rattle.boxes.specs.Kinds.{bidx, frpa, right_count, right}
@@ -36,29 +35,21 @@ loop-b-preserved c =
       c.counted-more.ensures inv.0 inv.2,
     )
 
--- at the end all boxes are counted, and the rule is held against the front parts
-
-all_known : (c : goal.After-keeps)
-    → (bs : List Box)
-    × (boxes_in Bidx c.args.file.now c.args.start.0 c.args.end.0 ≡ given bs)
-    × InnerCounted bs c.loop-b.counts
-    × (c.keeps.result ≡ right Bidx frpa bs)
-all_known c =
-    let (bs, passed, counts) = c.loop-b.invariant in
-    let known = all_boxes c.new-walk.ensures passed (no_more c.step.ensures c.in-End.is) in
-    (bs, known, counts, c.keeps.ensures ∙ ap (right_count Bidx frpa) counts.parts ∙ sym (right-count Bidx frpa bs))
-
 pub returns-then-not-keeps : goal.returns-then-not-keeps
 unfolding inner_answer
 returns-then-not-keeps c =
-    let (bs, known, counts, rule) = all_known c in
-    sym (inner_second _ _ _ known (sym rule ∙ not-true _ c.if-not-keeps.true-raw))
+    let (bs, passed, counts) = c.loop-b.invariant in
+    let known = all_boxes c.new-walk.ensures passed (no_more c.step.ensures c.in-End.is) in
+    let rule = c.keeps.ensures ∙ ap (right_count Bidx frpa) counts.parts ∙ sym (right-count Bidx frpa bs) in
+    sym (inner_second _ _ _ known (sym rule ∙ c.if-not-keeps.true))
 
 pub returns-in-End : goal.returns-in-End
 unfolding inner_answer
 returns-in-End c =
-    let (bs, known, counts, rule) = all_known c in
-    let kept = sym rule ∙ not-false _ c.if-not-keeps.false-raw in
+    let (bs, passed, counts) = c.loop-b.invariant in
+    let known = all_boxes c.new-walk.ensures passed (no_more c.step.ensures c.in-End.is) in
+    let rule = c.keeps.ensures ∙ ap (right_count Bidx frpa) counts.parts ∙ sym (right-count Bidx frpa bs) in
+    let kept = sym rule ∙ c.if-not-keeps.false in
     ap₂ (λ (m n : ℕ). given (m, n)) counts.many (counts.size (front_few bs kept)) ∙ sym (inner_whole _ _ _ known kept)
 
 pub returns-in-Refused : goal.returns-in-Refused

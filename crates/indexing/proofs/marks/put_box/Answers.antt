@@ -12,19 +12,12 @@ use Rattle.indexing.proofs.EndLaws.{known_is}
 use Rattle.indexing.proofs.MarksLaws.{marked_one}
 use Rattle.indexing.proofs.marks.put_box.Goals as goal
 
--- the row that is put
-
-put : (c : goal.After-put_row)
-    → Put c.args.table.now (index_row_length * c.args.before.count) (plain_row (indexed_of c.args.level c.args.place.0 (end_of c.args.end) c.args.kind)) c.put_row.new.0
-unfolding plain_row
-put c =
-    let args = c.args in
-    put_same refl (ap (λ (size : ℕ). args.level ∷ args.place.0 ∷ size ∷ args.kind ∷ 0 ∷ []) (c.size_from-size.ensures args.level args.kind)) (put_stored _ _ _ c.put_row.ensures)
-
 pub returns-then-before : goal.returns-then-before
+unfolding plain_row
 returns-then-before c =
-    (refl, marked_one c.args.before _ c.requires.1 (c.if-before.true ∙ sym (ap (λ (u : Bool). u || not (is_known (end_of c.args.end))) c.if-before.true)) (put c))
+    (refl, marked_one c.args.before _ c.requires.1 (c.if-before.true ∙ sym (ap (λ (u : Bool). u || not (is_known (end_of c.args.end))) c.if-before.true)) (put_same refl (ap (λ (size : ℕ). c.args.level ∷ c.args.place.0 ∷ size ∷ c.args.kind ∷ 0 ∷ []) (c.size_from-size.ensures c.args.level c.args.kind)) (put_stored _ _ _ c.put_row.ensures)))
 
 pub returns-else-before : goal.returns-else-before
+unfolding plain_row
 returns-else-before c =
-    (refl, marked_one c.args.before _ c.requires.1 (ap not (known_is c.args.end) ∙ sym (ap (λ (u : Bool). u || not (is_known (end_of c.args.end))) c.if-before.false)) (put c))
+    (refl, marked_one c.args.before _ c.requires.1 (ap not (known_is c.args.end) ∙ sym (ap (λ (u : Bool). u || not (is_known (end_of c.args.end))) c.if-before.false)) (put_same refl (ap (λ (size : ℕ). c.args.level ∷ c.args.place.0 ∷ size ∷ c.args.kind ∷ 0 ∷ []) (c.size_from-size.ensures c.args.level c.args.kind)) (put_stored _ _ _ c.put_row.ensures)))

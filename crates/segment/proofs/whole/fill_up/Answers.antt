@@ -1,7 +1,6 @@
 -- `segment::whole::fill_up` meets its contract. The loop's invariant: the boxes that the walk has before it are allowed
 -- up to the end where those from the first are.
 use mathlib.Core.Path.{refl, sym, ◌∙◌}
-use borrow.Author.Tests.{not-true, not-false}
 use Rattle.boxes.specs.Framing.{box_of}
 use Rattle.boxes.proofs.WalkLaws.{walk_boxes, fewer, next_box, no_more, a_fault}
 use Rattle.segment.proofs.WholeLaws.{fill_other, fill_end, fill_met, fill_more, fill_over, fill_sound}
@@ -15,7 +14,7 @@ returns-then-not-may_stand c =
     λ bs known.
     let step = next_box c.step.ensures c.in-Next.is in
     let (cs, behind, same) = fill_met c.loop-b.invariant (sym (walk_boxes _ c.new-walk.ensures) ∙ known) step in
-    sym (same ∙ fill_other _ cs _ (sym c.may_stand.ensures ∙ not-true _ c.if-not-may_stand.true-raw))
+    sym (same ∙ fill_other _ cs _ (sym c.may_stand.ensures ∙ c.if-not-may_stand.true))
 
 pub returns-then-end-at : goal.returns-then-end-at
 unfolding box_of
@@ -23,7 +22,7 @@ returns-then-end-at c =
     λ bs known.
     let step = next_box c.step.ensures c.in-Next.is in
     let (cs, behind, same) = fill_met c.loop-b.invariant (sym (walk_boxes _ c.new-walk.ensures) ∙ known) step in
-    sym (same ∙ fill_end _ cs _ (sym c.may_stand.ensures ∙ not-false _ c.if-not-may_stand.false-raw) c.if-end-at.true)
+    sym (same ∙ fill_end _ cs _ (sym c.may_stand.ensures ∙ c.if-not-may_stand.false) c.if-end-at.true)
 
 pub loop-b-smaller : goal.loop-b-smaller
 loop-b-smaller c = fewer _ _ (next_box c.step.ensures c.in-Next.is)
@@ -32,7 +31,7 @@ pub loop-b-preserved : goal.loop-b-preserved
 unfolding box_of
 loop-b-preserved c =
     let step = next_box c.step.ensures c.in-Next.is in
-    fill_more c.loop-b.invariant step (sym c.may_stand.ensures ∙ not-false _ c.if-not-may_stand.false-raw) c.if-end-at.false
+    fill_more c.loop-b.invariant step (sym c.may_stand.ensures ∙ c.if-not-may_stand.false) c.if-end-at.false
 
 pub returns-in-End : goal.returns-in-End
 returns-in-End c =

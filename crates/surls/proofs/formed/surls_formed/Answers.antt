@@ -4,7 +4,7 @@ use mathlib.Core.Path.{refl, sym, ap, ◌∙◌}
 use native.Mathlib.Omega.{arith}
 use Rattle.boxes.specs.Kinds.{surl}
 use Rattle.boxes.proofs.WalkLaws.{fewer, next_box, no_more, a_fault}
-use Rattle.surls.proofs.FormLaws.{refuted, upheld, all_formed, formed_none, formed_other, formed_one, formed_ill}
+use Rattle.surls.proofs.FormLaws.{all_formed, formed_none, formed_other, formed_one, formed_ill}
 use Rattle.tallying.proofs.FoundLaws.{asked_none, asked_more, asked_next, asked_end, asked_sound, is_kind, is_other}
 use Rattle.surls.proofs.WithinLaws.{met_within, further_within, end_kept}
 use Rattle.surls.proofs.formed.surls_formed.Goals as goal
@@ -21,7 +21,7 @@ surl_formed-requires c =
 
 pub returns-then-not-surl_formed : goal.returns-then-not-surl_formed
 returns-then-not-surl_formed c small bs known =
-    let ill = refuted c.surl_formed.ensures c.if-not-surl_formed.true-raw in
+    let ill = sym c.surl_formed.ensures ∙ c.if-not-surl_formed.true in
     sym
     (asked_next c.new-walk.ensures c.loop-b.invariant.0 known (next_box c.step.ensures c.in-Next.is)
     (λ rest. formed_ill _ _ rest (is_kind surl _ c.if-b.true) ill))
@@ -33,7 +33,7 @@ pub loop-b-preserved-else-not-surl_formed : goal.loop-b-preserved-else-not-surl_
 loop-b-preserved-else-not-surl_formed c =
     let inv = c.loop-b.invariant in
     let step = next_box c.step.ensures c.in-Next.is in
-    let formed = upheld c.surl_formed.ensures c.if-not-surl_formed.false-raw in (
+    let formed = sym c.surl_formed.ensures ∙ c.if-not-surl_formed.false in (
       asked_more (all_formed _) inv.0 step (λ rest. formed_one _ _ rest (is_kind surl _ c.if-b.true) formed),
       end_kept _ _ _ step ∙ inv.1,
     )
