@@ -37,9 +37,9 @@ returns c =
     let located = c.ploc_size-ploc.ensures.1 a.outside _ counted.items sizes offsets in
     let held : c.within-pseg.result ≡ min (length (pseg_body a)) (file_limit + 1) = omega (arith, located, c.surls_size.ensures.1 a texted, c.offset_width-width.ensures, at_width, pseg_long a) in
     record {
-      c = record {
-        pshd = record { c = c.offset_width-width.ensures ∙ at_width; body = omega (arith, c.offset_width-width.ensures, at_width) };
-        c = record { sizes = sizes; offsets = offsets; body = located };
+      pseg = record {
+        pshd = record { width = c.offset_width-width.ensures ∙ at_width; body = omega (arith, c.offset_width-width.ensures, at_width) };
+        ploc = record { sizes = sizes; offsets = offsets; body = located };
         body = held;
       };
       all = omega (arith, c.data_size.ensures.1 a sorted, held, length-added a, front-size);
