@@ -20,12 +20,6 @@ use Rattle.gathering.proofs.PassLaws.{searched_none}
 use borrow.Author.Rules.{rules}
 use Rattle.gathering.proofs.keeping.keep_pass.Goals as goal
 
--- where a box was met the table has room for its fate
-
-room : (c : goal.In-Next-2) → c.loop-b.k < 512
-room c =
-    omega (arith, c.loop-b.invariant.0, fewer _ _ (next_box c.step.ensures c.in-Next.is))
-
 pub loop-b-init : goal.loop-b-init
 unfolding chunks_of
 loop-b-init c =
@@ -41,7 +35,7 @@ loop-b-init c =
     )
 
 pub overflow_add-k : goal.overflow_add-k
-overflow_add-k c = omega (arith, room c)
+overflow_add-k c = omega (arith, c.loop-b.invariant.0, fewer _ _ (next_box c.step.ensures c.in-Next.is))
 
 pub keep_segment-requires : goal.keep_segment-requires
 unfolding box_limit
@@ -51,10 +45,10 @@ keep_segment-requires c =
     (omega (arith, inv.0, inv.1), inv.2, omega (arith, ends, inv.5))
 
 pub offset_bounds-fates-at : goal.offset_bounds-fates-at
-offset_bounds-fates-at c = omega (arith, room c)
+offset_bounds-fates-at c = omega (arith, c.loop-b.invariant.0, fewer _ _ (next_box c.step.ensures c.in-Next.is))
 
 pub bounds-fates-at : goal.bounds-fates-at
-bounds-fates-at c = omega (arith, room c)
+bounds-fates-at c = omega (arith, c.loop-b.invariant.0, fewer _ _ (next_box c.step.ensures c.in-Next.is))
 
 pub loop-b-smaller-in-Refused-keep_segment : goal.loop-b-smaller-in-Refused-keep_segment
 loop-b-smaller-in-Refused-keep_segment c = fewer _ _ (next_box c.step.ensures c.in-Next.is)
@@ -74,15 +68,15 @@ loop-b-preserved-in-Refused-keep_segment c =
           let listed = c.tops_of.ensures h.boxes (omega (arith, boxed.in_pfil.within)) tops_none boxed.boxes in
           let kind = is_kind pseg _ c.if-b.true in
           let told = tried.1 h so_far.kept boxed.mix so_far.known listed boxed.in_pfil any so_far.so in
-          midway_refused _ h so_far step kind (omega (arith, room c, inv.3)) _ (subst (Tried _ h _ _ _ _ _ _ _) c.in-Refused-keep_segment.is told),
+          midway_refused _ h so_far step kind (omega (arith, inv.0, fewer _ _ step, inv.3)) _ (subst (Tried _ h _ _ _ _ _ _ _) c.in-Refused-keep_segment.is told),
       ap (λ e. e.0) (end_kept _ _ _ step) ∙ inv.5,
     )
 
 pub offset_bounds-fates-at-in-Given : goal.offset_bounds-fates-at-in-Given
-offset_bounds-fates-at-in-Given c = omega (arith, room c)
+offset_bounds-fates-at-in-Given c = omega (arith, c.loop-b.invariant.0, fewer _ _ (next_box c.step.ensures c.in-Next.is))
 
 pub bounds-fates-at-in-Given : goal.bounds-fates-at-in-Given
-bounds-fates-at-in-Given c = omega (arith, room c)
+bounds-fates-at-in-Given c = omega (arith, c.loop-b.invariant.0, fewer _ _ (next_box c.step.ensures c.in-Next.is))
 
 pub loop-b-smaller-in-Given : goal.loop-b-smaller-in-Given
 loop-b-smaller-in-Given c = fewer _ _ (next_box c.step.ensures c.in-Next.is)
@@ -93,7 +87,7 @@ loop-b-preserved-in-Given c =
     let inv = c.loop-b.invariant in
     let step = next_box c.step.ensures c.in-Next.is in
     let tried = c.keep_segment.ensures in
-    let counted = subst (Counted _) c.in-Given.is tried.0 in (
+    let counted = subst (Counted c.loop-b.gathered) c.in-Given.is tried.0 in (
       omega (arith, inv.0, fewer _ _ step),
       omega (arith, inv.1, counted.0),
       counted.1,
@@ -104,7 +98,7 @@ loop-b-preserved-in-Given c =
           let listed = c.tops_of.ensures h.boxes (omega (arith, boxed.in_pfil.within)) tops_none boxed.boxes in
           let kind = is_kind pseg _ c.if-b.true in
           let told = tried.1 h so_far.kept boxed.mix so_far.known listed boxed.in_pfil any so_far.so in
-          midway_kept _ h so_far step kind (omega (arith, room c, inv.3)) (subst (Tried _ h _ _ _ _ _ _ _) c.in-Given.is told),
+          midway_kept _ h so_far step kind (omega (arith, inv.0, fewer _ _ step, inv.3)) (subst (Tried _ h _ _ _ _ _ _ _) c.in-Given.is told),
       ap (λ e. e.0) (end_kept _ _ _ step) ∙ inv.5,
     )
 

@@ -20,7 +20,7 @@ returns-then-before-ge-SEGMENT_LIMIT c =
 pub returns-then-fault-ne0 : goal.returns-then-fault-ne0
 unfolding Counted Fitting PsegTold
 returns-then-fault-ne0 c =
-    let (fits, _) = subst (Fitting _) c.in-Given.is c.pseg_of.ensures.0 in (
+    let (fits, _) = subst (Fitting c.args.before) c.in-Given.is c.pseg_of.ensures.0 in (
       tt,
       λ h kept mix known tops pfil any so.
           let short : c.args.before.segments < segment_limit = omega arith in
@@ -33,7 +33,7 @@ returns-then-fault-ne0 c =
 pub put_read-gathered-requires : goal.put_read-gathered-requires
 unfolding Fitting
 put_read-gathered-requires c =
-    let (few, whole) = subst (Fitting _) c.in-Given.is c.pseg_of.ensures.0 in
+    let (few, whole) = subst (Fitting c.args.before) c.in-Given.is c.pseg_of.ensures.0 in
     (search rules, few, whole)
 
 pub returns-in-Refused : goal.returns-in-Refused
@@ -49,7 +49,7 @@ returns-in-Refused c = (
 pub returns-else-fault-ne0 : goal.returns-else-fault-ne0
 unfolding Counted Fitting PsegTold
 returns-else-fault-ne0 c =
-    let (fits, _) = subst (Fitting _) c.in-Given.is c.pseg_of.ensures.0 in
+    let (fits, _) = subst (Fitting c.args.before) c.in-Given.is c.pseg_of.ensures.0 in
     let entered = c.put_read-gathered.ensures in (
       (entered.segments, subst (λ (n : ℕ). n ≤ chunk_limit) (sym entered.chunks) fits),
       λ h kept mix known tops pfil any so.

@@ -58,12 +58,11 @@ loop-b-preserved-in-Given c =
     let inv = c.loop-b.invariant in
     let step = next_box c.step.ensures c.in-Next.is in
     let read = c.segment_of.ensures in
-    let kept = c.segment_of.auto in
-    let counted = subst (Counted _) c.in-Given.is read.0 in (
+    let counted = subst (Counted c.loop-b.gathered) c.in-Given.is read.0 in (
       omega (arith, inv.0, counted.0, fewer _ _ step),
       counted.1,
-      kept.1.1.1.1.1.1.1.1.1.0 ∙ inv.2,
-      kept.1.1.1.1.1.1.1.1.1.1.0 ∙ inv.3,
+      c.segment_of.auto.segments ∙ inv.2,
+      c.segment_of.auto.chunks ∙ inv.3,
       λ h opened.
           let so_far = inv.4 h opened in
           let any = c.has_surl-in_pfil.ensures h.inner opened.in_pfil.stands.boxes in

@@ -10,15 +10,6 @@ use Rattle.gathering.specs.Step.{Fitting, PsegTold}
 use Rattle.gathering.proofs.StepLaws.{header_whole, segment_fault, segment_crowded, segment_far, segment-cut}
 use Rattle.gathering.proofs.step.pseg_of.Goals as goal
 
--- what was before the segment, and what its parts are
-
-abbrev at_parts : goal.Else-start-gt-SOURCE_LIMIT → goal.In-Given-2
-at_parts c = c.before.before.before.before.before.before.before.before.before
-
-few : (c : goal.Else-start-gt-SOURCE_LIMIT) → (at_parts c).before.before.before.before.before.before.args.before.chunks + (at_parts c).p.given.0.0.location.count ≤ chunk_limit
-few c =
-    omega arith
-
 pub returns-then-before-count : goal.returns-then-before-count
 unfolding Fitting PsegTold parts_answer
 returns-then-before-count c =
@@ -42,23 +33,23 @@ returns-in-Refused c = (
 pub returns-in-Refused-chunks_of : goal.returns-in-Refused-chunks_of
 unfolding Fitting PsegTold Chunked parts_answer
 returns-in-Refused-chunks_of c =
-    let met = at_parts c in
-    let parts = sym met.before.before.parts-of.ensures ∙ ap parts_answer met.p.given.1 in
+    let parts = sym c.parts_of.ensures ∙ ap parts_answer c.in-Given.is in
+    let few : c.args.before.chunks + c.in-Given.p.location.count ≤ chunk_limit = omega arith in
     let ran = c.chunks_of.ensures in (
       tt,
       λ h ss mix known listed any chunks.
           let (cut, behind) = subst (Chunked _ h _ _ _ _ _ _ _) c.in-Refused-chunks_of.is (ran h mix known listed) in
-          (segment-cut _ h ss _ any _ parts (omega (arith, few c)) (omega arith) met.before.before.before.before.before.before.args.last cut, behind),
+          (segment-cut _ h ss _ any _ parts (omega (arith, few, chunks)) (omega arith) c.args.last cut, behind),
     )
 
 pub returns-in-Given-chunks_of : goal.returns-in-Given-chunks_of
 unfolding Fitting PsegTold Chunked parts_answer
 returns-in-Given-chunks_of c =
-    let met = at_parts c in
-    let parts = sym met.before.before.parts-of.ensures ∙ ap parts_answer met.p.given.1 in
+    let parts = sym c.parts_of.ensures ∙ ap parts_answer c.in-Given.is in
+    let few : c.args.before.chunks + c.in-Given.p.location.count ≤ chunk_limit = omega arith in
     let ran = c.chunks_of.ensures in (
-      (few c, rw (box_fields _) at (header_whole _ _ _ parts)),
+      (few, rw (box_fields _) at (header_whole _ _ _ parts)),
       λ h ss mix known listed any chunks.
           let (cs, e, many, here) = subst (Chunked _ h _ _ _ _ _ _ _) c.in-Given-chunks_of.is (ran h mix known listed) in
-          record { parts = parts; c = omega arith; chunks = cs; read = e; many = many; ran = here },
+          record { parts = parts; near = omega arith; chunks = cs; read = e; many = many; ran = here },
     )

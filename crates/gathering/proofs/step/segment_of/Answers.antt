@@ -12,7 +12,7 @@ use Rattle.gathering.proofs.step.segment_of.Goals as goal
 pub put_read-gathered-requires : goal.put_read-gathered-requires
 unfolding Fitting
 put_read-gathered-requires c =
-    let (few, whole) = subst (Fitting _) c.in-Given.is c.pseg_of.ensures.0 in
+    let (few, whole) = subst (Fitting c.args.before) c.in-Given.is c.pseg_of.ensures.0 in
     (search rules, few, whole)
 
 pub returns-in-Refused : goal.returns-in-Refused
@@ -28,7 +28,7 @@ pub returns-in-Given : goal.returns-in-Given
 unfolding Counted Segmented Fitting PsegTold
 returns-in-Given c =
     let judged = c.pseg_of.ensures in
-    let (few, _) = subst (Fitting _) c.in-Given.is judged.0 in
+    let (few, _) = subst (Fitting c.args.before) c.in-Given.is judged.0 in
     let entered = c.put_read-gathered.ensures in (
       (entered.segments, subst (λ (n : ℕ). n ≤ chunk_limit) (sym entered.chunks) few),
       λ h ss mix known listed beside.
