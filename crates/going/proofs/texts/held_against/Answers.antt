@@ -34,9 +34,9 @@ returns-then-not-same_part c =
     let lengths = c.args.lengths.now in
     let cut = c.args.cut in
     let first : c.smaller-middle.result ≡ min (cut.from + get_or lengths (2 * cut.pair) 0) (length texts) =
-    omega (arith, c.smaller-middle.ensures, c.sum_of.ensures, c.well-formed) in
+    omega (arith, c.smaller-middle.ensures, c.sum_of.ensures, c.well_formed) in
     let second : c.smaller-end.result ≡ min (c.smaller-middle.result + get_or lengths (2 * cut.pair + 1) 0) (length texts) =
-    omega (arith, c.smaller-end.ensures, c.sum_of-2.ensures, c.well-formed) in
+    omega (arith, c.smaller-end.ensures, c.sum_of-2.ensures, c.well_formed) in
     let text = take (c.smaller-middle.result - cut.from) (drop cut.from texts) in
     let left : Cut = record { from = c.smaller-end.result; pair = cut.pair + 1 } in
     let more = urls_more f texts lengths cut (omega (arith, c.if-lengths-pair.false)) first second in
@@ -53,9 +53,9 @@ returns c =
     let lengths = c.args.lengths.now in
     let cut = c.args.cut in
     let first : c.smaller-middle.result ≡ min (cut.from + get_or lengths (2 * cut.pair) 0) (length texts) =
-    omega (arith, c.smaller-middle.ensures, c.sum_of.ensures, c.well-formed) in
+    omega (arith, c.smaller-middle.ensures, c.sum_of.ensures, c.well_formed) in
     let second : c.smaller-end.result ≡ min (c.smaller-middle.result + get_or lengths (2 * cut.pair + 1) 0) (length texts) =
-    omega (arith, c.smaller-end.ensures, c.sum_of-2.ensures, c.well-formed) in
+    omega (arith, c.smaller-end.ensures, c.sum_of-2.ensures, c.well_formed) in
     let text = take (c.smaller-middle.result - cut.from) (drop cut.from texts) in
     let left : Cut = record { from = c.smaller-end.result; pair = cut.pair + 1 } in
     let more = urls_more f texts lengths cut (omega (arith, c.if-lengths-pair.false)) first second in

@@ -36,7 +36,7 @@ pub returns-in-Differ : goal.returns-in-Differ
 returns-in-Differ c =
     λ bs known inside.
     let step = next_box c.step.ensures c.in-Next.is in
-    let passed = passed_off _ _ _ _ _ _ c.held_against.ensures c.in-Differ.is in
+    let passed = passed_off _ _ _ _ c.loop-b.cut _ c.held_against.ensures c.in-Differ.is in
     sym (asked_next c.new-walk.ensures c.loop-b.invariant.0 known step passed)
 
 pub returns-in-End : goal.returns-in-End
