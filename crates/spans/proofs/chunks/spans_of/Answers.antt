@@ -2,7 +2,6 @@
 -- chunks, and the others are kept ahead.
 use Prim.Native.Nat.{◌<◌}
 use mathlib.Core.List.{List}
-use mathlib.Core.Logic.{⊎_elim}
 use mathlib.Core.Path.{refl, ap}
 use native.Mathlib.Omega.{arith}
 use lib.ListN.{length}
@@ -14,6 +13,7 @@ use Rattle.spans.proofs.ChunkLaws.{spans_none, spans_same, spans_segment, spans_
 use Rattle.spans.proofs.SpanLaws.{no_spans}
 use borrow.Author.Rules.{rules}
 use Rattle.spans.proofs.chunks.spans_of.Goals as goal
+use Rattle.spans.proofs.chunks.spans_of.Goals.{then-sources-k, else-sources-k}
 
 pub returns-then-many-gt-SEGMENT_LIMIT : goal.returns-then-many-gt-SEGMENT_LIMIT
 returns-then-many-gt-SEGMENT_LIMIT c = (no_spans _ _, λ ss kept. absurd (omega (arith, kept.count, kept.few)))
@@ -37,31 +37,31 @@ pub loop-k-preserved : goal.loop-k-preserved
 loop-k-preserved c =
     let (low, under, long, spans, so_far) = c.loop-k.invariant in
     let k = c.loop-k.k in
-    ⊎_elim
-    (λ w.
-    let (still, more) = w.2.ensures in
-    rw (w.5, w.6) (
-      omega arith,
-      omega arith,
-      search rules,
-      still spans,
-      λ ss kept room.
-          let (here, ahead, made) = so_far ss kept room in
-          let n = next_segment _ _ _ ss k _ (omega (arith, kept.count)) kept.chunks here ahead in
-          (n.behind, n.ahead, spans_segment _ _ _ ss k n w.0.taken (omega (arith, room, long)) made (more _ n.s.chunks n.count n.kept)),
-    ))
-    (λ w.
-    rw (w.1, w.2) (
-      omega arith,
-      omega arith,
-      long,
-      spans,
-      λ ss kept room.
-          let (here, ahead, made) = so_far ss kept room in
-          let n = next_segment _ _ _ ss k _ (omega (arith, kept.count)) kept.chunks here ahead in
-          (n.behind, n.ahead, spans_other _ _ _ ss k n w.0.left made),
-    ))
-    c.if-sources-k.branch
+    elim c.if-sources-k.branch [
+      | then-sources-k w ↦
+          let (still, more) = w.take_segment-n.ensures in
+          rw (w.table-is, w.n-is) (
+            omega arith,
+            omega arith,
+            search rules,
+            still spans,
+            λ ss kept room.
+                let (here, ahead, made) = so_far ss kept room in
+                let n = next_segment _ _ _ ss k _ (omega (arith, kept.count)) kept.chunks here ahead in
+                (n.behind, n.ahead, spans_segment _ _ _ ss k n w.if-sources-k.true (omega (arith, room, long)) made (more _ n.s.chunks n.count n.kept)),
+          )
+      | else-sources-k w ↦
+          rw (w.table-is, w.n-is) (
+            omega arith,
+            omega arith,
+            long,
+            spans,
+            λ ss kept room.
+                let (here, ahead, made) = so_far ss kept room in
+                let n = next_segment _ _ _ ss k _ (omega (arith, kept.count)) kept.chunks here ahead in
+                (n.behind, n.ahead, spans_other _ _ _ ss k n w.if-sources-k.false made),
+          )
+    ]
 
 pub returns : goal.returns
 returns c =

@@ -1,8 +1,8 @@
 -- `sweeping::ranges::range_at` meets its contract: by whether the reach lies behind the position.
 use native.Mathlib.Omega.{arith}
-use mathlib.Core.Logic.{⊎_elim}
 use Rattle.sweeping.proofs.RangeLaws.{range_had, range_missing, next_high, passed_on, nothing-goes, nothing-found}
 use Rattle.sweeping.proofs.ranges.range_at.Goals as goal
+use Rattle.sweeping.proofs.ranges.range_at.Goals.{then-k-n, else-k-n}
 
 pub returns-then-end-p : goal.returns-then-end-p
 returns-then-end-p c =
@@ -21,30 +21,28 @@ returns-then-p-to c =
 
 pub overflow_sub-next : goal.overflow_sub-next
 overflow_sub-next c =
-    let came = c.if-k-n.came in
     let high =
     next_high _ _ _ _ c.args.end.0 c.had_to-reached.ensures (omega arith) (omega arith)
     {next = c.if-k-n.next}
-    (λ less. ⊎_elim (λ w. omega arith) (λ w. absurd (omega arith)) came)
-    (λ most. ⊎_elim (λ w. absurd (omega arith)) (λ w. omega arith) came) in
+    (λ less. elim c.if-k-n.branch [ then-k-n w ↦ omega arith | else-k-n w ↦ absurd (omega arith) ])
+    (λ most. elim c.if-k-n.branch [ then-k-n w ↦ absurd (omega arith) | else-k-n w ↦ omega arith ]) in
     omega (arith, high)
 
 pub returns : goal.returns
 returns c =
-    let came = c.if-k-n.came in
     let s = c.had_to-reached.ensures in
     let next = c.if-k-n.next in
     let high =
     next_high _ _ _ _ c.args.end.0 s (omega arith) (omega arith)
     {next = next}
-    (λ less. ⊎_elim (λ w. omega arith) (λ w. absurd (omega arith)) came)
-    (λ most. ⊎_elim (λ w. absurd (omega arith)) (λ w. omega arith) came) in (
+    (λ less. elim c.if-k-n.branch [ then-k-n w ↦ omega arith | else-k-n w ↦ absurd (omega arith) ])
+    (λ most. elim c.if-k-n.branch [ then-k-n w ↦ absurd (omega arith) | else-k-n w ↦ omega arith ]) in (
       nothing-goes c.nothing-2.ensures (λ below. omega (arith, high)) (omega (arith, high)),
       λ o before below.
           nothing-found c.nothing-2.ensures
           (range_missing _ _ _ _ _ o before s (omega arith) (omega arith)
           {next = next}
-          (λ less. ⊎_elim (λ w. omega arith) (λ w. absurd (omega arith)) came)
-          (λ most. ⊎_elim (λ w. absurd (omega arith)) (λ w. omega arith) came))
+          (λ less. elim c.if-k-n.branch [ then-k-n w ↦ omega arith | else-k-n w ↦ absurd (omega arith) ])
+          (λ most. elim c.if-k-n.branch [ then-k-n w ↦ absurd (omega arith) | else-k-n w ↦ omega arith ]))
           (passed_on _ _ _ _ _ o before s (omega (arith, high))),
     )
