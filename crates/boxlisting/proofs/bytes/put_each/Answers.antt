@@ -6,7 +6,7 @@ use Rattle.boxlisting.proofs.BytesLaws.{each_none, each_more, each_all}
 use Rattle.boxlisting.proofs.bytes.put_each.Goals as goal
 
 pub loop-i-init : goal.loop-i-init
-loop-i-init c = (omega arith, omega arith, refl, each_none (byte_text c.args.in-hex) c.args.bytes.now _ _)
+loop-i-init c = (omega arith, omega arith, refl, each_none (byte_text c.args.in_hex) c.args.bytes.now _ _)
 
 pub loop-i-preserved : goal.loop-i-preserved
 loop-i-preserved c =
@@ -14,7 +14,7 @@ loop-i-preserved c =
     let args = c.args in
     let i = c.loop-i.i in
     let (puts, low) = c.put_byte-next.ensures in
-    (omega arith, omega (arith, inv.1), puts.put.long ∙ inv.2, each_more (byte_text args.in-hex) args.bytes.now _ _ i (omega arith) inv.3 puts)
+    (omega arith, omega (arith, inv.1), puts.put.long ∙ inv.2, each_more (byte_text args.in_hex) args.bytes.now _ _ i (omega arith) inv.3 puts)
 
 pub returns : goal.returns
 returns c =

@@ -9,5 +9,5 @@ pub returns : goal.returns
 returns c =
     let said = c.hex-count.ensures in
     let piece = c.put_text.ensures in
-    let two = hex_two _ _ (omega arith) said.1.0 in
-    (piece_puts (omega (arith, piece.end, said.0.1, two)) (piece_same (said.1.1 ∙ hex_by _ _ (omega arith) said.1.0) piece), omega (arith, piece.end, said.0.1, two))
+    let two = hex_two _ _ (omega arith) said.len in
+    (piece_puts (omega (arith, piece.end, said.in_bounds, two)) (piece_same (said.digits ∙ hex_by _ _ (omega arith) said.len) piece), omega (arith, piece.end, said.in_bounds, two))

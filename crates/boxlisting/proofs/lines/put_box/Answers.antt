@@ -12,8 +12,9 @@ overflow_add-start c = omega (arith, type_file _ _ (lies _ _ c.requires.1))
 
 pub overflow_add-start-2 : goal.overflow_add-start-2
 overflow_add-start-2 c = omega (arith, type_file _ _ (lies _ _ c.requires.1))
--- LEFT part_put_each_end : tie.Need-slice-bounds-put-each-end
-part_put_each_end c = type_file _ _ (lies _ _ c.before.before.before.before.before.before.before.before.before.before.before.before.before.before.before.before.before.before.before.before.before.before.before.before.before.requires.1)
+
+pub slice_bounds-put_each-end : goal.slice_bounds-put_each-end
+slice_bounds-put_each-end c = type_file _ _ (lies _ _ c.requires.1)
 
 pub returns : goal.returns
 returns c =

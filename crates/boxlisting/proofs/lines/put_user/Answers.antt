@@ -13,10 +13,12 @@ returns-then-user-body c =
 
 pub slice_bounds-put_each-count : goal.slice_bounds-put_each-count
 slice_bounds-put_each-count c = user_body _ _ (lies _ _ c.requires.1)
--- LEFT part_put_each_start : tie.Need-slice-bounds-put-each-start
-part_put_each_start c = user_body _ _ (lies _ _ c.before.before.before.before.before.before.before.before.before.before.before.before.before.requires.1)
--- LEFT part_put_each_end : tie.Need-slice-bounds-put-each-end
-part_put_each_end c = body_file _ _ (lies _ _ c.before.before.before.before.before.before.before.before.before.before.before.before.before.requires.1)
+
+pub slice_bounds-put_each-start : goal.slice_bounds-put_each-start
+slice_bounds-put_each-start c = user_body _ _ (lies _ _ c.requires.1)
+
+pub slice_bounds-put_each-end : goal.slice_bounds-put_each-end
+slice_bounds-put_each-end c = body_file _ _ (lies _ _ c.requires.1)
 
 pub put_each-requires : goal.put_each-requires
 put_each-requires c = (omega (arith, c.put_text-digits.ensures.end), user_few _ _ (lies _ _ c.requires.1))
