@@ -12,7 +12,7 @@ returns-then-end-at c = sym (entry-cut _ _ _ c.if-end-at.true)
 
 pub overflow_cast-unsigned : goal.overflow_cast-unsigned
 overflow_cast-unsigned c =
-    record { fits = rw c.unsigned.ensures (number_below _ _ 1 (λ k. omega (arith, c.shared_slice_known-1.given k))) }
+    record { fits = rw c.unsigned.ensures (number_below _ _ 1 (λ k. omega (arith, c.type_inv.s k))) }
 
 pub returns-in-Refused : goal.returns-in-Refused
 unfolding entry_answer

@@ -44,7 +44,7 @@ loop-b-preserved c =
     let inv = c.loop-b.invariant in
     let step = next_box c.step.ensures c.in-Next.is in
     let given-more = c.in-Given.is in (
-      c.put_source.ensures.long ∙ c.index_at.auto.1.1.1.1.0 ∙ inv.0,
+      c.put_source.ensures.long ∙ c.index_at.auto.table ∙ inv.0,
       λ h ss number head known numbered.
           let so_far = inv.1 h ss number head known numbered in
           let box = next _ _ _ _ _ so_far step in

@@ -15,11 +15,12 @@ use Rattle.fileindex.proofs.PassLaws.{Midway}
 use Rattle.fileindex.proofs.file.index_of.Given as goal
 
 abbrev pub invariant-loop-b : goal.invariant-loop-b
-invariant-loop-b l =     (length l.table ≡ length l.initial.table)
+invariant-loop-b l =
+    (length l.table ≡ length l.initial.table)
     × ((h : Heading) (ss : List Segment) (number : List (List ℕ) → ℕ) → heading l.file ≡ given h
     → segments_of source_limit l.file h ≡ given ss
     → NumberedBy number h ss l.sources l.in_pfil
-    → Midway l.file (λ us. end_in l.sizes (number us)) (record { number = number; l.sources = l.sources; in_pfil = l.in_pfil }) (parts_of h ss) l.initial.table l.table l.walk l.marks l.segments)
+    → Midway l.file (λ us. end_in l.sizes (number us)) (record { number = number; sources = l.sources; in_pfil = l.in_pfil }) (parts_of h ss) l.initial.table l.table l.walk l.marks l.segments)
 
 abbrev pub decreases-loop-b : goal.decreases-loop-b
 decreases-loop-b l = l.walk.left

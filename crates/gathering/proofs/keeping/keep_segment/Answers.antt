@@ -26,7 +26,7 @@ returns-then-fault-ne0 c =
           let short : c.args.before.segments < segment_limit = omega arith in
           let r = subst (PsegTold _ h kept _ _ _ _ _ _ _) c.in-Given.is (c.pseg_of.ensures.1 h kept mix known tops (listed _ h kept so short pfil any) (gathered_chunks kept so.gathered)) in
           let found = rw c.list_of-own.ensures at c.source_of-source.ensures in
-          tried_late _ h kept so short pfil any _ r fits c.requires.2 c.pseg_of-arg-1.given.0.1
+          tried_late _ h kept so short pfil any _ r fits c.requires.2 (omega arith)
           (its_fault _ h kept so short pfil any _ r fits c.requires.2 found c.late_fault-fault.ensures) c.if-fault-ne0.true,
     )
 
@@ -43,7 +43,7 @@ returns-in-Refused c = (
   λ h kept mix known tops pfil any so.
       let short : c.args.before.segments < segment_limit = omega arith in
       let (cut, behind) = subst (PsegTold _ h kept _ _ _ _ _ _ _) c.in-Refused.is (c.pseg_of.ensures.1 h kept mix known tops (listed _ h kept so short pfil any) (gathered_chunks kept so.gathered)) in
-      (beside_cut _ h kept _ (few _ h kept so short) cut, so_far_same _ h kept so c.pseg_of-arg-1.given.0.1 behind),
+      (beside_cut _ h kept _ (few _ h kept so short) cut, so_far_same _ h kept so (omega arith) behind),
 )
 
 pub returns-else-fault-ne0 : goal.returns-else-fault-ne0
@@ -57,6 +57,6 @@ returns-else-fault-ne0 c =
           let r = subst (PsegTold _ h kept _ _ _ _ _ _ _) c.in-Given.is (c.pseg_of.ensures.1 h kept mix known tops (listed _ h kept so short pfil any) (gathered_chunks kept so.gathered)) in
           let own = c.list_of-own.ensures in
           let found = rw own at c.source_of-source.ensures in
-          tried_kept _ h kept so short pfil any _ r fits c.requires.2 c.pseg_of-arg-1.given.0.1
+          tried_kept _ h kept so short pfil any _ r fits c.requires.2 (omega arith)
           (sym c.if-fault-ne0.false ∙ its_fault _ h kept so short pfil any _ r fits c.requires.2 found c.late_fault-fault.ensures) (rw own at entered),
     )

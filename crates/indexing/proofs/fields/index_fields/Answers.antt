@@ -21,7 +21,7 @@ overflow_add-body c = omega (arith, leb-true _ _ (sym c.ends_by.ensures ∙ c.if
 
 pub overflow_cast-kind : goal.overflow_cast-kind
 overflow_cast-kind c =
-    record { fits = rw c.unsigned-kind.ensures (number_below _ _ 4 (λ k. omega (arith, c.shared_slice_known-1.given k))) }
+    record { fits = rw c.unsigned-kind.ensures (number_below _ _ 4 (λ k. omega (arith, c.type_inv.file k))) }
 
 pub returns-then-not-ends_by-2 : goal.returns-then-not-ends_by-2
 unfolding fields_answer
