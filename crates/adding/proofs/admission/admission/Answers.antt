@@ -26,63 +26,58 @@ unfolding written_answer
 returns-then-not-ends_by c =
     λ h ss a beside goes asked.
     let n = c.args.onto.length in
-    admission_1 _ h ss n a (file_test n beside asked (sym (not-true _ c.if-not-ends_by.true-raw) ∙ c.ends_by.ensures))
+    admission_1 _ h ss n a (file_test n beside asked (sym c.if-not-ends_by.true ∙ c.ends_by.ensures))
 
 pub returns-then-not-ends_by-2 : goal.returns-then-not-ends_by-2
 unfolding written_answer
 returns-then-not-ends_by-2 c =
     λ h ss a beside goes asked.
     let n = c.args.onto.length in
-    let small = file_test n beside asked (sym (not-false _ c.if-not-ends_by.false-raw) ∙ c.ends_by.ensures) in
-    admission_6 _ h ss n a small (box_test n beside asked (c.added_boxes.ensures a asked.sorted asked.whole) (sym (not-true _ c.if-not-ends_by-2.true-raw) ∙ c.ends_by-2.ensures))
+    let small = file_test n beside asked (sym c.if-not-ends_by.false ∙ c.ends_by.ensures) in
+    admission_6 _ h ss n a small (box_test n beside asked (c.added_boxes.ensures a asked.sorted asked.whole) (sym c.if-not-ends_by-2.true ∙ c.ends_by-2.ensures))
 
 pub returns-then-not-ends_by-3 : goal.returns-then-not-ends_by-3
 unfolding written_answer
 returns-then-not-ends_by-3 c =
     λ h ss a beside goes asked.
     let n = c.args.onto.length in
-    let small = file_test n beside asked (sym (not-false _ c.if-not-ends_by.false-raw) ∙ c.ends_by.ensures) in
-    let boxes = box_test n beside asked (c.added_boxes.ensures a asked.sorted asked.whole) (sym (not-false _ c.if-not-ends_by-2.false-raw) ∙ c.ends_by-2.ensures) in
-    admission_6_inner _ h ss n a small boxes (inner_test n beside asked (sym (not-true _ c.if-not-ends_by-3.true-raw) ∙ c.ends_by-3.ensures))
+    let small = file_test n beside asked (sym c.if-not-ends_by.false ∙ c.ends_by.ensures) in
+    let boxes = box_test n beside asked (c.added_boxes.ensures a asked.sorted asked.whole) (sym c.if-not-ends_by-2.false ∙ c.ends_by-2.ensures) in
+    admission_6_inner _ h ss n a small boxes (inner_test n beside asked (sym c.if-not-ends_by-3.true ∙ c.ends_by-3.ensures))
 
--- past 6 the file is small, and whether the segment is admitted decides
-
-small_past : (c : goal.After-admitted) {h : Heading} {ss : List Segment} {a : Addition} → Beside c.args.file.now h ss c.args.onto.judged
-    → AskedBy a c.args.asked
-    → true ≡ leb (c.args.onto.length + length (added a)) file_limit
-small_past c beside asked =
-    file_test c.args.onto.length beside asked (sym (not-false _ c.if-not-ends_by.false-raw) ∙ c.ends_by.ensures)
-
-by_admitted : (c : goal.After-admitted) (h : Heading) (ss : List Segment) (a : Addition) → Beside c.args.file.now h ss c.args.onto.judged
-    → AskedBy a c.args.asked
-    → Goes h ss (new_urls h a) c.args.onto.target
-    → (admitted_answer c.admitted.result >>= λ _. given (c.args.onto.length + length (added a))) ≡ admitted_length c.args.file.now h ss c.args.onto.length a
-by_admitted c h ss a beside asked goes =
-    let n = c.args.onto.length in
-    let inner = inner_test n beside asked (sym (not-false _ c.if-not-ends_by-3.false-raw) ∙ c.ends_by-3.ensures) in
-    let boxes = box_test n beside asked (c.added_boxes.ensures a asked.sorted asked.whole) (sym (not-false _ c.if-not-ends_by-2.false-raw) ∙ c.ends_by-2.ensures) in
-    let urls = sym (urls_new h ss _ a) in
-    let there = subst (λ (us : List (List ℕ)). Goes h ss us c.args.onto.target) urls goes in
-    ap (λ (x : Answer (Unit {0})). x >>= λ _. given (n + length (added a))) (c.admitted.ensures h ss _ beside.file beside.segments there (source_new h ss _ a ∙ ap (source_beside ss) urls) (tells_new n beside asked) (no_index_new h ss _ a))
-    ∙ admission_by _ h ss n a (small_past c beside asked) boxes inner
--- LEFT add_t15 : tie.Need-overflow-add-t15
-add_t15 c =
-    let met = c.before.before.before.before.before.before.before.before in
-    let args = c.before.before.before.before.before.before.before.before.before.before.before.before.before.before.args in
-    omega (arith, leb-true (args.onto.length + args.asked.layout.added) file_limit (sym met.before.ends_by.ensures ∙ not-false _ met.if1.false))
+pub overflow_add-result : goal.overflow_add-result
+overflow_add-result c =
+    let args = c.args in
+    omega (arith, leb-true (args.onto.length + args.asked.layout.added) file_limit (sym c.ends_by.ensures ∙ c.if-not-ends_by.false))
 
 pub returns-in-Refused : goal.returns-in-Refused
 unfolding written_answer admitted_answer
 returns-in-Refused c =
     λ h ss a beside goes asked.
     let n = c.args.onto.length in
-    ap (λ r. admitted_answer r >>= λ _. given (n + length (added a))) (sym c.in-Refused.is) ∙ by_admitted c h ss a beside asked goes
+    let small = file_test n beside asked (sym c.if-not-ends_by.false ∙ c.ends_by.ensures) in
+    let boxes = box_test n beside asked (c.added_boxes.ensures a asked.sorted asked.whole) (sym c.if-not-ends_by-2.false ∙ c.ends_by-2.ensures) in
+    let inner = inner_test n beside asked (sym c.if-not-ends_by-3.false ∙ c.ends_by-3.ensures) in
+    let urls = sym (urls_new h ss _ a) in
+    let there = subst (λ (us : List (List ℕ)). Goes h ss us c.args.onto.target) urls goes in
+    let by_admitted =
+    ap (λ (x : Answer (Unit {0})). x >>= λ _. given (n + length (added a))) (c.admitted.ensures h ss _ beside.file beside.segments there (source_new h ss _ a ∙ ap (source_beside ss) urls) (tells_new n beside asked) (no_index_new h ss _ a))
+    ∙ admission_by _ h ss n a small boxes inner in
+    ap (λ r. admitted_answer r >>= λ _. given (n + length (added a))) (sym c.in-Refused.is) ∙ by_admitted
 
 pub returns-in-Taken : goal.returns-in-Taken
 unfolding written_answer admitted_answer
 returns-in-Taken c =
     λ h ss a beside goes asked.
     let n = c.args.onto.length in
-    ap (λ (m : ℕ). given (n + m)) (size_whole n beside asked (small_past c beside asked))
+    let small = file_test n beside asked (sym c.if-not-ends_by.false ∙ c.ends_by.ensures) in
+    let boxes = box_test n beside asked (c.added_boxes.ensures a asked.sorted asked.whole) (sym c.if-not-ends_by-2.false ∙ c.ends_by-2.ensures) in
+    let inner = inner_test n beside asked (sym c.if-not-ends_by-3.false ∙ c.ends_by-3.ensures) in
+    let urls = sym (urls_new h ss _ a) in
+    let there = subst (λ (us : List (List ℕ)). Goes h ss us c.args.onto.target) urls goes in
+    let by_admitted =
+    ap (λ (x : Answer (Unit {0})). x >>= λ _. given (n + length (added a))) (c.admitted.ensures h ss _ beside.file beside.segments there (source_new h ss _ a ∙ ap (source_beside ss) urls) (tells_new n beside asked) (no_index_new h ss _ a))
+    ∙ admission_by _ h ss n a small boxes inner in
+    ap (λ (m : ℕ). given (n + m)) (size_whole n beside asked small)
     ∙ ap (λ r. admitted_answer r >>= λ _. given (n + length (added a))) (sym c.in-Taken.is)
-    ∙ by_admitted c h ss a beside asked goes
+    ∙ by_admitted

@@ -35,71 +35,75 @@ unfolding admitted_answer
 returns-then-not-ends_by c =
     λ h ss s file known goes next tells lacks.
     let few = segments_few ss known tells c.if-gathered-ge-SEGMENT_LIMIT.false in
-    admitted_22 _ h ss s few (sym (not-false _ c.if-not-target.false) ∙ goes.listed) (chunk_test ss known tells (sym (not-true _ c.if-not-ends_by.true-raw) ∙ c.ends_by.ensures))
+    admitted_22 _ h ss s few (sym (not-false _ c.if-not-target.false) ∙ goes.listed) (chunk_test ss known tells (sym c.if-not-ends_by.true ∙ c.ends_by.ensures))
 
 pub returns-then-not-ends_by-2 : goal.returns-then-not-ends_by-2
 unfolding admitted_answer
 returns-then-not-ends_by-2 c =
     λ h ss s file known goes next tells lacks.
     let few = segments_few ss known tells c.if-gathered-ge-SEGMENT_LIMIT.false in
-    let chunks = chunk_test ss known tells (sym (not-false _ c.if-not-ends_by.false-raw) ∙ c.ends_by.ensures) in
-    admitted_23 _ h ss s few (sym (not-false _ c.if-not-target.false) ∙ goes.listed) chunks (source_test ss known tells (sym (not-true _ c.if-not-ends_by-2.true-raw) ∙ c.ends_by-2.ensures))
-
--- past 23 the tests so far hold
-
-past_23 : (c : goal.Else-not-ends_by-2) (h : Heading) (ss : List Segment) (s : Segment) → c.args.gathered ≡ gathered_of ss → Goes h ss s.urls c.args.target
-    → Tells s c.args.header c.args.counts
-    → Passes23 ss s
-past_23 c h ss s known goes tells =
-    record {
-      few = segments_few ss known tells c.if-gathered-ge-SEGMENT_LIMIT.false;
-      listed = sym (not-false _ c.if-not-target.false) ∙ goes.listed;
-      chunks = chunk_test ss known tells (sym (not-false _ c.if-not-ends_by.false-raw) ∙ c.ends_by.ensures);
-      low = source_test ss known tells (sym (not-false _ c.if-not-ends_by-2.false-raw) ∙ c.ends_by-2.ensures);
-    }
+    let chunks = chunk_test ss known tells (sym c.if-not-ends_by.false ∙ c.ends_by.ensures) in
+    admitted_23 _ h ss s few (sym (not-false _ c.if-not-target.false) ∙ goes.listed) chunks (source_test ss known tells (sym c.if-not-ends_by-2.true ∙ c.ends_by-2.ensures))
 
 pub overflow_add-end : goal.overflow_add-end
 overflow_add-end c =
     let args = c.args in
-    omega (arith, leb-true (args.header.offset.0 + args.counts.sum) source_limit (sym c.ends_by-2.ensures ∙ not-false _ c.if-not-ends_by-2.false-raw))
-
--- the sizes agree with the new segment's as the code says
-
-sizes-agree : (c : goal.After-agree) (h : Heading) (ss : List Segment) (s : Segment) → c.args.gathered ≡ gathered_of ss → Goes h ss s.urls c.args.target
-    → s.source ≡ source_beside ss s.urls
-    → Tells s c.args.header c.args.counts
-    → c.agree.result ≡ agree (of_source s.source ss ++ (s ∷ []))
-sizes-agree c h ss s known goes next tells =
-    let gives = c.gives_size-gives.ensures s tells.flags tells.items in
-    let ends = source_end ss known tells (sym (not-false _ c.if-not-ends_by-2.false-raw) ∙ c.ends_by-2.ensures) in
-    let own = of_source s.source ss in
-    let entry = goes.sizes ∙ ap (λ (n : ℕ). sizes_of (of_source n ss)) (goes.number ∙ sym next) in
-    c.agree.ensures (own ++ (s ∷ [])) (c.with-with.ensures own s entry ends gives)
+    omega (arith, leb-true (args.header.offset.0 + args.counts.sum) source_limit (sym c.ends_by-2.ensures ∙ c.if-not-ends_by-2.false))
 
 pub returns-then-not-agree : goal.returns-then-not-agree
 unfolding admitted_answer
 returns-then-not-agree c =
     λ h ss s file known goes next tells lacks.
-    let differ = sym (not-true _ c.if-not-agree.true-raw) ∙ sizes-agree c h ss s known goes next tells in
-    admitted_25 _ h ss s (past_23 c h ss s known goes tells) (differ ∙ agreed_beside ss s (earlier_segmented file).agree)
+    let near : Passes23 ss s = record {
+      few = segments_few ss known tells c.if-gathered-ge-SEGMENT_LIMIT.false;
+      listed = sym (not-false _ c.if-not-target.false) ∙ goes.listed;
+      chunks = chunk_test ss known tells (sym c.if-not-ends_by.false ∙ c.ends_by.ensures);
+      low = source_test ss known tells (sym c.if-not-ends_by-2.false ∙ c.ends_by-2.ensures);
+    } in
+    let gives = c.gives_size-gives.ensures s tells.flags tells.items in
+    let ends = source_end ss known tells (sym c.if-not-ends_by-2.false ∙ c.ends_by-2.ensures) in
+    let own = of_source s.source ss in
+    let entry = goes.sizes ∙ ap (λ (n : ℕ). sizes_of (of_source n ss)) (goes.number ∙ sym next) in
+    let told = c.agree.ensures (own ++ (s ∷ [])) (c.with-with.ensures own s entry ends gives) in
+    let differ = sym c.if-not-agree.true ∙ told in
+    admitted_25 _ h ss s near (differ ∙ agreed_beside ss s (earlier_segmented file).agree)
 
 pub returns-then-target-ge-LAYER_LIMIT : goal.returns-then-target-ge-LAYER_LIMIT
 unfolding admitted_answer
 returns-then-target-ge-LAYER_LIMIT c =
     λ h ss s file known goes next tells lacks.
-    let same = sym (not-false _ c.if-not-agree.false-raw) ∙ sizes-agree c h ss s known goes next tells in
+    let near : Passes23 ss s = record {
+      few = segments_few ss known tells c.if-gathered-ge-SEGMENT_LIMIT.false;
+      listed = sym (not-false _ c.if-not-target.false) ∙ goes.listed;
+      chunks = chunk_test ss known tells (sym c.if-not-ends_by.false ∙ c.ends_by.ensures);
+      low = source_test ss known tells (sym c.if-not-ends_by-2.false ∙ c.ends_by-2.ensures);
+    } in
+    let gives = c.gives_size-gives.ensures s tells.flags tells.items in
+    let ends = source_end ss known tells (sym c.if-not-ends_by-2.false ∙ c.ends_by-2.ensures) in
+    let own = of_source s.source ss in
+    let entry = goes.sizes ∙ ap (λ (n : ℕ). sizes_of (of_source n ss)) (goes.number ∙ sym next) in
+    let told = c.agree.ensures (own ++ (s ∷ [])) (c.with-with.ensures own s entry ends gives) in
+    let same = sym c.if-not-agree.false ∙ told in
     let full = sources_full ss s (omega (arith, c.if-target-ge-LAYER_LIMIT.true, next, goes.number)) in
-    admitted_40 _ h ss s (past_23 c h ss s known goes tells) (same ∙ agreed_beside ss s (earlier_segmented file).agree) full
+    admitted_40 _ h ss s near (same ∙ agreed_beside ss s (earlier_segmented file).agree) full
 
 pub returns : goal.returns
 returns c =
     λ h ss s file known goes next tells lacks.
-    let read = earlier_segmented file in
+    let near : Passes23 ss s = record {
+      few = segments_few ss known tells c.if-gathered-ge-SEGMENT_LIMIT.false;
+      listed = sym (not-false _ c.if-not-target.false) ∙ goes.listed;
+      chunks = chunk_test ss known tells (sym c.if-not-ends_by.false ∙ c.ends_by.ensures);
+      low = source_test ss known tells (sym c.if-not-ends_by-2.false ∙ c.ends_by-2.ensures);
+    } in
     let gives = c.gives_size-gives.ensures s tells.flags tells.items in
-    let ends = source_end ss known tells (sym (not-false _ c.if-not-ends_by-2.false-raw) ∙ c.ends_by-2.ensures) in
-    let same = sym (not-false _ c.if-not-agree.false-raw) ∙ sizes-agree c h ss s known goes next tells ∙ agreed_beside ss s read.agree in
+    let ends = source_end ss known tells (sym c.if-not-ends_by-2.false ∙ c.ends_by-2.ensures) in
+    let own = of_source s.source ss in
+    let entry = goes.sizes ∙ ap (λ (n : ℕ). sizes_of (of_source n ss)) (goes.number ∙ sym next) in
+    let told = c.agree.ensures (own ++ (s ∷ [])) (c.with-with.ensures own s entry ends gives) in
+    let read = earlier_segmented file in
+    let same = sym c.if-not-agree.false ∙ told ∙ agreed_beside ss s read.agree in
     let few = sources_few ss s read.layers (omega (arith, c.if-target-ge-LAYER_LIMIT.false, next, goes.number)) in
-    let near = past_23 c h ss s known goes tells in
     let low : c.end_beside-size.result.at.0 ≤ source_limit = omega (arith, c.end_beside-size.ensures.0, ends, leb-true (end_of s) source_limit (sym near.low)) in
     c.index_beside.ensures h ss s file (gathered-segments ss known) lacks next (c.end_beside-size.ensures.1 h s goes.list gives ends) low
     ∙ admitted_by _ h ss s near same few
