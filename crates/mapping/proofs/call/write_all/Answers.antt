@@ -1,7 +1,6 @@
 -- `mapping::call::write_all` meets its contract: the maps surely fit, or are counted in a buffer without room; then
 -- they are put.
 use Prim.Native.Nat.{◌≤◌}
-use mathlib.Core.Logic.{⊎_elim}
 use native.Mathlib.Omega.{arith}
 use borrow.Author.Tests.{not-false}
 use lib.ListN.{length}
@@ -10,6 +9,7 @@ use Rattle.texts.proofs.WritesLaws.{writes_short, writes_given}
 use Rattle.mapping.specs.Outline.{text_of}
 use Rattle.mapping.proofs.OutlineLaws.{text_all}
 use Rattle.mapping.proofs.call.write_all.Goals as goal
+use Rattle.mapping.proofs.call.write_all.Goals.{then-not-surely_fits+else-buffer-size, else-not-surely_fits}
 
 pub returns-then-buffer-size : goal.returns-then-buffer-size
 returns-then-buffer-size c =
@@ -23,8 +23,8 @@ returns c =
     let (put, few) = c.put_all.ensures in
     let puts = puts_same (text_all _ ss told.source_many) (put ss told) in
     let room : length (text_of c.args.named ss) ≤ length c.args.buffer.now =
-    ⊎_elim
-    (λ w. omega (arith, w.5.left, (puts_same (text_all _ ss told.source_many) (w.3.ensures.0 ss told)).end))
-    (λ w. omega (arith, puts.end, few, c.surely_fits.ensures (not-false _ w.0.left)))
-    c.if-not-surely_fits.branch in
+    elim c.if-not-surely_fits.branch [
+      | then-not-surely_fits+else-buffer-size w ↦ omega (arith, w.if-buffer-size.false, (puts_same (text_all _ ss told.source_many) (w.put_all-size.ensures.0 ss told)).end)
+      | else-not-surely_fits w ↦ omega (arith, puts.end, few, c.surely_fits.ensures w.if-not-surely_fits.false)
+    ] in
     writes_given _ _ (omega (arith, puts.end)) room puts

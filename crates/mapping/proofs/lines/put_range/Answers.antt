@@ -11,4 +11,4 @@ pub returns : goal.returns
 returns c =
     let (field, low) = c.put_field-tab.ensures in
     let (last, most) = c.put_last.ensures in
-    (puts_same (range_words _ _ _ _ c.word_of-word.ensures.0) (puts_more field last), omega arith)
+    (puts_same (range_words _ _ _ _ c.word_of-word.ensures.value) (puts_more field last), omega arith)

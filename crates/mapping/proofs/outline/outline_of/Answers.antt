@@ -11,7 +11,7 @@ pub returns : goal.returns
 returns c =
     let (ordered, all) = c.file_spans-good.ensures in
     let (others, damage) = c.file_damage-damaged.ensures in
-    let long = c.file_damage-damaged.auto.1.1.1.1.1.1.1.0 in
+    let long = c.file_damage-damaged.auto.table in
     let source = c.args.source in
     let said = c.sizes_at-said.ensures in
     let described = c.described-end.ensures in
