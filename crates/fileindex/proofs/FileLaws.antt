@@ -6,7 +6,6 @@ use mathlib.Core.List.{List, [], ◌∷◌, map, Memᴰ}
 use mathlib.Core.Option.{Option, none, some, get_or}
 use mathlib.Core.Path.{◌≡◌, refl, sym, ap, ap₂, subst, ◌∙◌}
 use native.Mathlib.Omega.{arith}
-use lib.ListN.{length}
 use Rattle.boxes.specs.Answer.{Answer, given}
 use Rattle.boxes.specs.Kinds.{pseg, fidx, right, those}
 use Rattle.boxes.specs.declared.kinds.Container.TheVariants.{File, Pseg}

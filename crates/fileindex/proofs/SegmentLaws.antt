@@ -5,13 +5,12 @@ use mathlib.Core.Bool.{true, ◌&&◌}
 use mathlib.Core.List.{List, [], ◌∷◌, ◌++◌, append_assoc, append-nil}
 use mathlib.Core.Path.{◌≡◌, refl, sym, ap, subst, ◌∙◌}
 use borrow.Author.Tests.{eq-eqb, leb-true, eqb-true}
-use lib.Dec.{leb, eqb, lit<}
-use lib.ListN.{length}
+use lib.Dec.{eqb, lit<}
 use Rattle.boxes.specs.Answer.{refused, given}
 use Rattle.boxes.specs.Framing.{Box}
 use Rattle.boxes.specs.Kinds.{pseg, pshd, is, right, those, box_at, first_of}
 use Rattle.boxes.specs.declared.kinds.Container.TheVariants.{Pseg}
-use Rattle.boxes.proofs.AnswerLaws.{not_both, both_given, held, given_same}
+use Rattle.boxes.proofs.AnswerLaws.{not_both, both_given, given_same}
 use Rattle.boxes.proofs.KindLaws.{first_is}
 use Rattle.partial.specs.Heading.{Heading}
 use Rattle.partial.specs.Limits.{source_limit}

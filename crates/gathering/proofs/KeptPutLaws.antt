@@ -1,9 +1,7 @@
 -- The rows of an accepted file's segments, the numbers of their sources and those of its chunks, put into three tables,
 -- keep the file.
-use Prim.Native.Nat.{ℕ, ◌+◌, ◌*◌, ◌<◌, ◌≤◌}
-use mathlib.Core.Bool.{true, false}
+use Prim.Native.Nat.{ℕ, ◌+◌, ◌*◌, ◌≤◌}
 use mathlib.Core.List.{List, [], ◌∷◌, ◌++◌, map, append_assoc}
-use mathlib.Core.Logic.{inl, inr}
 use mathlib.Core.Path.{◌≡◌, refl, sym, ap, subst, ◌∙◌}
 use native.Mathlib.Decide.{dec_le}
 use native.Mathlib.Nat.{add-zero}
@@ -12,7 +10,7 @@ use borrow.Author.Tests.{lt-ltb, le-ltb}
 use lib.ListN.{length, get_or, drop, take-append-drop, length-append}
 use lib.Seq.{get_or-append-add}
 use Rattle.partial.specs.Limits.{segment_limit, chunk_limit, source_limit}
-use Rattle.partial.specs.Segments.{Chunk, Segment, present, has_place, chunks_of}
+use Rattle.partial.specs.Segments.{Chunk, Segment, has_place, chunks_of}
 use Rattle.partial.specs.Tables.{segment_row_length, segment_row, segment_rows}
 use Rattle.partial.proofs.Reading.RowLaws.{segment_rows_long}
 use Rattle.partial.proofs.Reading.SmallLaws.{Small, SmallFrom, AllSmall}

@@ -20,7 +20,6 @@ use Rattle.partial.specs.Sequences.{all_of}
 use Rattle.fields.specs.Fields.{values_of, fields_of}
 use Rattle.fields.specs.declared.fields.Fields.{Fields}
 use Rattle.gathering.specs.declared.parts.HeaderRead.{HeaderRead}
-use Rattle.gathering.specs.declared.parts.HeaderRead.TheVariants as HeaderRead
 use Rattle.gathering.specs.Parts.{header_in, has_surl, list_fault, pshd_answer, parts_in}
 use Rattle.boxes.specs.declared.framing.Framed.{Framed}
 use Rattle.boxes.proofs.ContainerLaws.{boxes_first}

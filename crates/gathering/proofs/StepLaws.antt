@@ -1,7 +1,7 @@
 -- Laws of one segment: what its parts, its numbers and its chunks decide, and what is told of it when it was read.
 use Prim.Native.Nat.{ℕ, ◌+◌, ◌-◌, ◌*◌, ◌<◌, ◌≤◌}
 use mathlib.Core.Bool.{Bool, true, false, ◌&&◌, ◌||◌}
-use mathlib.Core.List.{List, [], ◌∷◌, ◌++◌}
+use mathlib.Core.List.{List}
 use mathlib.Core.Logic.{inl, inr}
 use mathlib.Core.Path.{◌≡◌, refl, sym, ap, ap₂, subst, ◌∙◌}
 use native.Mathlib.Omega.{arith}
@@ -32,14 +32,12 @@ use Rattle.partial.proofs.Reading.OneSourceLaws.{urls_own, urls_pfil}
 use Rattle.fields.specs.Fields.{values_of}
 use Rattle.fields.specs.declared.fields.Fields.{Fields}
 use Rattle.surls.specs.declared.body.Body.{Body}
-use Rattle.sources.specs.Held.{Stands, PfilList}
+use Rattle.sources.specs.Held.{Stands}
 use Rattle.sources.proofs.HeldLaws.{Next, pfil_stands, pfil_urls, own_stands, own_urls, joined_number, joined}
 use Rattle.segment.specs.declared.chunk.Cursor.{Cursor}
-use Rattle.filling.specs.Rows.{Put}
 use Rattle.filling.proofs.RowLaws.{put_same}
 use Rattle.gathering.specs.Chunks.{chunks_by, Ran}
 use Rattle.gathering.specs.Forms.{form_length, puts_of}
-use Rattle.gathering.specs.Gathered.{gathered_of}
 use Rattle.gathering.specs.Parts.{Parts, header_in, has_surl, parts_in, parts_of}
 use Rattle.gathering.specs.Rows.{row_by}
 use Rattle.gathering.specs.Step.{first_entry, chosen_list, Beside, Entered, Segmented}

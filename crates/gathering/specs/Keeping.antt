@@ -1,5 +1,5 @@
 -- Document 02, [9], "Salvage after a pulled plug": what is told of the segments that are kept of a file, and of its boxes.
-use Rattle.std.specs.Prelude.{ℕ, ◌<◌, ◌≤◌, Bool, true, false, List, [], ◌∷◌, ◌++◌, map, ◌≡◌, leb, length, take, get_or}
+use Rattle.std.specs.Prelude.{ℕ, ◌<◌, ◌≤◌, Bool, true, false, List, [], ◌∷◌, ◌++◌, ◌≡◌, leb, length, take, get_or}
 use Rattle.boxes.specs.Answer.{refused, given}
 use Rattle.boxes.specs.Framing.{Box, boxes_in, box_of}
 use Rattle.boxes.specs.Kinds.{ftyp, pfil, pseg, is, box_at}

@@ -13,7 +13,6 @@ use Rattle.fields.specs.Fields.{values_of}
 use Rattle.fields.specs.Location.{ploc_of}
 use Rattle.fields.specs.declared.fields.Fields.{Fields}
 use Rattle.gathering.specs.declared.parts.HeaderRead.{HeaderRead}
-use Rattle.gathering.specs.declared.parts.HeaderRead.TheVariants as HeaderRead
 use Rattle.gathering.specs.declared.parts.Parts.{Parts as CodeParts}
 use Rattle.gathering.specs.declared.parts.PartsRead.{PartsRead}
 use Rattle.gathering.specs.declared.parts.PartsRead.TheVariants.{Refused, Given}

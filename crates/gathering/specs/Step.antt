@@ -26,7 +26,6 @@ use Rattle.gathering.specs.Rows.{row_by}
 use Rattle.gathering.specs.declared.gathered.Gathered.{Gathered}
 use Rattle.gathering.specs.declared.parts.Parts.{Parts}
 use Rattle.gathering.specs.declared.step.PsegRead.{PsegRead}
-use Rattle.gathering.specs.declared.step.PsegRead.TheVariants as PsegRead
 use Rattle.gathering.specs.declared.step.SegmentRead.{SegmentRead}
 use Rattle.gathering.specs.declared.step.SegmentRead.TheVariants.{Refused, Given}
 

@@ -1,6 +1,6 @@
 -- Laws of a part of the file and of the URLs of a container, held against texts.
 use Prim.Native.Nat.{ℕ, suc, ◌+◌, ◌-◌, ◌*◌, ◌/◌, ◌≤◌, ◌<◌, min}
-use mathlib.Core.Bool.{Bool, true, false}
+use mathlib.Core.Bool.{true, false}
 use mathlib.Core.List.{List, [], ◌∷◌, map}
 use mathlib.Core.Logic.{inl, inr}
 use mathlib.Core.Path.{◌≡◌, refl, sym, ap, subst, ◌∙◌}
@@ -10,7 +10,7 @@ use lib.Dec.{leb}
 use lib.ListN.{length, take, drop, get_or, length-take, length-drop}
 use lib.Seq.{get_or-take, get_or-drop, ext_get_or, drop-cons}
 use Rattle.boxes.specs.Framing.{Box, box_of}
-use Rattle.boxes.specs.Kinds.{surl, is, those}
+use Rattle.boxes.specs.Kinds.{surl, is}
 use Rattle.boxes.specs.declared.framing.Framed.{Framed}
 use Rattle.boxes.proofs.KindLaws.{those-nil, those_one, those_other}
 use Rattle.additions.specs.Addition.{surls_of}

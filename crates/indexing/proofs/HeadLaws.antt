@@ -15,7 +15,6 @@ use Rattle.indexing.specs.Head.{judged_end, head_in, end_answer, head_answer}
 use Rattle.indexing.specs.declared.end.End.{End}
 use Rattle.indexing.specs.declared.fields.IndexFields.{IndexFields as CodeFields}
 use Rattle.indexing.specs.declared.head.EndRead.{EndRead}
-use Rattle.indexing.specs.declared.head.EndRead.TheVariants as EndRead
 use Rattle.indexing.specs.declared.head.HeadRead.{HeadRead}
 use Rattle.indexing.specs.declared.head.HeadRead.TheVariants.{Refused, Given}
 

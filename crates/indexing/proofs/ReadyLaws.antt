@@ -24,8 +24,7 @@ use Rattle.indexing.specs.Marks.{indexed_of, Marked}
 use Rattle.indexing.specs.declared.end.End.{End}
 use Rattle.indexing.specs.declared.fields.IndexFields.{IndexFields as CodeFields}
 use Rattle.indexing.specs.declared.inner.InnerRead.{InnerRead}
-use Rattle.indexing.specs.declared.inner.InnerRead.TheVariants as InnerRead
-use Rattle.indexing.specs.declared.lists.ListRead.TheVariants.{Refused, Given}
+use Rattle.indexing.specs.declared.lists.ListRead.TheVariants.{Given}
 use Rattle.indexing.specs.declared.marks.Marks.{Marks}
 use Rattle.indexing.proofs.BoxLaws.{head_lies, inner_known, front_short, box_last, box-filled, box_unfilled, box_list_wrong}
 use Rattle.indexing.proofs.MarksLaws.{marked_more}

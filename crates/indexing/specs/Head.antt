@@ -8,7 +8,6 @@ use Rattle.partial.specs.Limits.{source_limit}
 use Rattle.indexing.specs.Ends.{end_of}
 use Rattle.indexing.specs.Fields.{fields_of}
 use Rattle.indexing.specs.declared.head.EndRead.{EndRead}
-use Rattle.indexing.specs.declared.head.EndRead.TheVariants as EndRead
 use Rattle.indexing.specs.declared.head.HeadRead.{HeadRead}
 use Rattle.indexing.specs.declared.head.HeadRead.TheVariants.{Refused, Given}
 

@@ -24,10 +24,8 @@ use Rattle.segment.specs.Data.{Searched, found, Finds, Onward}
 use Rattle.segment.specs.Placed.{Reaches, lies_whole, ToldWhole, place_answer, Places}
 use Rattle.segment.specs.Tops.{Tops}
 use Rattle.segment.specs.declared.data.Held.{Held}
-use Rattle.segment.specs.declared.data.Held.TheVariants as Held
 use Rattle.segment.specs.declared.placed.Placed.TheVariants.{Refused, At}
 use Rattle.segment.specs.declared.placed.Reached.{Reached}
-use Rattle.segment.specs.declared.placed.Reached.TheVariants as Reached
 use Rattle.segment.proofs.DataLaws.{none_past}
 use Rattle.segment.proofs.WholeLaws.{whole_past}
 

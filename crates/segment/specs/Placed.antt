@@ -15,9 +15,7 @@ use Rattle.partial.specs.Segments.{good, has_place}
 use Rattle.segment.specs.Data.{Searched, Onward}
 use Rattle.segment.specs.Tops.{Tops}
 use Rattle.segment.specs.declared.placed.Placed.{Placed}
-use Rattle.segment.specs.declared.placed.Placed.TheVariants as Placed
 use Rattle.segment.specs.declared.placed.Reached.{Reached}
-use Rattle.segment.specs.declared.placed.Reached.TheVariants as Reached
 
 -- the place that an offset gives, or none: then what it gives, if anything, is past every place
 pub record Reaches (pseg : ℕ) (z : Offset) (r : Reached) : Type 0 where

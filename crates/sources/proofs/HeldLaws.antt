@@ -25,7 +25,7 @@ use Rattle.partial.specs.Texts.{list_boxes}
 use Rattle.partial.proofs.Reading.OneSourceLaws.{urls_own, urls_pfil}
 use Rattle.surls.specs.declared.body.Body.{Body}
 use Rattle.sources.specs.Held.{Stands, PfilList, SourcesHeld, ListHeld, ListsHeld, Sourced, Joins}
-use Rattle.sources.specs.Lists.{all_lists, container_number, container_of, kept_list, list_in, ListPut, Unlisted}
+use Rattle.sources.specs.Lists.{container_number, container_of, kept_list, list_in, ListPut, Unlisted}
 use Rattle.sources.specs.Numbers.{source_put, no_sources}
 use Rattle.sources.proofs.ListLaws.{container_back}
 use Rattle.sources.proofs.NumberLaws.{put_there}

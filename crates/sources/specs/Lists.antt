@@ -1,5 +1,5 @@
 -- Where the lists of URLs of sources stand, in a table with an entry for each source that a file may have.
-use Rattle.std.specs.Prelude.{ℕ, ◌+◌, ◌*◌, ◌/◌, ◌%◌, ◌<◌, min, true, false, List, ◌≡◌, eqb, ltb, length, get_or}
+use Rattle.std.specs.Prelude.{ℕ, ◌+◌, ◌/◌, ◌%◌, ◌<◌, min, true, false, List, ◌≡◌, eqb, ltb, length, get_or}
 use Rattle.boxes.specs.declared.kinds.Container.{Container}
 use Rattle.boxes.specs.declared.kinds.Container.TheVariants.{File, Pfil, Pseg, Fidx, Bidx}
 use Rattle.partial.specs.Limits.{file_limit, segment_limit}

@@ -1,10 +1,9 @@
 -- Laws of the form of `surl` boxes and of their texts, as they are tested on boxes that were read.
 use Prim.Native.Nat.{ℕ, ◌+◌, ◌≤◌}
-use mathlib.Core.Bool.{Bool, true, false, not, ◌&&◌}
+use mathlib.Core.Bool.{Bool, true, false, ◌&&◌}
 use mathlib.Core.List.{List, [], ◌∷◌}
-use mathlib.Core.Path.{◌≡◌, sym, ◌∙◌}
+use mathlib.Core.Path.{◌≡◌}
 use native.Mathlib.Omega.{arith}
-use borrow.Author.Tests.{not-true, not-false}
 use lib.Dec.{leb, eqb}
 use Rattle.numerals.specs.Numbers.{number}
 use Rattle.boxes.specs.Framing.{Box, box_of}
@@ -15,13 +14,6 @@ use Rattle.boxes.proofs.ToldLaws.{box_fields}
 use Rattle.partial.specs.Heading.{text, url, mime, surl_formed}
 use Rattle.partial.specs.Sequences.{all_of}
 use Rattle.surls.proofs.TextLaws.{text_most}
-
--- what a negated test says of the one that it answers
-pub refuted : {r x : Bool} → r ≡ x → not r ≡ true → x ≡ false
-refuted {r} answer h = sym answer ∙ not-true r h
-
-pub upheld : {r x : Bool} → r ≡ x → not r ≡ false → x ≡ true
-upheld {r} answer h = sym answer ∙ not-false r h
 
 module _ (f : List ℕ) (b : Framed) where
   pub url-text : url f (box_of b) ≡ text f (b.body.0 + 4) b.end.0

@@ -1,7 +1,7 @@
 -- Laws of a walk from one `surl` to the next: other boxes are passed.
 use Prim.Native.Nat.{ℕ, ◌≤◌}
 use mathlib.Core.Bool.{true, false}
-use mathlib.Core.List.{List, [], ◌∷◌}
+use mathlib.Core.List.{List}
 use mathlib.Core.Option.{none, some}
 use mathlib.Core.Path.{◌≡◌, refl, ap, subst, ◌∙◌}
 use native.Mathlib.Omega.{arith}
@@ -11,7 +11,6 @@ use Rattle.boxes.specs.Kinds.{surl, is, those}
 use Rattle.boxes.specs.Walk.{stepped}
 use Rattle.boxes.specs.declared.framing.Framed.{Framed}
 use Rattle.boxes.specs.declared.walk.Step.{Step}
-use Rattle.boxes.specs.declared.walk.Step.TheVariants as Step
 use Rattle.boxes.specs.declared.walk.Walk.{Walk}
 use Rattle.boxes.proofs.KindLaws.{those-nil, those_one, those_other}
 use Rattle.boxes.proofs.WalkLaws.{fewer, known_next, known_end, known_sound}

@@ -5,7 +5,6 @@ use Rattle.boxes.specs.Framing.{Box, boxes_from, box_of}
 use Rattle.boxes.specs.Kinds.{surl, those}
 use Rattle.boxes.specs.declared.framing.Framed.{Framed}
 use Rattle.boxes.specs.declared.walk.Step.{Step}
-use Rattle.boxes.specs.declared.walk.Step.TheVariants as Step
 use Rattle.boxes.specs.declared.walk.Walk.{Walk}
 use Rattle.surls.specs.Parts.{Within}
 use Rattle.partial.specs.Heading.{urls_in}

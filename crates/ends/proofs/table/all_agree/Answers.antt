@@ -2,7 +2,6 @@
 use mathlib.Core.Path.{sym, ◌∙◌}
 use native.Mathlib.Decide.{ℕ_discrete}
 use native.Mathlib.Omega.{arith}
-use Rattle.partial.specs.Meaning.{agree}
 use Rattle.ends.proofs.TableLaws.{all-agree, one_differs}
 use Rattle.ends.proofs.table.all_agree.Goals as goal
 

@@ -1,8 +1,7 @@
 -- `fields::entry::rest_of` meets its contract: the one test is the definition's.
-use Prim.Native.Nat.{◌+◌, ◌≤◌}
 use mathlib.Core.Path.{sym, ◌∙◌}
 use native.Mathlib.Omega.{arith}
-use borrow.Author.Tests.{leb-true, not-true, not-false}
+use borrow.Author.Tests.{leb-true}
 use Rattle.fields.specs.Entry.{entry_answer}
 use Rattle.fields.specs.Location.{ploc_of}
 use Rattle.fields.proofs.EntryLaws.{bytes_most, rest_cut, rest_whole}

@@ -1,7 +1,6 @@
 -- `fields::fields::fields_of` meets its contract: the length of the body is compared with that of the fields.
-use mathlib.Core.Path.{◌≡◌, sym, ap, ◌∙◌}
+use mathlib.Core.Path.{sym, ap, ◌∙◌}
 use native.Mathlib.Omega.{arith}
-use Rattle.numerals.specs.Numbers.{number}
 use Rattle.boxes.proofs.ToldLaws.{box_fields}
 use Rattle.partial.specs.Reading.{offset_width_of}
 use Rattle.fields.specs.Fields.{fields_answer}

@@ -1,10 +1,7 @@
 -- `fields::location::location_of` meets its contract: each test is one of the definition's.
-use Prim.Native.Nat.{◌+◌, ◌≤◌}
-use mathlib.Core.Bool.{true}
-use mathlib.Core.Path.{◌≡◌, sym, ◌∙◌}
+use mathlib.Core.Path.{sym, ◌∙◌}
 use native.Mathlib.Omega.{arith}
-use borrow.Author.Tests.{leb-true, not-true, not-false}
-use lib.Dec.{leb}
+use borrow.Author.Tests.{leb-true}
 use Rattle.boxes.proofs.ToldLaws.{box_fields}
 use Rattle.fields.specs.Location.{location_answer}
 use Rattle.fields.proofs.LocationLaws.{head_cut, head_other, length_wide, offset_wide, head_elsewhere, head_given}

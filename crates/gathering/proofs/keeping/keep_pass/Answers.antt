@@ -1,6 +1,6 @@
 -- `gathering::keeping::keep_pass` meets its contract. The loop's invariant: the segments so far are kept or left out, the
 -- table has the fates of the boxes passed, and the boxes that are left decide.
-use Prim.Native.Nat.{ℕ, ◌<◌}
+use Prim.Native.Nat.{ℕ}
 use mathlib.Core.Path.{refl, sym, ap, subst, ◌∙◌}
 use native.Mathlib.Omega.{arith}
 use lib.ListN.{length-set, length-replicate}
@@ -17,7 +17,6 @@ use Rattle.gathering.proofs.GatheredLaws.{gathered-segments, gathered_chunks}
 use Rattle.gathering.proofs.KeepingLaws.{so_far_none}
 use Rattle.gathering.proofs.KeepingPassLaws.{midway_none, midway_other, midway_refused, midway_kept, midway_end, midway_sound}
 use Rattle.gathering.proofs.PassLaws.{searched_none}
-use borrow.Author.Rules.{rules}
 use Rattle.gathering.proofs.keeping.keep_pass.Goals as goal
 
 pub loop-b-init : goal.loop-b-init

@@ -1,14 +1,11 @@
 -- `gathering::keeping::late_fault` meets its contract.
-use mathlib.Core.Path.{◌≡◌, sym, ap, ◌∙◌}
-use mathlib.Core.List.{List, [], ◌∷◌, ◌++◌}
-use lib.ListN.{length}
-use mathlib.Core.Bool.{true}
+use mathlib.Core.Path.{sym, ap, ◌∙◌}
+use mathlib.Core.List.{[], ◌∷◌, ◌++◌}
 use native.Mathlib.Omega.{arith}
 use borrow.Author.Tests.{le-leb}
 use Rattle.partial.specs.Limits.{layer_limit}
-use Rattle.partial.specs.Segments.{Segment, end_of}
-use Rattle.partial.specs.Sources.{source_count, of_source, agreed}
-use Rattle.ends.specs.Table.{sizes_in, Holds}
+use Rattle.partial.specs.Sources.{source_count, of_source}
+use Rattle.ends.specs.Table.{sizes_in}
 use Rattle.gathering.proofs.LateLaws.{agreed_beside, sources_full, sources_few, late_25, late_40, late_none}
 use Rattle.gathering.proofs.keeping.late_fault.Goals as goal
 

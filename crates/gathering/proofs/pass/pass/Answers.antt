@@ -13,7 +13,6 @@ use Rattle.gathering.specs.Step.{Counted, Segmented}
 use Rattle.gathering.proofs.GatheredLaws.{gathered-segments, gathered_chunks}
 use Rattle.gathering.proofs.PassLaws.{searched_none, midway_none, midway_other, midway_beside, midway_refused, midway_more, midway_end, midway_sound}
 use Rattle.surls.proofs.WithinLaws.{met_within, end_kept}
-use borrow.Author.Rules.{rules}
 use Rattle.gathering.proofs.pass.pass.Goals as goal
 
 pub loop-b-init : goal.loop-b-init

@@ -1,10 +1,7 @@
 -- `indexing::fields::index_fields` meets its contract: each test is one of the definition's.
-use Prim.Native.Nat.{◌+◌, ◌≤◌}
-use mathlib.Core.Bool.{true}
-use mathlib.Core.Path.{◌≡◌, sym, ◌∙◌}
+use mathlib.Core.Path.{sym, ◌∙◌}
 use borrow.Author.Tests.{leb-true}
 use native.Mathlib.Omega.{arith}
-use lib.Dec.{leb}
 use Rattle.numerals.proofs.NumberLaws.{number_below}
 use Rattle.boxes.proofs.ToldLaws.{box_fields}
 use Rattle.indexing.specs.Fields.{fields_answer}

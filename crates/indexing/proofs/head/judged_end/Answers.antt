@@ -1,10 +1,8 @@
 -- `indexing::head::judged_end` meets its contract: each test is one of the definition's.
-use Prim.Native.Nat.{◌+◌, ◌≤◌}
 use mathlib.Core.Path.{sym, ap, ◌∙◌}
 use borrow.Author.Tests.{leb-true, leb-false, not-true, not-false}
 use native.Mathlib.Omega.{arith}
 use Rattle.boxes.specs.Answer.{given}
-use Rattle.partial.specs.Limits.{source_limit}
 use Rattle.indexing.specs.Ends.{end_of}
 use Rattle.indexing.specs.Head.{end_answer}
 use Rattle.indexing.proofs.HeadLaws.{size_stated, size_open, from_size, from_enclosing, end_under, end_far, end-right, end_unjudged}

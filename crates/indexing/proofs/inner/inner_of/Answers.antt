@@ -1,16 +1,16 @@
 -- `indexing::inner::inner_of` meets its contract. The loop's invariant: the boxes that the walk has passed are counted.
 use Prim.Native.Nat.{ℕ}
-use mathlib.Core.List.{List, [], ◌∷◌, ◌++◌}
-use mathlib.Core.Path.{◌≡◌, sym, ap, ap₂, ◌∙◌}
+use mathlib.Core.List.{[], ◌∷◌, ◌++◌}
+use mathlib.Core.Path.{sym, ap, ap₂, ◌∙◌}
 use native.Mathlib.Omega.{arith}
 use Rattle.boxes.specs.Answer.{given}
-use Rattle.boxes.specs.Framing.{Box, boxes_in, box_limit, box_of}
-use Rattle.boxes.specs.Kinds.{bidx, frpa, right_count, right}
+use Rattle.boxes.specs.Framing.{box_limit, box_of}
+use Rattle.boxes.specs.Kinds.{bidx, frpa, right_count}
 use Rattle.boxes.specs.declared.kinds.Container.TheVariants.{Bidx}
 use Rattle.boxes.proofs.KindLaws.{those_few, right-count}
 use Rattle.boxes.proofs.WalkLaws.{passed_none, passed_more, all_boxes, first_fault, over_left, fewer, next_box, no_more}
 use Rattle.boxes.proofs.WalkLaws.{a_fault}
-use Rattle.indexing.specs.Inner.{InnerCounted, inner_answer}
+use Rattle.indexing.specs.Inner.{inner_answer}
 use Rattle.indexing.proofs.InnerLaws.{counted_none, front_few, inner_fault, inner_second, inner_whole}
 use Rattle.indexing.proofs.inner.inner_of.Goals as goal
 

@@ -1,13 +1,12 @@
 -- `indexing::marks::put_box` meets its contract: the row is put behind those before it.
-use Prim.Native.Nat.{ℕ, ◌*◌}
+use Prim.Native.Nat.{ℕ}
 use mathlib.Core.Bool.{Bool, not, ◌||◌}
 use mathlib.Core.List.{[], ◌∷◌}
 use mathlib.Core.Path.{refl, sym, ap, ◌∙◌}
-use Rattle.filling.specs.Rows.{Put}
 use Rattle.filling.proofs.RowLaws.{put_stored, put_same}
-use Rattle.partial.specs.Index.{is_known, index_row_length}
+use Rattle.partial.specs.Index.{is_known}
 use Rattle.indexing.specs.Ends.{end_of}
-use Rattle.indexing.specs.Marks.{indexed_of, plain_row}
+use Rattle.indexing.specs.Marks.{plain_row}
 use Rattle.indexing.proofs.EndLaws.{known_is}
 use Rattle.indexing.proofs.MarksLaws.{marked_one}
 use Rattle.indexing.proofs.marks.put_box.Goals as goal

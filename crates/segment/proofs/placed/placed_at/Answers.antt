@@ -1,10 +1,7 @@
 -- `segment::placed::placed_at` meets its contract: a chunk that is present and not empty is searched for where its
 -- offset reaches.
-use mathlib.Core.Bool.{true}
-use mathlib.Core.Path.{◌≡◌, refl, sym, ◌∙◌}
+use mathlib.Core.Path.{refl, sym, ◌∙◌}
 use native.Mathlib.Omega.{arith}
-use borrow.Author.Tests.{not-true, not-false}
-use Rattle.partial.specs.Segments.{has_place}
 use Rattle.segment.proofs.PlacedLaws.{absent, empty, has-place, places_none, places_past, places-in, places_whole, places-nowhere}
 use Rattle.segment.proofs.placed.placed_at.Goals as goal
 

@@ -9,8 +9,7 @@ use Rattle.surls.proofs.urls.both_next.Goals as goal
 pub same_bytes-requires : goal.same_bytes-requires
 same_bytes-requires c =
     let a = surl_met _ _ _ c.next_surl.ensures c.in-Next.is in
-    let b = surl_met _ _ _ c.next_surl-in-Next.ensures c.in-Next-next_surl.is in
-    (
+    let b = surl_met _ _ _ c.next_surl-in-Next.ensures c.in-Next-next_surl.is in (
       (url-told _ _ _ (further_within c.requires.0 a.within) c.url_of.ensures).inside,
       (url-told _ _ _ (further_within c.requires.1 b.within) c.url_of-in-Next-next_surl.ensures).inside,
     )

@@ -1,11 +1,5 @@
 -- `segment::chunk::Cursor::step` meets its contract: each test is one of the definition's.
-use Prim.Native.Nat.{◌+◌, ◌≤◌}
-use mathlib.Core.Bool.{true}
-use mathlib.Core.Path.{◌≡◌, sym, ap, ◌∙◌}
-use native.Mathlib.Omega.{arith}
-use borrow.Author.Tests.{leb-true, not-true, not-false}
-use lib.Dec.{leb}
-use Rattle.partial.specs.Limits.{source_limit}
+use mathlib.Core.Path.{sym, ap, ◌∙◌}
 use Rattle.fields.specs.Entry.{entry_answer}
 use Rattle.segment.specs.Placed.{place_answer}
 use Rattle.segment.proofs.ChunkLaws.{step_refused, step_far, step_unplaced, step_placed, steps_refused, steps_given}
@@ -16,6 +10,7 @@ unfolding entry_answer
 returns-then-not-ends_by c =
     let read = sym c.entry_at.ensures ∙ ap entry_answer c.in-Given.is in
     steps_refused (λ h mix p t. step_far _ _ h _ _ _ read (sym c.ends_by.ensures ∙ c.if-not-ends_by.true))
+
 pub returns-in-Refused : goal.returns-in-Refused
 unfolding entry_answer
 returns-in-Refused c =
