@@ -15,7 +15,9 @@ use Rattle.supplying.proofs.runs.run_at.Goals.{then-row_of+else-supplies, else-r
 
 -- a chunk that supplies a position covers it
 covered : (c : Chunk) (p : ℕ) {b : Bool} → b ≡ supplies p (chunk_of c) → b ≡ true → (c.start.0 ≤ p) × (p < c.start.0 + c.size)
-covered c p told here = (supplies_true (chunk_of c) p (sym told ∙ here)).1
+covered c p told here =
+    let (_, from, to) = supplies_true (chunk_of c) p (sym told ∙ here) in
+    (from, to)
 
 pub loop-k-init : goal.loop-k-init
 loop-k-init c = (search rules, passed_none _ _ _ _ _ _)
