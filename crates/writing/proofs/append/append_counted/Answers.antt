@@ -10,28 +10,20 @@ use Rattle.writing.proofs.AppendLaws.{appends_refused, lists_both, bytes_both, p
 use Rattle.writing.proofs.AppendLaws.{earlier, headed_mixed, wrong_outside, wrong_texts}
 use Rattle.writing.proofs.append.append_counted.Goals as goal
 
--- 35 is told of any heading that the file has
-
-is_right : (c : goal.After-outside_right) (h : Heading) → heading (take c.args.onto.length c.args.buffer.now) ≡ given h
-    → c.outside_right.result ≡ outside_right h (asks c.args.header c.args.outside c.args.list.now c.args.bytes.now c.args.texts.now c.args.lengths.now)
-unfolding asks
-is_right c h head =
-    c.outside_right.ensures h _ (headed_mixed (earlier _ _ c.requires.0.told) head) c.outside_of-stored.ensures
-
 pub returns-then-not-outside_right : goal.returns-then-not-outside_right
 unfolding asks
 returns-then-not-outside_right c =
     let (ready, list, counted, texted) = c.requires in
     let file = earlier _ _ ready.told in
     appends_refused _ _ _
-    (wrong_outside _ _ _ ready.enough _ file (lists_both _ list texted.lengths) (bytes_both _ (data_counted counted) texted.bytes) (sym (is_right c file.h file.head) ∙ not-true _ c.if-not-outside_right.true-raw))
+    (wrong_outside _ _ _ ready.enough _ file (lists_both _ list texted.lengths) (bytes_both _ (data_counted counted) texted.bytes) (sym (c.outside_right.ensures file.h _ (headed_mixed file file.head) c.outside_of-stored.ensures) ∙ c.if-not-outside_right.true))
 
 pub returns-then-not-said : goal.returns-then-not-said
 unfolding asks
 returns-then-not-said c =
     let (ready, list, counted, texted) = c.requires in
     let file = earlier _ _ ready.told in
-    let right = sym (is_right c file.h file.head) ∙ not-false _ c.if-not-outside_right.false-raw in
+    let right = sym (c.outside_right.ensures file.h _ (headed_mixed file file.head) c.outside_of-stored.ensures) ∙ c.if-not-outside_right.false in
     appends_refused _ _ _
     (wrong_texts _ _ _ ready.enough _ file (lists_both _ list texted.lengths) (bytes_both _ (data_counted counted) texted.bytes) right (sym (plain_told _ _ texted.counts) ∙ not-true _ c.if-not-said.true))
 
@@ -40,7 +32,7 @@ unfolding asks
 append_right-requires c =
     let (ready, list, counted, texted) = c.requires in
     let file = earlier _ _ ready.told in
-    let right : (h : Heading) → _ ≡ given h → _ ≡ _ = λ h head. sym (is_right c h head) ∙ not-false _ c.if-not-outside_right.false-raw in
+    let right : (h : Heading) → _ ≡ given h → _ ≡ _ = λ h head. sym (c.outside_right.ensures h _ (headed_mixed file head) c.outside_of-stored.ensures) ∙ c.if-not-outside_right.false in
     let stored = c.outside_of-stored.ensures in (
       ready,
       list,

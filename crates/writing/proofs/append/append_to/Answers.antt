@@ -29,29 +29,19 @@ returns-then-not-said c =
     let uneven = sym (even_told _ _ c.texts_of-said.ensures) ∙ not-true _ c.if-not-said.true in
     appends_refused _ _ _ (wrong_lists _ _ _ ready.enough _ (earlier _ _ ready.told) (lengths_second _ uneven))
 
--- past 31 both lists are right
-
-list_is-right : (c : goal.Else-not-counts) → list_right c.args.list.now ≡ true
-list_is-right c =
-    list_right_lem _ c.counts_of-counts.ensures c.if-list-ne0.false (not-false _ c.if-not-counts.false)
-
-lists_are_right : (c : goal.Else-not-said) → lists_right (asks c.args.header c.args.outside c.args.list.now c.args.bytes.now c.args.texts.now c.args.lengths.now) ≡ true
-unfolding asks
-lists_are_right c =
-    lists_both _ (list_is-right c) (sym (even_told _ _ c.texts_of-said.ensures) ∙ not-false _ c.if-not-said.false)
-
 pub returns-then-bytes-counts : goal.returns-then-bytes-counts
+unfolding asks
 returns-then-bytes-counts c =
     let ready = c.requires in
     let differ = data_differs c.args.header c.args.outside c.args.list.now c.args.bytes.now c.args.texts.now c.args.lengths.now c.counts_of-counts.ensures (omega (arith, c.well_formed)) c.if-bytes-counts.true in
-    appends_refused _ _ _ (wrong_bytes _ _ _ ready.enough _ (earlier _ _ ready.told) (lists_are_right c) (data_first _ differ))
+    appends_refused _ _ _ (wrong_bytes _ _ _ ready.enough _ (earlier _ _ ready.told) (lists_both _ (list_right_lem _ c.counts_of-counts.ensures c.if-list-ne0.false (not-false _ c.if-not-counts.false)) (sym (even_told _ _ c.texts_of-said.ensures) ∙ not-false _ c.if-not-said.false)) (data_first _ differ))
 
 pub returns-then-not-said-2 : goal.returns-then-not-said-2
 unfolding asks
 returns-then-not-said-2 c =
     let ready = c.requires in
     let differ = sym (whole_told _ _ c.texts_of-said.ensures c.args.header c.args.outside c.args.list.now c.args.bytes.now) ∙ not-true _ c.if-not-said-2.true in
-    appends_refused _ _ _ (wrong_bytes _ _ _ ready.enough _ (earlier _ _ ready.told) (lists_are_right c) (texts_second _ differ))
+    appends_refused _ _ _ (wrong_bytes _ _ _ ready.enough _ (earlier _ _ ready.told) (lists_both _ (list_right_lem _ c.counts_of-counts.ensures c.if-list-ne0.false (not-false _ c.if-not-counts.false)) (sym (even_told _ _ c.texts_of-said.ensures) ∙ not-false _ c.if-not-said.false)) (texts_second _ differ))
 
 pub append_counted-requires : goal.append_counted-requires
 unfolding asks
@@ -59,7 +49,7 @@ append_counted-requires c =
     let ready = c.requires in
     let texts = c.texts_of-said.ensures in (
       ready,
-      list_is-right c,
+      list_right_lem _ c.counts_of-counts.ensures c.if-list-ne0.false (not-false _ c.if-not-counts.false),
       counted_of c.args.header c.args.outside c.args.list.now c.args.bytes.now c.args.texts.now c.args.lengths.now c.counts_of-counts.ensures (omega (arith, c.well_formed)) c.if-bytes-counts.false,
       record {
         counts = texts;

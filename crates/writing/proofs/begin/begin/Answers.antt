@@ -19,21 +19,11 @@ use Rattle.writing.proofs.begin.begin.Goals as goal
 
 pub returns-then-not-is_text : goal.returns-then-not-is_text
 returns-then-not-is_text c =
-    begins_refused _ _ _ _ (url_zero _ _ _ _ (sym c.is_text.ensures ∙ not-true _ c.if-not-is_text.true-raw))
+    begins_refused _ _ _ _ (url_zero _ _ _ _ (sym c.is_text.ensures ∙ c.if-not-is_text.true))
 
 pub returns-then-not-is_text-2 : goal.returns-then-not-is_text-2
 returns-then-not-is_text-2 c =
-    begins_refused _ _ _ _ (mime_zero _ _ _ _ (sym c.is_text-2.ensures ∙ not-true _ c.if-not-is_text-2.true-raw))
-
--- past 34 both are texts
-
-plain_url : (c : goal.Else-not-is_text-2) → is_text c.args.url.now ≡ true
-plain_url c =
-    sym c.is_text.ensures ∙ not-false _ c.if-not-is_text.false-raw
-
-plain_mime : (c : goal.Else-not-is_text-2) → is_text c.args.mime.now ≡ true
-plain_mime c =
-    sym c.is_text-2.ensures ∙ not-false _ c.if-not-is_text-2.false-raw
+    begins_refused _ _ _ _ (mime_zero _ _ _ _ (sym c.is_text-2.ensures ∙ c.if-not-is_text-2.true))
 
 pub returns-then-size-gt-FILE_LIMIT : goal.returns-then-size-gt-FILE_LIMIT
 returns-then-size-gt-FILE_LIMIT c =
@@ -41,7 +31,7 @@ returns-then-size-gt-FILE_LIMIT c =
     let long = beginning_long args.url.now args.mime.now args.brand in
     let empty = beginning_long [] [] args.brand in
     let size = c.size_with-size.ensures args.brand in
-    begins_refused _ _ _ _ (too_long _ _ _ _ (plain_url c) (plain_mime c) (omega arith))
+    begins_refused _ _ _ _ (too_long _ _ _ _ (sym c.is_text.ensures ∙ c.if-not-is_text.false) (sym c.is_text-2.ensures ∙ c.if-not-is_text-2.false) (omega arith))
 
 pub returns-then-buffer-size : goal.returns-then-buffer-size
 returns-then-buffer-size c =
@@ -49,7 +39,7 @@ returns-then-buffer-size c =
     let long = beginning_long args.url.now args.mime.now args.brand in
     let empty = beginning_long [] [] args.brand in
     let size = c.size_with-size.ensures args.brand in
-    begins_refused _ _ _ _ (too_short _ _ _ _ (plain_url c) (plain_mime c) (omega arith) (omega arith))
+    begins_refused _ _ _ _ (too_short _ _ _ _ (sym c.is_text.ensures ∙ c.if-not-is_text.false) (sym c.is_text-2.ensures ∙ c.if-not-is_text-2.false) (omega arith) (omega arith))
 
 pub returns : goal.returns
 returns c =
@@ -62,5 +52,5 @@ returns c =
     let pfil = c.put_pfil-end.ensures (omega (arith, pfil_long args.url.now args.mime.now)) in
     let boxes = pieces_more c.put_ftyp-pfil.ensures pfil in
     let all = (pieces_same (sym (beginning_boxes args.url.now args.mime.now args.brand)) boxes).puts (omega arith) in
-    let answer = begun_given _ _ _ _ (plain_url c) (plain_mime c) small room in
+    let answer = begun_given _ _ _ _ (sym c.is_text.ensures ∙ c.if-not-is_text.false) (sym c.is_text-2.ensures ∙ c.if-not-is_text-2.false) small room in
     begins_given _ _ _ _ (answer ∙ ap given (sym (all.end ∙ zero-add _))) (put_filled _ all.put room)
