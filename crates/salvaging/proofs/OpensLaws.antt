@@ -2,7 +2,7 @@
 use Prim.Native.Nat.{ℕ, ◌≤◌, ◌<◌}
 use mathlib.Core.List.{List, [], ◌∷◌}
 use mathlib.Core.Option.{none, some}
-use mathlib.Core.Path.{◌≡◌, sym, ap, ◌∙◌}
+use mathlib.Core.Path.{◌≡◌, refl, sym, ap, ◌∙◌}
 use mathlib.Core.Logic.{◌⊎◌, ⊎_elim}
 use native.Mathlib.Decide.{dec_le}
 use native.Mathlib.Nat.{le_refl}
@@ -44,11 +44,11 @@ walk-of f new file = rw (new, file)
 
 -- a walk that meets no box next has none before it
 abbrev pub NoNext : Step → Type 0
-NoNext r = (tag_of the_type r ≡ 1) ⊎ (tag_of the_type r ≡ 2)
+NoNext r = (b : Framed) (w : Walk) → r ≡ Step.Next b w → ⊥
 
 no-box : (f : List ℕ) (w : Walk) (r : Step) → step_answer r ≡ stepped f w → NoNext r → (onward f w).boxes ≡ []
 unfolding step_answer
-no-box f w (Step.Next b w') answer other = absurd (⊎_elim (λ e. omega arith) (λ e. omega arith) other)
+no-box f w (Step.Next b w') answer other = absurd (other b w' refl)
 no-box f w Step.End answer other = rw (onward_steps f w, ← answer)
 no-box f w (Step.Refused n) answer other = rw (onward_steps f w, ← answer)
 

@@ -20,4 +20,4 @@ returns c h sound boxed =
     let (places, size) = c.places_of-size.ensures h sound fates in
     let tops = c.tops_of.ensures h.boxes (omega (arith, boxed.in_pfil.within)) tops_none boxed.boxes in
     copy_put f h sound byte size c.if-buffer-size.false
-    (c.put_copy.ensures h (record { sound = sound; listed = tops; c = places }) fates)
+    (c.put_copy.ensures h (record { sound = sound; listed = tops; placed = places }) fates)

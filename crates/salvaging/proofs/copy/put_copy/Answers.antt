@@ -41,7 +41,7 @@ loop-b-preserved c =
     let inv = c.loop-b.invariant in
     let f = c.args.file.now in
     let byte : (k : ℕ) → get_or f k 0 < 256 = λ k. omega (arith, c.shared_slice_known-1.given k) in (
-      c.put_box-next.auto.0 ∙ inv.0,
+      c.put_box-next.auto.buffer ∙ inv.0,
       omega (arith, inv.1, fewer _ _ step),
       (step_inside _ _ c.in-Next.b step inv.2).3,
       λ h moving held.

@@ -10,25 +10,19 @@ use Rattle.salvaging.proofs.CountingLaws.{counting_none, counting_more, counting
 use Rattle.salvaging.proofs.FatesLaws.{fating_none, fating_set, fating_left, fating_end, code_first, code_told}
 use Rattle.salvaging.proofs.fates.tell_fates.Goals as goal
 
--- where a box was met the table has room for its fate
-
-room : (c : goal.In-Next-2) → c.loop-b.k < 512
-room c =
-    omega (arith, c.loop-b.invariant.0, fewer _ _ (next_box c.step.ensures c.in-Next.is))
-
 pub loop-b-init : goal.loop-b-init
 loop-b-init c =
     let new = c.new-walk.ensures in
     (omega (arith, over_left new), λ h sound mix keeps. (counting_none _ sound.boxes new refl, fating_none _ h keeps))
 
 pub overflow_add-k : goal.overflow_add-k
-overflow_add-k c = omega (arith, room c)
+overflow_add-k c = omega (arith, c.loop-b.invariant.0, fewer _ _ (next_box c.step.ensures c.in-Next.is))
 
 pub offset_bounds-fates-at : goal.offset_bounds-fates-at
-offset_bounds-fates-at c = omega (arith, room c)
+offset_bounds-fates-at c = omega (arith, c.loop-b.invariant.0, fewer _ _ (next_box c.step.ensures c.in-Next.is))
 
 pub bounds-fates-at : goal.bounds-fates-at
-bounds-fates-at c = omega (arith, room c)
+bounds-fates-at c = omega (arith, c.loop-b.invariant.0, fewer _ _ (next_box c.step.ensures c.in-Next.is))
 
 pub loop-b-smaller-then-at-lt2 : goal.loop-b-smaller-then-at-lt2
 loop-b-smaller-then-at-lt2 c = fewer _ _ (next_box c.step.ensures c.in-Next.is)
@@ -41,14 +35,14 @@ loop-b-preserved-then-at-lt2 c =
       λ h sound mix keeps.
           let (counting, fating) = inv.1 h sound mix keeps in
           let (there, here, onward) = counting_more counting step in
-          (onward, fating_set _ h fating (room c) (sym (code_first _ h _ c.if-at-lt2.true))),
+          (onward, fating_set _ h fating (omega (arith, inv.0, fewer _ _ step)) (sym (code_first _ h _ c.if-at-lt2.true))),
     )
 
 pub offset_bounds-fates-at-then-b : goal.offset_bounds-fates-at-then-b
-offset_bounds-fates-at-then-b c = omega (arith, room c)
+offset_bounds-fates-at-then-b c = omega (arith, c.loop-b.invariant.0, fewer _ _ (next_box c.step.ensures c.in-Next.is))
 
 pub bounds-fates-at-then-b : goal.bounds-fates-at-then-b
-bounds-fates-at-then-b c = omega (arith, room c)
+bounds-fates-at-then-b c = omega (arith, c.loop-b.invariant.0, fewer _ _ (next_box c.step.ensures c.in-Next.is))
 
 pub loop-b-smaller-then-b : goal.loop-b-smaller-then-b
 loop-b-smaller-then-b c = fewer _ _ (next_box c.step.ensures c.in-Next.is)
@@ -61,7 +55,7 @@ loop-b-preserved-then-b c =
       λ h sound mix keeps.
           let (counting, fating) = inv.1 h sound mix keeps in
           let (there, here, onward) = counting_more counting step in
-          (onward, fating_set _ h fating (room c) (code_told _ h sound keeps c.if-at-lt2.false there here (λ before. c.fate_of.ensures _ h before mix (is_other pseg _ c.if-b.true)))),
+          (onward, fating_set _ h fating (omega (arith, inv.0, fewer _ _ step)) (code_told _ h sound keeps c.if-at-lt2.false there here (λ before. c.fate_of.ensures _ h before mix (is_other pseg _ c.if-b.true)))),
     )
 
 pub loop-b-smaller : goal.loop-b-smaller

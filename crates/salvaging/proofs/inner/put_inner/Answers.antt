@@ -14,6 +14,7 @@ use Rattle.rescue.specs.Copy.{box_bytes}
 use Rattle.tallying.proofs.FoundLaws.{is_kind, is_other}
 use Rattle.salvaging.proofs.InnerLaws.{text-ploc, text_plain, step_inside, midway_none, midway_among, midway_index, midway_more, midway_end, midway_sound, ploc_other}
 use Rattle.salvaging.proofs.inner.put_inner.Goals as goal
+use Rattle.salvaging.proofs.inner.put_inner.Goals.{else-in_pseg-via-then-in_pseg+else-inner, else-in_pseg-via-else-in_pseg}
 
 pub loop-inner-init : goal.loop-inner-init
 loop-inner-init c = (
@@ -32,16 +33,16 @@ pub slice_bounds-put_bytes-count : goal.slice_bounds-put_bytes-count
 slice_bounds-put_bytes-count c =
     let step = next_box c.step.ensures c.in-Next.is in
     (step_inside _ _ c.in-Next.inner step c.loop-inner.invariant.1).1
--- LEFT part_put_bytes_start : tie.Need-slice-bounds-put-bytes-start invariant-loop decreases-loop
-part_put_bytes_start c =
-    let met = c.before.before.before.before.before.before in
-    let step = next_box met.before.before.step.ensures met.inner.given.1 in
-    (step_inside _ _ met.inner.given.0.0 step met.before.before.before.loop.invariant.1).1
--- LEFT part_put_bytes_end : tie.Need-slice-bounds-put-bytes-end invariant-loop decreases-loop
-part_put_bytes_end c =
-    let met = c.before.before.before.before.before.before in
-    let step = next_box met.before.before.step.ensures met.inner.given.1 in
-    (step_inside _ _ met.inner.given.0.0 step met.before.before.before.loop.invariant.1).2
+
+pub slice_bounds-put_bytes-start : goal.slice_bounds-put_bytes-start
+slice_bounds-put_bytes-start c =
+    let step = next_box c.step.ensures c.in-Next.is in
+    (step_inside _ _ c.in-Next.inner step c.loop-inner.invariant.1).1
+
+pub slice_bounds-put_bytes-end : goal.slice_bounds-put_bytes-end
+slice_bounds-put_bytes-end c =
+    let step = next_box c.step.ensures c.in-Next.is in
+    (step_inside _ _ c.in-Next.inner step c.loop-inner.invariant.1).2
 
 pub loop-inner-smaller-then-inner : goal.loop-inner-smaller-then-inner
 loop-inner-smaller-then-inner c = fewer _ _ (next_box c.step.ensures c.in-Next.is)
@@ -52,8 +53,8 @@ loop-inner-preserved-then-inner c =
     let inv = c.loop-inner.invariant in
     let b = c.in-Next.inner in
     let inside = c.if-in_pseg.true in
-    let kind = is_kind ploc b (eqb-true _ _ c.if-inner.true-raw) in (
-      c.put_ploc-next.auto.0 ∙ inv.0,
+    let kind = is_kind ploc b c.if-inner.true in (
+      c.put_ploc-next.auto.buffer ∙ inv.0,
       (step_inside _ _ b step inv.1).3,
       λ h copy s bs moving known read lie same.
           let m = inv.2 h copy s bs moving known read lie same in
@@ -71,12 +72,15 @@ loop-inner-preserved-then-inner-2 c =
     let step = next_box c.step.ensures c.in-Next.is in
     let inv = c.loop-inner.invariant in
     let b = c.in-Next.inner in (
-      c.put_bytes-next.auto.0 ∙ inv.0,
+      c.put_bytes-next.auto.buffer ∙ inv.0,
       (step_inside _ _ b step inv.1).3,
       λ h copy s bs moving known read lie same.
           midway_more (inv.2 h copy s bs moving known read lie same) step (is_other fidx b c.if-inner-2.true)
           (pieces_same (text_plain _ _ s _ (box_of b)
-          (⊎_elim (λ w inside kind. false≢true (sym (is_other ploc b (eqb-false _ _ w.3.left)) ∙ kind)) (λ w inside kind. false≢true (sym w.left ∙ inside)) c.else-in_pseg.branch)) (piece_put c.put_bytes-next.ensures)),
+          (elim c.else-in_pseg.branch [
+            | else-in_pseg-via-then-in_pseg+else-inner w ↦ λ inside kind. false≢true (sym (is_other ploc b w.if-inner.false) ∙ kind)
+            | else-in_pseg-via-else-in_pseg w ↦ λ inside kind. false≢true (sym w.if-in_pseg.false ∙ inside)
+          ])) (piece_put c.put_bytes-next.ensures)),
     )
 
 pub loop-inner-smaller : goal.loop-inner-smaller

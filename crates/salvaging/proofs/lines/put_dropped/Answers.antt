@@ -50,7 +50,7 @@ loop-b-preserved c =
     let inv = c.loop-b.invariant in
     let step = next_box c.step.ensures c.in-Next.is in
     let (line, few) = c.put_line-next.ensures in (
-      c.put_line-next.auto.0 ∙ inv.0,
+      c.put_line-next.auto.buffer ∙ inv.0,
       omega (arith, inv.1, fewer _ _ step),
       omega (arith, inv.2, few),
       λ h sound held.

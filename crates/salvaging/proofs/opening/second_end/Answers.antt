@@ -5,11 +5,11 @@ use Rattle.salvaging.proofs.OpensLaws.{cut_none, cut_one, cut_two}
 use Rattle.salvaging.proofs.opening.second_end.Goals as goal
 
 pub returns-in_default : goal.returns-in_default
-returns-in_default c = cut_none _ c.new-walk.ensures refl _ c.step.ensures c.in_default.in_default-own.keys2
+returns-in_default c = cut_none _ c.new-walk.ensures refl _ c.step.ensures c.in_default.not-Next
 
 pub returns-in_default-step : goal.returns-in_default-step
 returns-in_default-step c =
-    cut_one _ c.new-walk.ensures refl (next_box c.step.ensures c.in-Next.is) _ c.step-2.ensures c.in_default-step.in_default-step-own.keys2
+    cut_one _ c.new-walk.ensures refl (next_box c.step.ensures c.in-Next.is) _ c.step-2.ensures c.in_default-step.not-Next
 
 pub returns : goal.returns
 returns c =

@@ -7,32 +7,25 @@ use Rattle.salvaging.proofs.CountingLaws.{counting_none, counting_more, counting
 use Rattle.salvaging.proofs.TableLaws.{placing_none, placing_more, placing_end}
 use Rattle.salvaging.proofs.places.places_of.Goals as goal
 
--- where a box was met the table has room for it
-
-room : (c : goal.In-Next) → c.loop-b.k < 512
-room c =
-    let inv = c.loop-b.invariant in
-    omega (arith, inv.0, fewer _ _ (next_box c.step.ensures c.in-Next.is))
-
 pub loop-b-init : goal.loop-b-init
 loop-b-init c =
     let new = c.new-walk.ensures in
     (omega (arith, over_left new), λ h sound held. (counting_none _ sound.boxes new refl, placing_none _ h sound))
 
 pub offset_bounds-places-k : goal.offset_bounds-places-k
-offset_bounds-places-k c = omega (arith, room c)
+offset_bounds-places-k c = omega (arith, c.loop-b.invariant.0, fewer _ _ (next_box c.step.ensures c.in-Next.is))
 
 pub bounds-places-k : goal.bounds-places-k
-bounds-places-k c = room c
+bounds-places-k c = omega (arith, c.loop-b.invariant.0, fewer _ _ (next_box c.step.ensures c.in-Next.is))
 
 pub offset_bounds-fates-k : goal.offset_bounds-fates-k
-offset_bounds-fates-k c = omega (arith, room c)
+offset_bounds-fates-k c = omega (arith, c.loop-b.invariant.0, fewer _ _ (next_box c.step.ensures c.in-Next.is))
 
 pub bounds-fates-k : goal.bounds-fates-k
-bounds-fates-k c = room c
+bounds-fates-k c = omega (arith, c.loop-b.invariant.0, fewer _ _ (next_box c.step.ensures c.in-Next.is))
 
 pub overflow_add-k : goal.overflow_add-k
-overflow_add-k c = omega (arith, room c)
+overflow_add-k c = omega (arith, c.loop-b.invariant.0, fewer _ _ (next_box c.step.ensures c.in-Next.is))
 
 pub loop-b-smaller : goal.loop-b-smaller
 loop-b-smaller c = fewer _ _ (next_box c.step.ensures c.in-Next.is)
@@ -45,7 +38,7 @@ loop-b-preserved c =
       λ h sound held.
           let (counting, placing) = inv.1 h sound held in
           let (there, here, onward) = counting_more counting step in
-          (onward, placing_more _ h sound placing there (room c) (c.copy_size.ensures h sound there here (held.each _ there)) c.sum_of-size.ensures),
+          (onward, placing_more _ h sound placing there (omega (arith, inv.0, fewer _ _ step)) (c.copy_size.ensures h sound there here (held.each _ there)) c.sum_of-size.ensures),
     )
 
 pub returns-in-End : goal.returns-in-End

@@ -21,19 +21,13 @@ pub slice_bounds-put_bytes-count : goal.slice_bounds-put_bytes-count
 unfolding box_of
 slice_bounds-put_bytes-count c = first_after _ _ c.location_of.ensures c.in-Given.is c.requires.0
 
--- LEFT part_put_bytes_start : tie.Need-slice-bounds-put-bytes-start
+pub slice_bounds-put_bytes-start : goal.slice_bounds-put_bytes-start
 unfolding box_of
-part_put_bytes_start c =
-    let found = c.before.before.before in
-    let start = found.before.before.before.before.before in
-    first_after _ _ found.before.before.location-of.ensures found.l.given.1 start.requires.0
+slice_bounds-put_bytes-start c = first_after _ _ c.location_of.ensures c.in-Given.is c.requires.0
 
--- LEFT part_put_bytes_end : tie.Need-slice-bounds-put-bytes-end
+pub slice_bounds-put_bytes-end : goal.slice_bounds-put_bytes-end
 unfolding box_of
-part_put_bytes_end c =
-    let found = c.before.before.before in
-    let start = found.before.before.before.before.before in
-    first_inside _ _ found.before.before.location-of.ensures found.l.given.1 start.requires.1
+slice_bounds-put_bytes-end c = first_inside _ _ c.location_of.ensures c.in-Given.is c.requires.1
 
 pub returns : goal.returns
 unfolding bytes_in box_of
