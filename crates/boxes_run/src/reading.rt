@@ -3,134 +3,149 @@ use crate::report::header;
 use boxes::framing::header_at;
 use boxes::kinds::Container;
 use numerals::place::Place;
+use std::io;
 
 const LAST: u64 = 0xffff_ffff_ffff_ffff;
 
-fn read(asked: &[u8], s: &[u8], at: u64, end: u64) {
-    header(asked, header_at(s, Container::File, Place(at), Place(end)));
+fn read(rt: &impl Print, asked: &[u8], s: &[u8], at: u64, end: u64) -> io::Result<()> {
+    header(
+        rt,
+        asked,
+        header_at(s, Container::File, Place(at), Place(end)),
+    )
 }
 
 // A box of 8 bytes and one of 16 with a large size, in containers that end after so many bytes.
-pub fn by_bytes_left() {
-    short_by_bytes_left(b"\x00\x00\x00\x08free\x00\x00\x00\x00\x00\x00\x00\x00");
-    large_by_bytes_left(b"\x00\x00\x00\x01free\x00\x00\x00\x00\x00\x00\x00\x10");
+pub fn by_bytes_left(rt: &impl Print) -> io::Result<()> {
+    short_by_bytes_left(rt, b"\x00\x00\x00\x08free\x00\x00\x00\x00\x00\x00\x00\x00")?;
+    large_by_bytes_left(rt, b"\x00\x00\x00\x01free\x00\x00\x00\x00\x00\x00\x00\x10")
 }
 
-fn short_by_bytes_left(s: &[u8]) {
-    read(b"short, 0 left", s, 0, 0);
-    read(b"short, 7 left", s, 0, 7);
-    read(b"short, 8 left", s, 0, 8);
-    read(b"short, 15 left", s, 0, 15);
-    read(b"short, 16 left", s, 0, 16);
+fn short_by_bytes_left(rt: &impl Print, s: &[u8]) -> io::Result<()> {
+    read(rt, b"short, 0 left", s, 0, 0)?;
+    read(rt, b"short, 7 left", s, 0, 7)?;
+    read(rt, b"short, 8 left", s, 0, 8)?;
+    read(rt, b"short, 15 left", s, 0, 15)?;
+    read(rt, b"short, 16 left", s, 0, 16)
 }
 
-fn large_by_bytes_left(s: &[u8]) {
-    read(b"large, 0 left", s, 0, 0);
-    read(b"large, 7 left", s, 0, 7);
-    read(b"large, 8 left", s, 0, 8);
-    read(b"large, 15 left", s, 0, 15);
-    read(b"large, 16 left", s, 0, 16);
+fn large_by_bytes_left(rt: &impl Print, s: &[u8]) -> io::Result<()> {
+    read(rt, b"large, 0 left", s, 0, 0)?;
+    read(rt, b"large, 7 left", s, 0, 7)?;
+    read(rt, b"large, 8 left", s, 0, 8)?;
+    read(rt, b"large, 15 left", s, 0, 15)?;
+    read(rt, b"large, 16 left", s, 0, 16)
 }
 
 // Size fields of four given bytes.
-fn sized(asked: &[u8], size: [u8; 4], end: u64) {
+fn sized(rt: &impl Print, asked: &[u8], size: [u8; 4], end: u64) -> io::Result<()> {
     let s = [
         size[0], size[1], size[2], size[3], 102, 114, 101, 101, 0, 0, 0, 0, 0, 0, 0, 0,
     ];
-    read(asked, &s, 0, end);
+    read(rt, asked, &s, 0, end)
 }
 
-pub fn by_size() {
-    sized(b"size 0, 7 left", [0, 0, 0, 0], 7);
-    sized(b"size 0", [0, 0, 0, 0], 16);
-    sized(b"size 1 and large size 0", [0, 0, 0, 1], 16);
-    sized(b"size 2", [0, 0, 0, 2], 16);
-    sized(b"size 7", [0, 0, 0, 7], 16);
-    sized(b"size 8", [0, 0, 0, 8], 16);
-    sized(b"size 15", [0, 0, 0, 15], 16);
-    sized(b"size 16", [0, 0, 0, 16], 16);
-    sized(b"size 17", [0, 0, 0, 17], 16);
-    sized(b"size 4294967295", [255, 255, 255, 255], 16);
+pub fn by_size(rt: &impl Print) -> io::Result<()> {
+    sized(rt, b"size 0, 7 left", [0, 0, 0, 0], 7)?;
+    sized(rt, b"size 0", [0, 0, 0, 0], 16)?;
+    sized(rt, b"size 1 and large size 0", [0, 0, 0, 1], 16)?;
+    sized(rt, b"size 2", [0, 0, 0, 2], 16)?;
+    sized(rt, b"size 7", [0, 0, 0, 7], 16)?;
+    sized(rt, b"size 8", [0, 0, 0, 8], 16)?;
+    sized(rt, b"size 15", [0, 0, 0, 15], 16)?;
+    sized(rt, b"size 16", [0, 0, 0, 16], 16)?;
+    sized(rt, b"size 17", [0, 0, 0, 17], 16)?;
+    sized(rt, b"size 4294967295", [255, 255, 255, 255], 16)?;
     sized(
+        rt,
         b"size 4294967295 of 4294967294",
         [255, 255, 255, 255],
         4294967294,
-    );
+    )?;
     sized(
+        rt,
         b"size 4294967295 of 4294967295",
         [255, 255, 255, 255],
         4294967295,
-    );
+    )
 }
 
 // Large sizes of eight given bytes.
-fn large(asked: &[u8], n: [u8; 8], end: u64) {
+fn large(rt: &impl Print, asked: &[u8], n: [u8; 8], end: u64) -> io::Result<()> {
     let s = [
         0, 0, 0, 1, 102, 114, 101, 101, n[0], n[1], n[2], n[3], n[4], n[5], n[6], n[7],
     ];
-    read(asked, &s, 0, end);
+    read(rt, asked, &s, 0, end)
 }
 
-pub fn by_large_size() {
-    large(b"large size 0", [0, 0, 0, 0, 0, 0, 0, 0], 16);
-    large(b"large size 1", [0, 0, 0, 0, 0, 0, 0, 1], 16);
-    large(b"large size 7", [0, 0, 0, 0, 0, 0, 0, 7], 16);
-    large(b"large size 8", [0, 0, 0, 0, 0, 0, 0, 8], 16);
-    large(b"large size 15", [0, 0, 0, 0, 0, 0, 0, 15], 16);
-    large(b"large size 16", [0, 0, 0, 0, 0, 0, 0, 16], 16);
-    large(b"large size 17", [0, 0, 0, 0, 0, 0, 0, 17], 16);
+pub fn by_large_size(rt: &impl Print) -> io::Result<()> {
+    large(rt, b"large size 0", [0, 0, 0, 0, 0, 0, 0, 0], 16)?;
+    large(rt, b"large size 1", [0, 0, 0, 0, 0, 0, 0, 1], 16)?;
+    large(rt, b"large size 7", [0, 0, 0, 0, 0, 0, 0, 7], 16)?;
+    large(rt, b"large size 8", [0, 0, 0, 0, 0, 0, 0, 8], 16)?;
+    large(rt, b"large size 15", [0, 0, 0, 0, 0, 0, 0, 15], 16)?;
+    large(rt, b"large size 16", [0, 0, 0, 0, 0, 0, 0, 16], 16)?;
+    large(rt, b"large size 17", [0, 0, 0, 0, 0, 0, 0, 17], 16)?;
     large(
+        rt,
         b"large size 4294967295",
         [0, 0, 0, 0, 255, 255, 255, 255],
         16,
-    );
+    )?;
     large(
+        rt,
         b"large size 4294967296",
         [0, 0, 0, 1, 0, 0, 0, 0],
         4294967296,
-    );
+    )?;
     let most = [255, 255, 255, 255, 255, 255, 255, 255];
-    large(b"large size 18446744073709551615", most, 16);
-    large(b"large size 18446744073709551615 of as many", most, LAST);
+    large(rt, b"large size 18446744073709551615", most, 16)?;
+    large(
+        rt,
+        b"large size 18446744073709551615 of as many",
+        most,
+        LAST,
+    )
 }
 
 // Places where the container's end comes first, and where numbers of 64 bits end. Bytes past the slice count as 0.
-pub fn by_place() {
+pub fn by_place(rt: &impl Print) -> io::Result<()> {
     by_place_in(
+        rt,
         b"\x00\x00\x00\x00\x00\x00\x00\x00\x00\x00\x00\x01free\xff\xff\xff\xff\xff\xff\xff\xff",
-    );
+    )
 }
 
-fn by_place_in(s: &[u8]) {
-    read(b"place 9, end 8", s, 9, 8);
-    read(b"place 8, largest size, largest end", s, 8, LAST);
-    read(b"largest place and end", s, LAST, LAST);
-    read(b"7 before the largest end", s, LAST - 7, LAST);
-    read(b"8 before the largest end", s, LAST - 8, LAST);
+fn by_place_in(rt: &impl Print, s: &[u8]) -> io::Result<()> {
+    read(rt, b"place 9, end 8", s, 9, 8)?;
+    read(rt, b"place 8, largest size, largest end", s, 8, LAST)?;
+    read(rt, b"largest place and end", s, LAST, LAST)?;
+    read(rt, b"7 before the largest end", s, LAST - 7, LAST)?;
+    read(rt, b"8 before the largest end", s, LAST - 8, LAST)
 }
 
 // `uuid` boxes of that size. The bytes of their user type are past the slice.
-fn vendor(asked: &[u8], size: u8, end: u64) {
+fn vendor(rt: &impl Print, asked: &[u8], size: u8, end: u64) -> io::Result<()> {
     let s = [0, 0, 0, size, 117, 117, 105, 100];
-    read(asked, &s, 0, end);
+    read(rt, asked, &s, 0, end)
 }
 
-fn large_vendor(asked: &[u8], size: u8, end: u64) {
+fn large_vendor(rt: &impl Print, asked: &[u8], size: u8, end: u64) -> io::Result<()> {
     let s = [0, 0, 0, 1, 117, 117, 105, 100, 0, 0, 0, 0, 0, 0, 0, size];
-    read(asked, &s, 0, end);
+    read(rt, asked, &s, 0, end)
 }
 
 // Sizes around the header with a user type, and containers that end inside it.
-pub fn by_user_type() {
-    vendor(b"uuid of 8", 8, 32);
-    vendor(b"uuid of 23", 23, 32);
-    vendor(b"uuid of 24", 24, 32);
-    vendor(b"uuid of 25", 25, 32);
-    vendor(b"uuid of 24, 23 left", 24, 23);
-    vendor(b"uuid of 20, 20 left", 20, 20);
-    large_vendor(b"large uuid of 16", 16, 40);
-    large_vendor(b"large uuid of 31", 31, 40);
-    large_vendor(b"large uuid of 32", 32, 40);
-    large_vendor(b"large uuid of 32, 31 left", 32, 31);
-    large_vendor(b"large uuid of 32, 15 left", 32, 15);
+pub fn by_user_type(rt: &impl Print) -> io::Result<()> {
+    vendor(rt, b"uuid of 8", 8, 32)?;
+    vendor(rt, b"uuid of 23", 23, 32)?;
+    vendor(rt, b"uuid of 24", 24, 32)?;
+    vendor(rt, b"uuid of 25", 25, 32)?;
+    vendor(rt, b"uuid of 24, 23 left", 24, 23)?;
+    vendor(rt, b"uuid of 20, 20 left", 20, 20)?;
+    large_vendor(rt, b"large uuid of 16", 16, 40)?;
+    large_vendor(rt, b"large uuid of 31", 31, 40)?;
+    large_vendor(rt, b"large uuid of 32", 32, 40)?;
+    large_vendor(rt, b"large uuid of 32, 31 left", 32, 31)?;
+    large_vendor(rt, b"large uuid of 32, 15 left", 32, 15)
 }

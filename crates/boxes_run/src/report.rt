@@ -1,138 +1,137 @@
 // The lines of the output.
 use boxes::framing::{Framed, Header};
 use boxes::kinds::Kind;
-use libc::STDOUT_FILENO;
+use std::io;
 use tallying::tally::Tally;
 
-fn text(s: &[u8]) {
-    io::write_all(STDOUT_FILENO, s);
+fn text(rt: &impl Print, s: &[u8]) -> io::Result<()> {
+    rt.write_all(s)
 }
 
-fn number(n: u64) {
-    io::print_decimal(STDOUT_FILENO, n);
+fn number(rt: &impl Print, n: u64) -> io::Result<()> {
+    rt.print(n)
 }
 
-fn refused(n: u64) {
-    text(b"refused ");
-    number(n);
-    text(b"\n");
+fn refused(rt: &impl Print, n: u64) -> io::Result<()> {
+    text(rt, b"refused ")?;
+    number(rt, n)?;
+    text(rt, b"\n")
 }
 
 // A box: its type, its place, the places of its user type and of its body, and its end.
-fn framed(b: Framed) {
+fn framed(rt: &impl Print, b: Framed) -> io::Result<()> {
     let at = b.at;
     let user = b.user;
     let body = b.body;
     let end = b.end;
-    io::print_hex(STDOUT_FILENO, b.kind as u64, 8);
-    text(b" ");
-    number(at.0);
-    text(b" ");
-    number(user.0);
-    text(b" ");
-    number(body.0);
-    text(b" ");
-    number(end.0);
-    text(b"\n");
+    let kind = b.kind;
+    print!(rt; "{kind:08x}")?;
+    text(rt, b" ")?;
+    number(rt, at.0)?;
+    text(rt, b" ")?;
+    number(rt, user.0)?;
+    text(rt, b" ")?;
+    number(rt, body.0)?;
+    text(rt, b" ")?;
+    number(rt, end.0)?;
+    text(rt, b"\n")
 }
 
-pub fn header(asked: &[u8], h: Header) {
-    text(asked);
-    text(b"\t");
+pub fn header(rt: &impl Print, asked: &[u8], h: Header) -> io::Result<()> {
+    text(rt, asked)?;
+    text(rt, b"\t")?;
     match h {
-        Header::Found(b) => framed(b),
-        Header::Refused(n) => refused(n),
+        Header::Found(b) => framed(rt, b),
+        Header::Refused(n) => refused(rt, n),
     }
 }
 
 // How many boxes there are, or the first fault.
-pub fn boxes(asked: &[u8], t: Tally) {
-    text(asked);
-    text(b"\t");
+pub fn boxes(rt: &impl Print, asked: &[u8], t: Tally) -> io::Result<()> {
+    text(rt, asked)?;
+    text(rt, b"\t")?;
     if t.fault == 0 {
-        number(t.boxes);
-        text(b"\n");
+        number(rt, t.boxes)?;
+        text(rt, b"\n")
     } else {
-        refused(t.fault);
+        refused(rt, t.fault)
     }
 }
 
 // How many boxes there are of a kind, or the first fault.
-pub fn of_kind(asked: &[u8], t: Tally, kind: Kind) {
-    text(asked);
-    text(b"\t");
+pub fn of_kind(rt: &impl Print, asked: &[u8], t: Tally, kind: Kind) -> io::Result<()> {
+    text(rt, asked)?;
+    text(rt, b"\t")?;
     if t.fault == 0 {
-        number(t.of(kind));
-        text(b"\n");
+        number(rt, t.of(kind))?;
+        text(rt, b"\n")
     } else {
-        refused(t.fault);
+        refused(rt, t.fault)
     }
 }
 
 // All that a walk told: the fault, the number of boxes, and the counts in the table's order.
-pub fn whole(asked: &[u8], t: Tally) {
+pub fn whole(rt: &impl Print, asked: &[u8], t: Tally) -> io::Result<()> {
     let counts = t.counts;
-    text(asked);
-    text(b"\t");
-    number(t.fault);
-    text(b" ");
-    number(t.boxes);
-    row(counts[0]);
-    row(counts[1]);
-    row(counts[2]);
-    row(counts[3]);
-    row(counts[4]);
-    row(counts[5]);
-    row(counts[6]);
-    row(counts[7]);
-    text(b"\n");
+    text(rt, asked)?;
+    text(rt, b"\t")?;
+    number(rt, t.fault)?;
+    text(rt, b" ")?;
+    number(rt, t.boxes)?;
+    row(rt, counts[0])?;
+    row(rt, counts[1])?;
+    row(rt, counts[2])?;
+    row(rt, counts[3])?;
+    row(rt, counts[4])?;
+    row(rt, counts[5])?;
+    row(rt, counts[6])?;
+    row(rt, counts[7])?;
+    text(rt, b"\n")
 }
 
-fn row(n: u64) {
-    text(b" ");
-    number(n);
+fn row(rt: &impl Print, n: u64) -> io::Result<()> {
+    text(rt, b" ")?;
+    number(rt, n)
 }
 
-pub fn rule(asked: &[u8], kept: bool) {
-    text(asked);
-    text(b"\t");
-    answer(kept);
+pub fn rule(rt: &impl Print, asked: &[u8], kept: bool) -> io::Result<()> {
+    text(rt, asked)?;
+    text(rt, b"\t")?;
+    answer(rt, kept)
 }
 
-pub fn fault(asked: &[u8], n: u64) {
-    text(asked);
-    text(b"\t");
-    refused(n);
+pub fn fault(rt: &impl Print, asked: &[u8], n: u64) -> io::Result<()> {
+    text(rt, asked)?;
+    text(rt, b"\t")?;
+    refused(rt, n)
 }
 
-fn answer(yes: bool) {
+fn answer(rt: &impl Print, yes: bool) -> io::Result<()> {
     if yes {
-        text(b"yes\n");
+        text(rt, b"yes\n")
     } else {
-        text(b"no\n");
+        text(rt, b"no\n")
     }
 }
 
 // Whether bytes were written, and how the buffer was left.
-pub fn written(asked: &[u8], done: bool, buf: &[u8]) {
-    text(asked);
+pub fn written(rt: &impl Print, asked: &[u8], done: bool, buf: &[u8]) -> io::Result<()> {
+    text(rt, asked)?;
     if done {
-        text(b"\tyes ");
+        text(rt, b"\tyes ")?;
     } else {
-        text(b"\tno ");
+        text(rt, b"\tno ")?;
     }
-    bytes(buf);
-    text(b"\n");
+    bytes(rt, buf)?;
+    text(rt, b"\n")
 }
 
-fn bytes(s: &[u8]) {
+fn bytes(rt: &impl Print, s: &[u8]) -> io::Result<()> {
     let mut i = 0;
     while i < s.len() {
-        io::print_hex(STDOUT_FILENO, wide(s[i]), 2);
+        let b = s[i];
+        print!(rt; "{b:02x}")?;
         i += 1;
     }
-}
-
-fn wide(b: u8) -> u64 {
-    b as u64
+    Ok(())
 }

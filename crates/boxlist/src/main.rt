@@ -1,12 +1,14 @@
 // The program that lists the boxes of the file on its standard input, with whose a vendor's box is.
-use boxlisting::call::boxes;
-use libc::STDIN_FILENO;
-use program::{INPUT, limit, print};
+#![tactic(auto)]
 
-fn main() {
+use boxlisting::call::boxes;
+use program::{INPUT, TEXT, limit, print, read_full};
+use std::io;
+
+fn main(rt: HostRuntime) -> io::Result<()> {
     let mut input = [0u8; INPUT];
-    let mut text = io::large_buffer();
-    let n = io::read_full(STDIN_FILENO, &mut input);
+    let mut text = [0u8; TEXT];
+    let n = read_full(&rt, &mut input)?;
     let answer = boxes(&input[..n], limit(), &mut text);
-    print(answer, &text, b"boxlist");
+    print(&rt, answer, &text)
 }

@@ -4,10 +4,14 @@
 // bytes each.
 use crate::lent;
 use crate::lent::Rooms;
-use libc::STDIN_FILENO;
 use partial::position::Position;
+use printing::input::read_full;
 use printing::records;
 use printing::records::{eight, pair};
+use std::io;
+
+// The most bytes of a file; a record of more has no answer.
+const LARGEST_FILE: usize = 65_536;
 
 // The numbers of the next record.
 #[derive(Clone, Copy)]
@@ -23,9 +27,9 @@ enum Head {
 }
 
 // Takes the next record, and prints its name and the answers. Whether there was one.
-pub fn record() -> bool {
-    match next() {
-        Head::End => false,
+pub fn record(rt: &(impl Input + Print)) -> io::Result<bool> {
+    match next(rt)? {
+        Head::End => Ok(false),
         Head::Given {
             name,
             file,
@@ -33,17 +37,17 @@ pub fn record() -> bool {
             positions,
             source,
         } => {
-            records::name(name);
-            answers(file, source as u64, rooms, positions);
-            true
+            records::name(rt, name)?;
+            answers(rt, file, source as u64, rooms, positions)?;
+            Ok(true)
         }
     }
 }
 
-fn next() -> Head {
+fn next(rt: &impl Input) -> io::Result<Head> {
     let mut bytes = [0u8; 16];
-    if io::read_full(STDIN_FILENO, &mut bytes) < 16 {
-        return Head::End;
+    if read_full(rt, &mut bytes)? < 16 {
+        return Ok(Head::End);
     }
     let rooms = Rooms {
         segments: pair(bytes[4], bytes[5]),
@@ -51,36 +55,57 @@ fn next() -> Head {
         had: pair(bytes[8], bytes[9]),
         missing: pair(bytes[10], bytes[11]),
     };
-    Head::Given {
+    Ok(Head::Given {
         name: pair(bytes[0], bytes[1]),
         file: pair(bytes[2], bytes[3]),
         rooms,
         positions: pair(bytes[12], bytes[13]),
         source: pair(bytes[14], bytes[15]),
-    }
+    })
 }
 
-fn answers(length: usize, source: u64, rooms: Rooms, positions: usize) {
-    let mut space = io::large_buffer();
-    file_in(&mut space, length, source, rooms, positions);
+fn answers(
+    rt: &(impl Input + Print),
+    length: usize,
+    source: u64,
+    rooms: Rooms,
+    positions: usize,
+) -> io::Result<()> {
+    let mut space = [0u8; LARGEST_FILE];
+    file_in(rt, &mut space, length, source, rooms, positions)
 }
 
-fn file_in(space: &mut [u8], length: usize, source: u64, rooms: Rooms, positions: usize) {
+fn file_in(
+    rt: &(impl Input + Print),
+    space: &mut [u8],
+    length: usize,
+    source: u64,
+    rooms: Rooms,
+    positions: usize,
+) -> io::Result<()> {
     if length <= space.len() {
         let file = &mut space[0..length];
-        io::read_full(STDIN_FILENO, file);
-        lent::listed(file, source, rooms);
-        asked(file, source, rooms, positions);
+        read_full(rt, file)?;
+        lent::listed(rt, file, source, rooms)?;
+        asked(rt, file, source, rooms, positions)?;
     }
+    Ok(())
 }
 
 // Takes so many positions of the source, and asks of each and has it served.
-fn asked(file: &[u8], source: u64, rooms: Rooms, positions: usize) {
+fn asked(
+    rt: &(impl Input + Print),
+    file: &[u8],
+    source: u64,
+    rooms: Rooms,
+    positions: usize,
+) -> io::Result<()> {
     let mut left = positions;
     while left > 0 {
-        let p = Position(eight());
-        lent::asked(file, source, rooms, p);
-        lent::served(file, source, rooms, p);
+        let p = Position(eight(rt)?);
+        lent::asked(rt, file, source, rooms, p)?;
+        lent::served(rt, file, source, rooms, p)?;
         left -= 1;
     }
+    Ok(())
 }

@@ -3,17 +3,23 @@ use partial::answers::{Asked, Listed};
 use partial::position::Position;
 use printing::lines::{bytes, kept_of, number, refused, rest, text};
 use printing::sums;
+use std::io;
 
 // The longest part of a file that is printed byte by byte.
 const SHORT: usize = 12;
 
 // A refusal, or the counts and totals and the ranges of both lists; then how the rest of each list was left.
-pub fn listed(r: Listed, had_list: &[u64], missing_list: &[u64]) {
+pub fn listed(
+    rt: &impl Print,
+    r: Listed,
+    had_list: &[u64],
+    missing_list: &[u64],
+) -> io::Result<()> {
     match r {
         Listed::Refused(n) => {
-            refused(n);
-            rest(had_list, 0);
-            rest(missing_list, 0);
+            refused(rt, n)?;
+            rest(rt, had_list, 0)?;
+            rest(rt, missing_list, 0)
         }
         Listed::Lists {
             had,
@@ -21,83 +27,90 @@ pub fn listed(r: Listed, had_list: &[u64], missing_list: &[u64]) {
             received_total,
             missing_total,
         } => {
-            text(b"lists");
-            number(had);
-            number(missing);
-            number(received_total);
-            number(missing_total);
-            text(b"\n");
-            rest(had_list, ranges(b"had", had_list, had));
-            rest(missing_list, ranges(b"missing", missing_list, missing));
+            text(rt, b"lists")?;
+            number(rt, had)?;
+            number(rt, missing)?;
+            number(rt, received_total)?;
+            number(rt, missing_total)?;
+            text(rt, b"\n")?;
+            rest(rt, had_list, ranges(rt, b"had", had_list, had)?)?;
+            rest(
+                rt,
+                missing_list,
+                ranges(rt, b"missing", missing_list, missing)?,
+            )
         }
     }
 }
 
 // The ranges that stand in a list, as many as are claimed and no more than it holds. How many numbers they are.
-fn ranges(word: &[u8], list: &[u64], count: u64) -> usize {
+fn ranges(rt: &impl Print, word: &[u8], list: &[u64], count: u64) -> io::Result<usize> {
     let mut left = count;
     let mut at = 0;
     while left > 0 {
         if list.len() - at < 2 {
-            return at;
+            return Ok(at);
         }
-        range(word, list[at], list[at + 1]);
+        range(rt, word, list[at], list[at + 1])?;
         at += 2;
         left -= 1;
     }
-    at
+    Ok(at)
 }
 
-fn range(word: &[u8], first: u64, length: u64) {
-    text(word);
-    number(first);
-    number(length);
-    text(b"\n");
+fn range(rt: &impl Print, word: &[u8], first: u64, length: u64) -> io::Result<()> {
+    text(rt, word)?;
+    number(rt, first)?;
+    number(rt, length)?;
+    text(rt, b"\n")
 }
 
 // How many numbers of a table were left as they were, how many it has, and their sum.
-pub fn table(word: &[u8], numbers: &[u64]) {
-    text(word);
-    text(b" ");
-    kept_of(numbers, 0);
-    text(b" sum");
-    number(sums::numbers(0, numbers) % sums::MODULUS);
-    text(b"\n");
+pub fn table(rt: &impl Print, word: &[u8], numbers: &[u64]) -> io::Result<()> {
+    text(rt, word)?;
+    text(rt, b" ")?;
+    kept_of(rt, numbers, 0)?;
+    text(rt, b" sum")?;
+    number(rt, sums::numbers(0, numbers) % sums::MODULUS)?;
+    text(rt, b"\n")
 }
 
 // The end of a line: the sum of both tables.
-pub fn tables(segments: &[u64], chunks: &[u64]) {
-    text(b" tables");
-    number(sums::numbers(sums::numbers(0, segments), chunks) % sums::MODULUS);
-    text(b"\n");
+pub fn tables(rt: &impl Print, segments: &[u64], chunks: &[u64]) -> io::Result<()> {
+    text(rt, b" tables")?;
+    number(
+        rt,
+        sums::numbers(sums::numbers(0, segments), chunks) % sums::MODULUS,
+    )?;
+    text(rt, b"\n")
 }
 
 // The front of a line: what is answered of a position.
-pub fn asked(p: Position, r: Asked) {
-    text(b"ask");
-    number(p.0);
+pub fn asked(rt: &impl Print, p: Position, r: Asked) -> io::Result<()> {
+    text(rt, b"ask")?;
+    number(rt, p.0)?;
     match r {
-        Asked::Refused(n) => answer(b" refused", n),
-        Asked::Served(n) => answer(b" served", n),
-        Asked::Missing(n) => answer(b" missing", n),
-        Asked::NotBelow => text(b" beyond"),
+        Asked::Refused(n) => answer(rt, b" refused", n),
+        Asked::Served(n) => answer(rt, b" served", n),
+        Asked::Missing(n) => answer(rt, b" missing", n),
+        Asked::NotBelow => text(rt, b" beyond"),
     }
 }
 
-fn answer(word: &[u8], n: u64) {
-    text(word);
-    number(n);
+fn answer(rt: &impl Print, word: &[u8], n: u64) -> io::Result<()> {
+    text(rt, word)?;
+    number(rt, n)
 }
 
 // The front of a line: the length of the part that serves a position, and its bytes or their sum.
-pub fn served(p: Position, part: &[u8]) {
-    text(b"serve");
-    number(p.0);
-    number(part.len() as u64);
+pub fn served(rt: &impl Print, p: Position, part: &[u8]) -> io::Result<()> {
+    text(rt, b"serve")?;
+    number(rt, p.0)?;
+    number(rt, part.len() as u64)?;
     if part.len() <= SHORT {
-        bytes(part);
+        bytes(rt, part)
     } else {
-        text(b" sum");
-        number(sums::bytes(part) % sums::MODULUS);
+        text(rt, b" sum")?;
+        number(rt, sums::bytes(part) % sums::MODULUS)
     }
 }

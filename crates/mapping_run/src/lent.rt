@@ -8,40 +8,42 @@ use partial::answers::Written;
 use partial::limits::PROGRAM_LIMIT;
 use printing::lines::{rest_bytes, text};
 use printing::marks::mark_bytes;
+use std::io;
 
 // More bytes than the longest file has.
 const LARGEST_BUFFER: usize = 65_600;
 
 // Writes both maps of a file. The buffer is a part of the largest; a record that asks for a larger one has no answer.
-pub fn mapped(file: &[u8], length: usize) {
+pub fn mapped(rt: &impl Print, file: &[u8], length: usize) -> io::Result<()> {
     let mut space = [0u8; LARGEST_BUFFER];
     if length <= space.len() {
-        mapped_in(file, &mut space[0..length]);
+        mapped_in(rt, file, &mut space[0..length])?;
     }
+    Ok(())
 }
 
-fn mapped_in(file: &[u8], buffer: &mut [u8]) {
+fn mapped_in(rt: &impl Print, file: &[u8], buffer: &mut [u8]) -> io::Result<()> {
     mark_bytes(buffer);
     let named = map(file, PROGRAM_LIMIT, buffer);
-    written(named, buffer);
+    written(rt, named, buffer)?;
     mark_bytes(buffer);
     let missed = missmap(file, PROGRAM_LIMIT, buffer);
-    written(missed, buffer);
+    written(rt, missed, buffer)
 }
 
 // What a call wrote, and what it left of the buffer.
-fn written(answer: Written, buffer: &[u8])
+fn written(rt: &impl Print, answer: Written, buffer: &[u8]) -> io::Result<()>
     requires { (n : ℕ) → answer ≡ Length n → n ≤ length buffer.now }
 {
     match answer {
         Written::Refused(n) => {
-            report::answer(b"refused", n);
-            rest_bytes(buffer, 0);
+            report::answer(rt, b"refused", n)?;
+            rest_bytes(rt, buffer, 0)
         }
         Written::Length(n) => {
-            report::answer(b"length", n);
-            text(&buffer[..n as usize]);
-            rest_bytes(buffer, n as usize);
+            report::answer(rt, b"length", n)?;
+            text(rt, &buffer[..n as usize])?;
+            rest_bytes(rt, buffer, n as usize)
         }
     }
 }

@@ -1,61 +1,61 @@
 // The parts of a line of output.
 use crate::marks::{kept, kept_bytes};
-use libc::STDOUT_FILENO;
+use std::io;
 
-pub fn text(s: &[u8]) {
-    io::write_all(STDOUT_FILENO, s);
+pub fn text(rt: &impl Print, s: &[u8]) -> io::Result<()> {
+    rt.write_all(s)
 }
 
-pub fn number(n: u64) {
-    text(b" ");
-    io::print_decimal(STDOUT_FILENO, n);
+pub fn number(rt: &impl Print, n: u64) -> io::Result<()> {
+    text(rt, b" ")?;
+    rt.print(n)
 }
 
-pub fn title(name: &[u8]) {
-    text(b"= ");
-    text(name);
-    text(b"\n");
+pub fn title(rt: &impl Print, name: &[u8]) -> io::Result<()> {
+    text(rt, b"= ")?;
+    text(rt, name)?;
+    text(rt, b"\n")
 }
 
 // The line of a refusal.
-pub fn refused(n: u64) {
-    text(b"refused");
-    number(n);
-    text(b"\n");
+pub fn refused(rt: &impl Print, n: u64) -> io::Result<()> {
+    text(rt, b"refused")?;
+    number(rt, n)?;
+    text(rt, b"\n")
 }
 
 // The end of a line: whether the size of the source is known.
-pub fn known(closed: bool) {
+pub fn known(rt: &impl Print, closed: bool) -> io::Result<()> {
     if closed {
-        text(b" closed\n");
+        text(rt, b" closed\n")
     } else {
-        text(b" open\n");
+        text(rt, b" open\n")
     }
 }
 
 // How many numbers of a table, from one on, still hold their mark, and how many there are.
-pub fn kept_of(table: &[u64], from: usize) {
-    kept_behind(kept(table, from), table.len(), from);
+pub fn kept_of(rt: &impl Print, table: &[u64], from: usize) -> io::Result<()> {
+    kept_behind(rt, kept(table, from), table.len(), from)
 }
 
 // How many behind a place of something so long still hold their mark, and how many there are.
-fn kept_behind(kept: u64, length: usize, from: usize) {
-    text(b"kept");
-    number(kept);
-    text(b" of");
-    number(behind(length, from));
+fn kept_behind(rt: &impl Print, kept: u64, length: usize, from: usize) -> io::Result<()> {
+    text(rt, b"kept")?;
+    number(rt, kept)?;
+    text(rt, b" of")?;
+    number(rt, behind(length, from))
 }
 
 // The line of what was left behind the rows.
-pub fn rest(table: &[u64], from: usize) {
-    kept_of(table, from);
-    text(b"\n");
+pub fn rest(rt: &impl Print, table: &[u64], from: usize) -> io::Result<()> {
+    kept_of(rt, table, from)?;
+    text(rt, b"\n")
 }
 
 // The line of what was left of a buffer behind a place.
-pub fn rest_bytes(buffer: &[u8], from: usize) {
-    kept_behind(kept_bytes(buffer, from), buffer.len(), from);
-    text(b"\n");
+pub fn rest_bytes(rt: &impl Print, buffer: &[u8], from: usize) -> io::Result<()> {
+    kept_behind(rt, kept_bytes(buffer, from), buffer.len(), from)?;
+    text(rt, b"\n")
 }
 
 fn behind(length: usize, from: usize) -> u64 {
@@ -67,15 +67,16 @@ fn behind(length: usize, from: usize) -> u64 {
 }
 
 // Bytes of a file, in two hexadecimal digits each.
-pub fn bytes(part: &[u8]) {
+pub fn bytes(rt: &impl Print, part: &[u8]) -> io::Result<()> {
     let mut i = 0;
     while i < part.len() {
-        byte(part[i]);
+        byte(rt, part[i])?;
         i += 1;
     }
+    Ok(())
 }
 
-fn byte(b: u8) {
-    text(b" ");
-    io::print_hex(STDOUT_FILENO, b as u64, 2);
+fn byte(rt: &impl Print, b: u8) -> io::Result<()> {
+    text(rt, b" ")?;
+    print!(rt; "{b:02x}")
 }

@@ -1,14 +1,20 @@
 // What the programs share that print a text for the file on their standard input.
+#![tactic(auto)]
+
+ghost use Rattle.std.specs.Counts.{IsPrefixLen};
 ghost use Rattle.std.specs.Prelude.{◌≡◌};
-ghost use Rattle.io.specs.Counts.{IsPrefixLen};
 ghost use Rattle.partial.specs.Limits.{program_limit};
 
-use libc::STDOUT_FILENO;
 use partial::answers::Written;
 use partial::limits::PROGRAM_LIMIT;
+pub use printing::input::read_full;
+use std::io;
 
 // One byte more than a program takes, so that a longer input is seen.
 pub const INPUT: usize = 65_537;
+
+// How many bytes the buffer has that a program lends for its text.
+pub const TEXT: usize = 65_536;
 
 // How many bytes a program takes.
 pub fn limit() -> u64
@@ -19,10 +25,10 @@ pub fn limit() -> u64
 
 // Prints the text that a call wrote, or the line of its refusal. No map is longer than the buffer (`NeverShort`, proved
 // in crates/partial/proofs/Demands.antt), and no list of boxes of so short a file; if one were, it would be said.
-pub fn print(answer: Written, text: &[u8], name: &[u8]) {
+pub fn print(rt: &impl Print, answer: Written, text: &[u8]) -> io::Result<()> {
     match answer {
-        Written::Refused(n) => refuse(n),
-        Written::Length(n) => print_first(text, n, name),
+        Written::Refused(n) => refuse(rt, n),
+        Written::Length(n) => print_first(rt, text, n),
     }
 }
 
@@ -36,15 +42,13 @@ fn count(n: u64, text: &[u8]) -> usize
     n as usize
 }
 
-fn print_first(text: &[u8], n: u64, name: &[u8]) {
+fn print_first(rt: &impl Print, text: &[u8], n: u64) -> io::Result<()> {
     let size = count(n, text);
-    if !io::write_all(STDOUT_FILENO, &text[..size]) {
-        os::fail(name);
-    }
+    rt.write_all(&text[..size])
 }
 
-fn refuse(n: u64) {
-    io::write_all(STDOUT_FILENO, b"refused\t");
-    io::print_decimal(STDOUT_FILENO, n);
-    io::write_all(STDOUT_FILENO, b"\n");
+fn refuse(rt: &impl Print, n: u64) -> io::Result<()> {
+    rt.write_all(b"refused\t")?;
+    rt.print(n)?;
+    rt.write_all(b"\n")
 }

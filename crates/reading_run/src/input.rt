@@ -3,9 +3,13 @@
 // the name and the file.
 use crate::lent;
 use crate::lent::Wanted;
-use libc::STDIN_FILENO;
+use printing::input::read_full;
 use printing::records;
 use printing::records::pair;
+use std::io;
+
+// The most bytes of a file; a record of more has no answer.
+const LARGEST_FILE: usize = 65_536;
 
 // The six numbers of the next record.
 #[derive(Clone, Copy)]
@@ -19,21 +23,21 @@ enum Head {
 }
 
 // Takes the next record, and prints its name and the answers. Whether there was one.
-pub fn record() -> bool {
-    match next() {
-        Head::End => false,
+pub fn record(rt: &(impl Input + Print)) -> io::Result<bool> {
+    match next(rt)? {
+        Head::End => Ok(false),
         Head::Given { name, file, wanted } => {
-            records::name(name);
-            answers(file, wanted);
-            true
+            records::name(rt, name)?;
+            answers(rt, file, wanted)?;
+            Ok(true)
         }
     }
 }
 
-fn next() -> Head {
+fn next(rt: &impl Input) -> io::Result<Head> {
     let mut bytes = [0u8; 12];
-    if io::read_full(STDIN_FILENO, &mut bytes) < 12 {
-        return Head::End;
+    if read_full(rt, &mut bytes)? < 12 {
+        return Ok(Head::End);
     }
     let wanted = Wanted {
         segments: pair(bytes[2], bytes[3]),
@@ -41,22 +45,28 @@ fn next() -> Head {
         source: pair(bytes[8], bytes[9]) as u64,
         segment: pair(bytes[10], bytes[11]) as u64,
     };
-    Head::Given {
+    Ok(Head::Given {
         name: pair(bytes[0], bytes[1]),
         file: pair(bytes[6], bytes[7]),
         wanted,
-    }
+    })
 }
 
-fn answers(length: usize, wanted: Wanted) {
-    let mut space = io::large_buffer();
-    file_in(&mut space, length, wanted);
+fn answers(rt: &(impl Input + Print), length: usize, wanted: Wanted) -> io::Result<()> {
+    let mut space = [0u8; LARGEST_FILE];
+    file_in(rt, &mut space, length, wanted)
 }
 
-fn file_in(space: &mut [u8], length: usize, wanted: Wanted) {
+fn file_in(
+    rt: &(impl Input + Print),
+    space: &mut [u8],
+    length: usize,
+    wanted: Wanted,
+) -> io::Result<()> {
     if length <= space.len() {
         let file = &mut space[0..length];
-        io::read_full(STDIN_FILENO, file);
-        lent::answers(file, wanted);
+        read_full(rt, file)?;
+        lent::answers(rt, file, wanted)?;
     }
+    Ok(())
 }

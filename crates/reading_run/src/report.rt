@@ -3,15 +3,21 @@ ghost use Rattle.std.specs.Prelude.{◌≤◌};
 
 use partial::answers::Read;
 use printing::lines::{bytes, known, number, refused, rest, rest_bytes, text};
+use std::io;
 use surltexts::calls::Told;
 
 // A refusal, or the counts, the described length and the rows; then how the rest of each table was left.
-pub fn answer(r: Read, segment_table: &[u64], chunk_table: &[u64]) {
+pub fn answer(
+    rt: &impl Print,
+    r: Read,
+    segment_table: &[u64],
+    chunk_table: &[u64],
+) -> io::Result<()> {
     match r {
         Read::Refused(n) => {
-            refused(n);
-            rest(segment_table, 0);
-            rest(chunk_table, 0);
+            refused(rt, n)?;
+            rest(rt, segment_table, 0)?;
+            rest(rt, chunk_table, 0)
         }
         Read::Tables {
             segments,
@@ -20,73 +26,83 @@ pub fn answer(r: Read, segment_table: &[u64], chunk_table: &[u64]) {
             described,
             closed,
         } => {
-            text(b"read");
-            number(segments);
-            number(chunks);
-            number(sources);
-            number(described.0);
-            known(closed);
-            rest(segment_table, rows(b"segment", segment_table, segments, 8));
-            rest(chunk_table, rows(b"chunk", chunk_table, chunks, 6));
+            text(rt, b"read")?;
+            number(rt, segments)?;
+            number(rt, chunks)?;
+            number(rt, sources)?;
+            number(rt, described.0)?;
+            known(rt, closed)?;
+            rest(
+                rt,
+                segment_table,
+                rows(rt, b"segment", segment_table, segments, 8)?,
+            )?;
+            rest(rt, chunk_table, rows(rt, b"chunk", chunk_table, chunks, 6)?)
         }
     }
 }
 
 // The rows that stand in a table, as many as are claimed and no more than it holds. How many numbers they are.
-fn rows(word: &[u8], table: &[u64], count: u64, width: usize) -> usize {
+fn rows(
+    rt: &impl Print,
+    word: &[u8],
+    table: &[u64],
+    count: u64,
+    width: usize,
+) -> io::Result<usize> {
     let mut left = count;
     let mut at = 0;
     while left > 0 {
         if table.len() - at < width {
-            return at;
+            return Ok(at);
         }
-        row(word, &table[at..at + width]);
+        row(rt, word, &table[at..at + width])?;
         at += width;
         left -= 1;
     }
-    at
+    Ok(at)
 }
 
-fn row(word: &[u8], numbers: &[u64]) {
-    text(word);
+fn row(rt: &impl Print, word: &[u8], numbers: &[u64]) -> io::Result<()> {
+    text(rt, word)?;
     let mut i = 0;
     while i < numbers.len() {
-        number(numbers[i]);
+        number(rt, numbers[i])?;
         i += 1;
     }
-    text(b"\n");
+    text(rt, b"\n")
 }
 
 // A part of the file, byte by byte.
-pub fn part(word: &[u8], s: &[u8]) {
-    text(word);
-    bytes(s);
-    text(b"\n");
+pub fn part(rt: &impl Print, word: &[u8], s: &[u8]) -> io::Result<()> {
+    text(rt, word)?;
+    bytes(rt, s)?;
+    text(rt, b"\n")
 }
 
 // A refusal, or how many bytes and lengths there are, and these; then how the rest of each memory was left.
-pub fn texts(r: Told, text_bytes: &[u8], text_lengths: &[u64]) {
-    text(b"texts");
+pub fn texts(rt: &impl Print, r: Told, text_bytes: &[u8], text_lengths: &[u64]) -> io::Result<()> {
+    text(rt, b"texts")?;
     match r {
         Told::Refused(n) => {
-            text(b" ");
-            refused(n);
-            rest_bytes(text_bytes, 0);
-            rest(text_lengths, 0);
+            text(rt, b" ")?;
+            refused(rt, n)?;
+            rest_bytes(rt, text_bytes, 0)?;
+            rest(rt, text_lengths, 0)
         }
         Told::Texts {
             bytes: size,
             lengths: count,
         } => {
-            number(size);
-            number(count);
-            text(b"\n");
+            number(rt, size)?;
+            number(rt, count)?;
+            text(rt, b"\n")?;
             let end = front(size, text_bytes.len());
             let last = front(count, text_lengths.len());
-            part(b"bytes", &text_bytes[0..end]);
-            row(b"lengths", &text_lengths[0..last]);
-            rest_bytes(text_bytes, end);
-            rest(text_lengths, last);
+            part(rt, b"bytes", &text_bytes[0..end])?;
+            row(rt, b"lengths", &text_lengths[0..last])?;
+            rest_bytes(rt, text_bytes, end)?;
+            rest(rt, text_lengths, last)
         }
     }
 }

@@ -6,11 +6,12 @@
 // lengths and the text bytes.
 use crate::{list, report};
 use additions::header::SegmentHeader;
-use libc::STDIN_FILENO;
 use partial::answers::Written;
 use partial::brand::Brand;
 use partial::position::Position;
+use printing::input::read_full;
 use printing::records::{eight, pair};
+use std::io;
 use writing::append::append;
 use writing::begin::begin;
 
@@ -20,54 +21,69 @@ const MOST_LENGTHS: usize = 1_300;
 const MOST_TEXTS: usize = 65_536;
 
 // Makes so many calls on the buffer, in which a file of some length stands. The length of the file that they leave.
-pub fn all(buffer: &mut [u8], list: &mut [u64], bytes: &mut [u8], count: usize, file: u64) -> u64 {
+pub fn all(
+    rt: &(impl Input + Print),
+    buffer: &mut [u8],
+    list: &mut [u64],
+    bytes: &mut [u8],
+    count: usize,
+    file: u64,
+) -> io::Result<u64> {
     let mut length = file;
     let mut left = count;
     while left > 0 {
-        length = call(buffer, list, bytes, length);
+        length = call(rt, buffer, list, bytes, length)?;
         left -= 1;
     }
-    length
+    Ok(length)
 }
 
 // Makes the next call, and prints its answer. The length of the file after it.
-fn call(buffer: &mut [u8], list: &mut [u64], bytes: &mut [u8], length: u64) -> u64 {
+fn call(
+    rt: &(impl Input + Print),
+    buffer: &mut [u8],
+    list: &mut [u64],
+    bytes: &mut [u8],
+    length: u64,
+) -> io::Result<u64> {
     let mut front = [0u8; 8];
-    io::read_full(STDIN_FILENO, &mut front);
+    read_full(rt, &mut front)?;
     let mixed = pair(front[2], front[3]) != 0;
     let first = pair(front[4], front[5]);
     let second = pair(front[6], front[7]);
     if pair(front[0], front[1]) == 0 {
-        begins(buffer, bytes, mixed, first, second, length)
+        begins(rt, buffer, bytes, mixed, first, second, length)
     } else {
-        appends(buffer, list, bytes, mixed, first, second, length)
+        appends(rt, buffer, list, bytes, mixed, first, second, length)
     }
 }
 
 // A call for which there is no room, here and below, is not made.
 fn begins(
+    rt: &(impl Input + Print),
     buffer: &mut [u8],
     bytes: &mut [u8],
     mixed: bool,
     url: usize,
     mime: usize,
     length: u64,
-) -> u64 {
+) -> io::Result<u64> {
     if url > bytes.len() {
-        return length;
+        return Ok(length);
     }
     if mime > bytes.len() - url {
-        return length;
+        return Ok(length);
     }
     let end = url + mime;
-    io::read_full(STDIN_FILENO, &mut bytes[0..end]);
+    read_full(rt, &mut bytes[0..end])?;
     let brand = if mixed { Brand::Pmff } else { Brand::Paff };
     let answer = begin(buffer, brand, &bytes[0..url], &bytes[url..end]);
-    report::written(b"begin", buffer, 0, answer);
-    after(answer, length)
+    report::written(rt, b"begin", buffer, 0, answer)?;
+    Ok(after(answer, length))
 }
 
 fn appends(
+    rt: &(impl Input + Print),
     buffer: &mut [u8],
     list: &mut [u64],
     bytes: &mut [u8],
@@ -75,44 +91,44 @@ fn appends(
     given: usize,
     size: usize,
     length: u64,
-) -> u64 {
-    let stated = eight();
-    let header = header();
-    let count = eight() as usize;
-    let lengths_given = eight() as usize;
-    let length_count = eight() as usize;
-    let text_size = eight() as usize;
+) -> io::Result<u64> {
+    let stated = eight(rt)?;
+    let header = header(rt)?;
+    let count = eight(rt)? as usize;
+    let lengths_given = eight(rt)? as usize;
+    let length_count = eight(rt)? as usize;
+    let text_size = eight(rt)? as usize;
     let mut lengths = [0u64; MOST_LENGTHS];
     let mut texts = [0u8; MOST_TEXTS];
     if count > list.len() || size > bytes.len() {
-        return length;
+        return Ok(length);
     }
     if length_count > lengths.len() || text_size > texts.len() {
-        return length;
+        return Ok(length);
     }
     let list = &mut list[0..count];
     let data = &mut bytes[0..size];
     let lengths = &mut lengths[0..length_count];
     let texts = &mut texts[0..text_size];
-    list::fill(list, given);
-    io::read_full(STDIN_FILENO, data);
-    list::fill(lengths, lengths_given);
-    io::read_full(STDIN_FILENO, texts);
+    list::fill(rt, list, given)?;
+    read_full(rt, data)?;
+    list::fill(rt, lengths, lengths_given)?;
+    read_full(rt, texts)?;
     let answer = append(buffer, stated, header, outside, list, data, texts, lengths);
-    report::written(b"append", buffer, stated, answer);
-    after(answer, length)
+    report::written(rt, b"append", buffer, stated, answer)?;
+    Ok(after(answer, length))
 }
 
 // A header as it is given: flags that the writer does not set are left in it.
-fn header() -> SegmentHeader {
-    let offset = Position(eight());
-    let repair = eight();
-    let flags = (eight() % 4294967296) as u32;
-    SegmentHeader {
+fn header(rt: &impl Input) -> io::Result<SegmentHeader> {
+    let offset = Position(eight(rt)?);
+    let repair = eight(rt)?;
+    let flags = (eight(rt)? % 4294967296) as u32;
+    Ok(SegmentHeader {
         offset,
         repair,
         flags,
-    }
+    })
 }
 
 // The length of the file after a call on one of that length.

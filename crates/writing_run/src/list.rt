@@ -1,20 +1,23 @@
 // A list of an append, of chunks or of text lengths: the numbers given, and the same again and again up to its length, so
 // that a list of many pairs is a short record.
 use printing::records::eight;
+use std::io;
 
-pub fn fill(list: &mut [u64], given: usize) {
+pub fn fill(rt: &impl Input, list: &mut [u64], given: usize) -> io::Result<()> {
     if given <= list.len() {
-        take(&mut list[0..given]);
+        take(rt, &mut list[0..given])?;
         repeat(list, given);
     }
+    Ok(())
 }
 
-fn take(list: &mut [u64]) {
+fn take(rt: &impl Input, list: &mut [u64]) -> io::Result<()> {
     let mut i = 0;
     while i < list.len() {
-        list[i] = eight();
+        list[i] = eight(rt)?;
         i += 1;
     }
+    Ok(())
 }
 
 // Fills the list from a number on with those before it.

@@ -2,46 +2,54 @@
 use partial::answers::{Read, Written};
 use printing::lines::{bytes, known, number, refused, text};
 use printing::sums;
+use std::io;
 
 // The longest addition that is printed byte by byte.
 const SHORT: u64 = 96;
 
 // The answer of a call, the sum of the whole buffer, and the new bytes where they are few.
-pub fn written(word: &[u8], buffer: &[u8], from: u64, r: Written) {
-    text(word);
+pub fn written(
+    rt: &impl Print,
+    word: &[u8],
+    buffer: &[u8],
+    from: u64,
+    r: Written,
+) -> io::Result<()> {
+    text(rt, word)?;
     match r {
         Written::Refused(n) => {
-            text(b" refused");
-            number(n);
-            sum(buffer);
+            text(rt, b" refused")?;
+            number(rt, n)?;
+            sum(rt, buffer)?;
         }
         Written::Length(n) => {
-            text(b" length");
-            number(n);
-            sum(buffer);
-            new_bytes(buffer, from, n);
+            text(rt, b" length")?;
+            number(rt, n)?;
+            sum(rt, buffer)?;
+            new_bytes(rt, buffer, from, n)?;
         }
     }
-    text(b"\n");
+    text(rt, b"\n")
 }
 
-fn sum(buffer: &[u8]) {
-    text(b" sum");
-    number(sums::bytes(buffer) % sums::MODULUS);
+fn sum(rt: &impl Print, buffer: &[u8]) -> io::Result<()> {
+    text(rt, b" sum")?;
+    number(rt, sums::bytes(buffer) % sums::MODULUS)
 }
 
-fn new_bytes(buffer: &[u8], from: u64, end: u64) {
+fn new_bytes(rt: &impl Print, buffer: &[u8], from: u64, end: u64) -> io::Result<()> {
     if from <= end && end <= buffer.len() as u64 && end - from <= SHORT {
-        text(b" bytes");
-        bytes(&buffer[from as usize..end as usize]);
+        text(rt, b" bytes")?;
+        bytes(rt, &buffer[from as usize..end as usize])?;
     }
+    Ok(())
 }
 
 // What is read of the file after the calls: a refusal, or the counts, the described length of a source, and whether it
 // is its size.
-pub fn read(r: Read) {
+pub fn read(rt: &impl Print, r: Read) -> io::Result<()> {
     match r {
-        Read::Refused(n) => refused(n),
+        Read::Refused(n) => refused(rt, n),
         Read::Tables {
             segments,
             chunks,
@@ -49,12 +57,12 @@ pub fn read(r: Read) {
             described,
             closed,
         } => {
-            text(b"read");
-            number(segments);
-            number(chunks);
-            number(sources);
-            number(described.0);
-            known(closed);
+            text(rt, b"read")?;
+            number(rt, segments)?;
+            number(rt, chunks)?;
+            number(rt, sources)?;
+            number(rt, described.0)?;
+            known(rt, closed)
         }
     }
 }
