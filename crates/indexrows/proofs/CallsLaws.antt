@@ -36,7 +36,6 @@ use Rattle.gathering.proofs.RowLaws.{put_filled}
 use Rattle.filling.proofs.RowLaws.{put_same}
 use Rattle.fileindex.specs.File.{Tells, source_row, rows_by}
 use Rattle.fileindex.specs.declared.file.FileIndex.{FileIndex}
-use Rattle.fileindex.specs.declared.file.FileIndex.TheVariants as FileIndex
 use Rattle.reading.specs.Judged.{Judged}
 use Rattle.reading.proofs.JudgedLaws.{Accepted, read_opened}
 use Rattle.indexrows.specs.Calls.{Indexes}

@@ -13,12 +13,11 @@ use Rattle.boxes.specs.Answer.{Answer, refused, given}
 use Rattle.partial.specs.Answers.{listed_answer}
 use Rattle.partial.specs.Limits.{source_limit}
 use Rattle.partial.specs.Memory.{fits, after}
-use Rattle.partial.specs.Ranges.{had, missing, ranges, class_of, ranges_of, had_list, missing_list}
+use Rattle.partial.specs.Ranges.{ranges, class_of, ranges_of, had_list, missing_list}
 use Rattle.partial.specs.Segments.{Segment}
 use Rattle.partial.specs.Sources.{of_source}
 use Rattle.partial.specs.Tables.{range_row_length, range_rows, tabled, listed, segment_rows, chunk_rows, had_rows, missing_rows, totals}
 use Rattle.partial.specs.declared.answers.Listed.{Listed}
-use Rattle.partial.specs.declared.answers.Listed.TheVariants as Listed
 use Rattle.partial.proofs.Meaning.SequenceLaws.{which, both}
 use Rattle.filling.specs.Rows.{Put}
 use Rattle.gathering.proofs.RowLaws.{put_filled}

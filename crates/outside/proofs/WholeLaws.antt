@@ -1,18 +1,16 @@
 -- Laws of bytes that are whole boxes: by the boxes that a walk has passed, how many there may be, and how two of them
 -- join.
 use Prim.Native.Nat.{ℕ, ◌+◌, ◌≤◌}
-use mathlib.Core.Bool.{true, false, not, ◌&&◌, and-false, false≢true}
+use mathlib.Core.Bool.{true, false, ◌&&◌, and-false, false≢true}
 use mathlib.Core.List.{List, [], ◌∷◌, ◌++◌, map, append-nil}
 use mathlib.Core.Logic.{inl, inr}
 use mathlib.Core.Option.{none, some}
 use mathlib.Core.Path.{◌≡◌, refl, sym, ap, ◌∙◌}
 use native.Mathlib.Omega.{arith}
-use borrow.Author.Tests.{ne_eqb}
-use lib.Dec.{eqb}
 use lib.ListN.{length, length-append, length-map}
 use Rattle.boxes.specs.Answer.{Answer, refused, given, ◌>>=◌}
 use Rattle.boxes.specs.Framing.{Box}
-use Rattle.boxes.specs.Kinds.{ftyp, pfil, pseg, pdat, is}
+use Rattle.boxes.specs.Kinds.{is}
 use Rattle.boxes.specs.Walk.{stepped}
 use Rattle.boxes.specs.declared.kinds.Container.TheVariants.{File}
 use Rattle.boxes.specs.declared.walk.Walk.{Walk}
@@ -23,7 +21,6 @@ use Rattle.partial.specs.Mixed.{allowed, boxes_of, are_boxes, boxes_many}
 use Rattle.partial.specs.Sequences.{all_of}
 use Rattle.partial.proofs.Meaning.SequenceLaws.{which, all_append}
 use Rattle.outside.specs.Whole.{whole_of}
-use Rattle.outside.specs.declared.whole.Whole.{Whole}
 use Rattle.outside.specs.declared.whole.Whole.TheVariants.{Boxes, Not}
 
 -- ---- what bytes are, by a walk over them

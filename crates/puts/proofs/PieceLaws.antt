@@ -2,7 +2,7 @@
 use Prim.Native.Nat.{ℕ, ◌+◌, ◌-◌, ◌^◌, ◌≤◌, ◌<◌, min}
 use mathlib.Core.Bool.{Bool, true}
 use mathlib.Core.List.{List, [], ◌++◌, append-nil, append_assoc}
-use mathlib.Core.Path.{◌≡◌, refl, sym, ap, ap₂, subst, ◌∙◌}
+use mathlib.Core.Path.{◌≡◌, refl, sym, ap, subst, ◌∙◌}
 use native.Mathlib.Nat.{add-zero, min-eq_left}
 use native.Mathlib.Omega.{arith}
 use lib.ListN.{length, drop, length-append}
@@ -14,7 +14,6 @@ use Rattle.numerals.specs.declared.numbers.Offset.{Offset}
 use Rattle.numerals.proofs.NumberLaws.{length-bytes_of, bytes_of-joined}
 use Rattle.numerals.proofs.WidthLaws.{below_holds}
 use Rattle.boxes.proofs.BoxedLaws.{front-size, size_held, length-boxed, boxed_parts}
-use Rattle.filling.specs.Rows.{Puts}
 use Rattle.filling.proofs.PutsLaws.{puts_stored, puts_same, puts_more}
 use Rattle.filling.proofs.RowLaws.{put_stored, put_fills, put_none}
 use Rattle.texts.specs.Pieces.{PutsPiece}

@@ -1,17 +1,16 @@
 -- Laws of the texts of `surl` boxes: each with the zero byte that closes it, and those that a list of lengths cuts.
-use Prim.Native.Nat.{ℕ, suc, ◌+◌, ◌-◌, ◌*◌, ◌/◌, ◌^◌, ◌≤◌, ◌<◌, min}
+use Prim.Native.Nat.{ℕ, suc, ◌+◌, ◌-◌, ◌*◌, ◌/◌, ◌≤◌, ◌<◌, min}
 use mathlib.Core.List.{List, [], ◌∷◌, ◌++◌, append_assoc}
 use mathlib.Core.Path.{◌≡◌, refl, sym, ap, ◌∙◌}
 use native.Mathlib.Omega.{arith}
-use lib.ListN.{length, take, drop, get_or, length-drop, length-append, drop_of_length-le}
+use lib.ListN.{length, take, drop, get_or, length-drop, length-append}
 use lib.Seq.{drop-cons}
 use Rattle.numerals.specs.Numbers.{bytes_of}
 use Rattle.additions.specs.Addition.{surls_of}
 use Rattle.additions.specs.Append.{surl_boxes}
 use Rattle.additions.specs.Begin.{surl_box}
 use Rattle.outside.proofs.ItemLaws.{data-part, data-behind}
-use Rattle.puts.specs.Pieces.{PutsPieces}
-use Rattle.puts.proofs.PieceLaws.{Partly, partly_start, partly_same, partly_end, partly_more}
+use Rattle.puts.proofs.PieceLaws.{Partly}
 
 -- two texts, each with its zero byte
 pub texts_closed : (url mime : List ℕ) → (url ++ (0 ∷ [])) ++ (mime ++ (0 ∷ [])) ≡ url ++ (0 ∷ (mime ++ (0 ∷ [])))

@@ -6,7 +6,6 @@ use mathlib.Core.List.{List, []}
 use mathlib.Core.Logic.{inl, inr}
 use mathlib.Core.Path.{◌≡◌, refl, sym, ap, subst, ◌∙◌}
 use borrow.Author.Tests.{le-leb, lt-leb, leb-true}
-use lib.Dec.{leb}
 use lib.ListN.{length}
 use Rattle.boxes.specs.Answer.{Answer, refused, given, ◌>>=◌, hold}
 use Rattle.boxes.specs.Kinds.{pseg, those, right}
@@ -26,7 +25,6 @@ use Rattle.partial.proofs.Reading.RefusalLaws.{no_segments, earlier_read}
 use Rattle.heading.specs.Facts.{Facts, facts_of, facts_by, told, headed_answer}
 use Rattle.heading.specs.declared.answers.Head.{Head}
 use Rattle.heading.specs.declared.answers.Headed.{Headed}
-use Rattle.heading.specs.declared.answers.Headed.TheVariants as Headed
 use Rattle.heading.proofs.FoundLaws.{pfil_inside}
 use Rattle.sources.specs.Held.{Sourced}
 use Rattle.gathering.specs.Forms.{all_puts}
@@ -36,10 +34,8 @@ use Rattle.gathering.specs.Step.{Noted}
 use Rattle.gathering.proofs.PassLaws.{rows_put}
 use Rattle.gathering.specs.declared.gathered.Gathered.{Gathered}
 use Rattle.gathering.specs.declared.pass.Passed.{Passed}
-use Rattle.gathering.specs.declared.pass.Passed.TheVariants as Passed
 use Rattle.reading.specs.Judged.{Judged, gathered_in, indexed_told, judged_in, earlier_told, reading_told, gathered_answer, judged_by, judged_answer, WhereRead, KeptIn, SizedIn, SourcedIn}
 use Rattle.reading.specs.declared.judging.Judgement.{Judgement}
-use Rattle.reading.specs.declared.judging.Judgement.TheVariants as Judgement
 use Rattle.reading.specs.declared.judging.Judged.{Judged as CodeJudged}
 
 -- a refusal behind which nothing is refused stands before it

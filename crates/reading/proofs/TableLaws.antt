@@ -17,7 +17,6 @@ use Rattle.partial.specs.Segments.{Segment, chunks_of}
 use Rattle.partial.specs.Sources.{of_source}
 use Rattle.partial.specs.Tables.{segment_row_length, chunk_row_length, tabled, segment_rows, chunk_rows, summary}
 use Rattle.partial.specs.declared.answers.Read.{Read}
-use Rattle.partial.specs.declared.answers.Read.TheVariants as Read
 use Rattle.partial.specs.declared.position.Position.{Position}
 use Rattle.filling.specs.Rows.{Put}
 use Rattle.filling.proofs.RowLaws.{put_fills}

@@ -18,7 +18,6 @@ use Rattle.gathering.specs.Numbers.{numbers_of}
 use Rattle.gathering.specs.Gathered.{gathered_of}
 use Rattle.gathering.specs.declared.gathered.Gathered.{Gathered}
 use Rattle.gathering.specs.declared.pass.Passed.{Passed}
-use Rattle.gathering.specs.declared.pass.Passed.TheVariants as Passed
 use Rattle.reading.specs.declared.judging.Judged.{Judged as CodeJudged}
 use Rattle.reading.specs.declared.judging.Judgement.{Judgement}
 use Rattle.reading.specs.declared.judging.Judgement.TheVariants.{Refused, Given}

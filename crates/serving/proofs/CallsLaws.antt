@@ -18,7 +18,6 @@ use Rattle.partial.specs.Sources.{of_source}
 use Rattle.partial.specs.Tables.{tabled, chunk_rows, summary, Summary, part_of, served_part, asked, nowhere}
 use Rattle.partial.specs.Heading.{bytes_in}
 use Rattle.partial.specs.declared.answers.Read.{Read}
-use Rattle.partial.specs.declared.answers.Read.TheVariants as Read
 use Rattle.partial.specs.declared.position.Position.{Position}
 use Rattle.partial.proofs.Meaning.RunLaws.{missing-run}
 use Rattle.partial.proofs.Meaning.SequenceLaws.{which}

@@ -5,7 +5,6 @@ use Rattle.boxes.specs.Answer.{Answer, refused, given, ◌>>=◌, hold}
 use Rattle.partial.specs.Memory.{fits, after}
 use Rattle.partial.specs.Texts.{Surl, texts_for, lengths_for}
 use Rattle.surltexts.specs.declared.calls.Told.{Told}
-use Rattle.surltexts.specs.declared.calls.Told.TheVariants as Told
 
 -- how many bytes texts have, and how many lengths there are
 pub record Amounts : Type 0 where

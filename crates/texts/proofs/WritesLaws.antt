@@ -13,7 +13,6 @@ use Rattle.filling.proofs.RowLaws.{put_fills}
 use Rattle.partial.specs.Answers.{written_answer}
 use Rattle.partial.specs.Memory.{fits, after, filled, written, text_written}
 use Rattle.partial.specs.declared.answers.Written.{Written}
-use Rattle.partial.specs.declared.answers.Written.TheVariants as Written
 use Rattle.texts.specs.Writes.{Writes}
 
 module _ (text buffer : List ℕ) where

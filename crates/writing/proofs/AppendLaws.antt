@@ -28,7 +28,6 @@ use Rattle.additions.specs.Begin.{is_text}
 use Rattle.partial.specs.Sequences.{all_of}
 use Rattle.partial.specs.Sources.{urls_for, same_urls, source_count, source_beside}
 use Rattle.partial.specs.declared.answers.Written.{Written}
-use Rattle.partial.specs.declared.answers.Written.TheVariants as Written
 use Rattle.additions.specs.declared.header.SegmentHeader.{SegmentHeader}
 use Rattle.partial.proofs.Meaning.SequenceLaws.{which}
 use Rattle.partial.proofs.Reading.HeadingAppendLaws.{headed}
@@ -46,7 +45,6 @@ use Rattle.reading.specs.Judged.{judged_by, earlier_told, SizedIn, SourcedIn}
 use Rattle.reading.specs.declared.judging.Judged.{Judged}
 use Rattle.reading.proofs.JudgedLaws.{earlier_cases, accepted, read_refused, read_given}
 use Rattle.reading.proofs.JudgedLaws.{earlier_headless as told-headless}
-use Rattle.surls.specs.declared.body.Body.{Body}
 use Rattle.sources.specs.Held.{PfilList}
 use Rattle.ends.specs.Table.{sizes_in}
 use Rattle.going.specs.Source.{SourceFor, GoesTo, HasList}

@@ -1,22 +1,17 @@
 -- `adding::admission::admission` meets its contract: 1 and 6 in their order, and then whether the segment is admitted.
 use Prim.Native.Nat.{ℕ, ◌+◌}
-use mathlib.Core.Bool.{true}
 use mathlib.Core.List.{List}
-use mathlib.Core.Path.{◌≡◌, sym, ap, subst, ◌∙◌}
+use mathlib.Core.Path.{sym, ap, subst, ◌∙◌}
 use native.Mathlib.Omega.{arith}
-use borrow.Author.Tests.{leb-true, not-true, not-false}
-use lib.Dec.{leb}
+use borrow.Author.Tests.{leb-true}
 use lib.ListN.{length}
 use Rattle.boxes.specs.Answer.{Answer, given, ◌>>=◌}
-use Rattle.additions.specs.Addition.{Addition}
 use Rattle.partial.specs.Answers.{written_answer}
-use Rattle.additions.specs.Append.{added, new_urls}
-use Rattle.partial.specs.Heading.{Heading}
+use Rattle.additions.specs.Append.{added}
 use Rattle.partial.specs.Limits.{file_limit}
-use Rattle.partial.specs.Segments.{Segment}
 use Rattle.partial.specs.Sources.{source_beside}
 use Rattle.additions.proofs.NewSegmentLaws.{no_index_new, urls_new, source_new}
-use Rattle.adding.specs.Admission.{Beside, Goes, AskedBy, admitted_answer, admitted_length}
+use Rattle.adding.specs.Admission.{Goes, admitted_answer}
 use Rattle.adding.proofs.AdmissionLaws.{file_test, size_whole, box_test, inner_test, tells_new}
 use Rattle.adding.proofs.AdmissionLaws.{admission_1, admission_6, admission_6_inner, admission_by}
 use Rattle.adding.proofs.admission.admission.Goals as goal

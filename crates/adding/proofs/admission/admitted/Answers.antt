@@ -1,20 +1,16 @@
 -- `adding::admission::admitted` meets its contract: 13, 41, 22, 23, 25 and 40 in their order, and then the index.
 use Prim.Native.Nat.{ℕ, ◌+◌, ◌≤◌}
-use mathlib.Core.Bool.{true}
-use mathlib.Core.List.{List, [], ◌∷◌, ◌++◌}
-use mathlib.Core.Path.{◌≡◌, sym, ap, ◌∙◌}
+use mathlib.Core.List.{[], ◌∷◌, ◌++◌}
+use mathlib.Core.Path.{sym, ap, ◌∙◌}
 use native.Mathlib.Omega.{arith}
 use borrow.Author.Tests.{leb-true, not-true, not-false}
-use Rattle.partial.specs.Heading.{Heading}
 use Rattle.partial.specs.Limits.{source_limit}
-use Rattle.partial.specs.Meaning.{agree}
-use Rattle.partial.specs.Segments.{Segment, end_of}
-use Rattle.partial.specs.Sources.{source_beside, of_source}
+use Rattle.partial.specs.Segments.{end_of}
+use Rattle.partial.specs.Sources.{of_source}
 use Rattle.ends.specs.Sizes.{sizes_of}
-use Rattle.gathering.specs.Gathered.{gathered_of}
 use Rattle.gathering.proofs.GatheredLaws.{gathered-segments}
 use Rattle.gathering.proofs.LateLaws.{agreed_beside, sources_full, sources_few}
-use Rattle.adding.specs.Admission.{Tells, Goes, admitted_answer}
+use Rattle.adding.specs.Admission.{admitted_answer}
 use Rattle.adding.proofs.AdmissionLaws.{segments_full, segments_few, chunk_test, source_test, source_end, earlier_segmented}
 use Rattle.adding.proofs.AdmissionLaws.{Passes23, admitted_13, admitted_41, admitted_22, admitted_23, admitted_25, admitted_40, admitted_by}
 use Rattle.adding.proofs.admission.admitted.Goals as goal

@@ -2,7 +2,6 @@
 -- they are put.
 use Prim.Native.Nat.{◌≤◌}
 use native.Mathlib.Omega.{arith}
-use borrow.Author.Tests.{not-false}
 use lib.ListN.{length}
 use Rattle.filling.proofs.PutsLaws.{puts_same}
 use Rattle.texts.proofs.WritesLaws.{writes_short, writes_given}

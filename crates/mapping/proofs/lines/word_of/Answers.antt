@@ -1,6 +1,5 @@
 -- `mapping::lines::word_of` meets its contract.
 use mathlib.Core.Path.{refl}
-use borrow.Author.Tests.{not-true, not-false}
 use Rattle.mapping.proofs.LineLaws.{have_word, miss-word, held_word, lost_word}
 use Rattle.mapping.proofs.lines.word_of.Goals as goal
 

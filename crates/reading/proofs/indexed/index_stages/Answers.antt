@@ -1,7 +1,6 @@
 -- `reading::indexed::index_stages` meets its contract: nothing where there is no index, else 36 and then what is
 -- marked.
 use mathlib.Core.Path.{sym, ap, ◌∙◌}
-use borrow.Author.Tests.{not-true}
 use Rattle.partial.specs.Answers.{counted_answer}
 use Rattle.reading.specs.Staged.{staged}
 use Rattle.reading.proofs.StagedLaws.{nothing-staged, index-refused, index-marked}

@@ -1,7 +1,6 @@
 -- `reading::judging::earlier_of` meets its contract: the heading, then its segments, then the index of a file that has
 -- one.
 use mathlib.Core.Path.{sym, ◌∙◌}
-use borrow.Author.Tests.{not-true, not-false}
 use Rattle.partial.specs.Limits.{source_limit}
 use Rattle.partial.proofs.Reading.RefusalLaws.{earlier_headless as none-earlier}
 use Rattle.reading.specs.Judged.{judged_answer}

@@ -1,6 +1,5 @@
 -- `reading::judging::judge_into` meets its contract: the heading, then 12, then its segments, then its index.
 use mathlib.Core.Path.{sym, ◌∙◌}
-use borrow.Author.Tests.{not-true, not-false}
 use Rattle.reading.specs.Judged.{judged_answer}
 use Rattle.reading.proofs.JudgedLaws.{heading_refused, heading-found, answer_refused, answer_given}
 use Rattle.reading.proofs.JudgedLaws.{reading_headless, reading_none, reading_by, judged_refused, gathered_known, read_refused, kept_refused, kept_read, noted_sized, noted_sourced}

@@ -3,7 +3,7 @@ use Prim.Native.Nat.{ℕ, ◌+◌, ◌-◌, ◌≤◌}
 use mathlib.Core.Path.{◌≡◌, refl, sym, ap, ◌∙◌}
 use native.Mathlib.Omega.{arith}
 use lib.ListN.{length, take, drop}
-use borrow.Author.Tests.{leb-true, not-true, not-false}
+use borrow.Author.Tests.{leb-true}
 use Rattle.partial.specs.Tables.{nowhere}
 use Rattle.partial.specs.Heading.{bytes_in}
 use Rattle.reading.proofs.PartLaws.{handed_refused, handed_past, handed_at, handed_same}
@@ -24,6 +24,7 @@ returns-then-not-ends_by c =
 
 pub overflow_add-end : goal.overflow_add-end
 overflow_add-end c = omega (arith, inside c)
+
 pub returns-in-Refused : goal.returns-in-Refused
 unfolding bytes_in nowhere
 returns-in-Refused c =

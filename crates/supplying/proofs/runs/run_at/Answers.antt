@@ -43,9 +43,9 @@ loop-k-preserved c =
     let passed = c.loop-k.invariant.1 in
     elim c.if-row_of.branch [
       | then-row_of+else-supplies w ↦ (
-          search rules,
-          rw (w.stop-is, w.clip-stop.ensures) (passed_more _ _ _ _ _ _ passed (omega arith) w.chunk_at-c.ensures (sym row ∙ w.if-row_of.true) (sym w.supplies.ensures ∙ w.if-supplies.false)),
-        )
+        search rules,
+        rw (w.stop-is, w.clip-stop.ensures) (passed_more _ _ _ _ _ _ passed (omega arith) w.chunk_at-c.ensures (sym row ∙ w.if-row_of.true) (sym w.supplies.ensures ∙ w.if-supplies.false)),
+      )
       | else-row_of w ↦ (search rules, rw w.stop-is (passed_other _ _ _ _ _ _ passed (omega arith) (sym row ∙ w.if-row_of.false)))
     ]
 

@@ -2,7 +2,7 @@
 use Prim.Native.Nat.{ℕ, ◌+◌, ◌-◌, ◌≤◌}
 use mathlib.Core.Path.{◌≡◌, sym, ap, ◌∙◌}
 use native.Mathlib.Omega.{arith}
-use borrow.Author.Tests.{leb-true, leb-false, not-true, not-false}
+use borrow.Author.Tests.{leb-true, leb-false}
 use lib.ListN.{length, take, drop}
 use Rattle.partial.specs.Heading.{bytes_in}
 use Rattle.surls.specs.Parts.{part_of}
@@ -23,6 +23,7 @@ returns-then-not-ends_by c lies =
 
 pub overflow_add-end : goal.overflow_add-end
 overflow_add-end c = omega (arith, inside c)
+
 pub returns : goal.returns
 unfolding bytes_in
 returns c lies =

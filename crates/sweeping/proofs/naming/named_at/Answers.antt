@@ -16,8 +16,7 @@ returns-then-had-eq-HAD c =
 pub returns : goal.returns
 returns c =
     let goods = c.at-had.ensures in
-    let damages = c.at-held.ensures in
-    (
+    let damages = c.at-held.ensures in (
       record { class = elim c.if-held-eq-HAD.branch [ then-held-eq-HAD w ↦ omega arith | else-held-eq-HAD w ↦ omega arith ]; some = λ below. omega (arith, goods.0.some below, damages.0.some below); ends = omega arith },
       record { good = goods.0.many; damaged = damages.0.many },
       λ o u ready below.

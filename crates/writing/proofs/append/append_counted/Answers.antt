@@ -1,10 +1,9 @@
 -- `writing::append::append_counted` meets its contract: 35 and 34 in their order, then what is right in itself.
 use mathlib.Core.Path.{◌≡◌, refl, sym, ◌∙◌}
 use borrow.Author.Tests.{not-true, not-false}
-use lib.ListN.{take}
 use Rattle.boxes.specs.Answer.{given}
-use Rattle.additions.specs.Addition.{asks, outside_right}
-use Rattle.partial.specs.Heading.{Heading, heading}
+use Rattle.additions.specs.Addition.{asks}
+use Rattle.partial.specs.Heading.{Heading}
 use Rattle.adding.proofs.OutsideLaws.{data_counted, right_whole}
 use Rattle.writing.proofs.AppendLaws.{appends_refused, lists_both, bytes_both, plain_told}
 use Rattle.writing.proofs.AppendLaws.{earlier, headed_mixed, wrong_outside, wrong_texts}

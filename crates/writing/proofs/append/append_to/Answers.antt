@@ -1,9 +1,8 @@
 -- `writing::append::append_to` meets its contract: 31 and 32 in their order, then what is right by its counts.
-use mathlib.Core.Bool.{true}
-use mathlib.Core.Path.{◌≡◌, sym, ◌∙◌}
+use mathlib.Core.Path.{sym, ◌∙◌}
 use native.Mathlib.Omega.{arith}
 use borrow.Author.Tests.{not-true, not-false}
-use Rattle.additions.specs.Addition.{asks, list_right, lists_right}
+use Rattle.additions.specs.Addition.{asks}
 use Rattle.writing.proofs.AppendLaws.{appends_refused, list_odd, list_unright, list_right_lem, data_differs, counted_of}
 use Rattle.writing.proofs.AppendLaws.{list_first, lengths_second, lists_both, data_first, texts_second, even_told, whole_told}
 use Rattle.writing.proofs.AppendLaws.{earlier, wrong_lists, wrong_bytes}

@@ -1,14 +1,12 @@
 -- `writing::begin::begin` meets its contract: 34, 1 and 33 in their order, then the two boxes one behind the other.
 use Prim.Native.Nat.{◌≤◌}
-use mathlib.Core.Bool.{true}
 use mathlib.Core.List.{[]}
-use mathlib.Core.Path.{◌≡◌, sym, ap, ◌∙◌}
+use mathlib.Core.Path.{sym, ap, ◌∙◌}
 use native.Mathlib.Nat.{zero-add}
 use native.Mathlib.Omega.{arith}
-use borrow.Author.Tests.{not-true, not-false}
 use lib.ListN.{length}
 use Rattle.boxes.specs.Answer.{given}
-use Rattle.additions.specs.Begin.{beginning, is_text}
+use Rattle.additions.specs.Begin.{beginning}
 use Rattle.partial.specs.Limits.{file_limit}
 use Rattle.gathering.proofs.RowLaws.{put_filled}
 use Rattle.puts.proofs.BoxLaws.{pfil_long}
