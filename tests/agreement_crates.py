@@ -243,20 +243,30 @@ unfolding computing
 boxes_of_input input = boxes_text program_limit input
 
 -- the copy of a spoiled file, or its refusal; and the answer and the buffer of the call that writes it
+unfoldable pub salvage_numbers : List ℕ → Answer (List ℕ) → Answer (List ℕ) → List ℕ
+unfolding answered counted
+salvage_numbers buffer copy r = answered counted copy ++ (answered (λ copy. length copy ∷ []) r ++ after (λ copy. copy) r buffer)
+
 unfoldable pub salvaged_of : List ℕ → List ℕ → List ℕ
-unfolding answered counted computing
-salvaged_of f buffer =
-    let r = salvaged source_limit f buffer in
-    answered counted (salvage source_limit f) ++ (answered (λ copy. length copy ∷ []) r ++ after (λ copy. copy) r buffer)
+unfolding salvage_numbers computing
+salvaged_of f buffer = salvage_numbers buffer (salvage source_limit f) (salvaged source_limit f buffer)
 
 unfoldable pub salvage_text_of : ℕ → List ℕ → List ℕ
 unfolding computing
 salvage_text_of most input = salvage_text source_limit most input
 
--- the map's text, which is not computed where this is cited
+-- what these are made of, which is not computed where it is cited
 pub map_by_text : (input : List ℕ) → map_text source_limit program_limit input ≡ map_of_input input
 unfolding map_of_input
 map_by_text input = refl
+
+pub salvaged_by_numbers : (f buffer : List ℕ) → salvage_numbers buffer (salvage source_limit f) (salvaged source_limit f buffer) ≡ salvaged_of f buffer
+unfolding salvaged_of
+salvaged_by_numbers f buffer = refl
+
+pub salvage_by_text : (most : ℕ) (input : List ℕ) → salvage_text source_limit most input ≡ salvage_text_of most input
+unfolding salvage_text_of
+salvage_by_text most input = refl
 """
 
 BATCH_USES = """use Rattle.std.specs.Prelude.{true, false, [], ◌∷◌, ◌++◌, ◌≡◌, refl}
@@ -364,7 +374,7 @@ def write_all(folder, batches):
             lines.append(line.strip())
     for crate in OURS:
         copied(folder, crate)
-    write_crate(folder, "computed", {"Computed": COMPUTED, "TooLong": TOO_LONG, "Quick": agreement_walks.READING})
+    write_crate(folder, "computed", {"Computed": COMPUTED, "TooLong": TOO_LONG, "Quick": agreement_walks.QUICK})
     for number, cases in enumerate(batches):
         lines.append("batch%d: computed %s" % (number, " ".join(OURS)))
         write_crate(folder, "batch%d" % number, {"Batch": batch(cases)})
