@@ -21,9 +21,10 @@ HEADERS := $(wildcard command/*.h) include/vrazhupa.h
 PLAIN := $(wildcard bench/plain*.c)
 PLAIN_HEADERS := $(wildcard bench/plain*.h)
 DRIVER := $(wildcard tests/scale/*.c)
-LIBRARY := crates.txt $(shell find crates -type f \( -name '*.rt' -o -name '*.antt' \))
+# What crates are made of; their own out/ holds what checks kept.
+LIBRARY := crates.txt $(shell find crates -name out -prune -o -type f \( -name '*.rt' -o -name '*.antt' \) -print)
 
-# How an x86-64 program is run here: on another processor under the kit's emulator.
+# How an x86-64 program is run here: on another processor under an emulator.
 EMULATOR := $(shell sh command/emulator)
 
 # What `make test` runs, each by itself, so that `make -j2 test` runs two at a time.
@@ -40,8 +41,10 @@ INSTALLED := $(DESTDIR)$(PREFIX)
 
 all: $(OUT)/paff
 
+# `rt ci` removes what stands in out/, so the archive goes where the command is.
 $(ARCHIVE): $(LIBRARY)
-	rt staticlib vrazhupa
+	cd crates/vrazhupa && rt lib
+	install -D -m 644 crates/vrazhupa/out/libvrazhupa.a $@
 
 $(OUT)/paff: $(SOURCES) $(HEADERS) $(ARCHIVE)
 	mkdir -p $(OUT)

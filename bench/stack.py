@@ -2,8 +2,8 @@
 
 A function's frame is what it pushes and takes off the stack pointer, and the return address; a call's stack is the
 largest sum along the calls that its function makes. An index list and its boxes call each other, eight levels deep; the
-archive has no other recursion and no call through a pointer, or this ends with an error. The C library's memcpy and
-memset count as a return address alone.
+archive has no other recursion and no call through a pointer, or this ends with an error. The C library's memcpy, memmove
+and memset count as a return address alone.
 """
 
 import re
@@ -19,7 +19,7 @@ LEAPS = re.compile(r"\tjmp ")
 TARGET = re.compile(r"R_X86_64_(?:PLT32|PC32)\t(?:\.text\.)?(.+?)-0x4")
 EXPORTED = "vrazhupa_"
 WORD = 8
-FROM_C = {"memcpy", "memset"}
+FROM_C = {"memcpy", "memmove", "memset"}
 LEVELS = 8
 ON_A_LEVEL = re.compile("index_list|indexed_box")
 

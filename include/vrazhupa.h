@@ -1,7 +1,7 @@
 /* Partial files (ISO/IEC 23001-14): reading, serving, listing, beginning and appending, by proved code.
 
-   Build the archive with `rt staticlib vrazhupa`; it is target/staticlib/libvrazhupa.a, for x86-64. `make install` puts
-   it where `pkg-config --cflags --libs vrazhupa` finds it.
+   `make target/staticlib/libvrazhupa.a` builds the archive, for x86-64. `make install` puts it where `pkg-config
+   --cflags --libs vrazhupa` finds it.
 
    Each call answers 0, or the number of its refusal (README.md, "Refusals"), and leaves its values in `told`. After a
    refusal all lent memory, `told` too, holds what it held. Nothing is required of the values of the bytes and numbers

@@ -29,7 +29,7 @@ def listing(numbers):
 def octets(data):
     """An antt list of bytes, as numerals of 32 bytes each."""
     parts = [data[at:at + 32] for at in range(0, len(data), 32)]
-    terms = ["bytesOf %d 0x%s" % (len(part), part.hex()) for part in parts]
+    terms = ["bytes_of %d 0x%s" % (len(part), part.hex()) for part in parts]
     return "(" + " ++ (".join(terms + ["[]"]) + ")" * (len(terms) + 1)
 
 
@@ -156,7 +156,7 @@ def read_case(rng, name, file, made_from):
     numbers = read_numbers(file, source) + text_numbers(file, source)
     for p in points:
         numbers += asked_numbers(file, source, p)
-    term = "readOf %s %d (%s)" % (octets(file), source, listing(points))
+    term = "read_of %s %d (%s)" % (octets(file), source, listing(points))
     return Case(name, term, numbers, number_of(model.read(file)), made_from)
 
 
@@ -166,7 +166,7 @@ def texts_case(rng, name, file, made_from):
     segment = rng.randint(0, 2 if answer[0] == "refused" else len(answer[1]))
     texts, lengths = (b"", []) if answer[0] == "refused" else model.texts(file, segment)[1:]
     a, b = room(rng, len(texts)), room(rng, len(lengths))
-    term = "textsOf %s %d %s (%s)" % (octets(file), segment, octets(bytes(a)), listing(b))
+    term = "texts_of %s %d %s (%s)" % (octets(file), segment, octets(bytes(a)), listing(b))
     return Case(name, term, texts_numbers(file, segment, a, b), number_of(model.texts(file, segment, len(a), len(b))), made_from)
 
 
@@ -174,7 +174,7 @@ def tables_case(rng, name, file, source, lend=room):
     answer = model.read(file)
     segments, chunks = ([], []) if answer[0] == "refused" else answer[1:]
     a, b = lend(rng, 8 * len(segments)), lend(rng, 6 * len(chunks))
-    term = "tablesOf %s (%s) (%s)" % (octets(file), listing(a), listing(b))
+    term = "tables_of %s (%s) (%s)" % (octets(file), listing(a), listing(b))
     return Case(name, term, tables_numbers(file, a, b), number_of(model.read(file, len(a), len(b))), source)
 
 
@@ -189,7 +189,7 @@ def lists_case(rng, name, file, made_from):
     answer = model.lists(file, source=source)
     had, missing = ([], []) if answer[0] == "refused" else answer[1:3]
     a, b = room(rng, 2 * len(had)), room(rng, 2 * len(missing))
-    term = "listsOf %s %d (%s) (%s)" % (octets(file), source, listing(a), listing(b))
+    term = "lists_of %s %d (%s) (%s)" % (octets(file), source, listing(a), listing(b))
     refusal = number_of(model.lists(file, had_room=len(a), missing_room=len(b), source=source))
     return Case(name, term, lists_numbers(file, source, a, b), refusal, made_from)
 
@@ -197,7 +197,7 @@ def lists_case(rng, name, file, made_from):
 def index_case(rng, name, file, source):
     answer = model.index(file)
     table = room(rng, 5 * (0 if answer[0] == "refused" else len(answer[1])))
-    term = "indexRowsOf %s (%s)" % (octets(file), listing(table))
+    term = "index_rows_of %s (%s)" % (octets(file), listing(table))
     return Case(name, term, index_numbers(file, table), number_of(model.index(file, len(table))), source)
 
 
@@ -208,15 +208,15 @@ def short_boxes(file):
 
 
 def map_case(name, file, source):
-    return Case(name, "mapOfInput %s" % octets(file), list(model.map_text(file)), number_of(model.read(file)), source)
+    return Case(name, "map_of_input %s" % octets(file), list(model.map_text(file)), number_of(model.read(file)), source)
 
 
 def missmap_case(name, file, source):
-    return Case(name, "missmapOfInput %s" % octets(file), list(model.missmap_text(file)), number_of(model.read(file)), source)
+    return Case(name, "missmap_of_input %s" % octets(file), list(model.missmap_text(file)), number_of(model.read(file)), source)
 
 
 def boxes_case(name, file, source):
-    return Case(name, "boxesOfInput %s" % octets(file), list(model.boxes_text(file)), 0, source)
+    return Case(name, "boxes_of_input %s" % octets(file), list(model.boxes_text(file)), 0, source)
 
 
 def longest(file):
@@ -255,7 +255,7 @@ def mapped_case(rng, name, file, made_from):
         supplied = flag(model.ask(file, p, source=number)[0] == "served")
         word = model.name_of(source, p)
         numbers += [supplied, supplied, 1 - supplied, flag(word == "held"), flag(word == "lost")]
-    return Case(name, "mappedOf %s %d (%s)" % (octets(file), number, listing(points)), numbers, 0, made_from)
+    return Case(name, "mapped_of %s %d (%s)" % (octets(file), number, listing(points)), numbers, 0, made_from)
 
 
 def truth(value):
@@ -272,12 +272,12 @@ def addition_cases(rng, name, given):
     """What append answers and leaves and, where it accepts, what demands 2 and 3 say of that."""
     answer, buffer = model.append(**given)
     source, term = "addition %r" % given, addition_term(given)
-    cases = [Case(name, "appendedOf " + term, written_numbers(answer, buffer), number_of(answer), source)]
+    cases = [Case(name, "appended_of " + term, written_numbers(answer, buffer), number_of(answer), source)]
     if answer[0] == "length":
         after = buffer[:answer[1]]
         number = rng.choice([model.read(after)[1][-1][7], some_source(rng, after)])
         points = positions(rng, after, number)
-        term = "demandsOf %s %d (%s)" % (term, number, listing(points))
+        term = "demands_of %s %d (%s)" % (term, number, listing(points))
         cases.append(Case(name + "-demands", term, [1, 1, 1] + [1] * len(points), 0, source))
     return cases
 
@@ -294,13 +294,13 @@ def rewriting_case(rng, name):
         size = answer[1] if answer[0] == "length" else size
     file = buffer[:size]
     refusal = number_of(model.read(file))
-    return Case(name, "againOf %s" % octets(file), [0, refusal] if refusal else [1], refusal, "file " + file.hex())
+    return Case(name, "again_of %s" % octets(file), [0, refusal] if refusal else [1], refusal, "file " + file.hex())
 
 
 def beginning_case(name, given):
     answer, buffer = model.begin(**given)
     brand = "Pmff" if given["brand"] == model.PMFF else "Paff"
-    term = "begunOf %s %s %s %s" % (octets(given["buffer"]), brand, octets(given["url"]), octets(given["mime"]))
+    term = "begun_of %s %s %s %s" % (octets(given["buffer"]), brand, octets(given["url"]), octets(given["mime"]))
     return Case(name, term, written_numbers(answer, buffer), number_of(answer), "beginning %r" % given)
 
 

@@ -172,7 +172,7 @@ def copy_case(rng, name, file, source):
     needed = model_salvage.salvage(file, bytes(len(file)))[0]
     buffer = bytes(room(rng, needed[1] if needed[0] == "length" else 2))
     answer = model_salvage.salvage(file, buffer)[0]
-    return Case(name, "salvagedOf %s %s" % (octets(file), octets(buffer)), copy_numbers(file, buffer), number_of(answer), source)
+    return Case(name, "salvaged_of %s %s" % (octets(file), octets(buffer)), copy_numbers(file, buffer), number_of(answer), source)
 
 
 def lines_case(name, file, source, most):
@@ -181,7 +181,7 @@ def lines_case(name, file, source, most):
     told = [line.split(b"\t") for line in text.splitlines()]
     refusal = int(told[0][1]) if text.startswith(b"refused") else 0
     numbers = () if refusal else tuple(int(number) for place, number in told)
-    return Case(name, "salvageTextOf %d %s" % (most, octets(file)), list(text), refusal, source, numbers)
+    return Case(name, "salvage_text_of %d %s" % (most, octets(file)), list(text), refusal, source, numbers)
 
 
 def salvage_cases(rng, name, file, short=False):

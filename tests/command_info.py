@@ -1,6 +1,7 @@
 """Claims what info shows of a file: each line of its screen, the bar, and each key of its line of JSON, by hand and by
 the model."""
 
+import contextlib
 import fcntl
 import json
 import os
@@ -102,6 +103,15 @@ def shares(command):
     expect("a film of no length", run(command, "film").out.endswith(b"film      0 bytes, open: its end is not known yet\n"))
 
 
+def all_of(terminal):
+    """What was written to a terminal that nobody has open any more; a read may give a part."""
+    said = b""
+    with contextlib.suppress(OSError):
+        while piece := os.read(terminal, 65_536):
+            said += piece
+    return said
+
+
 def widths(command):
     """As wide as the terminal; eighty where there is none, and no wider than a thousand."""
     command.put("film", film_of((0, [good(b"abcd")], True)))
@@ -113,9 +123,9 @@ def widths(command):
     fcntl.ioctl(theirs, termios.TIOCSWINSZ, struct.pack("HHHH", 24, 57, 0, 0))
     process = command.start("info", "film", env=plain, stdout=theirs)
     expect("info on a terminal", ended(process).status, 0)
-    expect("a bar as wide as it", b"\n" + 57 * b"#" + b"\r\n" in os.read(ours, 65_536))
-    os.close(ours)
     os.close(theirs)
+    expect("a bar as wide as it", b"\n" + 57 * b"#" + b"\r\n" in all_of(ours))
+    os.close(ours)
 
 
 def strings(command):

@@ -7,6 +7,8 @@ import glob
 import os
 
 FOLDERS = ("must-fail", "wrong")
+# Where an edit may change a file.
+PARTS = ("src/", "specs/", "proofs/")
 
 
 class Bad(Exception):
@@ -41,15 +43,19 @@ def pairs(path):
 
 def edited(crate_folder, path):
     """The files of a crate that an edit changes, each with its new text."""
-    texts = {}
+    texts, before = {}, {}
     for file, old, new in pairs(path):
         if not file or not old:
             raise Bad("a `new:` without its `file:` or `old:`")
+        if not file.startswith(PARTS):
+            raise Bad("names no file of a crate: %s" % file)
         if file not in texts:
             with open(os.path.join(crate_folder, file), encoding="utf-8") as source:
-                texts[file] = source.read()
+                texts[file] = before[file] = source.read()
         times = texts[file].count(old)
         if times != 1:
             raise Bad("stands %d times in %s: %s" % (times, file, old))
         texts[file] = texts[file].replace(old, new)
+    if texts == before:
+        raise Bad("changes nothing")
     return texts
