@@ -1,5 +1,5 @@
 -- Laws of the calls of salvage: the file cut behind its whole boxes, the copy in the buffer, and what is told of a file.
-use Prim.Native.Nat.{ℕ, ◌+◌, ◌≤◌, ◌<◌}
+use Prim.Native.Nat.{ℕ, ◌≤◌, ◌<◌}
 use mathlib.Core.Bool.{Bool, true, false}
 use mathlib.Core.List.{List, map}
 use mathlib.Core.Logic.{⊎_elim}
@@ -23,7 +23,6 @@ use Rattle.partial.specs.Memory.{fits, after, text_written}
 use Rattle.partial.specs.Sequences.{sum}
 use Rattle.partial.specs.Answers.{written_answer}
 use Rattle.partial.specs.declared.answers.Written.{Written}
-use Rattle.partial.specs.declared.answers.Written.TheVariants as Written
 use Rattle.puts.specs.Pieces.{PutsPieces}
 use Rattle.texts.specs.Writes.{Writes}
 use Rattle.texts.proofs.WritesLaws.{writes_short, writes_given}
@@ -42,7 +41,6 @@ use Rattle.salvaging.specs.Told.{Tells}
 use Rattle.salvaging.specs.Wrote.{Salvages}
 use Rattle.salvaging.specs.declared.opening.OpenFile.{OpenFile}
 use Rattle.salvaging.specs.declared.opening.Opening.{Opening}
-use Rattle.salvaging.specs.declared.opening.Opening.TheVariants as Opening
 use Rattle.salvaging.proofs.SoundLaws.{fates_long}
 use Rattle.salvaging.proofs.TableLaws.{box_stands}
 

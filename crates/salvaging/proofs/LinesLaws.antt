@@ -1,5 +1,5 @@
 -- Laws of the lines of what is dropped: what stands for a fate in a table decides the line.
-use Prim.Native.Nat.{ℕ, zero, suc, ◌+◌, ◌≤◌, ◌<◌}
+use Prim.Native.Nat.{ℕ, suc, ◌+◌, ◌<◌}
 use mathlib.Core.Bool.{true, false≢true}
 use mathlib.Core.List.{List, [], ◌∷◌, ◌++◌, append-nil, append_assoc}
 use mathlib.Core.Path.{◌≡◌, refl, sym, ap, ◌∙◌}
@@ -9,13 +9,12 @@ use lib.ListN.{length, get_or, take}
 use lib.Seq.{take-suc, take-length}
 use Rattle.filling.specs.Rows.{Puts}
 use Rattle.filling.proofs.RowLaws.{put_none}
-use Rattle.filling.proofs.PutsLaws.{puts_same, puts_more}
 use Rattle.partial.specs.BoxList.{each, fault_line}
 use Rattle.rescue.specs.Kept.{Fate, dropped, whole, of_pfil, of_pseg, Fated}
 use Rattle.rescue.specs.Lines.{dropped_line, dropped_lines}
 use Rattle.rescue.proofs.CopyLaws.{staying}
 use Rattle.salvaging.specs.Fault.{fault_at}
-use Rattle.rescue.proofs.TableLaws.{Coded, no_fated}
+use Rattle.rescue.proofs.TableLaws.{Coded}
 
 module _ (x : Fated) {code : ℕ} (coded : Coded x.fate code) where
   pub line_none : code ≡ 255 → [] ≡ dropped_line x

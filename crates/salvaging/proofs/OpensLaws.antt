@@ -3,7 +3,6 @@ use Prim.Native.Nat.{ℕ, ◌≤◌, ◌<◌}
 use mathlib.Core.List.{List, [], ◌∷◌}
 use mathlib.Core.Option.{none, some}
 use mathlib.Core.Path.{◌≡◌, refl, sym, ap, ◌∙◌}
-use mathlib.Core.Logic.{◌⊎◌, ⊎_elim}
 use native.Mathlib.Decide.{dec_le}
 use native.Mathlib.Nat.{le_refl}
 use native.Mathlib.Omega.{arith}
@@ -17,10 +16,7 @@ use Rattle.boxes.specs.Walk.{walk_over, stepped, step_answer}
 use Rattle.boxes.specs.declared.kinds.Container.TheVariants.{File, Pfil}
 use Rattle.boxes.specs.declared.walk.Walk.{Walk}
 use Rattle.boxes.specs.declared.walk.Step.{Step}
-use Rattle.boxes.specs.declared.walk.Step.TheVariants as Step
 use Rattle.boxes.specs.declared.framing.Framed.{Framed}
-use denote.Enum.Declared.{tag_of}
-use Rattle.boxes.specs.contracts.walk.Step.{the_type}
 use Rattle.boxes.proofs.AnswerLaws.{not_both, both_given, given_same}
 use Rattle.boxes.proofs.ContainerLaws.{filled_boxes, boxes_standing}
 use Rattle.boxes.proofs.WalkLaws.{onward, stepping, onward_steps, met, step_over, step_header}
@@ -31,7 +27,6 @@ use Rattle.partial.proofs.Reading.HeadingAppendLaws.{headed}
 use Rattle.heading.specs.Facts.{facts_of, told, headed_answer}
 use Rattle.heading.specs.declared.answers.Head.{Head}
 use Rattle.heading.specs.declared.answers.Headed.{Headed}
-use Rattle.heading.specs.declared.answers.Headed.TheVariants as Headed
 use Rattle.rescue.specs.Kept.{walk_of, framed, first_two, opening}
 use Rattle.rescue.proofs.HeadingLaws.{opened, cut-filled}
 use Rattle.salvaging.specs.Opens.{Whole, fault_number, Opens}

@@ -1,9 +1,8 @@
 -- Laws of a file whose framing and whose first two boxes are right: its fates are those of its boxes, as its tables tell.
 use Prim.Native.Nat.{ℕ, ◌<◌, ◌≤◌}
 use mathlib.Core.List.{List}
-use mathlib.Core.Path.{◌≡◌, ◌∙◌, sym}
+use mathlib.Core.Path.{◌≡◌}
 use lib.ListN.{length, get_or}
-use Rattle.boxes.specs.Framing.{Box}
 use Rattle.boxes.specs.Kinds.{box_at}
 use Rattle.partial.specs.Heading.{Heading}
 use Rattle.rescue.proofs.HeadingLaws.{opened}

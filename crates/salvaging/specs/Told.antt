@@ -1,5 +1,5 @@
 -- Document 02, [9]: what is told of a file before its lines are printed.
-use Rattle.std.specs.Prelude.{ℕ, ◌<◌, ◌≤◌, List, ◌⊎◌, ◌≡◌, length, leb}
+use Rattle.std.specs.Prelude.{ℕ, List, ◌≡◌, length, leb}
 use Rattle.boxes.specs.Answer.{refused, given, ◌>>=◌, hold}
 use Rattle.partial.specs.Heading.{Heading}
 use Rattle.rescue.specs.Kept.{framed, opening}

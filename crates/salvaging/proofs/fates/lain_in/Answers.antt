@@ -1,6 +1,5 @@
 -- `salvaging::fates::lain_in` meets its contract. The loop's invariant: no chunk so far lies in the box.
 use Prim.Native.Nat.{ℕ}
-use mathlib.Core.Bool.{false}
 use mathlib.Core.Path.{◌≡◌, refl, sym, ap, ◌∙◌}
 use native.Mathlib.Omega.{arith}
 use lib.ListN.{take}

@@ -1,6 +1,5 @@
 -- `salvaging::fates::tell_fates` meets its contract. The loop's invariant: the fates of the boxes so far are told, and that
 -- of each `pseg`.
-use Prim.Native.Nat.{◌<◌}
 use mathlib.Core.Path.{refl, sym, ap, ◌∙◌}
 use native.Mathlib.Omega.{arith}
 use Rattle.boxes.specs.Kinds.{pseg, is}

@@ -1,10 +1,7 @@
 -- `salvaging::inner::put_inner` meets its contract. The loop's invariant: the boxes passed are put.
-use mathlib.Core.Bool.{true, false≢true}
-use mathlib.Core.Logic.{⊎_elim}
+use mathlib.Core.Bool.{false≢true}
 use mathlib.Core.Path.{refl, sym, ap, ◌∙◌}
 use native.Mathlib.Omega.{arith}
-use borrow.Author.Tests.{eqb-true, eqb-false}
-use Rattle.boxes.specs.Answer.{given}
 use Rattle.boxes.specs.Framing.{box_of}
 use Rattle.boxes.specs.Kinds.{fidx, ploc}
 use Rattle.boxes.proofs.WalkLaws.{walk_boxes, next_box, no_more, a_fault, fewer}

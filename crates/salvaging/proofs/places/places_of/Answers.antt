@@ -1,5 +1,4 @@
 -- `salvaging::places::places_of` meets its contract. The loop's invariant: the boxes so far have their places.
-use Prim.Native.Nat.{◌<◌}
 use mathlib.Core.Path.{refl}
 use native.Mathlib.Omega.{arith}
 use Rattle.boxes.proofs.WalkLaws.{next_box, no_more, a_fault, fewer, over_left}
