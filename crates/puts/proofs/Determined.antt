@@ -29,8 +29,8 @@ use Rattle.puts.proofs.pieces.put_large_front.Reads as put-large-front
 use Rattle.puts.proofs.pieces.put_offset.Reads as put-offset
 use Rattle.puts.proofs.ploc.put_entry.Reads as put-entry
 use Rattle.puts.proofs.pseg.put_pseg.Reads as put-pseg
-use Rattle.puts.proofs.surls.put_surl.Reads as put-surl
-use Rattle.puts.proofs.surls.put_surls.Reads as put-surls
+use Rattle.puts.proofs.surl.put_surl.Reads as put-surl
+use Rattle.puts.proofs.surl.put_surls.Reads as put-surls
 
 -- a place is its number
 same_place : {x y : Place} → x.0 ≡ y.0 → x ≡ y

@@ -9,4 +9,4 @@ pub mod pieces;
 pub mod ploc;
 pub mod pseg;
 mod pshd;
-pub mod surls;
+pub mod surl;

@@ -4,7 +4,7 @@ ghost use Rattle.puts.specs.Boxes.{pfhd_box, pfil_box};
 ghost use Rattle.puts.specs.Pieces.{PutsPieces};
 
 use crate::pieces::{put_field, put_front};
-use crate::surls::{SURL_SIZE, put_surl};
+use crate::surl::{SURL_SIZE, put_surl};
 use boxes::framing::FRONT_SIZE;
 use boxes::kinds::{PFHD, PFIL};
 use numerals::order::sum_of;

@@ -11,7 +11,7 @@ ghost use Rattle.puts.specs.Pieces.{PutsPieces};
 use crate::pieces::put_front;
 use crate::ploc::put_ploc;
 use crate::pshd::put_pshd;
-use crate::surls::put_surls;
+use crate::surl::put_surls;
 use adding::counts::Counts;
 use adding::layout::Layout;
 use additions::header::SegmentHeader;

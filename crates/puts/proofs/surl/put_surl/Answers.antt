@@ -1,11 +1,11 @@
--- `puts::surls::put_surl` meets its contract: the header, version and flags, the two texts.
+-- `puts::surl::put_surl` meets its contract: the header, version and flags, the two texts.
 use native.Mathlib.Omega.{arith}
 use Rattle.boxes.specs.Kinds.{surl}
 use Rattle.numerals.proofs.WidthLaws.{below_holds}
 use Rattle.puts.proofs.BoxLaws.{source_long, surl_long}
 use Rattle.puts.proofs.PieceLaws.{number_put, pieces_same, pieces_more, pieces_box}
 use Rattle.puts.proofs.SurlLaws.{texts_closed}
-use Rattle.puts.proofs.surls.put_surl.Goals as goal
+use Rattle.puts.proofs.surl.put_surl.Goals as goal
 
 pub returns : goal.returns
 returns c small =

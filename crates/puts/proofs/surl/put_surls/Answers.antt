@@ -1,4 +1,4 @@
--- `puts::surls::put_surls` meets its contract. The loop's invariant: where 32 bits hold the size of all boxes, those of
+-- `puts::surl::put_surls` meets its contract. The loop's invariant: where 32 bits hold the size of all boxes, those of
 -- the pairs passed are put, and the texts of those that are left begin at a byte.
 use Prim.Native.Nat.{◌+◌, ◌/◌, ◌<◌}
 use mathlib.Core.Path.{ap, ◌∙◌}
@@ -7,7 +7,7 @@ use borrow.Author.Rules.{rules}
 use lib.ListN.{length, length-append}
 use Rattle.puts.proofs.PieceLaws.{partly_start, partly_same, partly_end, partly_more}
 use Rattle.puts.proofs.SurlLaws.{box, boxes_from, boxes_step, boxes_done, left_small}
-use Rattle.puts.proofs.surls.put_surls.Goals as goal
+use Rattle.puts.proofs.surl.put_surls.Goals as goal
 
 pub loop-i-init : goal.loop-i-init
 loop-i-init c = (search rules, search rules, search rules, λ small. partly_start _ _ _)

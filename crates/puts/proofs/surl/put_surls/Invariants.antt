@@ -1,4 +1,4 @@
--- `puts::surls::put_surls` meets its contract. The loop's invariant: where 32 bits hold the size of all boxes, those of
+-- `puts::surl::put_surls` meets its contract. The loop's invariant: where 32 bits hold the size of all boxes, those of
 -- the pairs passed are put, and the texts of those that are left begin at a byte.
 use Prim.Native.Nat.{◌-◌, ◌/◌, ◌^◌, ◌≤◌, ◌<◌}
 use mathlib.Core.Path.{◌≡◌}
@@ -6,7 +6,7 @@ use lib.ListN.{length}
 use Rattle.additions.specs.Addition.{surls_of}
 use Rattle.additions.specs.Append.{surl_boxes}
 use Rattle.puts.proofs.SurlLaws.{Midway}
-use Rattle.puts.proofs.surls.put_surls.Given as goal
+use Rattle.puts.proofs.surl.put_surls.Given as goal
 
 abbrev pub invariant-loop-i : goal.invariant-loop-i
 invariant-loop-i l = (l.i ≤ length l.lengths / 2)

@@ -1,9 +1,9 @@
--- `puts::surls::put_closed` meets its contract: the zero byte is a number of one byte.
+-- `puts::surl::put_closed` meets its contract: the zero byte is a number of one byte.
 use native.Mathlib.Omega.{arith}
 use Rattle.numerals.proofs.WidthLaws.{below_holds}
 use Rattle.puts.proofs.PieceLaws.{piece_put, number_put, pieces_same, pieces_more}
 use Rattle.puts.proofs.SurlLaws.{closing}
-use Rattle.puts.proofs.surls.put_closed.Goals as goal
+use Rattle.puts.proofs.surl.put_closed.Goals as goal
 
 pub returns : goal.returns
 returns c =
