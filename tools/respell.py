@@ -65,6 +65,10 @@ def respelled(name, defined):
 
 
 def main():
+    if len(sys.argv) > 1:
+        sys.exit(__doc__.strip())
+    if os.path.exists("docs/PORT.md"):
+        sys.exit("this tree is respelled already: docs/PORT.md stands in it")
     texts = {p: open(p, encoding="utf-8").read() for p in files()}
     words = {p: set(TOKEN.findall(t)) for p, t in texts.items()}
     names, defined = declared(texts)
