@@ -6,12 +6,11 @@ import re
 import agreement_walks
 from copies import TOP, copied, rt
 
-OURS = ["numerals", "boxes", "partial", "additions", "rescue"]
+OURS = ["numerals", "refusals", "boxes", "partial", "additions", "rescue"]
 
 # What is computed of a case, as numbers in a row.
 COMPUTED = """-- What is computed over the definitions, as numbers in a row.
-use Rattle.std.specs.Prelude.{ℕ, Bool, true, false, List, [], ◌∷◌, ◌++◌, ◌+◌, ◌&&◌, ◌≡◌, refl, length, leb, eqb}
-use Rattle.std.proofs.Math.Option.{Option, none, some}
+use Rattle.std.specs.Prelude.{ℕ, Bool, true, false, List, [], ◌∷◌, ◌++◌, ◌+◌, ◌&&◌, ◌≡◌, refl, length, leb, eqb, Option, None, Some}
 use Rattle.boxes.specs.Answer.{Answer, refused, given}
 use Rattle.numerals.specs.Numbers.{bytes_of}
 use Rattle.partial.specs.Limits.{program_limit, source_limit}
@@ -143,10 +142,10 @@ same_segments ss ts =
     same (segment_rows ss ++ chunk_rows ss) (segment_rows ts ++ chunk_rows ts) && same_list (λ s t. same_urls s.urls t.urls) ss ts
 
 same_byte : Option ℕ → Option ℕ → Bool
-same_byte none none = true
-same_byte none (some b) = false
-same_byte (some a) none = false
-same_byte (some a) (some b) = eqb a b
+same_byte None None = true
+same_byte None (Some b) = false
+same_byte (Some a) None = false
+same_byte (Some a) (Some b) = eqb a b
 
 same_addition : Addition → Addition → Bool
 same_addition a b =
@@ -165,7 +164,7 @@ urls_of source ss = elim (of_source source ss) [ [] ↦ [] | s ∷ _ ↦ s.urls 
 -- a source, by its segments before and after an addition and whether that goes to it: no shorter, or as it was; and each position kept
 source_kept : List ℕ → List ℕ → List Segment → List Segment → Addition → Bool → List ℕ → List ℕ
 source_kept f g ss ts a true ps = flag (leb (described_length ss) (described_length ts)) ∷ kept_at f g ss ts (carried a) ps
-source_kept f g ss ts a false ps = flag (same_segments ss ts) ∷ kept_at f g ss ts (λ p. none) ps
+source_kept f g ss ts a false ps = flag (same_segments ss ts) ∷ kept_at f g ss ts (λ p. None) ps
 
 -- demands 2 and 3 at an accepted addition, each 1 where it holds: read back, the same again, and of a source, told by its number after and by its URLs before
 unfoldable pub demands_of : List ℕ → ℕ → ℕ → ℕ → Bool → Bool → List ℕ → List ℕ → List ℕ → List ℕ → ℕ → List ℕ → List ℕ

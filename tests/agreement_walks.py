@@ -11,14 +11,13 @@ SMALL = 1_000
 # The module that proves it.
 QUICK = """-- Reading and salvage by a walk that costs less where a container has many boxes, since it reads each header at the head
 -- of what is left of the file; and that it is reading and salvage. Functions have the names of those that they stand for.
-use Rattle.std.specs.Prelude.{ℕ, zero, suc, ◌+◌, ◌-◌, true, false, Bool, not, ◌&&◌, ◌||◌, List, [], ◌∷◌, ◌++◌, ltb, take, drop, get_or, leb, eqb, length, ◌≡◌, refl}
+use Rattle.std.specs.Prelude.{ℕ, zero, suc, ◌+◌, ◌-◌, true, false, Bool, not, ◌&&◌, ◌||◌, List, [], ◌∷◌, ◌++◌, ltb, take, drop, get_or, leb, eqb, length, ◌≡◌, refl, None, Some}
 use Prim.Native.Nat.{◌≤◌}
 use mathlib.Core.Path.{ap, ap₂, ◌∙◌, sym}
 use native.Mathlib.Nat.{add-zero}
 use native.Mathlib.Omega.{arith}
 use Rattle.std.proofs.lemmas.Bool.{leb-true}
 use Rattle.std.proofs.lemmas.List.{get_or-drop, drop-drop}
-use Rattle.std.proofs.Math.Option.{none, some}
 use Rattle.numerals.specs.Numbers.{number}
 use Rattle.numerals.proofs.NumberLaws.{number_same}
 use Rattle.boxes.specs.Answer.{Answer, refused, given, ◌>>=◌, hold}
@@ -263,7 +262,7 @@ quick_walk_of f = quick f f (length f) box_limit 0
 
 quick_framed : List ℕ → List ℕ
 unfolding quick_walk_of
-quick_framed f = elim (quick_walk_of f).fault [ none ↦ f | some x ↦ take x.at f ]
+quick_framed f = elim (quick_walk_of f).fault [ None ↦ f | Some x ↦ take x.at f ]
 
 quick_opening : List ℕ → Answer Heading
 unfolding quick_walk_of quick_heading
@@ -352,7 +351,7 @@ walk_of_left f = sym (quick_left File f (length f) box_limit 0)
 
 framed_left : (f : List ℕ) → framed f ≡ quick_framed f
 unfolding framed quick_framed
-framed_left f = ap (λ (w : Walked). elim w.fault as (λ _. List ℕ) [ none ↦ f | some x ↦ take x.at f ]) (walk_of_left f)
+framed_left f = ap (λ (w : Walked). elim w.fault as (λ _. List ℕ) [ None ↦ f | Some x ↦ take x.at f ]) (walk_of_left f)
 
 opening_left : (f : List ℕ) → opening f ≡ quick_opening f
 unfolding opening quick_opening

@@ -3,7 +3,7 @@
 use Prim.Native.Nat.{ℕ, ◌+◌, ◌-◌, ◌%◌, ◌^◌, ◌≤◌, ◌<◌, min}
 use mathlib.Core.Bool.{Bool, true, false}
 use mathlib.Core.List.{List, [], ◌∷◌, ◌++◌, map}
-use mathlib.Core.Path.{◌≡◌, refl, sym, ap, ap₂, ◌∙◌}
+use mathlib.Core.Path.{◌≡◌, refl, sym, ap, ap₂, subst, ◌∙◌}
 use native.Mathlib.Nat.{mod-lt}
 use native.Mathlib.Decide.{dec_le}
 use native.Mathlib.Omega.{arith}
@@ -14,25 +14,28 @@ use Rattle.boxes.specs.Answer.{Answer, refused, given, ◌>>=◌}
 use Rattle.boxes.proofs.AnswerLaws.{then-then}
 use Rattle.boxes.specs.Framing.{box_limit}
 use Rattle.additions.specs.Addition.{Addition, items, flags_for, surls}
-use Rattle.additions.specs.Append.{added, added_boxes, inner_boxes, new_segment, pseg_place, admission, admitted}
+use Rattle.boxes.specs.Kinds.{fidx, those}
+use Rattle.additions.specs.Append.{added, added_boxes, inner_boxes, new_urls, new_segment, pseg_place, admission, admitted}
 use Rattle.partial.specs.Heading.{Heading}
 use Rattle.partial.specs.Index.{indexed}
 use Rattle.partial.specs.Limits.{file_limit, segment_limit, chunk_limit, source_limit, layer_limit}
 use Rattle.partial.specs.Segments.{Segment, is_last, end_of, chunks_of}
 use Rattle.partial.specs.Sequences.{sum}
-use Rattle.partial.specs.Sources.{source_count, agreed}
+use Rattle.partial.specs.Sources.{source_count, source_beside, of_source, agreed}
+use Rattle.ends.specs.Sizes.{sizes_of}
 use Rattle.partial.proofs.Reading.KeptLaws.{Segmented, segmented}
 use Rattle.partial.proofs.Reading.RefusalLaws.{earlier_read}
 use Rattle.additions.specs.declared.header.SegmentHeader.{SegmentHeader}
-use Rattle.additions.proofs.NewSegmentLaws.{length_new, end_new}
+use Rattle.additions.proofs.NewSegmentLaws.{length_new, end_new, no_index_new, urls_new, source_new}
 use Rattle.gathering.specs.Gathered.{gathered_of}
 use Rattle.gathering.specs.declared.gathered.Gathered.{Gathered}
 use Rattle.gathering.proofs.GatheredLaws.{gathered-segments, gathered_chunks}
 use Rattle.reading.specs.declared.judging.Judged.{Judged}
-use Rattle.adding.specs.Admission.{Tells, Known, indexed_beside, admitted_beside, Beside, AskedBy, admitted_length}
+use Rattle.adding.specs.Admission.{Tells, Known, indexed_beside, admitted_beside, Beside, Goes, AskedBy, admitted_length}
 use Rattle.adding.specs.Counts.{capped}
 use Rattle.adding.specs.Texts.{texts_of}
 use Rattle.adding.specs.declared.admission.Asked.{Asked}
+use Rattle.adding.specs.declared.admission.Target.{Target}
 use Rattle.adding.specs.declared.counts.Counts.{Counts}
 use Rattle.adding.specs.declared.texts.Texts.{Texts}
 use Rattle.adding.proofs.CountLaws.{counted_items, counted_sum}
@@ -92,6 +95,15 @@ pub record Passes23 (ss : List Segment) (s : Segment) : Type 0 where
   pub listed : true ≡ ltb 0 (length s.urls)
   pub chunks : true ≡ leb (length (chunks_of ss) + length s.chunks) chunk_limit
   pub low : true ≡ leb (end_of s) source_limit
+
+pub passes_23 : (ss : List Segment) {s : Segment} {g : Gathered} {header : SegmentHeader} {c : Counts} → g ≡ gathered_of ss → Tells s header c
+    → g.segments < segment_limit → true ≡ ltb 0 (length s.urls) → true ≡ leb (g.chunks + c.items) chunk_limit → true ≡ leb (header.offset.0 + c.sum) source_limit → Passes23 ss s
+passes_23 ss known tells few listed chunks low =
+    record { few = segments_few ss known tells few; listed = listed; chunks = chunk_test ss known tells chunks; low = source_test ss known tells low }
+
+-- what the ends of the segments of its source say
+pub own_sizes : {h : Heading} (ss : List Segment) (s : Segment) {target : Target} → Goes h ss s.urls target → s.source ≡ source_beside ss s.urls → target.sizes ≡ sizes_of (of_source s.source ss)
+own_sizes ss s goes next = goes.sizes ∙ ap (λ (n : ℕ). sizes_of (of_source n ss)) (goes.number ∙ sym next)
 
 -- the answer, by the first test that fails
 module _ (f : List ℕ) (h : Heading) (ss : List Segment) (s : Segment) where
@@ -191,3 +203,27 @@ module _ (f : List ℕ) (h : Heading) (ss : List Segment) (n : ℕ) (a : Additio
               ≡ (x >>= λ ts. indexed source_limit f h ts >>= λ _. given (n + length (added a)))
           go (refused k) = refl
           go (given ts) = then-then (indexed source_limit f h ts) (λ _. given tt) (λ _. given (n + length (added a)))
+
+-- the tests before that, where all are passed
+pub record Passes6 (h : Heading) (n : ℕ) (a : Addition) : Type 0 where
+  pub small : true ≡ leb (n + length (added a)) file_limit
+  pub boxes : true ≡ leb (length h.boxes + added_boxes a) box_limit
+  pub inner : true ≡ leb (inner_boxes a) box_limit
+
+module _ {f : List ℕ} {h : Heading} {ss : List Segment} {j : Judged} {a : Addition} {x : Asked} (n : ℕ) (beside : Beside f h ss j) (asked : AskedBy a x) where
+  pub passes_6 : true ≡ leb (n + x.layout.added) file_limit → {more : ℕ} → more ≡ capped (added_boxes a) → true ≡ leb (j.head.boxes + more) 512 → true ≡ leb (2 + x.texts.surls) 512
+      → Passes6 h n a
+  passes_6 small more boxes inner =
+      record { small = file_test n beside asked small; boxes = box_test n beside asked more boxes; inner = inner_test n beside asked inner }
+
+  -- the answer is that about its segment
+  pub admission_told : Passes6 h n a → {target : Target} → Goes h ss (new_urls h a) target → {v : Answer (Unit {0})}
+      → ((h : Heading) (ss : List Segment) (s : Segment) → Known f h ss j.head.indexed → j.gathered ≡ gathered_of ss → Goes h ss s.urls target
+      → s.source ≡ source_beside ss s.urls → Tells s x.header x.counts → those fidx s.inner ≡ [] → v ≡ admitted_beside f h ss s)
+      → (v >>= λ _. given (n + length (added a))) ≡ admitted_length f h ss n a
+  admission_told t {target} goes answer =
+      let urls = sym (urls_new h ss _ a) in
+      let there = subst (λ (us : List (List ℕ)). Goes h ss us target) urls goes in
+      ap (λ (x : Answer (Unit {0})). x >>= λ _. given (n + length (added a)))
+      (answer h ss (new h ss n a) beside.file beside.segments there (source_new h ss _ a ∙ ap (source_beside ss) urls) (tells_new n beside asked) (no_index_new h ss _ a))
+      ∙ admission_by f h ss n a t.small t.boxes t.inner

@@ -1,8 +1,9 @@
 -- Laws of the index of a file beside a new segment, which has none: that of a file with a segment is told again, that
 -- of one without goes by its stages.
-use Prim.Native.Nat.{ℕ, ◌≤◌, ◌<◌}
+use Prim.Native.Nat.{ℕ, ◌%◌, ◌≤◌, ◌<◌}
 use mathlib.Core.Bool.{Bool, true, false, ◌&&◌}
-use mathlib.Core.Option.{Option, none as unknown, some}
+use Rattle.std.specs.Prelude.{Option, None, Some, option_map}
+use Rattle.std.specs.Bool.{then_some}
 use mathlib.Core.List.{List, [], ◌∷◌, ◌++◌}
 use mathlib.Core.Logic.{inl, inr}
 use mathlib.Core.Path.{◌≡◌, refl, sym, ap, ap₂, subst, ◌∙◌}
@@ -30,8 +31,8 @@ use Rattle.partial.proofs.Reading.NumberedLaws.{segments_numbered}
 use Rattle.partial.proofs.Reading.ReadingLaws.{reading_known}
 use Rattle.partial.proofs.Reading.RefusalLaws.{earlier_some, earlier_none, earlier_read}
 use Rattle.indexing.specs.Ends.{end_of as endBy}
-use Rattle.indexing.specs.declared.end.End.{End}
-use Rattle.ends.specs.Table.{all_sizes, SizesPut}
+use Rattle.partial.specs.declared.position.Position.{Position}
+use Rattle.ends.specs.Table.{all_sizes, flag, SizesPut}
 use Rattle.ends.specs.declared.sizes.Sizes.{Sizes}
 use Rattle.fileindex.specs.File.{index_by, end_in, NumberedBy}
 use Rattle.reading.specs.Judged.{indexed_told}
@@ -45,23 +46,41 @@ module _ (s : Segment) (us : List (List ℕ)) where
   unfolding size_for of_urls source_beside source_among of_source
   size_own same = rw (source_among, ← same, of_source, eq-eqb s.source s.source refl)
 
-  pub size_other : false ≡ same_urls us s.urls → size_for (s ∷ []) us ≡ endBy (record { known = false; at = record { 0 = 0 } })
-  unfolding size_for of_urls source_beside source_among of_source known_size endBy
+  pub size_other : false ≡ same_urls us s.urls → size_for (s ∷ []) us ≡ endBy None
+  unfolding size_for of_urls source_beside source_among of_source known_size
   size_other other =
       let above : s.source < source_count (s ∷ []) = omega (arith, source_count_more [] s) in
       rw (source_among, ← other, of_source, ne_eqb s.source (source_count (s ∷ [])) (λ e. omega arith))
 
-pub new_end : (s : Segment) {gives : Bool} {end : ℕ} → gives ≡ gives_size s → end ≡ end_of s → endBy (record { known = gives; at = record { 0 = end } }) ≡ known_size (s ∷ [])
-unfolding endBy known_size
-new_end s gives ends = ap₂ (λ (b : Bool) (n : ℕ). endBy (record { known = b; at = record { 0 = n } })) gives ends
+pub new_end : (s : Segment) {gives : Bool} {end : Position} {size : Option Position} → gives ≡ gives_size s → end.0 ≡ end_of s → size ≡ then_some gives end → endBy size ≡ known_size (s ∷ [])
+unfolding known_size
+new_end s {gives} {end} known ends is = ap endBy is ∙ by_known gives end ∙ ap₂ (λ (b : Bool) (n : ℕ). then_some b n) known ends ∙ of_one (gives_size s)
+  where
+    by_known : (b : Bool) (p : Position) → endBy (then_some b p) ≡ then_some b p.0
+    by_known true p = refl
+    by_known false p = refl
+
+    of_one : (b : Bool) → ◌≡◌ {A = Option ℕ} (then_some b (end_of s)) (elim b [ true ↦ Some (end_of s) | false ↦ None ])
+    of_one true = refl
+    of_one false = refl
+
+-- it is not past the segment's
+pub no_end : {end : ℕ} → (p : Position) → None ≡ Some p → p.0 ≤ end
+no_end p e = let z : ◌≡◌ {A = ℕ} 0 1 = cc in absurd (omega arith)
+
+pub end_within : (gives : Bool) (end : Position) {size : Option Position} → size ≡ then_some gives end → (p : Position) → size ≡ Some p → p.0 ≤ end.0
+end_within true end is p e = let same : end ≡ p = cc in omega (arith, ap (λ (p : Position). p.0) same)
+end_within false end is p e = no_end p (sym is ∙ e)
 
 -- a table that has it as the end of the first source
-pub end_put : (size : End) (z t : List ℕ) → length z ≡ all_sizes → size.at.0 ≤ source_limit → SizesPut z 0 (record { known = size.known; size = size.at; largest = size.at; same = true }) t
-    → end_in t 0 ≡ endBy size
-unfolding end_in endBy
-end_put size z t long low put =
-    ap (λ (x : Sizes). elim x.known [ true ↦ some x.size.0 | false ↦ unknown ]) (put.here (lit< tt) long)
-    ∙ ap (λ (n : ℕ). elim size.known [ true ↦ some n | false ↦ unknown ]) (mod-eq_of_lt (omega arith))
+pub end_put : (size : Option Position) (z t : List ℕ) → length z ≡ all_sizes → ((p : Position) → size ≡ Some p → p.0 ≤ source_limit)
+    → SizesPut z 0 (record { size = size; largest = record { 0 = 0 }; same = true }) t → end_in t 0 ≡ endBy size
+unfolding end_in
+end_put size z t long low put = ap (λ (x : Sizes). endBy x.size) (put.here (lit< tt) long) ∙ kept size low
+  where
+    kept : (size : Option Position) → ((p : Position) → size ≡ Some p → p.0 ≤ source_limit) → endBy (option_map (λ p. record { 0 = p.0 % flag }) size) ≡ endBy size
+    kept None low = refl
+    kept (Some p) low = ap (λ (n : ℕ). Some n) (mod-eq_of_lt (omega (arith, low p refl)))
 
 module _ {f : List ℕ} {h : Heading} (ss : List Segment) {in_pfil : Bool} (file : Known f h ss in_pfil) (s : Segment) (lacks : those fidx s.inner ≡ []) where
   -- a file with a segment was accepted
@@ -72,10 +91,10 @@ module _ {f : List ℕ} {h : Heading} (ss : List Segment) {in_pfil : Bool} (file
         | inl there ↦
             let (is, r) = reading_known source_limit f file.head (sym (earlier_some source_limit f file.head there) ∙ file.read) in
             rw (indexed_more source_limit f h s lacks ss (segments_numbered source_limit f h (earlier_read source_limit f file.head file.read)) next r.told)
-        | inr none ↦ absurd (any (ap length (given_same (sym file.read ∙ earlier_none source_limit f file.head none))))
+        | inr lacks ↦ absurd (any (ap length (given_same (sym file.read ∙ earlier_none source_limit f file.head lacks))))
       ]
 
-  module _ (none : length ss ≡ 0) where
+  module _ (empty : length ss ≡ 0) where
     nothing : ss ≡ []
     nothing = drop_of_length-le ss {i = 0} (omega arith)
 

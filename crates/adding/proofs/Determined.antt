@@ -3,7 +3,8 @@
 -- what is asked.
 use mathlib.Core.List.{List}
 use mathlib.Core.Path.{◌≡◌, sym, ◌∙◌}
-use Rattle.partial.proofs.Determined.{written-told}
+use Rattle.boxes.proofs.ToldLaws.{result-told}
+use Rattle.partial.proofs.Determined.{number-told}
 use Rattle.numerals.proofs.Determined.{OneResult, OneKnown}
 use Rattle.additions.specs.Addition.{Addition, items}
 use Rattle.additions.specs.Append.{new_urls}
@@ -23,7 +24,7 @@ use Rattle.adding.proofs.texts.is_text.Reads as is-text
 use Rattle.adding.proofs.texts.texts_of.Reads as texts-of
 
 counts_of-result : OneResult Counts-of.Post
-counts_of-result κs args x y after after' p q = p ∙ sym q
+counts_of-result κs args x y after after' p q = result-told (λ c d e. e) x y (p ∙ sym q)
 
 -- an addition has one layout
 one_layout : (a : Addition) (x y : Layout) → Laid a x → Laid a y → x ≡ y
@@ -46,7 +47,7 @@ outside_right-result κs args (h, a) (mixed, sorted) x y after after' p q = p h 
 admission-result : OneKnown admission.Post
     (λ κs args ((h, ss, a) : Heading × List Segment × Addition).
     Beside args.0.now h ss args.1.0.judged × Goes h ss (new_urls h a) args.1.0.target × AskedBy a args.1.1.0)
-admission-result κs args (h, ss, a) (beside, goes, asked) x y after after' p q = written-told x y (p h ss a beside goes asked ∙ sym (q h ss a beside goes asked))
+admission-result κs args (h, ss, a) (beside, goes, asked) x y after after' p q = number-told x y (p h ss a beside goes asked ∙ sym (q h ss a beside goes asked))
 
 is-text-result : OneResult is-text.Post
 is-text-result κs args x y after after' p q = p ∙ sym q

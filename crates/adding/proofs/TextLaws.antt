@@ -1,8 +1,9 @@
 -- Laws of texts: whether one has a zero byte, how many `surl` boxes they are for, and how long these are.
 use Prim.Native.Nat.{ℕ, suc, ◌+◌, ◌-◌, ◌*◌, ◌/◌, ◌%◌, ◌^◌, ◌≤◌, ◌<◌, min}
-use mathlib.Core.Bool.{true, false, not}
+use mathlib.Core.Bool.{Bool, true, false, not, ◌&&◌, ◌||◌}
+use Rattle.std.specs.List.{list_any}
 use mathlib.Core.List.{List, [], ◌∷◌, ◌++◌}
-use mathlib.Core.Logic.{inl, inr, ⊎_elim}
+use mathlib.Core.Logic.{inl, inr}
 use mathlib.Core.Path.{◌≡◌, refl, sym, ap, ◌∙◌}
 use native.Mathlib.Omega.{arith}
 use borrow.Author.Tests.{eq-eqb, ne_eqb, eqb-true, eqb-false}
@@ -16,23 +17,18 @@ use Rattle.partial.specs.Texts.{Surl, texts_for}
 use Rattle.additions.specs.Append.{surl_boxes}
 use Rattle.additions.proofs.SurlLaws.{surl_long, cut-joined}
 use Rattle.additions.specs.Begin.{is_text, surl_body, surl_box}
-use Rattle.partial.specs.Sequences.{sum}
-use Rattle.partial.proofs.Meaning.SequenceLaws.{which, all_at, all_by}
+use Rattle.partial.specs.Sequences.{all_of, sum}
+use Rattle.partial.proofs.Meaning.SequenceLaws.{which}
 
-module _ (s : List ℕ) where
-  pub with_zero : (i : ℕ) → i < length s → get_or s i 0 ≡ 0 → is_text s ≡ false
-  unfolding is_text
-  with_zero i inside zero =
-      ⊎_elim
-      (λ plain.
-      let z : true ≡ false = sym (all_at (λ b. not (eqb b 0)) 0 s plain i inside) ∙ ap not (eq-eqb (get_or s i 0) 0 zero) in
-      cc)
-      (λ e. e)
-      (which (is_text s))
-
-  pub no_zero : ((k : ℕ) → k < length s → get_or s k 0 ≡ 0 → ⊥) → is_text s ≡ true
-  unfolding is_text
-  no_zero none = all_by (λ b. not (eqb b 0)) 0 s (λ k inside. ap not (ne_eqb (get_or s k 0) 0 (none k inside)))
+-- no byte is zero where none is found
+pub text_none : (s : List ℕ) → not (list_any (λ b. eqb b 0) s) ≡ is_text s
+unfolding is_text all_of
+text_none [] = refl
+text_none (b ∷ bs) = go (eqb b 0) _ (text_none bs)
+  where
+    go : (zero : Bool) (rest : Bool) {all : Bool} → not rest ≡ all → not (zero || rest) ≡ (not zero && all)
+    go true rest e = refl
+    go false rest e = e
 
 -- ---- the sum of the lengths
 

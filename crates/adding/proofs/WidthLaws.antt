@@ -74,7 +74,3 @@ offset_most version =
       | inl e ↦ rw (offset_width_of, e) (omega arith)
       | inr e ↦ rw (offset_width_of, e) (omega arith)
     ]
-
--- the bytes of a source offset are few
-pub offset_short : (n version : ℕ) → n ≡ offset_width_of version → n ≤ 8
-offset_short n version e = rw e (offset_most version)

@@ -1,7 +1,9 @@
 -- Document 01, "Append": "1, 6, 13, 22, 23 or 25 if the result would have it", and document 02, [7]: "36, 37 or 39 if
 -- its result would", and [8]: 41 and 40, by what was read of the file and counted of the addition.
 use Rattle.std.specs.Prelude.{ℕ, ◌+◌, ◌%◌, Bool, true, List, [], ◌∷◌, ◌++◌, map, ◌≡◌, ltb, length}
-use Rattle.boxes.specs.Answer.{Answer, refused, given, ◌>>=◌}
+use Rattle.std.specs.Prelude.{Result}
+use Rattle.refusals.specs.declared.Refusal.{Refusal}
+use Rattle.boxes.specs.Answer.{Answer, given, told_as, ◌>>=◌}
 use Rattle.additions.specs.Addition.{Addition}
 use Rattle.additions.specs.Append.{added, admission, admitted}
 use Rattle.partial.specs.Heading.{Heading, heading}
@@ -20,8 +22,6 @@ use Rattle.adding.specs.Layout.{Laid}
 use Rattle.adding.specs.Texts.{Texted}
 use Rattle.adding.specs.declared.admission.Asked.{Asked}
 use Rattle.adding.specs.declared.admission.Target.{Target}
-use Rattle.adding.specs.declared.admission.Verdict.{Verdict}
-use Rattle.adding.specs.declared.admission.Verdict.TheVariants.{Refused, Taken}
 use Rattle.adding.specs.declared.counts.Counts.{Counts}
 
 -- what a header and the counts of a chunk list tell of a new segment
@@ -51,9 +51,8 @@ admitted_beside f h ss s = do
   given tt
 
 -- what an answer about that says
-unfoldable pub admitted_answer : Verdict → Answer (Unit {0})
-admitted_answer (Refused n) = refused n
-admitted_answer Taken = given tt
+abbrev pub admitted_answer : Result (Unit {0}) Refusal → Answer (Unit {0})
+admitted_answer = told_as (λ x. x)
 
 -- what was read of a file: how many boxes it has, what its segments say together, and whether its `pfil` has an index
 pub record Beside (f : List ℕ) (h : Heading) (ss : List Segment) (j : Judged) : Type 0 where

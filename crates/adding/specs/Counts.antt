@@ -1,5 +1,6 @@
 -- Document 01, "Append": what one pass over the chunk list counts, and what it tells of an addition.
-use Rattle.std.specs.Prelude.{ℕ, ◌-◌, ◌^◌, min, true, false, not, ◌&&◌, List, map, ◌≡◌, eqb, length}
+use Rattle.std.specs.Prelude.{ℕ, ◌-◌, ◌^◌, min, Bool, true, false, not, ◌&&◌, List, map, ◌≡◌, eqb, length}
+use Rattle.boxes.specs.Answer.{Answer, refused, given}
 use Rattle.additions.specs.Addition.{Addition, Item, items, data_size, is_state}
 use Rattle.partial.specs.Segments.{present}
 use Rattle.partial.specs.Sequences.{all_of, largest, sum}
@@ -15,18 +16,24 @@ capped n = min n (2 ^ 64 - 1)
 unfoldable pub present_of : List Item → ℕ
 present_of is = sum (map (λ i. elim (present i.state) [ true ↦ 1 | false ↦ 0 ]) is)
 
--- whether no size is 0 and every state is one, how many items there are and how many are present, the largest size, the
--- bytes of those that are present and of all
+-- how many items there are and how many are present, the largest size, the bytes of those that are present and of all
 unfoldable pub counts_of : List Item → Counts
 counts_of is =
     record {
-      right = all_of (λ i. not (eqb i.size 0) && is_state i.state) is;
       items = length is;
       present = present_of is;
       largest = largest (map (λ i. i.size) is);
       bytes = capped (data_size is);
       sum = capped (sum (map (λ i. i.size) is));
     }
+
+-- whether the size is not 0, and the state is one
+abbrev pub right_item : Item → Bool
+right_item i = not (eqb i.size 0) && is_state i.state
+
+-- the counts of items that are right, else 31
+unfoldable pub counted : List Item → Answer Counts
+counted is = elim (all_of right_item is) [ true ↦ given (counts_of is) | false ↦ refused 31 ]
 
 -- counts of items whose data is no more than 64 bits hold
 pub record Whole (is : List Item) (c : Counts) : Type 0 where

@@ -2,3 +2,4 @@ pub mod Counts
 pub mod Texts
 pub mod Layout
 pub mod Admission
+pub mod Asks

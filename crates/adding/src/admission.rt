@@ -1,9 +1,10 @@
 // Whether a file takes an addition: 35, and then 1, 6, 13, 41, 22, 23, 25, 40, 36, 37 or 39 if the result would have it.
 ghost use Rattle.std.specs.Prelude.{◌≤◌, true, List, [], ◌∷◌, ◌≡◌, length};
+ghost use Rattle.partial.specs.declared.position.Position.{Position};
 ghost use Rattle.boxes.specs.Kinds.{fidx, those};
 ghost use Rattle.additions.specs.Addition.{Addition, items, outside_right};
 ghost use Rattle.additions.specs.Append.{added_boxes, new_urls};
-ghost use Rattle.partial.specs.Answers.{written_answer};
+ghost use Rattle.partial.specs.Answers.{number_answer};
 ghost use Rattle.partial.specs.Heading.{Heading};
 ghost use Rattle.partial.specs.Index.{size_for};
 ghost use Rattle.partial.specs.Limits.{source_limit};
@@ -21,22 +22,16 @@ use crate::layout::Layout;
 use crate::texts::Texts;
 use additions::header::SegmentHeader;
 use boxes::limits::BOX_LIMIT;
-use boxes::refusals::TOO_MANY_BOXES;
 use ends::sizes::{Sizes, gives_size};
 use ends::table::{ALL_SIZES, ONE_SOURCE, put_sizes};
 use gathering::gathered::Gathered;
-use indexing::end::End;
-use numerals::order::{ends_by, sum_of};
+use numerals::order::ends_by;
 use outside::chunks::Outside;
-use partial::answers::{Counted, Written};
 use partial::limits::{CHUNK_LIMIT, FILE_LIMIT, LAYER_LIMIT, SEGMENT_LIMIT, SOURCE_LIMIT};
 use partial::position::Position;
-use partial::refusals::{
-    FILE_TOO_LONG, NO_URL, SIZES_DIFFER, SOURCE_TOO_LONG, TOO_MANY_CHUNKS, TOO_MANY_SEGMENTS,
-    TOO_MANY_SOURCES,
-};
 use reading::indexed::index_stages;
 use reading::judging::Judged;
+use refusals::Refusal;
 use sources::numbers::ALL_SOURCES;
 
 // The boxes of a `pseg` without texts: its `pshd` and its `ploc`.
@@ -49,7 +44,7 @@ pub fn outside_right(mixed: bool, outside: Outside) -> bool
     if outside.chunks == 0 {
         return true;
     }
-    if mixed { outside.right } else { false }
+    mixed && outside.right
 }
 
 // How many boxes append adds to the file: the `pseg`, those outside, and the `pdat` if any chunk goes there.
@@ -57,16 +52,9 @@ fn added_boxes(counts: Counts, outside: Outside) -> u64
     ensures { (a : Addition) → Sorted a counts outside → outside.right ≡ true → result ≡ capped (added_boxes a) }
 {
     if counts.present == outside.chunks {
-        return sum_of(outside.boxes, 1);
+        return outside.boxes.saturating_add(1);
     }
-    sum_of(outside.boxes, 2)
-}
-
-// Whether a segment is admitted beside those before it, or the number of its refusal.
-#[derive(Clone, Copy)]
-pub enum Verdict {
-    Refused(u64),
-    Taken,
+    outside.boxes.saturating_add(2)
 }
 
 // The source that an addition goes to: its number, what the ends of its segments say, whether its list of URLs is that in
@@ -100,47 +88,43 @@ pub struct Asked {
 
 // Where the source of the list in `pfil` ends beside a new segment alone, which is of that source or not, and gives its
 // size or not.
-fn end_beside(in_pfil: bool, gives: bool, end: Position) -> End
-    ensures { (result.at.0 ≤ end.0) × ((h : Heading) (s : Segment) → in_pfil ≡ same_urls h.urls s.urls → gives ≡ gives_size s → end.0 ≡ segmentEnd s
+fn end_beside(in_pfil: bool, gives: bool, end: Position) -> Option<Position>
+    ensures { ((p : Position) → result ≡ Some p → p.0 ≤ end.0)
+        × ((h : Heading) (s : Segment) → in_pfil ≡ same_urls h.urls s.urls → gives ≡ gives_size s → end.0 ≡ segmentEnd s
         → end_of result ≡ size_for (s ∷ []) h.urls) }
 {
-    if in_pfil {
-        return End {
-            known: gives,
-            at: end,
-        };
+    if !in_pfil {
+        return None;
     }
-    End {
-        known: false,
-        at: Position(0),
-    }
+    gives.then_some(end)
 }
 
 // 36, 37 and 39 of the file's own index beside a new segment, which has none, where the source of the list in `pfil`
 // ends there. The index of a file that has a segment was told when it was read, and is told again.
-fn index_beside(file: &[u8], indexed: bool, segments: u64, size: End) -> Verdict
+fn index_beside(
+    file: &[u8],
+    indexed: bool,
+    segments: u64,
+    size: Option<Position>,
+) -> Result<(), Refusal>
     ensures { (h : Heading) (ss : List Segment) (s : Segment) → Known file.now h ss indexed
         → segments ≡ length ss → those fidx s.inner ≡ [] → s.source ≡ source_beside ss s.urls → end_of size ≡ size_for (s ∷ []) h.urls
-        → size.at.0 ≤ source_limit
+        → ((p : Position) → size ≡ Some p → p.0 ≤ source_limit)
         → admitted_answer result ≡ indexed_beside file.now h ss s }
 {
     if segments != 0 {
-        return Verdict::Taken;
+        return Ok(());
     }
-    let at = size.at;
     let mut sizes = [0; ALL_SIZES];
     let sources = [0; ALL_SOURCES];
     let said = Sizes {
-        known: size.known,
-        size: at,
-        largest: at,
+        size,
+        largest: Position(0),
         same: true,
     };
     put_sizes(&mut sizes, ONE_SOURCE, said);
-    match index_stages(file, indexed, false, &sizes, &sources, ONE_SOURCE) {
-        Counted::Refused(k) => Verdict::Refused(k),
-        Counted::Rows(_) => Verdict::Taken,
-    }
+    index_stages(file, indexed, false, &sizes, &sources, ONE_SOURCE)?;
+    Ok(())
 }
 
 // 13, 41, 22, 23, 25 and 40 of the new segment, by what was gathered of those before it and what the ends of its own
@@ -152,43 +136,43 @@ fn admitted(
     target: Target,
     header: SegmentHeader,
     counts: Counts,
-) -> Verdict
+) -> Result<(), Refusal>
     ensures { (h : Heading) (ss : List Segment) (s : Segment) → Known file.now h ss indexed
         → gathered ≡ gathered_of ss → Goes h ss s.urls target → s.source ≡ source_beside ss s.urls
         → Tells s header counts → those fidx s.inner ≡ [] → admitted_answer result ≡ admitted_beside file.now h ss s }
 {
     let offset = header.offset;
     if SEGMENT_LIMIT <= gathered.segments {
-        return Verdict::Refused(TOO_MANY_SEGMENTS);
+        return Err(Refusal::TooManySegments);
     }
     if !target.listed {
-        return Verdict::Refused(NO_URL);
+        return Err(Refusal::NoUrl);
     }
     if !ends_by(gathered.chunks, counts.items, CHUNK_LIMIT) {
-        return Verdict::Refused(TOO_MANY_CHUNKS);
+        return Err(Refusal::TooManyChunks);
     }
     if !ends_by(offset.0, counts.sum, SOURCE_LIMIT) {
-        return Verdict::Refused(SOURCE_TOO_LONG);
+        return Err(Refusal::SourceTooLong);
     }
     let gives = gives_size(header.flags as u64 % 2, counts.items);
     let said = target.sizes;
-    let end = offset.0 + counts.sum;
-    let with = said.with(Position(end), gives);
+    let end = Position(offset.0 + counts.sum);
+    let with = said.with(end, gives);
     if !with.agree() {
-        return Verdict::Refused(SIZES_DIFFER);
+        return Err(Refusal::SizesDiffer);
     }
     if LAYER_LIMIT <= target.source {
-        return Verdict::Refused(TOO_MANY_SOURCES);
+        return Err(Refusal::TooManySources);
     }
-    let size = end_beside(target.in_pfil, gives, Position(end));
+    let size = end_beside(target.in_pfil, gives, end);
     index_beside(file, indexed, gathered.segments, size)
 }
 
 // The length of the file with the addition, or the number of the first refusal that the result would have.
-pub fn admission(file: &[u8], onto: Onto, asked: Asked) -> Written
+pub fn admission(file: &[u8], onto: Onto, asked: Asked) -> Result<u64, Refusal>
     ensures { (h : Heading) (ss : List Segment) (a : Addition) → Beside file.now h ss onto.judged
         → Goes h ss (new_urls h a) onto.target → AskedBy a asked
-        → written_answer result ≡ admitted_length file.now h ss onto.length a }
+        → number_answer result ≡ admitted_length file.now h ss onto.length a }
 {
     let n = onto.length;
     let judged = onto.judged;
@@ -196,23 +180,21 @@ pub fn admission(file: &[u8], onto: Onto, asked: Asked) -> Written
     let counts = asked.counts;
     let added = asked.layout.added;
     if !ends_by(n, added, FILE_LIMIT) {
-        return Written::Refused(FILE_TOO_LONG);
+        return Err(Refusal::FileTooLong);
     }
     if !ends_by(head.boxes, added_boxes(counts, asked.outside), BOX_LIMIT) {
-        return Written::Refused(TOO_MANY_BOXES);
+        return Err(Refusal::TooManyBoxes);
     }
     if !ends_by(PLAIN_BOXES, asked.texts.surls, BOX_LIMIT) {
-        return Written::Refused(TOO_MANY_BOXES);
+        return Err(Refusal::TooManyBoxes);
     }
-    match admitted(
+    admitted(
         file,
         head.indexed,
         judged.gathered,
         onto.target,
         asked.header,
         counts,
-    ) {
-        Verdict::Refused(k) => Written::Refused(k),
-        Verdict::Taken => Written::Length(n + added),
-    }
+    )?;
+    Ok(n + added)
 }

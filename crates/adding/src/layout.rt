@@ -46,11 +46,7 @@ pub struct Layout {
 fn within(size: u64) -> u64
     ensures { result ≡ min size (file_limit + 1) }
 {
-    if FILE_LIMIT < size {
-        FILE_LIMIT + 1
-    } else {
-        size
-    }
+    size.min(FILE_LIMIT + 1)
 }
 
 // The least width that holds every size.
@@ -70,7 +66,7 @@ fn offset_size(counts: Counts) -> usize
 
 // The bytes of `source_byte_offset`: four where they hold it, else eight.
 fn offset_width(offset: Position) -> u64
-    ensures { result ≡ offset_width_of (version_for offset.0) }
+    ensures { (result ≤ 8) × (result ≡ offset_width_of (version_for offset.0)) }
 {
     if offset.0 <= VERSION_0_LAST { 4 } else { 8 }
 }

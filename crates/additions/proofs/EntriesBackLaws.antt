@@ -4,7 +4,7 @@ use Prim.Native.Nat.{ℕ, zero, suc, ◌+◌, ◌≤◌}
 use mathlib.Core.Bool.{Bool, true, false}
 use mathlib.Core.List.{List, [], ◌∷◌, ◌++◌, map}
 use mathlib.Core.Logic.{inl, inr}
-use mathlib.Core.Option.{some, get_or}
+use Rattle.std.specs.Prelude.{Some, unwrap_or}
 use mathlib.Core.Path.{◌≡◌, refl, sym, ap, ◌∙◌}
 use native.Mathlib.Decide.{dec_le}
 use native.Mathlib.Nat.{add-zero, add_assoc}
@@ -60,7 +60,7 @@ pub record Tells (h : Heading) (pseg : ℕ) (p : Placed) : Type 0 where
   pub not_none : p.offset ≡ Back 0 → ⊥
   pub absent : present p.state ≡ false → p.offset ≡ Ahead 0
   pub lies : has_place p.state p.size ≡ true
-      → (place : ℕ) × (offset_place pseg p.offset ≡ some place) × (may_lie h p.state place p.size ≡ true)
+      → (place : ℕ) × (offset_place pseg p.offset ≡ Some place) × (may_lie h p.state place p.size ≡ true)
 
 -- one entry, at a place
 module _ (g : List ℕ) (l : Ploc) (p : Placed) (ps : List Placed) where
@@ -98,7 +98,7 @@ module _ (g : List ℕ) (l : Ploc) (p : Placed) (ps : List Placed) where
       )
 
   place_back : (h : Heading) (pseg at : ℕ) → Tells h pseg p
-      → place_of h pseg (entry_read at) ≡ given (elim (has_place p.state p.size) [ true ↦ get_or (offset_place pseg p.offset) 0 | false ↦ 0 ])
+      → place_of h pseg (entry_read at) ≡ given (elim (has_place p.state p.size) [ true ↦ unwrap_or (offset_place pseg p.offset) 0 | false ↦ 0 ])
   unfolding place_of
   place_back h pseg at tells =
       elim (which (has_place p.state p.size)) [

@@ -5,7 +5,7 @@ use mathlib.Core.Bool.{Bool, true, ◌&&◌}
 use mathlib.Core.List.Memᴰ
 use mathlib.Core.List.{List, [], ◌∷◌, ◌++◌, append-nil, Memᴰ}
 use mathlib.Core.Logic.{inl, inr}
-use mathlib.Core.Option.{some}
+use Rattle.std.specs.Prelude.{Some}
 use mathlib.Core.Path.{◌≡◌, refl, sym, ap, subst, ◌∙◌}
 use native.Mathlib.Omega.{arith}
 use lib.Dec.{eqb}
@@ -46,7 +46,7 @@ module _ (g : List ℕ) (at p : ℕ) (o : Bool) (out : ℕ) where
             let there = good-present i.state is-good in
             let (from, to) = within_true _ _ _ covered in
             rw (byte_from, carried_by, e) (rw (place_present at i (back o out i is) there (stored-within g at o out i is bytes s) (omega arith))
-            (ap some (stored_byte g at o out i is bytes s there (p - start) (omega arith))))
+            (ap Some (stored_byte g at o out i is bytes s there (p - start) (omega arith))))
         | inr e ↦ rw (byte_from, carried_by, e) (carried_byte (start + i.size) is (drop (data_size (i ∷ [])) bytes) (stored_rest g at o out i is bytes s))
       ]
 
@@ -64,7 +64,7 @@ served_kept : (f more : List ℕ) (ss : List Segment) (p : ℕ) → (supplied ss
 unfolding served
 served_kept f more ss p inside =
     elim (which (supplied ss p)) [
-      | inl e ↦ rw (served, e) (ap some (get_or-append f more 0 (place_of_byte ss p) (inside e)))
+      | inl e ↦ rw (served, e) (ap Some (get_or-append f more 0 (place_of_byte ss p) (inside e)))
       | inr e ↦ rw (served, e)
     ]
 

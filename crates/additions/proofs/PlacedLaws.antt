@@ -3,7 +3,7 @@ use Prim.Native.Nat.{ℕ, suc, ◌+◌, ◌-◌, ◌%◌, ◌^◌, ◌≤◌, �
 use mathlib.Core.Bool.{Bool, true, false, not, ◌&&◌, and-false, true≢false}
 use mathlib.Core.List.{List, [], ◌∷◌, map}
 use mathlib.Core.Logic.{inl, inr}
-use mathlib.Core.Option.{Option, some, get_or}
+use Rattle.std.specs.Prelude.{Option, Some, unwrap_or}
 use mathlib.Core.Path.{◌≡◌, refl, sym, ap, ap₂, ◌∙◌}
 use native.Mathlib.Decide.{dec_le}
 use native.Mathlib.Nat.{add-zero}
@@ -102,19 +102,19 @@ plain_placed i is =
 
 -- where the data of a present item starts that lies so far back
 module _ (at : ℕ) (i : Item) (n : ℕ) (there : present i.state ≡ true) (low : n ≤ at) where
-  offset_present : offset_place at (elim (present i.state) [ true ↦ Back n | false ↦ Ahead 0 ]) ≡ some (at - n)
+  offset_present : offset_place at (elim (present i.state) [ true ↦ Back n | false ↦ Ahead 0 ]) ≡ Some (at - n)
   unfolding offset_place
   offset_present = rw there (rw (offset_place, le-leb n at low))
 
   pub place_present : 0 < i.size
       → (elim (has_place i.state i.size) [
-        | true ↦ get_or (offset_place at (elim (present i.state) [ true ↦ Back n | false ↦ Ahead 0 ])) 0
+        | true ↦ unwrap_or (offset_place at (elim (present i.state) [ true ↦ Back n | false ↦ Ahead 0 ])) 0
         | false ↦ 0
       ]) ≡ at - n
   unfolding has_place
   place_present some_size =
       let stored : has_place i.state i.size ≡ true = rw (has_place, there, lt-ltb 0 i.size some_size) in
-      rw stored (ap (λ (to : Option ℕ). get_or to 0) offset_present)
+      rw stored (ap (λ (to : Option ℕ). unwrap_or to 0) offset_present)
 
 -- ---- which widths hold the offsets
 
@@ -150,7 +150,7 @@ module _ (w : ℕ) (o : Bool) where
   far_some : (n : ℕ) → holds_offset w (Back n) ≡ false → 0 < n
   far_some n over =
       elim (dec_le n 0) [
-        | yes none ↦ absurd (true≢false (sym (within-back w n (omega arith)) ∙ over))
+        | yes None ↦ absurd (true≢false (sym (within-back w n (omega arith)) ∙ over))
         | no more ↦ omega arith
       ]
 
@@ -164,7 +164,7 @@ module _ (w : ℕ) (o : Bool) where
         | inl e ↦ rw e (offsets-within (data_size is) e out is (omega arith) (omega arith))
         | inr e ↦
             rw e (elim (dec_le (size_of (goes_in o) is) 0) [
-              | yes none ↦
+              | yes None ↦
                   let same : data_size is ≡ out + 0 = omega arith in
                   offsets_over (goes_out o) out 0 (out_present o) (λ i is e. back_out o out i is e ∙ sym (add-zero _)) is (omega (arith, far_some (data_size is) e)) (rw same at e)
               | no more ↦ offsets_over (goes_in o) out out (in-present o) (back_in o out) is (omega arith) (rw all at e)
@@ -200,7 +200,7 @@ module _ (h : Heading) (at : ℕ) where
         | inl e ↦
             record {
               known = known;
-              not_none = rw e (λ none. let zero_left : n ≡ 0 = cc in omega (arith, far e));
+              not_none = rw e (λ None. let zero_left : n ≡ 0 = cc in omega (arith, far e));
               absent = λ f. absurd (true≢false (sym e ∙ f));
               lies = λ _. (at - n, offset_present at i n e low, lie e);
             }
@@ -238,5 +238,5 @@ module _ (h : Heading) (at : ℕ) where
           | nowhere e into there ↦
               item_tells i n first (back_most o out i is at ins outs) (λ t. absurd (true≢false (sym t ∙ there))) (λ t. absurd (true≢false (sym t ∙ there)))
         ],
-        placed_tell o out is others (omega arith) (omega arith) (λ state place size some from to. lie state place size some (omega arith) to) outer.1,
+        placed_tell o out is others (omega arith) (omega arith) (λ state place size Some from to. lie state place size Some (omega arith) to) outer.1,
       )

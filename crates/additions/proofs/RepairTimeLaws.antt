@@ -4,7 +4,7 @@ use Prim.Native.Nat.{ℕ, ◌%◌, ◌^◌, ◌+◌}
 use mathlib.Core.Bool.{Bool, true, false, not, ◌&&◌, ◌||◌}
 use mathlib.Core.List.{List, [], ◌∷◌, ◌++◌}
 use mathlib.Core.Logic.{inl, inr}
-use mathlib.Core.Option.{Option, none, some}
+use Rattle.std.specs.Prelude.{Option, None, Some}
 use mathlib.Core.Path.{◌≡◌, refl, sym, ap, ap₂, ◌∙◌}
 use lib.Dec.{leb, ltb, eqb}
 use lib.ListN.{length}
@@ -39,7 +39,7 @@ fits n s = leb (end_of s) n && (not (gives_size s) || eqb (end_of s) n)
 module _ (s t : Segment) (source : s.source ≡ t.source) (ends : end_of s ≡ end_of t) (gives : gives_size s ≡ gives_size t) where
   known_same : (ss : List Segment) → known_size (ss ++ (s ∷ [])) ≡ known_size (ss ++ (t ∷ []))
   unfolding known_size
-  known_same [] = ap₂ (λ (given-there : Bool) (end : ℕ). elim given-there as (λ _. Option ℕ) [ true ↦ some end | false ↦ none ]) gives ends
+  known_same [] = ap₂ (λ (given-there : Bool) (end : ℕ). elim given-there as (λ _. Option ℕ) [ true ↦ Some end | false ↦ None ]) gives ends
   known_same (x ∷ ss) =
       elim (which (gives_size x)) [
         | inl e ↦ rw (known_size, e)
@@ -51,9 +51,9 @@ module _ (s t : Segment) (source : s.source ≡ t.source) (ends : end_of s ≡ e
   agree_same ss = rw (agree, known_same ss) (go (known_size (ss ++ (t ∷ []))))
     where
       go : (known : Option ℕ)
-          → ◌≡◌ {A = Bool} (elim known [ some n ↦ all_of (fits n) (ss ++ (s ∷ [])) | none ↦ true ]) (elim known [ some n ↦ all_of (fits n) (ss ++ (t ∷ [])) | none ↦ true ])
-      go none = refl
-      go (some n) = rw (all_append (fits n) ss (s ∷ []), all_append (fits n) ss (t ∷ []), ends, gives)
+          → ◌≡◌ {A = Bool} (elim known [ Some n ↦ all_of (fits n) (ss ++ (s ∷ [])) | None ↦ true ]) (elim known [ Some n ↦ all_of (fits n) (ss ++ (t ∷ [])) | None ↦ true ])
+      go None = refl
+      go (Some n) = rw (all_append (fits n) ss (s ∷ []), all_append (fits n) ss (t ∷ []), ends, gives)
 
   -- what does not tell them apart at the end of segments does not at the end of those of a source
   of_last : {A : Type 0} (said : List Segment → A) → ((ss : List Segment) → said (ss ++ (s ∷ [])) ≡ said (ss ++ (t ∷ [])))

@@ -1,7 +1,7 @@
 -- Document 01, "Append", and document 02, [8]: the bytes that it writes, the segment that they say, and its refusals in
 -- order.
 use Rattle.std.specs.Prelude.{ℕ, ◌+◌, ◌*◌, Bool, true, false, ◌&&◌, List, [], ◌∷◌, ◌++◌, map, length, take, leb, ltb}
-use Rattle.std.proofs.Math.Option.{get_or}
+use Rattle.std.specs.Prelude.{unwrap_or}
 use Rattle.boxes.specs.Answer.{Answer, given, ◌>>=◌, hold}
 use Rattle.numerals.specs.Numbers.{bytes_of, twos_complement, holds, holds_offset, least_width}
 use Rattle.boxes.specs.Framing.{Box, front_size, boxed, boxed_at, box_limit}
@@ -141,7 +141,7 @@ new_chunks at start (p ∷ ps) =
       start = start;
       size = p.size;
       state = p.state;
-      place = elim (has_place p.state p.size) [ true ↦ get_or (offset_place at p.offset) 0 | false ↦ 0 ];
+      place = elim (has_place p.state p.size) [ true ↦ unwrap_or (offset_place at p.offset) 0 | false ↦ 0 ];
     }
     ∷ new_chunks at (start + p.size) ps
 

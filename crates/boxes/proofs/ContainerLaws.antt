@@ -2,7 +2,7 @@
 -- boxes join.
 use Prim.Native.Nat.{ℕ, zero, suc, ◌+◌, ◌*◌, ◌≤◌, ◌<◌}
 use mathlib.Core.List.{List, [], ◌∷◌, ◌++◌, map}
-use mathlib.Core.Option.{Option, none, some}
+use Rattle.std.specs.Prelude.{Option, None, Some}
 use mathlib.Core.Path.{◌≡◌, refl, sym, ap, subst, ◌∙◌}
 use native.Mathlib.Decide.{dec_le}
 use native.Mathlib.Nat.{zero-add, add-zero, le_refl}
@@ -24,8 +24,8 @@ unfolding faultless
 faultless-followed b w = go w.fault
   where
     go : (x : Option Fault) → faultless (record { boxes = b ∷ w.boxes; fault = x }) ≡ (faultless (record { boxes = w.boxes; fault = x }) >>= λ bs. given (b ∷ bs))
-    go none = refl
-    go (some x) = refl
+    go None = refl
+    go (Some x) = refl
 
 -- what the tests decide
 module _ (c : Container) (s : List ℕ) (end at : ℕ) where

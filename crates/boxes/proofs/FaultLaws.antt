@@ -2,7 +2,7 @@
 use Prim.Native.Nat.{ℕ, zero, suc, ◌<◌}
 use mathlib.Core.List.{List, []}
 use mathlib.Core.Logic.{inl, inr, ⊎_elim}
-use mathlib.Core.Option.{Option, none, some}
+use Rattle.std.specs.Prelude.{Option, None, Some}
 use mathlib.Core.Path.{◌≡◌, refl, sym, ap, subst}
 use native.Mathlib.Decide.{dec_le}
 use native.Mathlib.Omega.{arith}
@@ -15,27 +15,27 @@ use Rattle.boxes.proofs.ContainerLaws.{walked_end, walked_over, walked_next}
 
 -- a walk whose boxes are given met no fault, and one that is refused met one of that number
 module _ (w : Walked) where
-  pub no-fault : {bs : List Box} → faultless w ≡ given bs → w ≡ record { boxes = bs; fault = none }
+  pub no-fault : {bs : List Box} → faultless w ≡ given bs → w ≡ record { boxes = bs; fault = None }
   unfolding faultless
   no-fault {bs} = go w.fault
     where
-      go : (x : Option Fault) → faultless (record { boxes = w.boxes; fault = x }) ≡ given bs → ◌≡◌ {A = Walked} (record { boxes = w.boxes; fault = x }) (record { boxes = bs; fault = none })
-      go none e = ap (λ bs. record { boxes = bs; fault = none }) (given_same e)
-      go (some x) e = absurd (not_both e)
+      go : (x : Option Fault) → faultless (record { boxes = w.boxes; fault = x }) ≡ given bs → ◌≡◌ {A = Walked} (record { boxes = w.boxes; fault = x }) (record { boxes = bs; fault = None })
+      go None e = ap (λ bs. record { boxes = bs; fault = None }) (given_same e)
+      go (Some x) e = absurd (not_both e)
 
-  pub fault_met : {n : ℕ} → faultless w ≡ refused n → (at : ℕ) × (w ≡ record { boxes = w.boxes; fault = some (record { at = at; number = n }) })
+  pub fault_met : {n : ℕ} → faultless w ≡ refused n → (at : ℕ) × (w ≡ record { boxes = w.boxes; fault = Some (record { at = at; number = n }) })
   unfolding faultless
   fault_met {n} = go w.fault
     where
       go : (x : Option Fault) → faultless (record { boxes = w.boxes; fault = x }) ≡ refused n
-          → (at : ℕ) × (◌≡◌ {A = Walked} (record { boxes = w.boxes; fault = x }) (record { boxes = w.boxes; fault = some (record { at = at; number = n }) }))
-      go none e = absurd (not_both (sym e))
-      go (some x) e = (x.at, ap (λ n. record { boxes = w.boxes; fault = some (record { at = x.at; number = n }) }) (refused_same e))
+          → (at : ℕ) × (◌≡◌ {A = Walked} (record { boxes = w.boxes; fault = x }) (record { boxes = w.boxes; fault = Some (record { at = at; number = n }) }))
+      go None e = absurd (not_both (sym e))
+      go (Some x) e = (x.at, ap (λ n. record { boxes = w.boxes; fault = Some (record { at = x.at; number = n }) }) (refused_same e))
 
 -- the fault of a walk is the container's first
 module _ (c : Container) (s : List ℕ) (end : ℕ) where
   abbrev Stands : ℕ → ℕ → Walked → Type 0
-  Stands more at w = (x : Fault) → w.fault ≡ some x → FirstFault c s at end more w.boxes x
+  Stands more at w = (x : Fault) → w.fault ≡ Some x → FirstFault c s at end more w.boxes x
 
   no_stand : (more at : ℕ) → Stands more at ended
   no_stand more at x e = let z : ◌≡◌ {A = ℕ} 0 1 = cc in absurd (omega arith)
@@ -69,7 +69,7 @@ module _ (c : Container) (s : List ℕ) (end : ℕ) where
       go rest (refused n) e short = stands_here (suc more) at n (record { before = refl; short = short; wrong = inl (omega arith, e) })
       go rest (given b) e short = stands_behind more at (walked c s end more b.end) short e (rest b.end)
 
-pub fault_stands : (c : Container) (s : List ℕ) (start end : ℕ) (x : Fault) → (walked_in c s start end).fault ≡ some x
+pub fault_stands : (c : Container) (s : List ℕ) (start end : ℕ) (x : Fault) → (walked_in c s start end).fault ≡ Some x
     → FirstFault c s start end box_limit (walked_in c s start end).boxes x
 unfolding walked_in
 fault_stands c s start end = stands c s end box_limit start

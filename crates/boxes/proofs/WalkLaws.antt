@@ -2,7 +2,7 @@
 use Prim.Native.Nat.{ℕ, zero, suc, ◌+◌, ◌-◌, ◌≤◌, ◌<◌}
 use mathlib.Core.Bool.{Bool, true, false}
 use mathlib.Core.List.{List, [], ◌∷◌, ◌++◌, append_assoc, append-nil}
-use mathlib.Core.Option.{Option, none, some}
+use Rattle.std.specs.Prelude.{Option, None, Some, Result, Ok, Err}
 use mathlib.Core.Path.{◌≡◌, refl, sym, ap, ◌∙◌}
 use native.Mathlib.Numerals.{sub-one}
 use native.Mathlib.Omega.{arith}
@@ -11,11 +11,12 @@ use lib.Dec.{leb}
 use lib.ListN.{length, length-append}
 use Rattle.boxes.specs.Answer.{Answer, refused, given, ◌>>=◌}
 use Rattle.boxes.specs.Framing.{Box, Walked, box_of, header, ended, broken, followed, walked, faultless, boxes_from, walked_in, boxes_in, box_limit}
+use Rattle.refusals.specs.Refusals.{refusal_no}
+use Rattle.refusals.specs.declared.Refusal.{Refusal}
 use Rattle.boxes.specs.Walk.{walk_over, stepped, step_answer}
 use Rattle.boxes.specs.declared.framing.Framed.{Framed}
 use Rattle.boxes.specs.declared.kinds.Container.{Container}
 use Rattle.numerals.specs.declared.place.Place.{Place}
-use Rattle.boxes.specs.declared.walk.Step.{Step}
 use Rattle.boxes.specs.declared.walk.Walk.{Walk}
 use Rattle.boxes.proofs.AnswerLaws.{not_both, given_same, both_given, held, then-given}
 use Rattle.boxes.proofs.ContainerLaws.{faultless-followed}
@@ -32,12 +33,12 @@ ahead s w = boxes_from w.container s w.end.0 w.left w.at.0
 -- before it
 abbrev pub stepping : List ℕ → Walk → Answer (Option (Box × Walk)) → Walked
 stepping s w (refused n) = broken w.at.0 n
-stepping s w (given none) = ended
-stepping s w (given (some n)) = followed n.0 (onward s n.1)
+stepping s w (given None) = ended
+stepping s w (given (Some n)) = followed n.0 (onward s n.1)
 
 abbrev pub after : List ℕ → Option (Box × Walk) → Answer (List Box)
-after s none = given []
-after s (some n) = ahead s n.1 >>= λ bs. given (n.0 ∷ bs)
+after s None = given []
+after s (Some n) = ahead s n.1 >>= λ bs. given (n.0 ∷ bs)
 
 module _ (s : List ℕ) (c : Container) (at end : Place) where
   abbrev standing : ℕ → Walk
@@ -54,7 +55,7 @@ module _ (s : List ℕ) (c : Container) (at end : Place) where
     where
       box : (h : Answer Box)
           → (elim h [ refused n ↦ broken at.0 n | given b ↦ followed b (walked c s end.0 left b.end) ])
-          ≡ stepping s (standing (suc left)) (h >>= λ b. given (some (b, record { container = c; at = record { 0 = b.end }; end = end; left = left })))
+          ≡ stepping s (standing (suc left)) (h >>= λ b. given (Some (b, record { container = c; at = record { 0 = b.end }; end = end; left = left })))
       box (refused n) = refl
       box (given b) = refl
 
@@ -73,15 +74,15 @@ module _ (s : List ℕ) (w : Walk) where
     where
       go : (x : Answer (Option (Box × Walk))) → faultless (stepping s w x) ≡ (x >>= after s)
       go (refused n) = refl
-      go (given none) = refl
-      go (given (some n)) = faultless-followed n.0 (onward s n.1)
+      go (given None) = refl
+      go (given (Some n)) = faultless-followed n.0 (onward s n.1)
 
 -- the walk after a box
 abbrev pub past : Walk → Box → Walk
 past w b = record { container = w.container; at = record { 0 = b.end }; end = w.end; left = w.left - 1 }
 
 module _ (s : List ℕ) (w : Walk) where
-  pub step_end : w.end.0 ≤ w.at.0 → stepped s w ≡ given none
+  pub step_end : w.end.0 ≤ w.at.0 → stepped s w ≡ given None
   unfolding stepped
   step_end h = simp (stepped, le-leb w.end.0 w.at.0 h)
 
@@ -90,7 +91,7 @@ module _ (s : List ℕ) (w : Walk) where
     unfolding stepped
     step_over none_left = simp (stepped, lt-leb w.end.0 w.at.0 short, none_left)
 
-    pub step_header : (w.left ≡ 0 → ⊥) → stepped s w ≡ (header w.container s w.at.0 w.end.0 >>= λ b. given (some (b, past w b)))
+    pub step_header : (w.left ≡ 0 → ⊥) → stepped s w ≡ (header w.container s w.at.0 w.end.0 >>= λ b. given (Some (b, past w b)))
     unfolding stepped
     step_header some_left = simp (stepped, lt-leb w.end.0 w.at.0 short, le-leb 1 w.left (omega arith))
 
@@ -102,19 +103,19 @@ pub record Met (s : List ℕ) (w : Walk) (b : Box) (w' : Walk) : Type 0 where
   pub inside : Inside w.at.0 w.end.0 b
   pub onward : w' ≡ past w b
 
-box_read : (x : Answer Box) (next : Box → Walk) {b : Box} {w : Walk} → ◌>>=◌ {B = Option (Box × Walk)} x (λ b. given (some (b, next b))) ≡ given (some (b, w)) → (x ≡ given b) × (w ≡ next b)
+box_read : (x : Answer Box) (next : Box → Walk) {b : Box} {w : Walk} → ◌>>=◌ {B = Option (Box × Walk)} x (λ b. given (Some (b, next b))) ≡ given (Some (b, w)) → (x ≡ given b) × (w ≡ next b)
 box_read (refused n) next h = absurd (not_both h)
 box_read (given a) next {b} {w} h =
     let p : ◌≡◌ {A = Box × Walk} (a, next a) (b, w) = cc in
     (ap (λ p. given p.0) p, ◌∙◌ {b = next a} {c = next b} (sym (ap (λ p. p.1) p)) (ap (λ p. next p.0) p))
 
-pub met : (s : List ℕ) (w : Walk) {b : Box} {w' : Walk} → stepped s w ≡ given (some (b, w')) → Met s w b w'
+pub met : (s : List ℕ) (w : Walk) {b : Box} {w' : Walk} → stepped s w ≡ given (Some (b, w')) → Met s w b w'
 unfolding stepped
 met s w {b} {w'} h = go (leb w.end.0 w.at.0) refl
   where
     go : (t : Bool) → leb w.end.0 w.at.0 ≡ t → Met s w b w'
     go true e =
-        let z : ◌≡◌ {A = Answer (Option (Box × Walk))} (given none) (given (some (b, w'))) = simp (stepped, e) at h in
+        let z : ◌≡◌ {A = Answer (Option (Box × Walk))} (given None) (given (Some (b, w'))) = simp (stepped, e) at h in
         let z : ◌≡◌ {A = ℕ} 0 1 = cc in
         absurd (omega arith)
     go false e =
@@ -124,12 +125,12 @@ met s w {b} {w'} h = go (leb w.end.0 w.at.0) refl
 
 -- a walk whose boxes are known meets them one by one and no fault
 module _ (s : List ℕ) (w : Walk) {bs : List Box} (known : ahead s w ≡ given bs) where
-  pub known_next : {b : Box} {w' : Walk} → stepped s w ≡ given (some (b, w')) → (rest : List Box) × (ahead s w' ≡ given rest) × (bs ≡ b ∷ rest)
+  pub known_next : {b : Box} {w' : Walk} → stepped s w ≡ given (Some (b, w')) → (rest : List Box) × (ahead s w' ≡ given rest) × (bs ≡ b ∷ rest)
   known_next {b} {w'} h =
       let rest = both_given (ahead s w') _ (sym (rw h at (walk_steps s w)) ∙ known) in
       (rest.0, rest.1, sym (given_same rest.2))
 
-  pub known_end : stepped s w ≡ given none → bs ≡ []
+  pub known_end : stepped s w ≡ given None → bs ≡ []
   known_end h = given_same (sym known ∙ rw h at (walk_steps s w))
 
   pub known_sound : {n : ℕ} → stepped s w ≡ refused n → ⊥
@@ -145,7 +146,7 @@ pub passed_none : (s : List ℕ) (w : Walk) → Passed s w [] w
 passed_none s w = record { rest = sym (then-given (ahead s w)); counted = omega arith; same_end = refl }
 
 -- a step that met a box has passed it
-pub passed_more : {s : List ℕ} {w₀ w w' : Walk} {bs : List Box} {b : Box} → Passed s w₀ bs w → stepped s w ≡ given (some (b, w'))
+pub passed_more : {s : List ℕ} {w₀ w w' : Walk} {bs : List Box} {b : Box} → Passed s w₀ bs w → stepped s w ≡ given (Some (b, w'))
     → Passed s w₀ (bs ++ (b ∷ [])) w'
 passed_more {s} {w₀} {w} {w'} {bs} {b} p h =
     let m = met s w h in
@@ -162,7 +163,7 @@ passed_more {s} {w₀} {w} {w'} {bs} {b} p h =
 -- a walk that began at a container's start: at its end the boxes passed are the container's, and its fault is the
 -- container's first
 module _ {s : List ℕ} {c : Container} {start end : Place} {w₀ w : Walk} {bs : List Box} (new : w₀ ≡ walk_over c start end) (p : Passed s w₀ bs w) where
-  pub all_boxes : stepped s w ≡ given none → boxes_in c s start.0 end.0 ≡ given bs
+  pub all_boxes : stepped s w ≡ given None → boxes_in c s start.0 end.0 ≡ given bs
   unfolding boxes_in walked_in boxes_from
   all_boxes h = rw new at p.rest ∙ rw (walk_steps s w, h) (ap given (append-nil bs))
 
@@ -180,21 +181,18 @@ unfolding box_limit
 over_left new = ap (λ w. w.left) new
 
 -- after a step that met a box fewer are allowed
-pub fewer : (s : List ℕ) (w : Walk) {b : Box} {w' : Walk} → stepped s w ≡ given (some (b, w')) → w'.left < w.left
+pub fewer : (s : List ℕ) (w : Walk) {b : Box} {w' : Walk} → stepped s w ≡ given (Some (b, w')) → w'.left < w.left
 fewer s w h =
     let m = met s w h in
     omega (arith, ap (λ w. w.left) m.onward)
 
 -- what each answer to a step says of it
-module _ {r : Step} {step : Answer (Option (Box × Walk))} (answer : step_answer r ≡ step) where
-  pub next_box : {b : Framed} {w : Walk} → r ≡ Step.Next b w → step ≡ given (some (box_of b, w))
-  unfolding step_answer
+module _ {r : Result (Option (Framed × Walk)) Refusal} {step : Answer (Option (Box × Walk))} (answer : step_answer r ≡ step) where
+  pub next_box : {b : Framed} {w : Walk} → r ≡ Ok (Some (b, w)) → step ≡ given (Some (box_of b, w))
   next_box e = sym answer ∙ ap step_answer e
 
-  pub no_more : r ≡ Step.End → step ≡ given none
-  unfolding step_answer
+  pub no_more : r ≡ Ok None → step ≡ given None
   no_more e = sym answer ∙ ap step_answer e
 
-  pub a_fault : {n : ℕ} → r ≡ Step.Refused n → step ≡ refused n
-  unfolding step_answer
+  pub a_fault : {n : Refusal} → r ≡ Err n → step ≡ refused (refusal_no n)
   a_fault e = sym answer ∙ ap step_answer e

@@ -1,6 +1,8 @@
 -- Document 01, "Refusal numbers and their order": a call answers a value, or the number of the first refusal that it
 -- reaches.
-use Rattle.std.specs.Prelude.{ℕ, Bool, true, false}
+use Rattle.std.specs.Prelude.{ℕ, Bool, true, false, Result, Ok, Err}
+use Rattle.refusals.specs.Refusals.{refusal_no}
+use Rattle.refusals.specs.declared.Refusal.{Refusal}
 
 pub data Answer (A : Type 0) : Type 0 where
   refused : ℕ → Answer A
@@ -16,3 +18,8 @@ given a >>= next = next a
 abbrev pub hold : ℕ → Bool → Answer (Unit {0})
 hold n true = given tt
 hold n false = refused n
+
+-- what a call's result says: the value that its own says, or the number of its refusal
+abbrev pub told_as : {T A : Type 0} → (T → A) → Result T Refusal → Answer A
+told_as says (Ok x) = given (says x)
+told_as says (Err e) = refused (refusal_no e)

@@ -1,11 +1,9 @@
 -- Document 01, "Framing" and refusals 2 to 6: a box header, and the boxes of one container up to its first fault.
 use Rattle.std.specs.Prelude.{ℕ, zero, suc, ◌+◌, true, false, not, List, [], ◌∷◌, ◌++◌, length, leb, eqb}
-use Rattle.std.proofs.Math.Option.{Option, none, some}
+use Rattle.std.specs.Prelude.{Option, None, Some}
 use Rattle.boxes.specs.Answer.{Answer, refused, given, ◌>>=◌, hold}
 use Rattle.numerals.specs.Numbers.{number, bytes_of}
 use Rattle.boxes.specs.declared.framing.Framed.{Framed}
-use Rattle.boxes.specs.declared.framing.Header.{Header}
-use Rattle.boxes.specs.declared.framing.Header.TheVariants.{Found, Refused}
 use Rattle.boxes.specs.declared.kinds.Container.{Container}
 
 -- a box: its type as a number, and the places of its first byte, of its user type, of its body and of the first byte
@@ -59,10 +57,10 @@ pub record Walked : Type 0 where
 
 -- the container's end; a fault; a box, and what comes behind it
 abbrev pub ended : Walked
-ended = record { boxes = []; fault = none }
+ended = record { boxes = []; fault = None }
 
 abbrev pub broken : ℕ → ℕ → Walked
-broken at n = record { boxes = []; fault = some (record { at = at; number = n }) }
+broken at n = record { boxes = []; fault = Some (record { at = at; number = n }) }
 
 abbrev pub followed : Box → Walked → Walked
 followed b rest = record { boxes = b ∷ rest.boxes; fault = rest.fault }
@@ -78,7 +76,7 @@ walked c s end (suc more) at =
 
 -- the boxes of a walk that met no fault; else it is refused with the fault's number
 unfoldable pub faultless : Walked → Answer (List Box)
-faultless w = elim w.fault [ none ↦ given w.boxes | some x ↦ refused x.number ]
+faultless w = elim w.fault [ None ↦ given w.boxes | Some x ↦ refused x.number ]
 
 -- the boxes from a place to the end of their container, of which so many more are allowed
 unfoldable pub boxes_from : Container → List ℕ → ℕ → ℕ → ℕ → Answer (List Box)
@@ -98,12 +96,7 @@ boxes_in c s start end = faultless (walked_in c s start end)
 
 -- what a box that was read says
 unfoldable pub box_of : Framed → Box
-box_of b = record { kind = b.kind; at = b.at.0; user = b.user.0; body = b.body.0; end = b.end.0 }
-
--- what an answer about a header says
-unfoldable pub header_answer : Header → Answer Box
-header_answer (Found b) = given (box_of b)
-header_answer (Refused n) = refused n
+box_of b = record { kind = b.kind.code; at = b.at.0; user = b.user.0; body = b.body.0; end = b.end.0 }
 
 -- a header as we write it, in the 32-bit form, has 8 bytes
 unfoldable pub front_size : ℕ

@@ -1,4 +1,5 @@
 pub mod Answer
+pub mod Bodies
 pub mod Faults
 pub mod Framing
 pub mod Kinds

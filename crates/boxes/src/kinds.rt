@@ -3,7 +3,7 @@ ghost use Rattle.std.specs.Prelude.{◌≡◌};
 ghost use Rattle.boxes.specs.Kinds.{rules};
 
 // A kind of box: its type.
-#[derive(Clone, Copy)]
+#[derive(Clone, Copy, PartialEq, Eq)]
 pub struct Kind {
     pub code: u32,
 }
@@ -30,8 +30,10 @@ pub const BIDX: Kind = Kind { code: 0x62696478 };
 
 pub const FRPA: Kind = Kind { code: 0x66727061 };
 
+pub const UUID: Kind = Kind { code: 0x75756964 };
+
 // Where a kind of box stands.
-#[derive(Clone, Copy)]
+#[derive(Clone, Copy, PartialEq, Eq)]
 pub enum Container {
     File,
     Pfil,
@@ -41,7 +43,7 @@ pub enum Container {
 }
 
 // How many of a kind a container holds.
-#[derive(Clone, Copy)]
+#[derive(Clone, Copy, PartialEq, Eq)]
 pub enum Count {
     One,
     OneOrMore,

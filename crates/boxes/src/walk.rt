@@ -2,11 +2,12 @@
 ghost use Rattle.std.specs.Prelude.{◌≡◌};
 ghost use Rattle.boxes.specs.Walk.{walk_over, stepped, step_answer};
 
-use crate::framing::{Framed, Header, header_at};
+use crate::body::Body;
+use crate::framing::{Framed, header_at};
 use crate::kinds::Container;
 use crate::limits::BOX_LIMIT;
-use crate::refusals::TOO_MANY_BOXES;
 use numerals::place::Place;
+use refusals::Refusal;
 
 // Which container is walked, where its next box stands, where it ends, and how many more boxes it may hold.
 #[derive(Clone, Copy)]
@@ -17,54 +18,40 @@ pub struct Walk {
     pub left: u64,
 }
 
-// What the next step of a walk finds: a box with the walk after it, the container's end, or the number of a fault.
-#[derive(Clone, Copy)]
-pub enum Step {
-    Next(Framed, Walk),
-    End,
-    Refused(u64),
-}
-
 impl Walk {
-    // The walk over a container that starts and ends at these places.
-    pub fn new(container: Container, start: Place, end: Place) -> Self
-        ensures { result ≡ walk_over container start end }
+    // The walk over a container.
+    pub fn new(body: Body) -> Self
+        ensures { result ≡ walk_over body.container body.start body.end }
     {
         Self {
-            container,
-            at: start,
-            end,
+            container: body.container,
+            at: body.start,
+            end: body.end,
             left: BOX_LIMIT,
         }
     }
 
-    // The next box of the container, or its end, or a fault.
-    pub fn step(self, s: &[u8]) -> Step
+    // The next box of the container with the walk after it, none at its end, or a fault.
+    pub fn step(self, s: &[u8]) -> Result<Option<(Framed, Walk)>, Refusal>
         ensures { step_answer result ≡ stepped s.now self }
     {
         let container = self.container;
         let at = self.at;
         let end = self.end;
         if end.0 <= at.0 {
-            return Step::End;
+            return Ok(None);
         }
         if self.left == 0 {
-            return Step::Refused(TOO_MANY_BOXES);
+            return Err(Refusal::TooManyBoxes);
         }
-        match header_at(s, container, at, end) {
-            Header::Found(b) => {
-                let next = b.end;
-                Step::Next(
-                    b,
-                    Walk {
-                        container,
-                        at: next,
-                        end,
-                        left: self.left - 1,
-                    },
-                )
-            }
-            Header::Refused(n) => Step::Refused(n),
-        }
+        let b = header_at(s, container, at, end)?;
+        let next = b.end;
+        let after = Walk {
+            container,
+            at: next,
+            end,
+            left: self.left - 1,
+        };
+        Ok(Some((b, after)))
     }
 }

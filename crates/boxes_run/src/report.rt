@@ -1,137 +1,97 @@
-// The lines of the output.
-use boxes::framing::{Framed, Header};
-use boxes::kinds::Kind;
-use std::io;
+// The lines of the output: what was asked, a tab, and the answer.
+use boxes::framing::Framed;
+use boxes::kinds::{Kind, RULE_COUNT};
+use refusals::Refusal;
+use std::fmt::Display;
+use std::{fmt, io};
 use tallying::tally::Tally;
 
-fn text(rt: &impl Print, s: &[u8]) -> io::Result<()> {
-    rt.write_all(s)
-}
+// How many rows of the table of kinds a line shows.
+const ROWS_SHOWN: usize = 8;
 
-fn number(rt: &impl Print, n: u64) -> io::Result<()> {
-    rt.print(n)
-}
+// A box as it is shown: its type, its place, the places of its user type and of its body, and its end.
+#[derive(Drop)]
+struct Shown(Framed);
 
-fn refused(rt: &impl Print, n: u64) -> io::Result<()> {
-    text(rt, b"refused ")?;
-    number(rt, n)?;
-    text(rt, b"\n")
-}
-
-// A box: its type, its place, the places of its user type and of its body, and its end.
-fn framed(rt: &impl Print, b: Framed) -> io::Result<()> {
-    let at = b.at;
-    let user = b.user;
-    let body = b.body;
-    let end = b.end;
-    let kind = b.kind;
-    print!(rt; "{kind:08x}")?;
-    text(rt, b" ")?;
-    number(rt, at.0)?;
-    text(rt, b" ")?;
-    number(rt, user.0)?;
-    text(rt, b" ")?;
-    number(rt, body.0)?;
-    text(rt, b" ")?;
-    number(rt, end.0)?;
-    text(rt, b"\n")
-}
-
-pub fn header(rt: &impl Print, asked: &[u8], h: Header) -> io::Result<()> {
-    text(rt, asked)?;
-    text(rt, b"\t")?;
-    match h {
-        Header::Found(b) => framed(rt, b),
-        Header::Refused(n) => refused(rt, n),
+impl Display for Shown {
+    fn fmt<W: fmt::Write>(&self, f: &mut fmt::Formatter<W>) -> fmt::Result {
+        let b = self.0;
+        write!(
+            f,
+            "{:08x} {} {} {} {}",
+            b.kind.code, b.at.0, b.user.0, b.body.0, b.end.0
+        )
     }
+}
+
+// An answer, or the number of a refusal.
+fn told<D: Display + Drop>(
+    rt: &impl Print,
+    asked: &str,
+    answer: Result<D, Refusal>,
+) -> io::Result<()> {
+    match answer {
+        Ok(answer) => println!(rt; "{asked}\t{answer}"),
+        Err(e) => {
+            let n = e.number();
+            println!(rt; "{asked}\trefused {n}")
+        }
+    }
+}
+
+pub fn header(rt: &impl Print, asked: &str, b: Result<Framed, Refusal>) -> io::Result<()> {
+    told(rt, asked, b.map(Shown))
 }
 
 // How many boxes there are, or the first fault.
-pub fn boxes(rt: &impl Print, asked: &[u8], t: Tally) -> io::Result<()> {
-    text(rt, asked)?;
-    text(rt, b"\t")?;
-    if t.fault == 0 {
-        number(rt, t.boxes)?;
-        text(rt, b"\n")
-    } else {
-        refused(rt, t.fault)
-    }
+pub fn boxes(rt: &impl Print, asked: &str, t: Result<Tally, Refusal>) -> io::Result<()> {
+    told(rt, asked, t.map(|t| t.boxes))
 }
 
 // How many boxes there are of a kind, or the first fault.
-pub fn of_kind(rt: &impl Print, asked: &[u8], t: Tally, kind: Kind) -> io::Result<()> {
-    text(rt, asked)?;
-    text(rt, b"\t")?;
-    if t.fault == 0 {
-        number(rt, t.of(kind))?;
-        text(rt, b"\n")
-    } else {
-        refused(rt, t.fault)
-    }
+pub fn of_kind(
+    rt: &impl Print,
+    asked: &str,
+    t: Result<Tally, Refusal>,
+    kind: Kind,
+) -> io::Result<()> {
+    told(rt, asked, t.map(|t| t.of(kind)))
 }
 
 // All that a walk told: the fault, the number of boxes, and the counts in the table's order.
-pub fn whole(rt: &impl Print, asked: &[u8], t: Tally) -> io::Result<()> {
-    let counts = t.counts;
-    text(rt, asked)?;
-    text(rt, b"\t")?;
-    number(rt, t.fault)?;
-    text(rt, b" ")?;
-    number(rt, t.boxes)?;
-    row(rt, counts[0])?;
-    row(rt, counts[1])?;
-    row(rt, counts[2])?;
-    row(rt, counts[3])?;
-    row(rt, counts[4])?;
-    row(rt, counts[5])?;
-    row(rt, counts[6])?;
-    row(rt, counts[7])?;
-    text(rt, b"\n")
-}
-
-fn row(rt: &impl Print, n: u64) -> io::Result<()> {
-    text(rt, b" ")?;
-    number(rt, n)
-}
-
-pub fn rule(rt: &impl Print, asked: &[u8], kept: bool) -> io::Result<()> {
-    text(rt, asked)?;
-    text(rt, b"\t")?;
-    answer(rt, kept)
-}
-
-pub fn fault(rt: &impl Print, asked: &[u8], n: u64) -> io::Result<()> {
-    text(rt, asked)?;
-    text(rt, b"\t")?;
-    refused(rt, n)
-}
-
-fn answer(rt: &impl Print, yes: bool) -> io::Result<()> {
-    if yes {
-        text(rt, b"yes\n")
-    } else {
-        text(rt, b"no\n")
+pub fn whole(rt: &impl Print, asked: &str, t: Result<Tally, Refusal>) -> io::Result<()> {
+    match t {
+        Ok(t) => {
+            let counts = t.counts;
+            row(rt, asked, 0, t.boxes, &counts)
+        }
+        Err(e) => row(rt, asked, e.number(), 0, &[0; RULE_COUNT]),
     }
+}
+
+fn row(rt: &impl Print, asked: &str, fault: u64, boxes: u64, counts: &[u64]) -> io::Result<()> {
+    print!(rt; "{asked}\t{fault} {boxes}")?;
+    for n in counts.iter().take(ROWS_SHOWN) {
+        print!(rt; " {n}")?;
+    }
+    println!(rt)
+}
+
+// Whether something holds, or why it cannot be said.
+pub fn rule(rt: &impl Print, asked: &str, kept: Result<bool, Refusal>) -> io::Result<()> {
+    told(rt, asked, kept.map(word))
+}
+
+fn word(yes: bool) -> &'static str {
+    if yes { "yes" } else { "no" }
 }
 
 // Whether bytes were written, and how the buffer was left.
-pub fn written(rt: &impl Print, asked: &[u8], done: bool, buf: &[u8]) -> io::Result<()> {
-    text(rt, asked)?;
-    if done {
-        text(rt, b"\tyes ")?;
-    } else {
-        text(rt, b"\tno ")?;
-    }
-    bytes(rt, buf)?;
-    text(rt, b"\n")
-}
-
-fn bytes(rt: &impl Print, s: &[u8]) -> io::Result<()> {
-    let mut i = 0;
-    while i < s.len() {
-        let b = s[i];
+pub fn written(rt: &impl Print, asked: &str, done: bool, buf: &[u8]) -> io::Result<()> {
+    let done = word(done);
+    print!(rt; "{asked}\t{done} ")?;
+    for b in buf {
         print!(rt; "{b:02x}")?;
-        i += 1;
     }
-    Ok(())
+    println!(rt)
 }

@@ -7,8 +7,6 @@ use mathlib.Core.Path.{◌≡◌, sym, ap, ◌∙◌}
 use native.Mathlib.Decide.{dec_le}
 use native.Mathlib.Nat.{pow-le-pow_right, zero-lt-suc, le_trans}
 use native.Mathlib.Omega.{arith}
-use borrow.Author.Tests.{le-leb, lt-leb}
-use lib.Dec.{leb}
 use lib.ListN.{length, take, get_or}
 use lib.Seq.{take-suc, take-length}
 use Rattle.filling.specs.Rows.{Puts}
@@ -36,14 +34,6 @@ module _ (b k : ℕ) (byte : b < 256) (few : IsDigitCount 16 2 b k) where
   hex_by = ap (λ (k : ℕ). last_digits 16 k b) hex_two
 
 module _ (b : ℕ) where
-  pub prints_from : 32 ≤ b → leb b 126 ≡ prints b
-  unfolding prints
-  prints_from low = simp (prints, le-leb 32 b low)
-
-  pub prints_below : b < 32 → leb 32 b ≡ prints b
-  unfolding prints
-  prints_below low = simp (prints, lt-leb 32 b low)
-
   pub shown_plain : true ≡ prints b → b ∷ [] ≡ shown b
   unfolding shown
   shown_plain e = simp (shown, ← e)

@@ -7,7 +7,7 @@ use mathlib.Core.Path.{◌≡◌, refl, ap}
 use native.Mathlib.Omega.{arith}
 use borrow.Author.Tests.{eqb-true, eqb-false}
 use lib.Dec.{eqb}
-use lib.ListN.{length, take, drop, length-take}
+use lib.ListN.{length, take, drop, length-take, length-drop}
 use Rattle.boxes.specs.Answer.{given}
 use Rattle.boxes.specs.Framing.{uuid, user_size, header, box_of}
 use Rattle.boxes.specs.declared.framing.Framed.{Framed}
@@ -25,8 +25,8 @@ use Rattle.boxlisting.specs.Fields.{user_field}
 -- where the parts of a box lie in its file
 pub record Lies (f : List ℕ) (b : Framed) : Type 0 where
   pub front : b.at.0 + 8 ≤ b.user.0
-  pub typed : b.body.0 ≡ b.user.0 + user_size b.kind
-  pub most : user_size b.kind ≤ 16
+  pub typed : b.body.0 ≡ b.user.0 + user_size b.kind.code
+  pub most : user_size b.kind.code ≤ 16
   pub whole : b.body.0 ≤ b.end.0
   pub ends : b.end.0 ≤ length f
 
@@ -35,7 +35,7 @@ module _ (f : List ℕ) (b : Framed) where
   unfolding box_of
   lies read =
       let inside = header_inside File f b.at.0 (length f) read in
-      record { front = inside.front; typed = inside.typed; most = user_most b.kind; whole = inside.whole; ends = inside.ends }
+      record { front = inside.front; typed = inside.typed; most = user_most b.kind.code; whole = inside.whole; ends = inside.ends }
 
   module _ (l : Lies f b) where
     pub start_end : b.at.0 ≤ b.end.0
@@ -53,24 +53,31 @@ module _ (f : List ℕ) (b : Framed) where
     pub user_few : length (take (b.body.0 - b.user.0) (drop b.user.0 f)) ≤ 16
     user_few = omega (arith, l.typed, l.most, length-take (b.body.0 - b.user.0) (drop b.user.0 f))
 
+    -- there is no byte between the two exactly where they start together
+    pub no_bytes : length (take (b.body.0 - b.user.0) (drop b.user.0 f)) ≡ 0 → b.user.0 ≡ b.body.0
+    no_bytes none = omega (arith, none, user_body, body_file, length-take (b.body.0 - b.user.0) (drop b.user.0 f), length-drop b.user.0 f)
+
+    pub some_bytes : (length (take (b.body.0 - b.user.0) (drop b.user.0 f)) ≡ 0 → ⊥) → b.user.0 ≡ b.body.0 → ⊥
+    some_bytes some same = some (omega (arith, same, length-take (b.body.0 - b.user.0) (drop b.user.0 f)))
+
     -- a box whose body starts where its user type does is not of `uuid`
     pub no_user : b.user.0 ≡ b.body.0 → [] ≡ user_field f (box_of b)
     unfolding user_field box_of
-    no_user same = go (eqb b.kind uuid) refl
+    no_user same = go (eqb b.kind.code uuid) refl
       where
-        go : (vendor : Bool) → eqb b.kind uuid ≡ vendor → [] ≡ user_field f (box_of b)
-        go true e = absurd (omega (arith, l.typed, user-vendor b.kind (eqb-true _ _ e), same))
+        go : (vendor : Bool) → eqb b.kind.code uuid ≡ vendor → [] ≡ user_field f (box_of b)
+        go true e = absurd (omega (arith, l.typed, user-vendor b.kind.code (eqb-true _ _ e), same))
         go false e = simp (user_field, e)
 
     pub some_user : (b.user.0 ≡ b.body.0 → ⊥)
         → (9 ∷ []) ++ each hex (take (b.body.0 - b.user.0) (drop b.user.0 f)) ≡ user_field f (box_of b)
     unfolding user_field box_of user_bytes bytes_in
-    some_user other = go (eqb b.kind uuid) refl
+    some_user other = go (eqb b.kind.code uuid) refl
       where
-        go : (vendor : Bool) → eqb b.kind uuid ≡ vendor
+        go : (vendor : Bool) → eqb b.kind.code uuid ≡ vendor
             → (9 ∷ []) ++ each hex (take (b.body.0 - b.user.0) (drop b.user.0 f)) ≡ user_field f (box_of b)
         go true e = simp (user_field, e)
-        go false e = absurd (other (omega (arith, l.typed, user_none b.kind (eqb-false _ _ e))))
+        go false e = absurd (other (omega (arith, l.typed, user_none b.kind.code (eqb-false _ _ e))))
 
   -- the type stands between the size and what follows both
   pub type_text : each shown (take (b.at.0 + 8 - (b.at.0 + 4)) (drop (b.at.0 + 4) f)) ≡ each shown (type_bytes f (box_of b))
@@ -85,9 +92,9 @@ module _ (f : List ℕ) (b : Framed) where
 
   pub line_fields : fields (each shown (type_bytes f (box_of b))) (user_field f (box_of b)) ≡ box_line f (box_of b)
   unfolding box_line line user_field box_of
-  line_fields = go (eqb b.kind uuid) refl
+  line_fields = go (eqb b.kind.code uuid) refl
     where
-      go : (vendor : Bool) → eqb b.kind uuid ≡ vendor → fields (each shown (type_bytes f (box_of b))) (user_field f (box_of b)) ≡ box_line f (box_of b)
+      go : (vendor : Bool) → eqb b.kind.code uuid ≡ vendor → fields (each shown (type_bytes f (box_of b))) (user_field f (box_of b)) ≡ box_line f (box_of b)
       go true e = simp (box_line, line, user_field, e)
       go false e = simp (box_line, line, user_field, e)
 

@@ -1,7 +1,7 @@
 -- Laws of the list's lines: one for each box of the walk over the file, and behind them that of a fault.
 use Prim.Native.Nat.{ℕ, ◌+◌, ◌*◌, ◌≤◌}
 use mathlib.Core.List.{List, [], ◌++◌, append-nil, append_assoc}
-use mathlib.Core.Option.{none, some}
+use Rattle.std.specs.Prelude.{None, Some}
 use mathlib.Core.Path.{◌≡◌, refl, sym, ap, ◌∙◌}
 use native.Mathlib.Omega.{arith}
 use lib.ListN.{length}
@@ -49,7 +49,7 @@ module _ {f s t : List ℕ} {next : ℕ} {w : Walk} (m : Midway f s t next w) wh
   goes_on : lines_of f ≡ m.done ++ walk_lines f (stepping f w (stepped f w))
   goes_on = m.rest ∙ ap (λ x. m.done ++ walk_lines f x) (onward_steps f w)
 
-  pub midway_more : {b : Box} {w' : Walk} → stepped f w ≡ given (some (b, w')) → {t' : List ℕ} {next' : ℕ} → Puts t next (box_line f b) t' next' → next' ≤ next + 200
+  pub midway_more : {b : Box} {w' : Walk} → stepped f w ≡ given (Some (b, w')) → {t' : List ℕ} {next' : ℕ} → Puts t next (box_line f b) t' next' → next' ≤ next + 200
       → Midway f s t' next' w'
   midway_more {b} {w'} step puts few =
       let on = met f w step in
@@ -63,13 +63,13 @@ module _ {f s t : List ℕ} {next : ℕ} {w : Walk} (m : Midway f s t next w) wh
       }
 
   -- a box that the walk meets is read at its own place
-  pub framed_read : (b : Framed) {w' : Walk} → stepped f w ≡ given (some (box_of b, w')) → header File f b.at.0 (length f) ≡ given (box_of b)
+  pub framed_read : (b : Framed) {w' : Walk} → stepped f w ≡ given (Some (box_of b, w')) → header File f b.at.0 (length f) ≡ given (box_of b)
   unfolding box_of
   framed_read b step =
       let on = met f w step in
       (λ i. header (sym m.over i) f (on.inside.starts i) (sym m.file i)) ∙ on.read
 
-  pub midway_end : stepped f w ≡ given none → Puts s 0 (lines_of f) t next
+  pub midway_end : stepped f w ≡ given None → Puts s 0 (lines_of f) t next
   unfolding walk_lines each
   midway_end step = puts_same (sym (goes_on ∙ rw step (append-nil m.done))) m.put
 

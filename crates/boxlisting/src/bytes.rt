@@ -18,10 +18,11 @@ fn put_hex(buffer: &mut [u8], at: u64, b: u8) -> u64
 }
 
 // Whether a byte prints.
+#[tactic(auto, unfolding(partial::specs::BoxList::prints))]
 fn prints(b: u8) -> bool
     ensures { result ≡ prints b }
 {
-    32 <= b && b <= 126
+    matches!(b, 32..=126)
 }
 
 // Puts a byte as it is where it prints, and else `\x` and two hex digits.
@@ -37,7 +38,8 @@ fn put_shown(buffer: &mut [u8], at: u64, b: u8) -> u64
     put_hex(buffer, digits, b)
 }
 
-// Puts a byte in one of the two ways.
+// Puts a byte in one of the two ways. A flag tells which: what a function that is passed in would put, and how much at
+// most, had to be said of it at each call.
 fn put_byte(buffer: &mut [u8], at: u64, b: u8, in_hex: bool) -> u64
     requires { at < 2 ^ 60 }
     ensures { Puts buffer.old at (byte_text in_hex b) buffer.new result × (result ≤ at + 4) }
@@ -54,10 +56,8 @@ pub(crate) fn put_each(buffer: &mut [u8], at: u64, bytes: &[u8], in_hex: bool) -
     ensures { Puts buffer.old at (each (byte_text in_hex) bytes.now) buffer.new result × (result ≤ at + 64) }
 {
     let mut next = at;
-    let mut i = 0;
-    while i < bytes.len() {
-        next = put_byte(buffer, next, bytes[i], in_hex);
-        i += 1;
+    for b in bytes {
+        next = put_byte(buffer, next, *b, in_hex);
     }
     next
 }

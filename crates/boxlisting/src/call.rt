@@ -4,9 +4,8 @@ ghost use Rattle.partial.specs.BoxList.{boxes_text};
 ghost use Rattle.texts.specs.Writes.{Writes};
 
 use crate::lines::put_boxes;
-use partial::answers::Written;
 use partial::limits::FILE_LIMIT;
-use partial::refusals::{BUFFER_TOO_SHORT, FILE_TOO_LONG, INPUT_TOO_LONG};
+use refusals::Refusal;
 use texts::lines::put_refused;
 
 // Puts what a program prints for a file that takes at most so many bytes.
@@ -15,10 +14,10 @@ fn put_list(buffer: &mut [u8], file: &[u8], most: u64) -> u64
 {
     let size = file.len() as u64;
     if most < size {
-        return put_refused(buffer, 0, INPUT_TOO_LONG);
+        return put_refused(buffer, 0, Refusal::InputTooLong.number());
     }
     if FILE_LIMIT < size {
-        return put_refused(buffer, 0, FILE_TOO_LONG);
+        return put_refused(buffer, 0, Refusal::FileTooLong.number());
     }
     put_boxes(buffer, file)
 }
@@ -26,14 +25,13 @@ fn put_list(buffer: &mut [u8], file: &[u8], most: u64) -> u64
 // Writes a line for each top-level box of a file and, where there is one, that of the first framing error; for a file
 // over its limit, or of more bytes than the caller takes, the line of its refusal alone. Answers how long the text is.
 // Where the buffer is too short for it, it is as it was.
-pub fn boxes(file: &[u8], most: u64, buffer: &mut [u8]) -> Written
+pub fn boxes(file: &[u8], most: u64, buffer: &mut [u8]) -> Result<u64, Refusal>
     ensures { Writes (boxes_text most file.now) buffer.old buffer.new result }
 {
-    let mut no_room = [0; 1];
-    let size = put_list(&mut no_room, file, most);
+    let size = put_list(&mut [], file, most);
     if (buffer.len() as u64) < size {
-        return Written::Refused(BUFFER_TOO_SHORT);
+        return Err(Refusal::BufferTooShort);
     }
     put_list(buffer, file, most);
-    Written::Length(size)
+    Ok(size)
 }

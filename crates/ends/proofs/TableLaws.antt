@@ -13,6 +13,9 @@ use borrow.Author.Tests.{le-ltb, lt-ltb, eq-eqb, ne_eqb}
 use lib.Dec.{eqb, ltb}
 use lib.ListN.{length, get_or, set, replicate, length-set, length-replicate, get_or-replicate}
 use lib.Seq.{get_or-set_same, get_or-set_other}
+use Rattle.std.specs.Bool.{then_some}
+use Rattle.std.specs.Prelude.{Option, None, Some, option_map}
+use Rattle.partial.specs.declared.position.Position.{Position}
 use Rattle.partial.specs.Meaning.{agree}
 use Rattle.partial.specs.Limits.{source_limit}
 use Rattle.partial.specs.Segments.{Segment, end_of}
@@ -21,8 +24,8 @@ use Rattle.partial.proofs.Meaning.SequenceLaws.{which, all_members}
 use Rattle.partial.proofs.Meaning.SourceLaws.{of-append, agreed-of, source_low}
 use Rattle.ends.specs.declared.sizes.Sizes.{Sizes}
 use Rattle.ends.specs.Sizes.{sizes_of}
-use Rattle.ends.specs.Table.{entry_length, sources, all_sizes, flag, entry_in, kept_sizes, sizes_in, SizesPut, Cleared, Holds}
-use Rattle.ends.proofs.SizeLaws.{sizes_none, sizes_within}
+use Rattle.ends.specs.Table.{entry_length, sources, all_sizes, flag, entry_in, kept_sizes, size_number, sizes_in, SizesPut, Cleared, Holds}
+use Rattle.ends.proofs.SizeLaws.{size_or_0, sizes_none, sizes_within}
 
 module _ (t : List ℕ) (source : ℕ) where
   pub sizes_past : sources ≤ source → sizes_in t source ≡ sizes_of []
@@ -35,17 +38,21 @@ module _ (t : List ℕ) (source : ℕ) where
 
 -- by the two numbers of an entry
 entry_by : (t : List ℕ) (at : ℕ) {a b : ℕ} → get_or t at 0 ≡ a → get_or t (at + 1) 0 ≡ b
-    → entry_in t at ≡ record { known = not (eqb (a / flag) 0); size = record { 0 = a % flag }; largest = record { 0 = b % flag }; same = eqb (b / flag) 0 }
+    → entry_in t at ≡ record { size = then_some (not (eqb (a / flag) 0)) (record { 0 = a % flag }); largest = record { 0 = b % flag }; same = eqb (b / flag) 0 }
 entry_by t at first second =
-    λ i. record { known = not (eqb (first i / flag) 0); size = record { 0 = first i % flag }; largest = record { 0 = second i % flag }; same = eqb (second i / flag) 0 }
+    λ i. record { size = then_some (not (eqb (first i / flag) 0)) (record { 0 = first i % flag }); largest = record { 0 = second i % flag }; same = eqb (second i / flag) 0 }
 
 -- positions of an entry are below the flag
-sizes_low : (t : List ℕ) (source : ℕ) → ((sizes_in t source).size.0 < flag) × ((sizes_in t source).largest.0 < flag)
+sizes_low : (t : List ℕ) (source : ℕ) → (size_or_0 (sizes_in t source) < flag) × ((sizes_in t source).largest.0 < flag)
 sizes_low t source =
     elim (dec_le sources source) [
       | yes past ↦ rw (sizes_past t source past, ← sizes_none) (omega arith, omega arith)
-      | no there ↦ rw (sizes_there t source (omega arith)) (omega arith, omega arith)
+      | no there ↦ rw (sizes_there t source (omega arith)) (size_low (not (eqb (get_or t (entry_length * source) 0 / flag) 0)), omega arith)
     ]
+  where
+    size_low : (known : Bool) → size_or_0 (record { size = then_some known (record { 0 = get_or t (entry_length * source) 0 % flag }); largest = record { 0 = 0 }; same = true }) < flag
+    size_low true = omega arith
+    size_low false = omega arith
 
 -- two tables have the same entry of a source where its numbers are the same
 entry_same : (t t' : List ℕ) (source : ℕ) → ((j : ℕ) → j < entry_length → get_or t (entry_length * source + j) 0 ≡ get_or t' (entry_length * source + j) 0) → sizes_in t source ≡ sizes_in t' source
@@ -75,35 +82,37 @@ zeros_cleared =
           ];
     }
 
--- a number of an entry: a position, and a flag kept as 1 or 0
+-- the second number of an entry: a position, and a flag kept as 1 or 0
 abbrev flagged : ℕ → Bool → ℕ
 flagged position b = position % flag + flag * bool_byte b
 
 -- read back
+size_back : (size : Option Position) → then_some {T = Position} (not (eqb (size_number size / flag) 0)) (record { 0 = size_number size % flag }) ≡ option_map (λ p. record { 0 = p.0 % flag }) size
+size_back None = refl
+size_back (Some p) =
+    let over : size_number (Some p) / flag ≡ 1 = omega arith in
+    let back : size_number (Some p) % flag ≡ p.0 % flag = omega arith in
+    rw (over, back)
+
 position_back : (position : ℕ) (b : Bool) → flagged position b % flag ≡ position % flag
 position_back position b = omega arith
 
 flag-back : (position : ℕ) (b : Bool) → flagged position b / flag ≡ bool_byte b
 flag-back position b = omega arith
 
-pub flag_low : (b : Bool) → bool_byte b ≤ 1
-flag_low true = omega arith
-flag_low false = omega arith
-
-flag_known : (b : Bool) → not (eqb (bool_byte b) 0) ≡ b
-flag_known true = refl
-flag_known false = refl
-
 flag_same : (b : Bool) → eqb (bool_byte (not b)) 0 ≡ b
 flag_same true = refl
 flag_same false = refl
 
 -- positions of a source are kept
-kept_same : (x : Sizes) → x.size.0 < flag → x.largest.0 < flag → kept_sizes x ≡ x
+kept_same : (x : Sizes) → size_or_0 x < flag → x.largest.0 < flag → kept_sizes x ≡ x
 kept_same x size largest =
-    let size_same = mod-eq_of_lt size in
     let largest-same = mod-eq_of_lt largest in
-    λ i. record { known = x.known; size = record { 0 = size_same i }; largest = record { 0 = largest-same i }; same = x.same }
+    λ i. record { size = size_same x.size size i; largest = record { 0 = largest-same i }; same = x.same }
+  where
+    size_same : (p : Option Position) → size_or_0 (record { size = p; largest = x.largest; same = x.same }) < flag → option_map (λ p. record { 0 = p.0 % flag }) p ≡ p
+    size_same None low = refl
+    size_same (Some p) low = rw (mod-eq_of_lt low)
 
 -- a table after two numbers were put from one on
 module _ (t : List ℕ) (at a b : ℕ) where
@@ -123,19 +132,14 @@ module _ (t : List ℕ) (at a b : ℕ) where
   at_other : (i : ℕ) → (at ≤ i → at + 2 ≤ i) → get_or two i 0 ≡ get_or t i 0
   at_other i outside = get_or-set_other one (at + 1) i b 0 (λ e. omega (arith, outside (omega arith))) ∙ get_or-set_other t at i a 0 (λ e. omega (arith, outside (omega arith)))
 
--- nothing is put where the table has no such entry
-pub put_past : (t : List ℕ) (source : ℕ) (x : Sizes) → sources ≤ source → SizesPut t source x t
-put_past t source x past = record { long = refl; here = λ there. absurd (omega arith); others = λ k other. refl }
-
--- else its two numbers are
-pub put-entry : (t : List ℕ) (source : ℕ) (x : Sizes) → source < sources
-    → SizesPut t source x (two t (entry_length * source) (flagged x.size.0 x.known) (flagged x.largest.0 (not x.same)))
-put-entry t source x there =
+-- the two numbers of an entry are put
+pub put-entry : (t : List ℕ) (source : ℕ) (x : Sizes) {n : ℕ} → source < sources → n ≡ size_number x.size
+    → SizesPut t source x (two t (entry_length * source) n (flagged x.largest.0 (not x.same)))
+put-entry t source x {n = size} there number =
     let at = entry_length * source in
-    let size = flagged x.size.0 x.known in
     let largest = flagged x.largest.0 (not x.same) in
     let put = two t at size largest in
-    let known : not (eqb (size / flag) 0) ≡ x.known = ap (λ (n : ℕ). not (eqb n 0)) (flag-back x.size.0 x.known) ∙ flag_known x.known in
+    let size_same : then_some {T = Position} (not (eqb (size / flag) 0)) (record { 0 = size % flag }) ≡ option_map (λ p. record { 0 = p.0 % flag }) x.size = rw number (size_back x.size) in
     let same : eqb (largest / flag) 0 ≡ x.same = ap (λ (n : ℕ). eqb n 0) (flag-back x.largest.0 (not x.same)) ∙ flag_same x.same in
     record {
       long = simp length-set;
@@ -143,7 +147,7 @@ put-entry t source x there =
           let room : at + 2 ≤ length t = omega arith in
           sizes_there put source there
           ∙ entry_by put at (at_first t at size largest room) (at_second t at size largest room)
-          ∙ (λ i. record { known = known i; size = record { 0 = position_back x.size.0 x.known i }; largest = record { 0 = position_back x.largest.0 (not x.same) i }; same = same i });
+          ∙ (λ i. record { size = size_same i; largest = record { 0 = position_back x.largest.0 (not x.same) i }; same = same i });
       others = λ k other. entry_same put t k (λ j less. at_other t at size largest (entry_length * k + j) (λ above. omega arith));
     }
 
@@ -182,8 +186,8 @@ holds_more {t} {t'} {ss} s {x} number there ends holds with put-source =
     let put = subst (λ (n : ℕ). SizesPut t n x t') number put-source in
     let (size, largest) = sizes_low t s.source in
     let before = holds.said s.source in
-    let (size-most, largest_most) = sizes_within (of_source s.source ss) s source_limit (omega (arith, ap (λ (x : Sizes). x.size.0) before)) (omega (arith, ap (λ (x : Sizes). x.largest.0) before)) ends in
-    let same = kept_same x (omega (arith, ap (λ (x : Sizes). x.size.0) with)) (omega (arith, ap (λ (x : Sizes). x.largest.0) with)) in
+    let (size-most, largest_most) = sizes_within (of_source s.source ss) s source_limit (omega (arith, ap size_or_0 before)) (omega (arith, ap (λ (x : Sizes). x.largest.0) before)) ends in
+    let same = kept_same x (omega (arith, ap size_or_0 with)) (omega (arith, ap (λ (x : Sizes). x.largest.0) with)) in
     record {
       long = put.long ∙ holds.long;
       said = λ n.

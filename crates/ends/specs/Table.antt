@@ -1,5 +1,7 @@
 -- What the ends of segments say, in a table that has an entry for each source.
-use Rattle.std.specs.Prelude.{ℕ, ◌+◌, ◌*◌, ◌/◌, ◌%◌, ◌^◌, ◌<◌, true, false, not, List, [], ◌≡◌, eqb, ltb, length, get_or}
+use Rattle.std.specs.Prelude.{ℕ, ◌+◌, ◌*◌, ◌/◌, ◌%◌, ◌^◌, ◌<◌, true, false, not, Option, None, Some, option_map, List, [], ◌≡◌, eqb, ltb, length, get_or}
+use Rattle.std.specs.Bool.{then_some}
+use Rattle.partial.specs.declared.position.Position.{Position}
 use Rattle.partial.specs.Segments.{Segment}
 use Rattle.partial.specs.Sources.{of_source}
 use Rattle.ends.specs.Sizes.{sizes_of}
@@ -21,20 +23,24 @@ all_sizes = entry_length * sources
 abbrev pub flag : ℕ
 flag = 2 ^ 40
 
+-- the first number of an entry: the size with the flag, 0 where it is not known
+abbrev pub size_number : Option Position → ℕ
+size_number (Some p) = p.0 % flag + flag
+size_number None = 0
+
 -- an entry: the size, with the flag if it is known, and the largest end, with the flag if two segments that make the size
 -- known end apart; so zeros are the entry of no segment
 abbrev pub entry_in : List ℕ → ℕ → Sizes
 entry_in t at =
     record {
-      known = not (eqb (get_or t at 0 / flag) 0);
-      size = record { 0 = get_or t at 0 % flag };
+      size = then_some (not (eqb (get_or t at 0 / flag) 0)) (record { 0 = get_or t at 0 % flag });
       largest = record { 0 = get_or t (at + 1) 0 % flag };
       same = eqb (get_or t (at + 1) 0 / flag) 0;
     }
 
 -- what an entry has room for: positions below the flag
 abbrev pub kept_sizes : Sizes → Sizes
-kept_sizes x = record { known = x.known; size = record { 0 = x.size.0 % flag }; largest = record { 0 = x.largest.0 % flag }; same = x.same }
+kept_sizes x = record { size = option_map (λ p. record { 0 = p.0 % flag }) x.size; largest = record { 0 = x.largest.0 % flag }; same = x.same }
 
 -- the entry of a source; past the table that of no segment
 unfoldable pub sizes_in : List ℕ → ℕ → Sizes

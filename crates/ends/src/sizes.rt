@@ -4,16 +4,13 @@ ghost use Rattle.partial.specs.Segments.{Segment, end_of};
 ghost use Rattle.partial.specs.Meaning.{gives_size, agree, described_length};
 ghost use Rattle.ends.specs.Sizes.{sizes_of};
 
-use numerals::order::larger;
 use partial::flags::LAST_SEGMENT;
 use partial::position::Position;
 
-// Whether the size is known, and that size; the largest end; whether every segment that makes the size known ends
-// there.
+// The size, where it is known; the largest end; whether every segment that makes the size known ends there.
 #[derive(Clone, Copy)]
 pub struct Sizes {
-    pub known: bool,
-    pub size: Position,
+    pub size: Option<Position>,
     pub largest: Position,
     pub same: bool,
 }
@@ -34,8 +31,7 @@ impl Sizes {
         ensures { result ≡ sizes_of [] }
     {
         Sizes {
-            known: false,
-            size: Position(0),
+            size: None,
             largest: Position(0),
             same: true,
         }
@@ -45,37 +41,31 @@ impl Sizes {
     pub fn with(self, end: Position, gives: bool) -> Self
         ensures { (ss : List Segment) (s : Segment) → self ≡ sizes_of ss → end.0 ≡ end_of s → gives ≡ gives_size s → result ≡ sizes_of (ss ++ (s ∷ [])) }
     {
-        let mut sizes = self;
-        let most = Position(larger(self.largest.0, end.0));
-        sizes.largest = most;
-        if gives {
-            if self.known {
-                if end.0 == self.size.0 {
-                    return sizes;
-                }
-                sizes.same = false;
-                return sizes;
-            }
-            sizes.known = true;
-            sizes.size = end;
-            sizes.same = true;
-            return sizes;
+        let largest = Position(self.largest.0.max(end.0));
+        if !gives {
+            return Sizes { largest, ..self };
         }
-        sizes
+        match self.size {
+            Some(size) => Sizes {
+                largest,
+                same: self.same && end.0 == size.0,
+                ..self
+            },
+            None => Sizes {
+                size: Some(end),
+                largest,
+                same: true,
+            },
+        }
     }
 
     // 25: whether no two known sizes differ, and nothing lies above the known size.
     pub fn agree(self) -> bool
         ensures { (ss : List Segment) → self ≡ sizes_of ss → result ≡ agree ss }
     {
-        if self.known {
-            if self.size.0 < self.largest.0 {
-                false
-            } else {
-                self.same
-            }
-        } else {
-            true
+        match self.size {
+            Some(size) => self.largest.0 <= size.0 && self.same,
+            None => true,
         }
     }
 
@@ -83,6 +73,9 @@ impl Sizes {
     pub fn described(self) -> Position
         ensures { (ss : List Segment) → self ≡ sizes_of ss → result.0 ≡ described_length ss }
     {
-        if self.known { self.size } else { self.largest }
+        match self.size {
+            Some(size) => size,
+            None => self.largest,
+        }
     }
 }

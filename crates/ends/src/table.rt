@@ -1,8 +1,9 @@
-// What the ends of segments say, in a table that has an entry for each source.
+// What the ends of segments say, in a table that has an entry for each source. Each number of an entry packs a flag
+// beside a position, since the table lies in the fixed memory of a small receiver.
 ghost use Rattle.std.specs.Prelude.{List, ◌≡◌};
 ghost use Rattle.partial.specs.Segments.{Segment};
 ghost use Rattle.partial.specs.Sources.{source_count, agreed};
-ghost use Rattle.ends.specs.Table.{sizes_in, SizesPut, Cleared, Holds};
+ghost use Rattle.ends.specs.Table.{size_number, sizes_in, SizesPut, Cleared, Holds};
 
 use crate::sizes::Sizes;
 use partial::position::Position;
@@ -27,10 +28,19 @@ pub fn sizes_at(table: &[u64; ALL_SIZES], source: u64) -> Sizes
     let size = table[at];
     let largest = table[at + 1];
     Sizes {
-        known: size / FLAG != 0,
-        size: Position(size % FLAG),
+        size: (size / FLAG != 0).then_some(Position(size % FLAG)),
         largest: Position(largest % FLAG),
         same: largest / FLAG == 0,
+    }
+}
+
+// The first number of an entry: the size with the flag, if it is known.
+fn size_number(size: Option<Position>) -> u64
+    ensures { result ≡ size_number size }
+{
+    match size {
+        Some(size) => size.0 % FLAG + FLAG,
+        None => 0,
     }
 }
 
@@ -42,7 +52,7 @@ pub fn put_sizes(table: &mut [u64; ALL_SIZES], source: u64, sizes: Sizes)
         return;
     }
     let at = (ENTRY * source) as usize;
-    table[at] = sizes.size.0 % FLAG + FLAG * (sizes.known as u64);
+    table[at] = size_number(sizes.size);
     table[at + 1] = sizes.largest.0 % FLAG + FLAG * (!sizes.same as u64);
 }
 
@@ -57,13 +67,10 @@ pub fn clear_sizes(table: &mut [u64; ALL_SIZES])
 pub fn all_agree(table: &[u64; ALL_SIZES], many: u64) -> bool
     ensures { (ss : List Segment) → many ≡ source_count ss → Holds table.now ss → result ≡ agreed ss }
 {
-    let mut n = 0;
-    while n < many {
-        let said = sizes_at(table, n);
-        if !said.agree() {
+    for n in 0..many {
+        if !sizes_at(table, n).agree() {
             return false;
         }
-        n += 1;
     }
     true
 }

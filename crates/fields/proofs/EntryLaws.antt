@@ -6,16 +6,18 @@ use mathlib.Core.Path.{◌≡◌, refl, ◌∙◌}
 use native.Mathlib.Omega.{arith}
 use borrow.Author.Tests.{lt-ltb, le-ltb, ne_eqb}
 use lib.Dec.{leb}
-use Rattle.boxes.specs.Answer.{refused, given, ◌>>=◌}
+use Rattle.boxes.specs.Answer.{refused, given, ◌>>=◌, told_as}
 use Rattle.numerals.specs.Numbers.{number, signed}
 use Rattle.numerals.specs.declared.numbers.Offset.{Offset}
 use Rattle.numerals.proofs.NumberLaws.{number_byte}
 use Rattle.partial.specs.Segments.{present}
 use Rattle.partial.specs.Entries.{Ploc, state_of, entry}
 use Rattle.fields.specs.Entry.{offset_bytes, entry_rest}
-use Rattle.fields.specs.State.{state_answer}
-use Rattle.fields.specs.declared.state.StateRead.{StateRead}
-use Rattle.fields.specs.declared.state.StateRead.TheVariants.{Refused, Given}
+use Rattle.std.specs.Prelude.{Result, Ok, Err}
+use Rattle.refusals.specs.Refusals.{refusal_no}
+use Rattle.refusals.specs.declared.Refusal.{Refusal}
+use Rattle.fields.specs.State.{state_no}
+use Rattle.fields.specs.declared.state.State.{State}
 
 -- a flag byte with a reserved bit
 pub state_reserved : (flags : ℕ) → (flags % 64 ≡ 0 → ⊥) → state_of flags ≡ refused 20
@@ -44,17 +46,15 @@ module _ (f : List ℕ) (l : Ploc) (at : ℕ) where
   unfolding entry
   entry-cut h = simp (entry, le-ltb at l.end h)
 
-  module _ (short : at < l.end) {flags : ℕ} (read : flags ≡ number f at 1) (r : StateRead) (told : state_answer r ≡ state_of flags) where
-    by_flags : entry f l at ≡ (state_answer r >>= entry_rest f l at)
+  module _ (short : at < l.end) {flags : ℕ} (read : flags ≡ number f at 1) (r : Result State Refusal) (told : told_as state_no r ≡ state_of flags) where
+    by_flags : entry f l at ≡ (told_as state_no r >>= entry_rest f l at)
     unfolding entry entry_rest offset_bytes
     by_flags = simp (entry, lt-ltb at l.end short, told, read, number_byte)
 
-    pub entry_refused : {n : ℕ} → r ≡ Refused n → entry f l at ≡ refused n
-    unfolding state_answer
+    pub entry_refused : {n : Refusal} → r ≡ Err n → entry f l at ≡ refused (refusal_no n)
     entry_refused e = by_flags ∙ rw e
 
-    pub entry_known : {state : ℕ} → r ≡ Given state → entry f l at ≡ entry_rest f l at state
-    unfolding state_answer
+    pub entry_known : {state : State} → r ≡ Ok state → entry f l at ≡ entry_rest f l at (state_no state)
     entry_known e = by_flags ∙ rw e
 
   -- what follows the flags, where the widths were read

@@ -3,18 +3,15 @@
 use Prim.Native.Nat.{ℕ, ◌+◌, ◌-◌, ◌≤◌, min}
 use mathlib.Core.Bool.{Bool, true, false}
 use mathlib.Core.List.{List}
-use mathlib.Core.Path.{◌≡◌, refl, sym, ap, ◌∙◌}
+use mathlib.Core.Path.{◌≡◌, refl}
 use native.Mathlib.Omega.{arith}
 use borrow.Author.Tests.{eq-eqb, ne_eqb}
 use lib.Dec.{eqb}
-use Rattle.boxes.specs.Answer.{Answer, refused, given}
+use Rattle.boxes.specs.Answer.{refused, given}
 use Rattle.numerals.specs.Numbers.{number}
 use Rattle.boxes.specs.Framing.{Box}
 use Rattle.partial.specs.Reading.{offset_width_of, pshd_fields}
-use Rattle.fields.specs.Fields.{fields_of, fields_answer}
-use Rattle.fields.specs.declared.fields.Fields.{Fields}
-use Rattle.fields.specs.declared.fields.FieldsRead.{FieldsRead}
-use Rattle.fields.specs.declared.fields.FieldsRead.TheVariants.{Refused, Given}
+use Rattle.fields.specs.Fields.{fields_of}
 
 -- the bytes of `source_byte_offset`
 module _ (version : ℕ) where
@@ -47,13 +44,3 @@ module _ (f : List ℕ) (b : Box) {width : ℕ} (read : width ≡ offset_width_o
       let narrow : min width 8 ≡ width = omega (arith, width_most (number f b.body 1)) in
       let last : b.end - 8 ≡ b.body + 4 + width = omega arith in
       simp (fields_of, pshd_fields, ← read, eq-eqb (b.body + 4 + width + 8) b.end h, flags, offset, repair, narrow, last)
-
--- what each answer about fields says
-module _ {r : FieldsRead} {x : Answer Fields} (answer : fields_answer r ≡ x) where
-  pub fields_given : {p : Fields} → r ≡ Given p → x ≡ given p
-  unfolding fields_answer
-  fields_given e = sym answer ∙ ap fields_answer e
-
-  pub fields_refused : {n : ℕ} → r ≡ Refused n → x ≡ refused n
-  unfolding fields_answer
-  fields_refused e = sym answer ∙ ap fields_answer e

@@ -2,20 +2,21 @@
 use Prim.Native.Nat.{ℕ, ◌+◌, ◌/◌, ◌%◌, ◌≤◌, ◌<◌, min}
 use mathlib.Core.Bool.{true, false, ◌&&◌}
 use mathlib.Core.List.{List}
-use mathlib.Core.Path.{◌≡◌, sym, ap, ◌∙◌}
+use mathlib.Core.Path.{◌≡◌, ap, ◌∙◌}
 use native.Mathlib.Omega.{arith}
 use borrow.Author.Tests.{leb-true, le-leb, lt-leb, eq-eqb, ne_eqb}
 use lib.Dec.{leb, eqb}
-use Rattle.boxes.specs.Answer.{refused, given, ◌>>=◌, hold}
+use Rattle.boxes.specs.Answer.{refused, given, ◌>>=◌, hold, told_as}
+use Rattle.boxes.proofs.ToldLaws.{told-ok}
+use Rattle.refusals.specs.declared.Refusal.{Refusal}
+use Rattle.std.specs.Prelude.{Result, Ok}
 use Rattle.numerals.specs.Numbers.{number}
 use Rattle.boxes.specs.Framing.{Box}
 use Rattle.boxes.proofs.AnswerLaws.{given_same, held}
 use Rattle.partial.specs.Entries.{Ploc, ploc_head}
 use Rattle.partial.proofs.Meaning.SequenceLaws.{both}
-use Rattle.fields.specs.Location.{head_of, ploc_of, location_answer}
+use Rattle.fields.specs.Location.{head_of, ploc_of}
 use Rattle.fields.specs.declared.location.Location.{Location}
-use Rattle.fields.specs.declared.location.LocationRead.{LocationRead}
-use Rattle.fields.specs.declared.location.LocationRead.TheVariants.{Refused, Given}
 
 -- the head with those widths
 abbrev head_with : List ℕ → Box → ℕ → Ploc
@@ -67,12 +68,6 @@ head_read f b l h =
     let offset : min l.offset_size 8 ≡ l.offset_size = omega (arith, leb-true (widths % 16) 8 narrow.1, ap (λ p. p.offset_size) same) in
     rw (length, offset) h
 
--- what each answer about a head says
-module _ (f : List ℕ) (b : Box) {r : LocationRead} (answer : location_answer r ≡ ploc_head f b) where
-  pub location_given : {l : Location} → r ≡ Given l → ploc_head f b ≡ given (ploc_of l)
-  unfolding location_answer
-  location_given {l} e = head_read f b l (sym answer ∙ ap location_answer e)
-
-  pub location_refused : {n : ℕ} → r ≡ Refused n → ploc_head f b ≡ refused n
-  unfolding location_answer
-  location_refused e = sym answer ∙ ap location_answer e
+-- what a head that was read says
+pub location_given : (f : List ℕ) (b : Box) {r : Result Location Refusal} (answer : told_as head_of r ≡ ploc_head f b) {l : Location} → r ≡ Ok l → ploc_head f b ≡ given (ploc_of l)
+location_given f b answer {l} e = head_read f b l (told-ok head_of answer e)

@@ -1,12 +1,11 @@
 -- Document 01, the `ploc` paragraph: what is told of an entry, and what follows its flags.
 use Rattle.std.specs.Prelude.{ℕ, ◌+◌, true, false, List, leb}
-use Rattle.boxes.specs.Answer.{Answer, refused, given, ◌>>=◌, hold}
+use Rattle.boxes.specs.Answer.{Answer, given, ◌>>=◌, hold}
 use Rattle.numerals.specs.Numbers.{number, signed}
 use Rattle.partial.specs.Segments.{present}
 use Rattle.partial.specs.Entries.{Ploc, Entry}
 use Rattle.fields.specs.declared.entry.Entry.{Entry as CodeEntry}
-use Rattle.fields.specs.declared.entry.EntryRead.{EntryRead}
-use Rattle.fields.specs.declared.entry.EntryRead.TheVariants.{Refused, Given}
+use Rattle.fields.specs.State.{state_no}
 
 -- the bytes of an offset in an entry of that state
 unfoldable pub offset_bytes : Ploc → ℕ → ℕ
@@ -22,9 +21,4 @@ entry_rest f l at state = do
 
 -- what an entry that was read says
 abbrev pub entry_of : CodeEntry → Entry
-entry_of e = record { state = e.state; size = e.size; offset = e.offset; next = e.next.0 }
-
--- what an answer about an entry says
-unfoldable pub entry_answer : EntryRead → Answer Entry
-entry_answer (Refused n) = refused n
-entry_answer (Given e) = given (entry_of e)
+entry_of e = record { state = state_no e.state; size = e.size; offset = e.offset; next = e.next.0 }

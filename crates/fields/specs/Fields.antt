@@ -1,11 +1,9 @@
 -- Document 01, the `pshd` paragraph and refusal 14: the fields of a `pshd`.
 use Rattle.std.specs.Prelude.{ℕ, List, eqb}
-use Rattle.boxes.specs.Answer.{Answer, refused, given, ◌>>=◌, hold}
+use Rattle.boxes.specs.Answer.{Answer, given, ◌>>=◌, hold}
 use Rattle.boxes.specs.Framing.{Box}
 use Rattle.partial.specs.Reading.{Pshd, pshd_fields}
 use Rattle.fields.specs.declared.fields.Fields.{Fields}
-use Rattle.fields.specs.declared.fields.FieldsRead.{FieldsRead}
-use Rattle.fields.specs.declared.fields.FieldsRead.TheVariants.{Refused, Given}
 
 -- the fields that change an answer
 abbrev pub values_of : Pshd → Fields
@@ -16,8 +14,3 @@ unfoldable pub fields_of : List ℕ → Box → Answer Fields
 fields_of f b = do
   _ ← hold 14 (eqb (pshd_fields f b).end b.end)
   given (values_of (pshd_fields f b))
-
--- what an answer about fields says
-unfoldable pub fields_answer : FieldsRead → Answer Fields
-fields_answer (Refused n) = refused n
-fields_answer (Given p) = given p

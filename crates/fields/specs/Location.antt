@@ -1,10 +1,7 @@
 -- Document 01, the `ploc` paragraph: what is told of the head of a `ploc`.
 use Rattle.std.specs.Prelude.{min}
-use Rattle.boxes.specs.Answer.{Answer, refused, given}
 use Rattle.partial.specs.Entries.{Ploc}
 use Rattle.fields.specs.declared.location.Location.{Location}
-use Rattle.fields.specs.declared.location.LocationRead.{LocationRead}
-use Rattle.fields.specs.declared.location.LocationRead.TheVariants.{Refused, Given}
 
 -- what a head that was read says
 abbrev pub head_of : Location → Ploc
@@ -20,8 +17,3 @@ ploc_of l =
       first = l.first.0;
       end = l.end.0;
     }
-
--- what an answer about a head says
-unfoldable pub location_answer : LocationRead → Answer Ploc
-location_answer (Refused n) = refused n
-location_answer (Given l) = given (head_of l)

@@ -1,10 +1,11 @@
--- Document 01, "State 2 is good, 1 damaged but kept, 0 lost": what is told of a flag byte.
+-- Document 01, "State 2 is good, 1 damaged but kept, 0 lost": the number of each state.
 use Rattle.std.specs.Prelude.{ℕ}
-use Rattle.boxes.specs.Answer.{Answer, refused, given}
-use Rattle.fields.specs.declared.state.StateRead.{StateRead}
-use Rattle.fields.specs.declared.state.StateRead.TheVariants.{Refused, Given}
+use Rattle.fields.specs.declared.state.State.{State}
+use Rattle.fields.specs.declared.state.State.TheVariants.{Lost, Damaged, Good, Elsewhere}
 
--- what an answer about a flag byte says
-unfoldable pub state_answer : StateRead → Answer ℕ
-state_answer (Refused n) = refused n
-state_answer (Given state) = given state
+-- which number it has
+abbrev pub state_no : State → ℕ
+state_no Lost = 0
+state_no Damaged = 1
+state_no Good = 2
+state_no Elsewhere = 3

@@ -11,14 +11,8 @@ pub fn may_stand(b: Framed) -> bool
     ensures { result ≡ allowed (box_of b) }
 {
     let kind = b.kind;
-    if kind == FTYP.code {
+    if kind == FTYP || kind == PFIL || kind == PSEG {
         return false;
     }
-    if kind == PFIL.code {
-        return false;
-    }
-    if kind == PSEG.code {
-        return false;
-    }
-    kind != PDAT.code
+    kind != PDAT
 }

@@ -5,6 +5,9 @@ use mathlib.Core.List.{List}
 use mathlib.Core.Path.{◌≡◌, sym, ap, subst, ◌∙◌}
 use native.Mathlib.Omega.{arith}
 use lib.ListN.{length}
+use Rattle.std.specs.Prelude.{Result, Ok, Err}
+use Rattle.refusals.specs.declared.Refusal.{Refusal}
+use Rattle.refusals.proofs.NumberLaws.{refusal_told}
 use Rattle.boxes.specs.Answer.{Answer, given}
 use Rattle.boxes.proofs.AnswerLaws.{not_both, refused_same, given_same}
 use Rattle.numerals.proofs.Determined.{OneKnown, OneLeftKnown}
@@ -14,26 +17,25 @@ use Rattle.partial.specs.Limits.{source_limit}
 use Rattle.partial.specs.Reading.{segments}
 use Rattle.partial.specs.Segments.{Segment}
 use Rattle.filling.specs.Rows.{Put}
+use Rattle.indexing.specs.declared.marks.Marks.{Marks}
 use Rattle.indexing.specs.Marks.{marks_with}
 use Rattle.fileindex.specs.File.{index_by, end_in, NumberedBy, rows_by, no_marks, Tells}
-use Rattle.fileindex.specs.declared.file.FileIndex.{FileIndex}
-use Rattle.fileindex.specs.declared.file.FileIndex.TheVariants.{Refused, Given}
 use Rattle.fileindex.proofs.file.index_of.Reads as index_of
 
 module _ (number : List (List ℕ) → ℕ) (index : Answer (List SourceBox)) (t₀ : List ℕ) where
-  one_told : (t t' : List ℕ) (x y : FileIndex) → Tells number index t₀ t x → Tells number index t₀ t' y → x ≡ y
+  one_told : (t t' : List ℕ) (x y : Result Marks Refusal) → Tells number index t₀ t x → Tells number index t₀ t' y → x ≡ y
   unfolding Tells
-  one_told t t' (Refused n) (Refused m) p q = ap Refused (refused_same (sym p ∙ q))
-  one_told t t' (Refused n) (Given m) p (boxes, read, _) = absurd (not_both (sym p ∙ read))
-  one_told t t' (Given m) (Refused n) (boxes, read, _) q = absurd (not_both (sym q ∙ read))
-  one_told t t' (Given m) (Given m') (boxes, read, marked) (boxes', read', marked') =
-      ap Given (marked.marks ∙ ap (λ (is : List SourceBox). marks_with no_marks (boxes_alone is)) (given_same (sym read ∙ read')) ∙ sym marked'.marks)
+  one_told t t' (Err n) (Err m) p q = ap Err (refusal_told n m (refused_same (sym p ∙ q)))
+  one_told t t' (Err n) (Ok m) p (boxes, read, _) = absurd (not_both (sym p ∙ read))
+  one_told t t' (Ok m) (Err n) (boxes, read, _) q = absurd (not_both (sym q ∙ read))
+  one_told t t' (Ok m) (Ok m') (boxes, read, marked) (boxes', read', marked') =
+      ap Ok (marked.marks ∙ ap (λ (is : List SourceBox). marks_with no_marks (boxes_alone is)) (given_same (sym read ∙ read')) ∙ sym marked'.marks)
 
   -- the rows of an index that is known are put
-  rows_put : (t : List ℕ) (x : FileIndex) {boxes : List SourceBox} → Tells number index t₀ t x → index ≡ given boxes → Put t₀ 0 (rows_by number boxes) t
+  rows_put : (t : List ℕ) (x : Result Marks Refusal) {boxes : List SourceBox} → Tells number index t₀ t x → index ≡ given boxes → Put t₀ 0 (rows_by number boxes) t
   unfolding Tells
-  rows_put t (Refused n) fault read = absurd (not_both (sym fault ∙ read))
-  rows_put t (Given m) (boxes', read', marked) read =
+  rows_put t (Err n) fault read = absurd (not_both (sym fault ∙ read))
+  rows_put t (Ok m) (boxes', read', marked) read =
       subst (λ (boxes : List SourceBox). Put t₀ 0 (rows_by number boxes) t) (given_same (sym read' ∙ read)) marked.rows
 
 -- the heading and the segments of a file, and the numbers of its sources

@@ -1,9 +1,10 @@
 -- Laws of the index of a file: by its containers in file order; and for those who ask for it of a file that was read,
 -- or of one that was only begun and gets its first segment.
 use Prim.Native.Nat.{ℕ, ◌≤◌}
-use mathlib.Core.Bool.{Bool, true, false}
+use mathlib.Core.Bool.{false}
 use mathlib.Core.List.{List, [], ◌∷◌, map, Memᴰ}
-use mathlib.Core.Option.{Option, none, some, get_or}
+use Rattle.std.specs.Prelude.{Option, None, Some, Result, option_map}
+use Rattle.refusals.specs.declared.Refusal.{Refusal}
 use mathlib.Core.Path.{◌≡◌, refl, sym, ap, ap₂, subst, ◌∙◌}
 use native.Mathlib.Omega.{arith}
 use Rattle.boxes.specs.Answer.{Answer, given}
@@ -13,7 +14,7 @@ use Rattle.boxes.proofs.KindLaws.{few_right}
 use Rattle.partial.specs.Heading.{Heading, heading}
 use Rattle.partial.specs.Index.{SourceBox, belonging, size_for, index_for, index_of_segments, index_of}
 use Rattle.partial.specs.Limits.{segment_limit, source_limit}
-use Rattle.partial.specs.Meaning.{known_size, is_closed}
+use Rattle.partial.specs.Meaning.{known_size}
 use Rattle.partial.specs.Reading.{segments}
 use Rattle.partial.specs.Segments.{Segment}
 use Rattle.partial.specs.Sequences.{largest}
@@ -24,12 +25,13 @@ use Rattle.partial.proofs.Reading.LimitLaws.{segments_limited}
 use Rattle.partial.proofs.Reading.NumberedLaws.{segments_numbered}
 use Rattle.partial.proofs.Reading.RefusalLaws.{no_segments}
 use Rattle.ends.specs.Sizes.{sizes_of}
-use Rattle.ends.specs.Table.{Holds}
+use Rattle.ends.specs.Table.{sizes_in, Holds}
 use Rattle.ends.specs.declared.sizes.Sizes.{Sizes}
 use Rattle.sources.specs.Held.{SourcesHeld}
+use Rattle.indexing.specs.Ends.{end_of}
 use Rattle.fileindex.specs.File.{index_by, end_in, NumberedBy, Tells}
 use Rattle.fileindex.specs.Parts.{index_of_parts}
-use Rattle.fileindex.specs.declared.file.FileIndex.{FileIndex}
+use Rattle.indexing.specs.declared.marks.Marks.{Marks}
 use Rattle.fileindex.proofs.PartLaws.{parts_of, parts_segments}
 
 module _ (f : List ℕ) (h : Heading) (size : List (List ℕ) → Option ℕ) where
@@ -38,7 +40,7 @@ module _ (f : List ℕ) (h : Heading) (size : List (List ℕ) → Option ℕ) wh
   unfolding index_by index_of_parts
   by_parts ss = rw (parts_segments f size ss)
 
-  pub tells_file : (number : List (List ℕ) → ℕ) (ss : List Segment) (t₀ t : List ℕ) (r : FileIndex) → Tells number (index_of_parts f size (parts_of h ss)) t₀ t r → Tells number (index_by f h size ss) t₀ t r
+  pub tells_file : (number : List (List ℕ) → ℕ) (ss : List Segment) (t₀ t : List ℕ) (r : Result Marks Refusal) → Tells number (index_of_parts f size (parts_of h ss)) t₀ t r → Tells number (index_by f h size ss) t₀ t r
   tells_file number ss t₀ t r told = subst (λ (x : Answer (List SourceBox)). Tells number x t₀ t r) (by_parts ss) told
 
   -- where each source ends as the segments say it
@@ -52,17 +54,20 @@ module _ (f : List ℕ) (h : Heading) (size : List (List ℕ) → Option ℕ) wh
   by_first s lacks =
       rw (index_none source_limit f s.inner lacks Pseg (size s.urls) s.source_offset (few_right Pseg fidx s.inner refl (rw lacks (omega arith))))
 
+-- where a source ends, as a table of sizes says it
+pub end_said : (sizes : List ℕ) (source : ℕ) {said : Sizes} → said ≡ sizes_in sizes source → end_of said.size ≡ end_in sizes source
+unfolding end_in
+end_said sizes source e = ap (λ (x : Sizes). end_of x.size) e
+
 -- a table of sizes says where each source ends, by its number and so by its URLs
 module _ (sizes : List ℕ) (ss : List Segment) (held : Holds sizes ss) where
   end_held : (source : ℕ) → end_in sizes source ≡ known_size (of_source source ss)
-  unfolding end_in sizes_of is_closed
-  end_held source =
-      ap (λ (x : Sizes). elim x.known as (λ _. Option ℕ) [ true ↦ some x.size.0 | false ↦ none ]) (held.said source) ∙ go (known_size (of_source source ss))
+  unfolding end_in sizes_of
+  end_held source = ap (λ (x : Sizes). end_of x.size) (held.said source) ∙ go (known_size (of_source source ss))
     where
-      go : (known : Option ℕ)
-          → ◌≡◌ {A = Option ℕ} (elim (elim known as (λ _. Bool) [ some n ↦ true | none ↦ false ]) [ true ↦ some (get_or known 0) | false ↦ none ]) known
-      go none = refl
-      go (some n) = refl
+      go : (known : Option ℕ) → end_of (option_map (λ n. record { 0 = n }) known) ≡ known
+      go None = refl
+      go (Some n) = refl
 
   pub ends_held : (λ us. end_in sizes (source_beside ss us)) ≡ size_for ss
   unfolding size_for of_urls
@@ -74,7 +79,7 @@ map_each p q [] same = refl
 map_each p q (s ∷ ss) same = ap₂ ◌∷◌ (same s (Memᴰ.head refl)) (map_each p q ss (λ t there. same t (Memᴰ.tail there)))
 
 -- what the answer says to those who ask
-module _ (f sizes sources : List ℕ) (in_pfil : ℕ) (t₀ t : List ℕ) (r : FileIndex) (h : Heading) (head : heading f ≡ given h)
+module _ (f sizes sources : List ℕ) (in_pfil : ℕ) (t₀ t : List ℕ) (r : Result Marks Refusal) (h : Heading) (head : heading f ≡ given h)
     (promise : (h : Heading) (ss : List Segment) (number : List (List ℕ) → ℕ) → heading f ≡ given h → segments source_limit f h ≡ given ss → NumberedBy number h ss sources in_pfil
     → Tells number (index_by f h (λ us. end_in sizes (number us)) ss) t₀ t r) where
   -- of a file whose segments were read

@@ -2,13 +2,16 @@
 use Prim.Native.Nat.{ℕ, suc, ◌≤◌}
 use mathlib.Core.Bool.{Bool, true, false, false≢true}
 use mathlib.Core.List.{List, [], ◌∷◌, ◌++◌, map, append_assoc, append-nil}
-use mathlib.Core.Option.{Option}
+use Rattle.std.specs.Prelude.{Option, None, Result, Ok, Err}
+use Rattle.refusals.specs.declared.Refusal.{Refusal}
 use mathlib.Core.Path.{◌≡◌, refl, sym, ap, ap₂, subst, ◌∙◌}
 use native.Mathlib.Omega.{arith}
 use borrow.Author.Tests.{eqb-true, ne_eqb}
 use Rattle.boxes.specs.Answer.{Answer, refused, given, ◌>>=◌}
+use Rattle.boxes.specs.Bodies.{body_of}
 use Rattle.boxes.specs.Framing.{Box, boxes_in, box_of}
 use Rattle.boxes.specs.Kinds.{pfil, pseg, is}
+use Rattle.boxes.specs.declared.body.Body.{Body}
 use Rattle.boxes.specs.declared.framing.Framed.{Framed}
 use Rattle.boxes.specs.declared.kinds.Kind.{Kind}
 use Rattle.boxes.proofs.AnswerLaws.{both_given, given_same}
@@ -19,10 +22,8 @@ use Rattle.partial.specs.Heading.{Heading}
 use Rattle.partial.specs.Index.{Indexed, SourceBox, boxes_alone, belonging, index_in, index_for, index_of_segments}
 use Rattle.partial.specs.Limits.{source_limit}
 use Rattle.partial.specs.Segments.{Segment}
-use Rattle.indexing.specs.Index.{Contained, Indexes, CountedIn}
+use Rattle.indexing.specs.Index.{Contained, Indexes, CountedIn, marked_with}
 use Rattle.indexing.specs.Marks.{shown, Marked}
-use Rattle.indexing.specs.declared.index.IndexRead.{IndexRead}
-use Rattle.indexing.specs.declared.index.IndexRead.TheVariants.{Refused, Given}
 use Rattle.indexing.specs.declared.marks.Marks.{Marks}
 use Rattle.partial.proofs.Reading.IndexedLaws.{belonging_alone}
 use Rattle.sources.specs.Numbers.{source_in}
@@ -102,10 +103,17 @@ ends_as number source size end (p ∷ ps) (here, same) e = (e ∙ ap size here, 
 -- ---- what is known where its boxes are read
 
 pub in-contained : {f : List ℕ} {c : Container} (b : Framed) {place count : ℕ} {bs : List Box} → InFile (box_of b) count → boxes_in c f (box_of b).body (box_of b).end ≡ given bs → place ≤ source_limit
-    → Contained f c b.body.0 b.end.0 place count bs
+    → Contained f (body_of c b) place count bs
 unfolding box_of
 in-contained b inside known placed =
     record { framed = known; ordered = inside.whole; short = inside.short; placed = placed; rows = omega (arith, inside.rows, inside.header) }
+
+-- what is promised of the index in a box that is such a container
+pub index_promised : (f : List ℕ) (c : Container) (b : Framed) (size : Option ℕ) (place : ℕ) (before : Marks) (t₀ t : List ℕ) (r : Result (Option Marks) Refusal) {body : Body} → body ≡ body_of c b
+    → ((bs : List Box) → Contained f body place before.count bs → Indexes f body.container bs size place before t₀ t r × CountedIn body.end.0 before r)
+    → (bs : List Box) → Contained f (body_of c b) place before.count bs → Indexes f c bs size place before t₀ t r × CountedIn b.end.0 before r
+index_promised f c b size place before t₀ t r same promise =
+    subst (λ (body : Body). (bs : List Box) → Contained f body place before.count bs → Indexes f body.container bs size place before t₀ t r × CountedIn body.end.0 before r) same promise
 
 -- ---- what is told
 
@@ -152,14 +160,14 @@ module _ (f : List ℕ) (size : List (List ℕ) → Option ℕ) where
 
   -- of one
   module _ (c : Container) (bs : List Box) (us : List (List ℕ)) (place : ℕ) (before : Marks) (t₀ t : List ℕ) where
-    adds_alone : (r : IndexRead) → Indexes f c bs (size us) place before t₀ t r → Adds (index_of_parts f size (part_in c bs us place ∷ [])) before t₀ t r
+    adds_alone : (r : Result (Option Marks) Refusal) → Indexes f c bs (size us) place before t₀ t r → Adds (index_of_parts f size (part_in c bs us place ∷ [])) before t₀ t r
     unfolding Indexes Adds index_of_parts index_for
-    adds_alone (Refused n) fault = rw fault
-    adds_alone (Given there m) (boxes, read, _, marked) =
+    adds_alone (Err n) fault = rw fault
+    adds_alone (Ok found) (boxes, read, _, marked) =
         let alone : boxes_alone (belonging us boxes ++ []) ≡ boxes = ap boxes_alone (append-nil (belonging us boxes)) ∙ belonging_alone us boxes in
-        (belonging us boxes ++ [], rw read, subst (λ (is : List Indexed). Marked before t₀ is m t) (sym alone) marked)
+        (belonging us boxes ++ [], rw read, subst (λ (is : List Indexed). Marked before t₀ is (marked_with before found) t) (sym alone) marked)
 
-    pub adds_one : (r : IndexRead) {ps : List Part} → part_in c bs us place ∷ [] ≡ ps → (end : Option ℕ) → EndsAs size end ps → Indexes f c bs end place before t₀ t r
+    pub adds_one : (r : Result (Option Marks) Refusal) {ps : List Part} → part_in c bs us place ∷ [] ≡ ps → (end : Option ℕ) → EndsAs size end ps → Indexes f c bs end place before t₀ t r
         → Adds (index_of_parts f size ps) before t₀ t r
     adds_one r same end ends told =
         let (e, _) = subst (EndsAs size end) (sym same) ends in
@@ -167,7 +175,7 @@ module _ (f : List ℕ) (size : List (List ℕ) → Option ℕ) where
 
   -- of none
   pub adds_none : (b : Framed) {ps : List Part} → [] ≡ ps → (before : Marks) (t : List ℕ) → InFile (box_of b) before.count
-      → Adds (index_of_parts f size ps) before t t (Given false before) × CountedIn b.end.0 (Given false before)
+      → Adds (index_of_parts f size ps) before t t (Ok None) × CountedIn b.end.0 before (Ok None)
   unfolding Adds index_of_parts CountedIn box_of boxes_alone
   adds_none b same before t inside =
       (([], ap (index_of_parts f size) (sym same), marked_none before t), omega (arith, inside.rows, inside.header, inside.whole))

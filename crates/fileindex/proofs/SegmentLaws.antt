@@ -4,6 +4,7 @@ use Prim.Native.Nat.{ℕ}
 use mathlib.Core.Bool.{true, ◌&&◌}
 use mathlib.Core.List.{List, [], ◌∷◌, ◌++◌, append_assoc, append-nil}
 use mathlib.Core.Path.{◌≡◌, refl, sym, ap, subst, ◌∙◌}
+use native.Mathlib.Omega.{arith}
 use borrow.Author.Tests.{eq-eqb, leb-true, eqb-true}
 use lib.Dec.{eqb, lit<}
 use Rattle.boxes.specs.Answer.{refused, given}
@@ -11,7 +12,10 @@ use Rattle.boxes.specs.Framing.{Box}
 use Rattle.boxes.specs.Kinds.{pseg, pshd, is, right, those, box_at, first_of}
 use Rattle.boxes.specs.declared.kinds.Container.TheVariants.{Pseg}
 use Rattle.boxes.proofs.AnswerLaws.{not_both, both_given, given_same}
-use Rattle.boxes.proofs.KindLaws.{first_is}
+use Rattle.boxes.proofs.KindLaws.{first_is, first_of-those}
+use Rattle.tallying.specs.Found.{first_in}
+use Rattle.std.specs.Prelude.{None}
+use Rattle.std.proofs.lemmas.Option.{none-some}
 use Rattle.partial.specs.Heading.{Heading}
 use Rattle.partial.specs.Limits.{source_limit}
 use Rattle.partial.specs.Reading.{pshd_fields, pshd_right, segment, segments_from, segments}
@@ -59,6 +63,18 @@ module _ (f : List ℕ) where
     segments_known e =
         let (new, all, known) = from_known (those pseg h.boxes) [] (segmented source_limit f h e).read in
         subst (SegmentsOf f (those pseg h.boxes)) all known
+
+  -- a segment has a `pshd`
+  pub header-there : {b : Box} {s : Segment} → SegmentOf f b s → None ≡ first_in (those pshd s.inner) → ⊥
+  unfolding pshd_fields box_at
+  header-there {s = s} known none = go (those pshd s.inner) refl none
+    where
+      go : (cs : List Box) → those pshd s.inner ≡ cs → None ≡ first_in cs → ⊥
+      go [] e none =
+          let first : first_of pshd s.inner ≡ box_at 0 [] = first_of-those pshd s.inner ∙ ap (box_at 0) e in
+          let whole = rw first at known.whole in
+          omega (arith, whole)
+      go (c ∷ cs) e none = none-some c none
 
   -- the fields of its `pshd` say where a segment starts
   module _ {b header : Box} {s : Segment} (known : SegmentOf f b s) (first : header ≡ first_of pshd s.inner) where

@@ -111,6 +111,15 @@ module _ (source from : ℕ) (t₀ : List ℕ) (is : List Indexed) (room : index
           ∙ (λ j. before ++ (source_rows source (same j) ++ drop (index_row_length * from + long j) t₀))
           ∙ sym (stored-room t₀ (index_row_length * from) (source_rows source is) (omega (arith, source_long source is)))
 
+-- where there is no row, none gets the number
+pub no-source_put : (k source : ℕ) (t : List ℕ) → SourcePut k k source t t
+unfolding plain_rows source_rows
+no-source_put k source t = record { long = refl; rows = λ t₀ is small many put. go t₀ is many put }
+  where
+    go : (t₀ : List ℕ) (is : List Indexed) → k ≡ k + length is → Put t₀ (index_row_length * k) (plain_rows is) t → Put t₀ (index_row_length * k) (source_rows source is) t
+    go t₀ [] many put = put
+    go t₀ (i ∷ is) many put = absurd (omega arith)
+
 -- ---- the rows of boxes with their sources
 
 pub by_append : (number : List (List ℕ) → ℕ) (is js : List SourceBox) → rows_by number (is ++ js) ≡ rows_by number is ++ rows_by number js

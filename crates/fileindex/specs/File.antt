@@ -1,7 +1,9 @@
 -- Document 02, [7], "Read it from `pfil` or from segments", and [8]: what is told of the index of a file, each by where
 -- its own source ends.
 use Rattle.std.specs.Prelude.{ℕ, ◌+◌, ◌*◌, ◌≤◌, true, false, List, [], ◌∷◌, ◌++◌, map, ◌≡◌, leb, length, take}
-use Rattle.std.proofs.Math.Option.{Option, none, some}
+use Rattle.std.specs.Prelude.{Option, Result, Ok, Err}
+use Rattle.refusals.specs.Refusals.{refusal_no}
+use Rattle.refusals.specs.declared.Refusal.{Refusal}
 use Rattle.boxes.specs.Answer.{Answer, refused, given, ◌>>=◌}
 use Rattle.boxes.specs.declared.kinds.Container.TheVariants.{Pfil}
 use Rattle.partial.specs.Heading.{Heading}
@@ -10,10 +12,9 @@ use Rattle.partial.specs.Limits.{segment_limit, source_limit}
 use Rattle.partial.specs.Segments.{Segment}
 use Rattle.ends.specs.Table.{sizes_in}
 use Rattle.filling.specs.Rows.{Put}
+use Rattle.indexing.specs.Ends.{end_of}
 use Rattle.indexing.specs.Marks.{plain_rows, marks_with}
 use Rattle.indexing.specs.declared.marks.Marks.{Marks}
-use Rattle.fileindex.specs.declared.file.FileIndex.{FileIndex}
-use Rattle.fileindex.specs.declared.file.FileIndex.TheVariants.{Refused, Given}
 
 -- the index of a file by where each source ends; `index_of` of `partial` takes those ends from the segments
 unfoldable pub index_by : List ℕ → Heading → (List (List ℕ) → Option ℕ) → List Segment → Answer (List SourceBox)
@@ -24,7 +25,7 @@ index_by f h size ss = do
 
 -- where a source ends, by its number and a table of sizes
 unfoldable pub end_in : List ℕ → ℕ → Option ℕ
-end_in sizes source = elim (sizes_in sizes source).known [ true ↦ some (sizes_in sizes source).size.0 | false ↦ none ]
+end_in sizes source = end_of (sizes_in sizes source).size
 
 -- the numbers of sources by their lists of URLs, of which a file has no more than segments: that of the list in `pfil`,
 -- and those of segments, in a table in their order
@@ -68,6 +69,6 @@ abbrev pub no_marks : Marks
 no_marks = record { count = 0; deep = false; unknown = false }
 
 -- what an answer says of an index: the refusal, or what is marked with its boxes
-unfoldable pub Tells : (List (List ℕ) → ℕ) → Answer (List SourceBox) → List ℕ → List ℕ → FileIndex → Type 0
-Tells number x t₀ t (Refused n) = x ≡ refused n
-Tells number x t₀ t (Given m) = (is : List SourceBox) × (x ≡ given is) × MarkedBy number no_marks t₀ is m t
+unfoldable pub Tells : (List (List ℕ) → ℕ) → Answer (List SourceBox) → List ℕ → List ℕ → Result Marks Refusal → Type 0
+Tells number x t₀ t (Err n) = x ≡ refused (refusal_no n)
+Tells number x t₀ t (Ok m) = (is : List SourceBox) × (x ≡ given is) × MarkedBy number no_marks t₀ is m t

@@ -1,7 +1,9 @@
 -- Document 02, [7], "Read it from `pfil` or from segments", and [8]: the containers of a file that may hold an index,
 -- each with its source, told in one way, so that one pass over the file's boxes tells all of it.
 use Rattle.std.specs.Prelude.{ℕ, suc, ◌*◌, ◌≤◌, true, false, List, [], ◌∷◌, ◌++◌, ◌≡◌}
-use Rattle.std.proofs.Math.Option.{Option}
+use Rattle.std.specs.Prelude.{Option, Result, Ok, Err}
+use Rattle.refusals.specs.Refusals.{refusal_no}
+use Rattle.refusals.specs.declared.Refusal.{Refusal}
 use Rattle.boxes.specs.Answer.{Answer, refused, given, ◌>>=◌}
 use Rattle.boxes.specs.Framing.{Box, boxes_in}
 use Rattle.boxes.specs.Kinds.{pfil, pseg, pshd, is, first_of}
@@ -12,9 +14,8 @@ use Rattle.partial.specs.Limits.{file_limit, source_limit}
 use Rattle.partial.specs.Reading.{pshd_fields}
 use Rattle.partial.specs.Segments.{Segment}
 use Rattle.sources.specs.Numbers.{source_in}
+use Rattle.indexing.specs.Index.{marked_with}
 use Rattle.indexing.specs.Marks.{Marked}
-use Rattle.indexing.specs.declared.index.IndexRead.{IndexRead}
-use Rattle.indexing.specs.declared.index.IndexRead.TheVariants.{Refused, Given}
 use Rattle.indexing.specs.declared.marks.Marks.{Marks}
 
 -- what is asked of the segment of a `pseg` box: the boxes inside, and where it starts in the source by its `pshd`
@@ -89,6 +90,6 @@ pub record InFile (b : Box) (count : ℕ) : Type 0 where
   pub rows : 16 * count ≤ b.at
 
 -- what an answer says of an index: the refusal, or what is marked with its boxes
-unfoldable pub Adds : Answer (List SourceBox) → Marks → List ℕ → List ℕ → IndexRead → Type 0
-Adds x before t₀ t (Refused n) = x ≡ refused n
-Adds x before t₀ t (Given there m) = (is : List SourceBox) × (x ≡ given is) × Marked before t₀ (boxes_alone is) m t
+unfoldable pub Adds : Answer (List SourceBox) → Marks → List ℕ → List ℕ → Result (Option Marks) Refusal → Type 0
+Adds x before t₀ t (Err n) = x ≡ refused (refusal_no n)
+Adds x before t₀ t (Ok found) = (is : List SourceBox) × (x ≡ given is) × Marked before t₀ (boxes_alone is) (marked_with before found) t

@@ -1,24 +1,21 @@
-// The index in one box of a file: in `pfil`, in a `pseg`, or none; and where its source ends.
-ghost use Rattle.std.specs.Prelude.{List, ◌≡◌, ℕ, ◌≤◌};
+// The index in one box of a file: in `pfil`, in a `pseg`, or none.
+ghost use Rattle.std.specs.Prelude.{List, ◌≡◌, ℕ, ◌≤◌, Option};
 ghost use Rattle.boxes.specs.Framing.{box_of};
-ghost use Rattle.std.proofs.Math.Option.{Option};
 ghost use Rattle.partial.specs.Limits.{file_limit};
 ghost use Rattle.partial.specs.Segments.{Segment};
 ghost use Rattle.indexing.specs.Ends.{end_of};
 ghost use Rattle.indexing.specs.Index.{CountedIn};
-ghost use Rattle.fileindex.specs.File.{end_in, SourcePut};
+ghost use Rattle.fileindex.specs.File.{SourcePut};
 ghost use Rattle.fileindex.specs.Parts.{SegmentOf, Part, index_of_parts, Sourcing, Holds, segments_with, SourceIs, EndsAs, InFile, Adds};
 
 use boxes::framing::Framed;
 use boxes::kinds::{Container, PFIL, PSEG, PSHD};
-use ends::table::{ALL_SIZES, sizes_at};
-use fields::fields::{FieldsRead, fields_of};
-use indexing::end::End;
-use indexing::index::{IndexRead, index_in};
+use fields::fields::fields_of;
+use indexing::index::index_in;
 use indexing::marks::Marks;
-use numerals::order::{smaller, sum_of};
 use partial::position::Position;
 use partial::rows::INDEX_ROW;
+use refusals::Refusal;
 use sources::numbers::{ALL_SOURCES, source_at};
 use tallying::find::first_of;
 
@@ -26,22 +23,10 @@ use tallying::find::first_of;
 pub(crate) fn segments_with(b: Framed, segments: u64) -> u64
     ensures { segments ≤ file_limit → result ≡ segments_with (box_of b) segments }
 {
-    if b.kind == PSEG.code {
-        return sum_of(segments, 1);
+    if b.kind == PSEG {
+        return segments.saturating_add(1);
     }
     segments
-}
-
-// Where a source ends, by its number.
-pub(crate) fn end_of(sizes: &[u64; ALL_SIZES], source: u64) -> End
-    ensures { end_of result ≡ end_in sizes.now source }
-{
-    let said = sizes_at(sizes, source);
-    let at = said.size;
-    End {
-        known: said.known,
-        at,
-    }
 }
 
 // The number of the source of the index in a box of the file, behind so many segments: that of the list in `pfil`, or
@@ -51,7 +36,7 @@ pub(crate) fn source_of(b: Framed, segments: u64, sources: &[u64; ALL_SOURCES], 
         → Holds f (record { number = number; sources = sources.now; in_pfil = in_pfil }) segments (box_of b) ps
         → SourceIs number in_pfil result ps }
 {
-    if b.kind == PSEG.code {
+    if b.kind == PSEG {
         return source_at(sources, segments);
     }
     in_pfil
@@ -62,12 +47,10 @@ pub(crate) fn source_of(b: Framed, segments: u64, sources: &[u64; ALL_SOURCES], 
 pub(crate) fn put_source(table: &mut [u64], from: u64, to: u64, source: u64)
     ensures { SourcePut from to source table.old table.new }
 {
-    let end = smaller(to, table.len() as u64 / INDEX_ROW);
-    let mark = sum_of(source, 3);
-    let mut i = from;
-    while i < end {
+    let end = to.min(table.len() as u64 / INDEX_ROW);
+    let mark = source.saturating_add(3);
+    for i in from..end {
         table[(INDEX_ROW * i + 4) as usize] = mark;
-        i += 1;
     }
 }
 
@@ -75,49 +58,36 @@ pub(crate) fn put_source(table: &mut [u64], from: u64, to: u64, source: u64)
 fn offset_of(file: &[u8], b: Framed) -> Position
     ensures { (s : Segment) → SegmentOf file.now (box_of b) s → result.0 ≡ s.source_offset }
 {
-    match fields_of(file, first_of(file, Container::Pseg, PSHD, b.body, b.end)) {
-        FieldsRead::Given(fields) => fields.offset,
-        FieldsRead::Refused(_) => Position(0),
+    let Some(header) = first_of(file, b.as_container(Container::Pseg), PSHD) else {
+        return Position(0);
+    };
+    match fields_of(file, header) {
+        Ok(fields) => fields.offset,
+        Err(_) => Position(0),
     }
 }
 
-// Marks the boxes of the index in a box of the file, whose source ends there, behind those before it.
+// What is marked with the boxes of the index in a box of the file, if it has one, whose source ends there, behind those
+// before it.
 pub(crate) fn index_at(
     file: &[u8],
     b: Framed,
-    size: End,
+    size: Option<Position>,
     before: Marks,
     table: &mut [u64],
-) -> IndexRead
+) -> Result<Option<Marks>, Refusal>
     ensures { (x : Sourcing) (k : ℕ) (ends : List (List ℕ) → Option ℕ) (ps : List Part) → Holds file.now x k (box_of b) ps
         → InFile (box_of b) before.count → EndsAs ends (end_of size) ps
         → Adds (index_of_parts file.now ends ps) before table.old table.new result
-        × CountedIn b.end.0 result }
+        × CountedIn b.end.0 before result }
 {
-    if b.kind == PFIL.code {
-        return index_in(
-            file,
-            Container::Pfil,
-            b.body,
-            b.end,
-            size,
-            Position(0),
-            before,
-            table,
-        );
+    if b.kind == PFIL {
+        let body = b.as_container(Container::Pfil);
+        return index_in(file, body, size, Position(0), before, table);
     }
-    if b.kind == PSEG.code {
-        let from = offset_of(file, b);
-        return index_in(
-            file,
-            Container::Pseg,
-            b.body,
-            b.end,
-            size,
-            from,
-            before,
-            table,
-        );
+    if b.kind == PSEG {
+        let body = b.as_container(Container::Pseg);
+        return index_in(file, body, size, offset_of(file, b), before, table);
     }
-    IndexRead::Given(false, before)
+    Ok(None)
 }

@@ -1,24 +1,14 @@
--- Laws of rows: those that are stored into a table number by number, from the last to the first, and those that are put
--- behind others.
-use Prim.Native.Nat.{ℕ, suc, ◌+◌, ◌≤◌, ◌<◌}
+-- Laws of rows: none that are stored into a table, and those that are put behind others.
+use Prim.Native.Nat.{ℕ, ◌+◌, ◌≤◌}
 use mathlib.Core.List.{List, [], ◌++◌}
 use mathlib.Core.Path.{◌≡◌, refl, sym, ap, subst, ◌∙◌}
 use native.Mathlib.Decide.{dec_le}
 use native.Mathlib.Nat.{add-zero}
 use native.Mathlib.Omega.{arith}
-use lib.ListN.{length, take, drop, set, get_or, take-append-drop, length-append}
-use lib.Seq.{take-suc, length-take-le}
+use lib.ListN.{length, drop, take-append-drop, length-append}
 use Rattle.numerals.specs.Stored.{stored}
-use Rattle.numerals.proofs.StoredLaws.{stored_more, stored-room, stored_none, stored-append, length-stored}
+use Rattle.numerals.proofs.StoredLaws.{stored-room, stored_none, stored-append, length-stored}
 use Rattle.filling.specs.Rows.{Put}
-
--- a number that is set is one more to store
-pub row_more : (table : List ℕ) (at : ℕ) (row : List ℕ) (i : ℕ) → i < length row → at + length row ≤ length table
-    → stored (set table (at + i) (get_or row i 0)) at (take i row) ≡ stored table at (take (suc i) row)
-row_more table at row i less room =
-    let long : length (take i row) ≡ i = length-take-le i row (omega arith) in
-    stored_more table at (take i row) (at + i) (get_or row i 0) (ap (λ (n : ℕ). at + n) long) (omega arith)
-    ∙ ap (stored table at) (sym (take-suc row i 0 less))
 
 -- of none the table stays as it is
 pub row_none : (table : List ℕ) (at : ℕ) → at ≤ length table → stored table at [] ≡ table

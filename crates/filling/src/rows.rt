@@ -7,15 +7,8 @@ ghost use Rattle.numerals.specs.Stored.{stored};
 pub fn put_row(table: &mut [u64], at: usize, row: &[u64])
     ensures { table.new ≡ stored table.old at row.now }
 {
-    if table.len() < row.len() {
+    if table.len() < row.len() || table.len() - row.len() < at {
         return;
     }
-    if table.len() - row.len() < at {
-        return;
-    }
-    let mut i = row.len();
-    while 0 < i {
-        i -= 1;
-        table[at + i] = row[i];
-    }
+    table[at..at + row.len()].copy_from_slice(row);
 }

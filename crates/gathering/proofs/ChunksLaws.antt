@@ -9,7 +9,6 @@ use native.Mathlib.Omega.{arith}
 use borrow.Author.Tests.{eq-eqb, ne_eqb}
 use lib.ListN.{length, length-append}
 use Rattle.boxes.specs.Answer.{Answer, refused, given, ◌>>=◌}
-use Rattle.boxes.specs.Framing.{box_of}
 use Rattle.boxes.proofs.AnswerLaws.{then-then, then-given}
 use Rattle.partial.specs.Entries.{Ploc, Cursor as At, chunk_step, chunks_from}
 use Rattle.partial.specs.Heading.{Heading}
@@ -27,7 +26,7 @@ use Rattle.filling.specs.Rows.{Put}
 use Rattle.filling.proofs.RowLaws.{put_none, put_more, put_same}
 use Rattle.gathering.specs.Forms.{form_length, put_of, puts_of}
 use Rattle.gathering.specs.Chunks.{chunks_by, Ran, Behind, Chunked}
-use Rattle.gathering.specs.declared.chunks.ChunksRead.TheVariants.{Given}
+use Rattle.std.specs.Prelude.{Ok}
 use Rattle.gathering.specs.declared.gathered.Gathered.{Gathered}
 use Rattle.gathering.proofs.FormLaws.{puts_none, puts_long, puts_behind, puts_last}
 
@@ -66,7 +65,7 @@ module _ (f : List ℕ) (h : Heading) (pseg : ℕ) (l : Location) (first : Curso
   abbrev from : ℕ → Cursor → Answer (List Chunk)
   from more c = chunks_from source_limit f h pseg (ploc_of l) more (cursor_of c)
 
-  pub midway_none : Searched f (box_of first.last) h.boxes → Midway f h pseg l first before numbered t₀ 0 first t₀
+  pub midway_none : Searched f first.last h.boxes → Midway f h pseg l first before numbered t₀ 0 first t₀
   unfolding sum
   midway_none known =
       let all : l.count ≡ l.count - 0 = omega arith in
@@ -91,9 +90,9 @@ module _ (f : List ℕ) (h : Heading) (pseg : ℕ) (l : Location) (first : Curso
           let now = ap (λ (n : ℕ). from n c) left_one ∙ chunks_refused source_limit f h pseg (ploc_of l) (cursor_of c) (l.count - (i + 1)) fault in
           m.rest ∙ ap (λ (x : Answer (List Chunk)). x >>= λ cs. given (m.done ++ cs)) now
 
-      module _ {chunk : CodeChunk} (next : Cursor) {t' : List ℕ}
+      module _ (chunk : CodeChunk) (next : Cursor) {t' : List ℕ}
           (step : chunk_step source_limit f h pseg (ploc_of l) (cursor_of c) ≡ given (chunk_of chunk, cursor_of next))
-          (known : Searched f (box_of next.last) h.boxes)
+          (known : Searched f next.last h.boxes)
           (row : Put t (form_length numbered * (before.chunks + i)) (put_of numbered before.segments i (chunk_of chunk)) t') where
         further : chunks_by f h pseg l first ≡ (from (l.count - (i + 1)) next >>= λ cs. given ((m.done ++ (chunk_of chunk ∷ [])) ++ cs))
         further =
@@ -135,7 +134,7 @@ module _ (f : List ℕ) (h : Heading) (pseg : ℕ) (l : Location) (first : Curso
           let now = ap (λ (n : ℕ). from n c) none_left ∙ chunks_left source_limit f h pseg (ploc_of l) (cursor_of c) apart in
           m.rest ∙ ap (λ (x : Answer (List Chunk)). x >>= λ cs. given (m.done ++ cs)) now
 
-      pub midway_end : i ≤ l.count → c.at.0 ≡ l.end.0 → Chunked f h pseg l first before numbered t₀ t (Given c)
+      pub midway_end : i ≤ l.count → c.at.0 ≡ l.end.0 → Chunked f h pseg l first before numbered t₀ t (Ok c)
       unfolding Chunked
       midway_end most same =
           let now = ap (λ (n : ℕ). from n c) none_left ∙ chunks_end source_limit f h pseg (ploc_of l) (cursor_of c) same in

@@ -8,7 +8,7 @@ use mathlib.Core.Bool.{Bool, true}
 use mathlib.Core.List.{List}
 use mathlib.Core.Path.{◌≡◌, sym, ap, ◌∙◌}
 use native.Mathlib.Omega.{arith}
-use lib.ListN.{length, take, get_or}
+use lib.ListN.{length, take}
 use Rattle.boxes.specs.Answer.{Answer, given}
 use Rattle.boxes.specs.Framing.{Box, boxes_in}
 use Rattle.boxes.specs.Kinds.{pseg, is, box_at}
@@ -20,7 +20,8 @@ use Rattle.partial.specs.Segments.{Segment, chunks_of}
 use Rattle.partial.specs.Sources.{source_count}
 use Rattle.partial.specs.Tables.{segment_rows, chunk_rows}
 use Rattle.rescue.specs.Kept.{kept_of}
-use Rattle.surls.specs.declared.body.Body.{Body}
+use Rattle.rescue.specs.Table.{told_at}
+use Rattle.boxes.specs.declared.body.Body.{Body}
 use Rattle.partial.specs.Texts.{list_boxes}
 use Rattle.sources.specs.Held.{ListHeld}
 use Rattle.sources.specs.Lists.{list_in}
@@ -32,8 +33,11 @@ use Rattle.gathering.specs.Gathered.{gathered_of}
 use Rattle.gathering.specs.Keeping.{Boxed}
 use Rattle.gathering.specs.Kept.{Kept}
 use Rattle.gathering.specs.Pass.{segments_by, Opened, Gathers}
-use Rattle.gathering.specs.declared.pass.Passed.{Passed}
-use Rattle.gathering.specs.declared.pass.Passed.TheVariants.{Refused, Given}
+use Rattle.std.specs.Prelude.{Result, Ok, Err}
+use Rattle.refusals.specs.declared.Refusal.{Refusal}
+use Rattle.refusals.proofs.NumberLaws.{refusal_told}
+use Rattle.gathering.specs.declared.gathered.Gathered.{Gathered}
+use Rattle.gathering.specs.declared.tables.SourceTables.{SourceTables}
 use Rattle.gathering.proofs.PassLaws.{rows_put}
 use Rattle.gathering.proofs.keeping.keep_pass.Reads as keep-pass
 use Rattle.gathering.proofs.kept.fill_rows.Reads as fill-rows
@@ -53,39 +57,39 @@ module _ {L : Type 0} {A R E : L → Type 0} (post : (κs : L) → A κs → R �
 abbrev Fits : (List Segment → List ℕ) → List ℕ → Bool → Body → List ℕ → Heading × List Segment → Type 0
 Fits rows f mixed list table (h, ss) = Opened f mixed list h × (segments_by f h ≡ given ss) × (length (rows ss) ≤ length table)
 
-module _ (f : List ℕ) (h : Heading) (numbered : Bool) (t₀ t t' u₀ u u' z z' n n' l l' : List ℕ) where
-  one_passed : (x y : Passed) → Gathers f h numbered t₀ t u₀ u z n l x → Gathers f h numbered t₀ t' u₀ u' z' n' l' y → x ≡ y
+module _ (f : List ℕ) (h : Heading) (numbered : Bool) (t₀ t t' u₀ u u' : List ℕ) (n n' : SourceTables) where
+  one_passed : (x y : Result Gathered Refusal) → Gathers f h numbered t₀ t u₀ u n x → Gathers f h numbered t₀ t' u₀ u' n' y → x ≡ y
   unfolding Gathers
-  one_passed (Refused n) (Refused m) p q = ap Refused (refused_same (sym p ∙ q))
-  one_passed (Refused n) (Given g) p (ss, read, _, _, _, _) = absurd (not_both (sym p ∙ read))
-  one_passed (Given g) (Refused m) (ss, read, _, _, _, _) q = absurd (not_both (sym q ∙ read))
-  one_passed (Given g) (Given g') (ss, read, of, _, _, _) (ss', read', of', _, _, _) = ap Given (of ∙ ap gathered_of (given_same (sym read ∙ read')) ∙ sym of')
+  one_passed (Err n) (Err m) p q = ap Err (refusal_told n m (refused_same (sym p ∙ q)))
+  one_passed (Err n) (Ok g) p (ss, read, _, _, _, _) = absurd (not_both (sym p ∙ read))
+  one_passed (Ok g) (Err m) (ss, read, _, _, _, _) q = absurd (not_both (sym q ∙ read))
+  one_passed (Ok g) (Ok g') (ss, read, of, _, _, _) (ss', read', of', _, _, _) = ap Ok (of ∙ ap gathered_of (given_same (sym read ∙ read')) ∙ sym of')
 
 pub one_put : {before rows t t' : List ℕ} → length rows ≤ length before → Put before 0 rows t → Put before 0 rows t' → t ≡ t'
 one_put room p q = p.held (omega arith) ∙ sym (q.held (omega arith))
 
 pass_result : OneKnown pass.Post (λ κs args (h : Heading). Opened args.0.now args.1.0 args.1.1.0 h)
-pass_result κs args h opened x y after after' p q = one_passed _ h _ _ _ _ _ _ _ _ _ _ _ _ _ x y (p h opened) (q h opened)
+pass_result κs args h opened x y after after' p q = one_passed _ h _ _ _ _ _ _ _ _ _ x y (p h opened) (q h opened)
 
 pass_segments : OneLeftKnown pass.Post (λ κs args. Fits segment_rows args.0.now args.1.0 args.1.1.0 args.1.1.1.1.0.now) (λ κs after. after.1.1.1.1.0.now)
 pass_segments κs args (h, ss) (opened, read, room) x y after after' p q =
-    one_put room (rows_put _ h _ _ _ _ x (p h opened) read).0 (rows_put _ h _ _ _ _ y (q h opened) read).0
+    one_put room (rows_put _ h _ _ x (p h opened) read).0 (rows_put _ h _ _ y (q h opened) read).0
 
 pass_chunks : OneLeftKnown pass.Post (λ κs args. Fits (all_puts args.1.1.1.0) args.0.now args.1.0 args.1.1.0 args.1.1.1.1.1.0.now) (λ κs after. after.1.1.1.1.1.0.now)
 pass_chunks κs args (h, ss) (opened, read, room) x y after after' p q =
-    one_put room (rows_put _ h _ _ _ _ x (p h opened) read).1 (rows_put _ h _ _ _ _ y (q h opened) read).1
+    one_put room (rows_put _ h _ _ x (p h opened) read).1 (rows_put _ h _ _ y (q h opened) read).1
 
 -- the segments of a file with that heading
 abbrev Read : List ℕ → Bool → Body → Heading × List Segment → Type 0
 Read f mixed list (h, ss) = Opened f mixed list h × (segments_by f h ≡ given ss)
 
-pass_sizes : OneLeftKnown pass.Post (λ κs args. Read args.0.now args.1.0 args.1.1.0) (λ κs after. sizes_in after.1.1.1.1.1.1.0.now)
+pass_sizes : OneLeftKnown pass.Post (λ κs args. Read args.0.now args.1.0 args.1.1.0) (λ κs after. sizes_in after.1.1.1.1.1.1.0.now.sizes)
 pass_sizes κs args (h, ss) (opened, read) x y after after' p q = λ i n.
-    ((rows_put _ h _ _ _ _ x (p h opened) read).2.sizes.said n ∙ sym ((rows_put _ h _ _ _ _ y (q h opened) read).2.sizes.said n)) i
+    ((rows_put _ h _ _ x (p h opened) read).2.sizes.said n ∙ sym ((rows_put _ h _ _ y (q h opened) read).2.sizes.said n)) i
 
-pass_sources : OneRead pass.Post (λ κs args. Read args.0.now args.1.0 args.1.1.0) (λ κs args after (h, ss). take (length ss) after.1.1.1.1.1.1.1.0.now)
+pass_sources : OneRead pass.Post (λ κs args. Read args.0.now args.1.0 args.1.1.0) (λ κs args after (h, ss). take (length ss) after.1.1.1.1.1.1.0.now.sources)
 pass_sources κs args (h, ss) (opened, read) x y after after' p q =
-    (rows_put _ h _ _ _ _ x (p h opened) read).2.sourced.sources.numbers ∙ sym (rows_put _ h _ _ _ _ y (q h opened) read).2.sourced.sources.numbers
+    (rows_put _ h _ _ x (p h opened) read).2.sourced.sources.numbers ∙ sym (rows_put _ h _ _ y (q h opened) read).2.sourced.sources.numbers
 
 -- the boxes where the list of a source stands
 abbrev pub boxes_at : List ℕ → Body → Answer (List Box)
@@ -98,9 +102,9 @@ one_list {h = h} p q =
 
 pass_lists : OneRead pass.Post
     (λ κs args (known : (Heading × List Segment) × ℕ). Read args.0.now args.1.0 args.1.1.0 known.0 × (known.1 < source_count known.0.1))
-    (λ κs args after (known, n). boxes_at args.0.now (list_in after.1.1.1.1.1.1.1.1.0.now n))
+    (λ κs args after (known, n). boxes_at args.0.now (list_in after.1.1.1.1.1.1.0.now.lists n))
 pass_lists κs args ((h, ss), n) ((opened, read), low) x y after after' p q =
-    one_list ((rows_put _ h _ _ _ _ x (p h opened) read).2.sourced.lists.each n low) ((rows_put _ h _ _ _ _ y (q h opened) read).2.sourced.lists.each n low)
+    one_list ((rows_put _ h _ _ x (p h opened) read).2.sourced.lists.each n low) ((rows_put _ h _ _ y (q h opened) read).2.sourced.lists.each n low)
 
 chunk_by_result : OneResult chunk-by.Post
 chunk_by_result κs args x y after after' p q = chunk_told x y (p ∙ sym q)
@@ -119,5 +123,5 @@ keep_pass_numbers κs args h boxed x y after after' p q = (p h boxed).numbers �
 
 keep_pass_fates : OneRead keep-pass.Post
     (λ κs args ((h, k) : Heading × ℕ). Boxed args.0.now args.1.0 args.1.1.0 h × (k < length h.boxes) × (is pseg (box_at k h.boxes) ≡ true))
-    (λ κs args after (h, k). get_or after.1.1.1.0.now k 0)
+    (λ κs args after (h, k). told_at after.1.1.1.0.now k)
 keep_pass_fates κs args (h, k) (boxed, there, kind) x y after after' p q = (p h boxed).psegs k there kind ∙ sym ((q h boxed).psegs k there kind)

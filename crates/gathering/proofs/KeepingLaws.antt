@@ -1,13 +1,16 @@
 -- Laws of a `pseg` beside the segments kept before it: what is kept so far where it is refused, and with it.
 use Prim.Native.Nat.{ℕ, ◌+◌, ◌*◌, ◌≤◌, ◌<◌}
-use mathlib.Core.Bool.{Bool, true}
+use mathlib.Core.Bool.{true}
 use mathlib.Core.List.{List, [], ◌∷◌, ◌++◌}
 use mathlib.Core.Path.{◌≡◌, refl, sym, ap, subst, ◌∙◌}
 use native.Mathlib.Omega.{arith}
 use borrow.Author.Tests.{leb-true}
 use lib.Dec.{ltb}
 use lib.ListN.{length, take}
-use Rattle.boxes.specs.Answer.{given}
+use Rattle.std.specs.Prelude.{Option, Result, Ok, Err}
+use Rattle.refusals.specs.Refusals.{refusal_no}
+use Rattle.refusals.specs.declared.Refusal.{Refusal}
+use Rattle.boxes.specs.Answer.{refused, given, told_as}
 use Rattle.boxes.specs.Framing.{box_of}
 use Rattle.boxes.specs.declared.framing.Framed.{Framed}
 use Rattle.boxes.proofs.AnswerLaws.{given_same}
@@ -21,20 +24,22 @@ use Rattle.partial.specs.Sequences.{all_of, largest}
 use Rattle.partial.specs.Texts.{list_boxes}
 use Rattle.partial.proofs.Meaning.SourceLaws.{numbered_none, numbered_more}
 use Rattle.partial.proofs.Reading.NumberedLaws.{segment_beside}
-use Rattle.surls.specs.declared.body.Body.{Body}
-use Rattle.sources.specs.Held.{PfilList, SourceOf}
+use Rattle.sources.specs.Held.{SourceOf}
 use Rattle.filling.specs.Rows.{Put}
 use Rattle.segment.specs.declared.chunk.Cursor.{Cursor}
 use Rattle.gathering.specs.Chunks.{Behind}
 use Rattle.gathering.specs.Forms.{form_length, puts_of, all_puts}
 use Rattle.gathering.specs.Gathered.{gathered_of}
-use Rattle.gathering.specs.Keeping.{late_fault, LateTold, SoFar, Tried}
+use Rattle.gathering.specs.Keeping.{late_held, LateTold, SoFar, Tried}
 use Rattle.gathering.specs.Numbers.{numbers_of}
-use Rattle.gathering.specs.Parts.{has_surl, parts_of}
-use Rattle.gathering.specs.Step.{Noted, chosen_list, Beside, Entered, PsegOf, Segmented}
+use Rattle.gathering.specs.Basis.{Based}
+use Rattle.gathering.specs.Noted.{Noted}
+use Rattle.gathering.specs.declared.basis.Basis.{Basis}
+use Rattle.gathering.specs.declared.tables.SourceTables.{SourceTables}
+use Rattle.gathering.specs.Parts.{parts_of}
+use Rattle.gathering.specs.Step.{chosen_list, Beside, Entered, PsegOf, Segmented}
 use Rattle.gathering.specs.declared.gathered.Gathered.{Gathered}
 use Rattle.gathering.specs.declared.parts.Parts.{Parts}
-use Rattle.gathering.specs.declared.step.SegmentRead.TheVariants.{Refused, Given}
 use Rattle.gathering.proofs.FormLaws.{puts_behind, puts_long, all_puts_last}
 use Rattle.gathering.proofs.GatheredLaws.{gathered-segments, gathered_chunks, chunks_last}
 use Rattle.gathering.proofs.LateLaws.{late_passed, beside_late, beside_kept}
@@ -66,14 +71,14 @@ module _ (kept : List Segment) (s : Segment) {u₀ u : List ℕ} (held : take (l
       ∙ sym (all_puts_last true kept s)
 
 -- no segment is kept yet
-pub so_far_none : (f : List ℕ) (h : Heading) {g : Gathered} {u z n l : List ℕ} → g ≡ gathered_of [] → Noted f h z n l [] → SoFar f h g u z n l []
+pub so_far_none : (f : List ℕ) (h : Heading) {g : Gathered} {u : List ℕ} {n : SourceTables} → g ≡ gathered_of [] → Noted f h n [] → SoFar f h g u n []
 unfolding chunks_of numbers_of agreed all_of source_count largest
 so_far_none f h none clear =
     record { gathered = none; numbers = refl; numbered = numbered_none; noted = clear; agrees = refl; few = omega arith }
 
-module _ (f : List ℕ) (h : Heading) (kept : List Segment) {before : Gathered} {u₀ z n l : List ℕ} (so : SoFar f h before u₀ z n l kept) where
+module _ (f : List ℕ) (h : Heading) (kept : List Segment) {before : Gathered} {u₀ : List ℕ} {n : SourceTables} (so : SoFar f h before u₀ n kept) where
   -- where it is refused they stay as they are
-  pub so_far_same : {u : List ℕ} → length u₀ ≡ chunk_limit → Behind true before.chunks u₀ u → SoFar f h before u z n l kept
+  pub so_far_same : {u : List ℕ} → length u₀ ≡ chunk_limit → Behind true before.chunks u₀ u → SoFar f h before u n kept
   unfolding form_length
   so_far_same {u} long behind =
       let chunks : form_length true * before.chunks ≡ length (chunks_of kept) = one_each before.chunks ∙ gathered_chunks kept so.gathered in
@@ -90,14 +95,14 @@ module _ (f : List ℕ) (h : Heading) (kept : List Segment) {before : Gathered} 
     pub few : length kept < segment_limit
     few = omega (arith, gathered-segments kept so.gathered)
 
-    module _ {list : Body} {in_pfil : Bool} (pfil : PfilList f h list) (any : in_pfil ≡ has_surl h.inner) where
-      besides : Beside f h list in_pfil before z n l kept
-      besides = record { gathered = so.gathered; few = few; numbered = so.numbered; in_pfil = pfil; any = any; noted = so.noted }
+    besides : Beside f h before n kept
+    besides = record { gathered = so.gathered; few = few; numbered = so.numbered; noted = so.noted }
 
-      pub listed : in_pfil ≡ ltb 0 (length h.urls)
-      listed = any_told f h besides
+    module _ {basis : Basis} (based : Based f h basis) where
+      pub listed : basis.listed ≡ ltb 0 (length h.urls)
+      listed = any_told f h based
 
-      module _ (b : Framed) {u : List ℕ} {last : Framed} {p : Parts} {c : Cursor} (r : PsegOf f h b in_pfil before last true u₀ u p c) (fits : before.chunks + p.location.count ≤ chunk_limit) (ends : b.end.0 ≤ length f) where
+      module _ (b : Framed) {u : List ℕ} {last : Option Framed} {p : Parts} {c : Cursor} (r : PsegOf f h b basis.listed before last true u₀ u p c) (fits : before.chunks + p.location.count ≤ chunk_limit) (ends : b.end.0 ≤ length f) where
         -- the segment that was read
         abbrev pub its : Segment
         its = built f h kept b.at.0 (inside f h kept b listed p r.parts).0 (parts_of p) r.chunks
@@ -109,28 +114,28 @@ module _ (f : List ℕ) (h : Heading) (kept : List Segment) {before : Gathered} 
         read = segment_read f h kept b listed p r.parts low r.near last r.read
 
         -- 25 and 40, by its source
-        pub its_fault : {source fault : ℕ} → SourceOf f l before.sources (chosen_list b p.listed list) source
-            → LateTold z source p.fields.flags p.location.count c.start.0 fault
-            → fault ≡ late_fault (kept ++ (its ∷ []))
+        pub its_late : {source : ℕ} (late : Result (Unit {0}) Refusal) → SourceOf f n.lists before.sources (chosen_list b p.listed basis.list) source
+            → LateTold n.sizes source p.fields.flags p.location.count c.start.0 late
+            → told_as (λ x. x) late ≡ late_held (kept ++ (its ∷ []))
         unfolding end_of
-        its_fault found told =
-            let next = next_list f h kept b listed p r.parts ends besides r.chunks in
+        its_late late found told =
+            let next = next_list f h kept b listed p r.parts ends based.in_pfil besides r.chunks in
             let number = found h kept (list_boxes h its) next.sources next.numbered so.noted.sourced.lists next.stands ∙ ap (source_beside kept) next.urls ∙ sym next.number in
             told kept its number so.noted.sizes refl (sym r.many) r.ran.ends so.agrees so.few
 
-        pub tried_late : {fault : ℕ} → length u₀ ≡ chunk_limit → fault ≡ late_fault (kept ++ (its ∷ [])) → (fault ≡ 0 → ⊥) → Tried f h kept (box_of b) before u z n l (Refused fault)
+        pub tried_late : (m : Refusal) → length u₀ ≡ chunk_limit → late_held (kept ++ (its ∷ [])) ≡ refused (refusal_no m) → Tried f h kept (box_of b) before u n (Err m)
         unfolding Tried
-        tried_late long is other =
-            (beside_late f h kept (box_of b) few read is other, so_far_same long (puts_behind true before.segments before.chunks r.chunks (omega (arith, r.many)) r.ran.rows))
+        tried_late m long late =
+            (beside_late f h kept (box_of b) few read late, so_far_same long (puts_behind true before.segments before.chunks r.chunks (omega (arith, r.many)) r.ran.rows))
 
-        pub tried_kept : {g : Gathered} {t₀ t z' n' l' : List ℕ} → length u₀ ≡ chunk_limit → 0 ≡ late_fault (kept ++ (its ∷ []))
-            → Entered f (chosen_list b p.listed list) before b.at.0 p c.start.0 t₀ t z z' n n' l l' g
-            → Tried f h kept (box_of b) before u z' n' l' (Given g c.last)
+        pub tried_kept : {g : Gathered} {t₀ t : List ℕ} {n' : SourceTables} → length u₀ ≡ chunk_limit → late_held (kept ++ (its ∷ [])) ≡ given tt
+            → Entered f (chosen_list b p.listed basis.list) before b.at.0 p c.start.0 t₀ t n n' g
+            → Tried f h kept (box_of b) before u n' (Ok (g, c.last))
         unfolding Tried Segmented
-        tried_kept {g} {z' = z'} {n' = n'} {l' = l'} long none entered =
-            let (s, again, gathered, known, _, put, noted) = segment-told f h kept b listed p r.parts low r.near last ends besides r.read r.many r.ran entered in
+        tried_kept {g} {n' = n'} long none entered =
+            let (s, again, gathered, known, _, put, noted) = segment-told f h kept b listed p r.parts low r.near last ends based.in_pfil besides r.read r.many r.ran entered in
             let same : its ≡ s = given_same (sym read ∙ again) in
-            let none-late = none ∙ ap (λ (s : Segment). late_fault (kept ++ (s ∷ []))) same in
+            let none-late = ap (λ (s : Segment). late_held (kept ++ (s ∷ []))) (sym same) ∙ none in
             let (agrees, sources) = late_passed (kept ++ (s ∷ [])) none-late in
             let many : length s.chunks ≡ p.location.count = sym (ap (λ (s : Segment). length s.chunks) same) ∙ r.many in (
               s,

@@ -1,15 +1,16 @@
 -- Laws of 25 and 40 of segments with one more, and of a `pseg` beside the segments kept before it, which they judge last.
 use Prim.Native.Nat.{ℕ, ◌+◌, ◌≤◌, ◌<◌}
-use mathlib.Core.Bool.{true, false, true≢false}
+use mathlib.Core.Bool.{Bool, true, false, true≢false}
 use mathlib.Core.List.{List, [], ◌∷◌, ◌++◌}
 use mathlib.Core.Logic.{inl, inr}
-use mathlib.Core.Path.{◌≡◌, sym, ap, subst, ◌∙◌}
+use mathlib.Core.Path.{◌≡◌, refl, sym, ap, subst, ◌∙◌}
 use native.Mathlib.Omega.{arith}
 use borrow.Author.Tests.{le-leb, lt-leb, leb-true, eqb-true, eqb-false}
 use lib.Dec.{leb, eqb}
 use lib.ListN.{length}
 use Rattle.boxes.specs.Answer.{Answer, refused, given, ◌>>=◌, hold}
 use Rattle.boxes.specs.Framing.{Box}
+use Rattle.boxes.proofs.AnswerLaws.{not_both, held, then-then}
 use Rattle.partial.specs.Heading.{Heading}
 use Rattle.partial.specs.Limits.{segment_limit, layer_limit, source_limit}
 use Rattle.partial.specs.Meaning.{agree}
@@ -20,7 +21,7 @@ use Rattle.partial.proofs.Meaning.SequenceLaws.{which, all_members}
 use Rattle.partial.proofs.Meaning.SourceLaws.{agreed-of, source_count_more}
 use Rattle.ends.proofs.TableLaws.{of_last, of_other}
 use Rattle.rescue.specs.Kept.{beside}
-use Rattle.gathering.specs.Keeping.{late_fault}
+use Rattle.gathering.specs.Keeping.{late_held}
 
 -- 25 of the segments with one more: the sizes of its source agree with it, since those of every other source do
 module _ (ss : List Segment) (s : Segment) where
@@ -53,38 +54,34 @@ module _ (ss : List Segment) (s : Segment) where
   sources_few before few =
       sym (le-leb (source_count (ss ++ (s ∷ []))) layer_limit (omega (arith, source_count_more ss s, leb-true (source_count ss) layer_limit before)))
 
--- both as one number
+-- both together
 module _ (ss : List Segment) where
-  pub late_25 : agreed ss ≡ false → 25 ≡ late_fault ss
-  unfolding late_fault
-  late_25 differ = rw (late_fault, differ)
+  pub late_25 : agreed ss ≡ false → refused 25 ≡ late_held ss
+  unfolding late_held
+  late_25 differ = rw (late_held, differ)
 
-  pub late_40 : agreed ss ≡ true → leb (source_count ss) layer_limit ≡ false → 40 ≡ late_fault ss
-  unfolding late_fault
-  late_40 same full = rw (late_fault, same, full)
+  pub late_40 : agreed ss ≡ true → leb (source_count ss) layer_limit ≡ false → refused 40 ≡ late_held ss
+  unfolding late_held
+  late_40 same full = rw (late_held, same, full)
 
-  pub late_none : agreed ss ≡ true → leb (source_count ss) layer_limit ≡ true → 0 ≡ late_fault ss
-  unfolding late_fault
-  late_none same few = rw (late_fault, same, few)
+  pub late_none : agreed ss ≡ true → leb (source_count ss) layer_limit ≡ true → given tt ≡ late_held ss
+  unfolding late_held
+  late_none same few = rw (late_held, same, few)
 
-  -- the tests, by the number
-  pub late_passed : 0 ≡ late_fault ss → (agreed ss ≡ true) × (leb (source_count ss) layer_limit ≡ true)
-  late_passed none =
-      elim (which (agreed ss)) [
-        | inr differ ↦ absurd (omega (arith, late_25 differ))
-        | inl same ↦ elim (which (leb (source_count ss) layer_limit)) [ inl few ↦ (same, few) | inr full ↦ absurd (omega (arith, late_40 same full)) ]
-      ]
+  -- the tests, where both pass
+  pub late_passed : late_held ss ≡ given tt → (agreed ss ≡ true) × (leb (source_count ss) layer_limit ≡ true)
+  unfolding late_held
+  late_passed passed =
+      let (same, rest) = held 25 (agreed ss) _ passed in
+      (same, passes (leb (source_count ss) layer_limit) rest)
+    where
+      passes : (t : Bool) → hold 40 t ≡ given tt → t ≡ true
+      passes true e = refl
+      passes false e = absurd (not_both e)
 
-  late_refused : {A : Type 0} {n : ℕ} (next : Answer A) → n ≡ late_fault ss → (n ≡ 0 → ⊥) → (hold 25 (agreed ss) >>= λ _. hold 40 (leb (source_count ss) layer_limit) >>= λ _. next) ≡ refused n
-  late_refused next is other =
-      elim (which (agreed ss)) [
-        | inr differ ↦ rw differ (ap refused (late_25 differ ∙ sym is))
-        | inl same ↦
-            elim (which (leb (source_count ss) layer_limit)) [
-              | inr full ↦ rw (same, full) (ap refused (late_40 same full ∙ sym is))
-              | inl few ↦ absurd (other (is ∙ sym (late_none same few)))
-            ]
-      ]
+  late_refused : {A : Type 0} {n : ℕ} (next : Answer A) → late_held ss ≡ refused n → (hold 25 (agreed ss) >>= λ _. hold 40 (leb (source_count ss) layer_limit) >>= λ _. next) ≡ refused n
+  unfolding late_held
+  late_refused next late = sym (then-then (hold 25 (agreed ss)) (λ _. hold 40 (leb (source_count ss) layer_limit)) (λ _. next)) ∙ rw late
 
 -- a `pseg` beside the segments kept before it
 module _ (f : List ℕ) (h : Heading) (kept : List Segment) (b : Box) where
@@ -98,11 +95,11 @@ module _ (f : List ℕ) (h : Heading) (kept : List Segment) (b : Box) where
     beside_cut e = rw (beside, le-leb (length kept + 1) segment_limit (omega arith), e)
 
     module _ {s : Segment} (read : segment source_limit f h kept b ≡ given s) where
-      pub beside_late : {n : ℕ} → n ≡ late_fault (kept ++ (s ∷ [])) → (n ≡ 0 → ⊥) → beside source_limit f h kept b ≡ refused n
+      pub beside_late : {n : ℕ} → late_held (kept ++ (s ∷ [])) ≡ refused n → beside source_limit f h kept b ≡ refused n
       unfolding beside
-      beside_late is other = rw (beside, le-leb (length kept + 1) segment_limit (omega arith), read) (late_refused (kept ++ (s ∷ [])) (given s) is other)
+      beside_late late = rw (beside, le-leb (length kept + 1) segment_limit (omega arith), read) (late_refused (kept ++ (s ∷ [])) (given s) late)
 
-      pub beside_kept : 0 ≡ late_fault (kept ++ (s ∷ [])) → beside source_limit f h kept b ≡ given s
+      pub beside_kept : late_held (kept ++ (s ∷ [])) ≡ given tt → beside source_limit f h kept b ≡ given s
       unfolding beside
       beside_kept none =
           let (same, few_sources) = late_passed (kept ++ (s ∷ [])) none in

@@ -3,6 +3,7 @@ pub mod RowLaws
 pub mod NumberLaws
 pub mod FormLaws
 pub mod GatheredLaws
+pub mod HandedLaws
 pub mod ChunksLaws
 pub mod StepLaws
 pub mod PassLaws

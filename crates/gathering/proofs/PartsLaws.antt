@@ -1,13 +1,15 @@
 -- Laws of the parts of a segment's box: what the tests of its `pshd` decide, and what follows.
 use Prim.Native.Nat.{ℕ, ◌<◌}
 use mathlib.Core.Bool.{Bool, true, false, not, ◌||◌, and-false}
-use mathlib.Core.List.{List, []}
+use mathlib.Core.List.{List, [], ◌∷◌}
 use mathlib.Core.Path.{◌≡◌, refl, sym, ap, ◌∙◌}
 use native.Mathlib.Decide.{dec_le}
 use native.Mathlib.Omega.{arith}
 use lib.Dec.{eqb, lit<}
 use lib.ListN.{length, drop_of_length-le}
-use Rattle.boxes.specs.Answer.{Answer, refused, given, ◌>>=◌, hold}
+use Rattle.std.specs.Prelude.{None}
+use Rattle.tallying.specs.Found.{first_in}
+use Rattle.boxes.specs.Answer.{refused, given, ◌>>=◌, hold}
 use Rattle.boxes.specs.Framing.{Box, boxes_in, header, box_of}
 use Rattle.boxes.specs.Kinds.{pshd, is, right, those, box_at, first_of, ploc, surl}
 use Rattle.boxes.specs.declared.kinds.Container.TheVariants.{Pseg}
@@ -19,12 +21,11 @@ use Rattle.partial.specs.Reading.{pshd_right, pshd_fields}
 use Rattle.partial.specs.Sequences.{all_of}
 use Rattle.fields.specs.Fields.{values_of, fields_of}
 use Rattle.fields.specs.declared.fields.Fields.{Fields}
-use Rattle.gathering.specs.declared.parts.HeaderRead.{HeaderRead}
-use Rattle.gathering.specs.Parts.{header_in, has_surl, list_fault, pshd_answer, parts_in}
+use Rattle.gathering.specs.Parts.{header_in, has_surl, list_held, parts_in}
 use Rattle.boxes.specs.declared.framing.Framed.{Framed}
 use Rattle.boxes.proofs.ContainerLaws.{boxes_first}
-use Rattle.boxes.proofs.AnswerLaws.{not_both, given_same}
-use borrow.Author.Tests.{lt-ltb, le-ltb, ltb-false, ne_eqb, eq-eqb}
+use Rattle.boxes.proofs.AnswerLaws.{not_both, given_same, then-then}
+use borrow.Author.Tests.{not-true, not-false, lt-ltb, le-ltb, ltb-false, ne_eqb, eq-eqb}
 use Rattle.boxes.proofs.ToldLaws.{box_fields}
 
 module _ (f : List ℕ) (bs : List Box) where
@@ -65,14 +66,14 @@ module _ (f : List ℕ) (start end : ℕ) (bs : List Box) (known : boxes_in Pseg
     first_same : box_of b ≡ box_at 0 bs
     first_same = given_same (sym found ∙ first_read)
 
-    first_kind : is pshd (box_at 0 bs) ≡ eqb b.kind pshd.code
+    first_kind : is pshd (box_at 0 bs) ≡ eqb b.kind.code pshd.code
     first_kind = rw (← first_same) (is-eqb pshd (box_of b) ∙ ap (λ (x : Box). eqb x.kind pshd.code) (box_fields b))
 
-    pub first_other : (b.kind ≡ pshd.code → ⊥) → header_in f bs ≡ refused 14
-    first_other differ = header_other f bs (first_kind ∙ ne_eqb b.kind pshd.code differ)
+    pub first_other : true ≡ not (eqb b.kind.code pshd.code) → header_in f bs ≡ refused 14
+    first_other differ = header_other f bs (first_kind ∙ not-true (eqb b.kind.code pshd.code) (sym differ))
 
-    pub first_by : b.kind ≡ pshd.code → header_in f bs ≡ ◌>>=◌ {B = Box × Fields} (fields_of f (box_of b)) (λ x. given (box_of b, x))
-    first_by same = rw first_same (header_by f bs single (first_kind ∙ eq-eqb b.kind pshd.code same))
+    pub first_by : false ≡ not (eqb b.kind.code pshd.code) → header_in f bs ≡ ◌>>=◌ {B = Box × Fields} (fields_of f (box_of b)) (λ x. given (box_of b, x))
+    first_by same = rw first_same (header_by f bs single (first_kind ∙ not-false (eqb b.kind.code pshd.code) (sym same)))
 
 -- no box is a `surl`
 pub surl_none : (bs : List Box) → has_surl bs ≡ false → those surl bs ≡ []
@@ -93,15 +94,9 @@ module _ (f : List ℕ) (in_pfil : Bool) (b : Framed) where
   parts_fault e = rw (box_fields b, e)
 
   module _ {bs : List Box} (known : boxes_in Pseg f b.body.0 b.end.0 ≡ given bs) where
-    pub parts_header : {n : ℕ} → header_in f bs ≡ refused n → parts_in f in_pfil (box_of b) ≡ refused 14
-    unfolding parts_in header_in
-    parts_header {n} = go (pshd_right f bs) refl
-      where
-        go : (t : Bool) → pshd_right f bs ≡ t → header_in f bs ≡ refused n → parts_in f in_pfil (box_of b) ≡ refused 14
-        go true e h =
-            let there : header_in f bs ≡ given (first_of pshd bs, values_of (pshd_fields f (first_of pshd bs))) = rw (header_in, e) in
-            absurd (not_both (sym h ∙ there))
-        go false e h = rw (box_fields b, known, e)
+    pub parts_header : {n : ℕ} → header_in f bs ≡ refused n → parts_in f in_pfil (box_of b) ≡ refused n
+    unfolding parts_in
+    parts_header e = rw (box_fields b, known, e)
 
     module _ {x : Box × Fields} (header-given : header_in f bs ≡ given x) where
       pub parts_lone : right Pseg ploc bs ≡ false → parts_in f in_pfil (box_of b) ≡ refused 15
@@ -111,64 +106,44 @@ module _ (f : List ℕ) (in_pfil : Bool) (b : Framed) where
       module _ (single : right Pseg ploc bs ≡ true) where
         -- then it goes by the list of URLs, and by the head of the `ploc`
         by_list : parts_in f in_pfil (box_of b)
-            ≡ (hold 16 (surl_right f bs)
-            >>= λ _. hold 41 (has_surl bs || in_pfil)
+            ≡ (list_held f in_pfil bs
             >>= λ _. ploc_head f (first_of ploc bs)
             >>= λ l. given (record { header = x.0; fields = x.1; location = l; indexed = has_index bs; listed = has_surl bs }))
-        unfolding parts_in
-        by_list = rw (box_fields b, known, header-given, single)
+        unfolding parts_in list_held
+        by_list = rw (box_fields b, known, header-given, single) (sym (then-then (hold 16 (surl_right f bs)) (λ _. hold 41 (has_surl bs || in_pfil)) _))
 
-        pub parts_listless : {n : ℕ} → n ≡ list_fault f in_pfil bs → (n ≡ 0 → ⊥) → parts_in f in_pfil (box_of b) ≡ refused n
-        unfolding list_fault
-        parts_listless {n} = go (surl_right f bs) (has_surl bs || in_pfil) refl refl
-          where
-            go : (t u : Bool) → surl_right f bs ≡ t → (has_surl bs || in_pfil) ≡ u → n ≡ list_fault f in_pfil bs → (n ≡ 0 → ⊥) → parts_in f in_pfil (box_of b) ≡ refused n
-            go true true formed any is other = absurd (other (is ∙ rw (list_fault, formed, any)))
-            go true false formed any is other = by_list ∙ rw (formed, any) (ap refused (sym (is ∙ rw (list_fault, formed, any))))
-            go false u formed any is other = by_list ∙ rw formed (ap refused (sym (is ∙ rw (list_fault, formed))))
+        pub parts_listless : {n : ℕ} → list_held f in_pfil bs ≡ refused n → parts_in f in_pfil (box_of b) ≡ refused n
+        parts_listless e = by_list ∙ rw e
 
-        pub parts_by : list_fault f in_pfil bs ≡ 0
+        pub parts_by : list_held f in_pfil bs ≡ given tt
             → parts_in f in_pfil (box_of b)
             ≡ (ploc_head f (first_of ploc bs) >>= λ l. given (record { header = x.0; fields = x.1; location = l; indexed = has_index bs; listed = has_surl bs }))
-        unfolding list_fault
-        parts_by = go (surl_right f bs) (has_surl bs || in_pfil) refl refl
-          where
-            go : (t u : Bool) → surl_right f bs ≡ t → (has_surl bs || in_pfil) ≡ u → list_fault f in_pfil bs ≡ 0
-                → parts_in f in_pfil (box_of b)
-                ≡ (ploc_head f (first_of ploc bs) >>= λ l. given (record { header = x.0; fields = x.1; location = l; indexed = has_index bs; listed = has_surl bs }))
-            go true true formed any none = by_list ∙ rw (formed, any)
-            go true false formed any none = absurd (let is : list_fault f in_pfil bs ≡ 41 = rw (list_fault, formed, any) in omega arith)
-            go false u formed any none = absurd (let is : list_fault f in_pfil bs ≡ 16 = rw (list_fault, formed) in omega arith)
+        parts_by e = by_list ∙ rw e
 
 -- 16 and 41, by whether there is a `surl`
 module _ (f : List ℕ) (in_pfil : Bool) (bs : List Box) where
-  pub fault_own : has_surl bs ≡ true → surl_right f bs ≡ true → list_fault f in_pfil bs ≡ 0
-  unfolding list_fault
-  fault_own own formed = rw (list_fault, formed, own)
+  pub held_own : has_surl bs ≡ true → surl_right f bs ≡ true → list_held f in_pfil bs ≡ given tt
+  unfolding list_held
+  held_own own formed = rw (list_held, formed, own)
 
-  pub fault_ill : surl_right f bs ≡ false → list_fault f in_pfil bs ≡ 16
-  unfolding list_fault
-  fault_ill ill = rw (list_fault, ill)
+  pub held_ill : surl_right f bs ≡ false → list_held f in_pfil bs ≡ refused 16
+  unfolding list_held
+  held_ill ill = rw (list_held, ill)
 
   module _ (none : has_surl bs ≡ false) where
     formed_none : surl_right f bs ≡ true
     unfolding surl_right all_of
     formed_none = rw (surl_none bs none)
 
-    pub fault_listed : in_pfil ≡ true → list_fault f in_pfil bs ≡ 0
-    unfolding list_fault
-    fault_listed any = rw (list_fault, formed_none, none, any)
+    pub held_listed : in_pfil ≡ true → list_held f in_pfil bs ≡ given tt
+    unfolding list_held
+    held_listed any = rw (list_held, formed_none, none, any)
 
-    pub fault_listless : in_pfil ≡ false → list_fault f in_pfil bs ≡ 41
-    unfolding list_fault
-    fault_listless lacks = rw (list_fault, formed_none, none, lacks)
+    pub held_listless : in_pfil ≡ false → list_held f in_pfil bs ≡ refused 41
+    unfolding list_held
+    held_listless lacks = rw (list_held, formed_none, none, lacks)
 
--- what each answer about a header says of it
-module _ {r : HeaderRead} {read : Answer (Box × Fields)} (answer : pshd_answer r ≡ read) where
-  pub pshd_given : {b : Framed} {x : Fields} → r ≡ HeaderRead.Given b x → read ≡ given (box_of b, x)
-  unfolding pshd_answer
-  pshd_given e = sym answer ∙ ap pshd_answer e
-
-  pub pshd_refused : {n : ℕ} → r ≡ HeaderRead.Refused n → read ≡ refused n
-  unfolding pshd_answer
-  pshd_refused e = sym answer ∙ ap pshd_answer e
+-- of one box of a kind the first is found
+pub one-found : (bs : List Box) → length bs ≡ 1 → None ≡ first_in bs → ⊥
+one-found [] one none = omega arith
+one-found (b ∷ bs) one none = let z : ◌≡◌ {A = ℕ} 0 1 = cc in omega arith

@@ -1,23 +1,22 @@
 -- Laws of the pass over a file's segments: those that were read, and the boxes that are left, which decide.
 use Prim.Native.Nat.{ℕ, ◌+◌, ◌*◌, ◌≤◌}
-use mathlib.Core.Bool.{Bool, true, false, false≢true}
+use mathlib.Core.Bool.{Bool, true, false}
 use mathlib.Core.List.{List, [], ◌∷◌, ◌++◌}
-use mathlib.Core.Option.{none, some}
+use Rattle.std.specs.Prelude.{Option, None, Some, Result, Ok, Err}
+use Rattle.refusals.specs.declared.Refusal.{Refusal}
+use Rattle.boxes.specs.declared.framing.Framed.{Framed}
 use mathlib.Core.Path.{◌≡◌, refl, sym, ap, subst, ◌∙◌}
 use native.Mathlib.Nat.{zero-add}
 use native.Mathlib.Omega.{arith}
-use lib.Dec.{eqb}
 use lib.ListN.{length, length-append}
 use Rattle.boxes.specs.Answer.{refused, given}
-use Rattle.boxes.specs.Framing.{Box, boxes_in, box_of}
-use Rattle.boxes.specs.Kinds.{pseg, pdat, is, those}
+use Rattle.boxes.specs.Framing.{Box, boxes_in}
+use Rattle.boxes.specs.Kinds.{pseg, is, those}
 use Rattle.boxes.specs.Walk.{stepped}
-use Rattle.boxes.specs.declared.framing.Framed.{Framed}
 use Rattle.boxes.specs.declared.kinds.Container.TheVariants.{File}
 use Rattle.boxes.specs.declared.walk.Walk.{Walk}
 use Rattle.boxes.proofs.AnswerLaws.{not_both, given_same}
-use Rattle.boxes.proofs.KindLaws.{is-eqb, those-nil, those_one, those_other}
-use Rattle.boxes.proofs.ToldLaws.{box_fields}
+use Rattle.boxes.proofs.KindLaws.{those-nil, those_one, those_other}
 use Rattle.boxes.proofs.WalkLaws.{ahead, known_next, known_end, known_sound}
 use Rattle.partial.specs.Heading.{Heading}
 use Rattle.partial.specs.Limits.{segment_limit, source_limit}
@@ -26,32 +25,28 @@ use Rattle.partial.specs.ReadingDemands.{Numbered}
 use Rattle.partial.specs.Segments.{Segment, chunks_of}
 use Rattle.partial.specs.Tables.{segment_row_length, segment_row, segment_rows}
 use Rattle.segment.specs.Data.{Searched}
-use Rattle.surls.specs.declared.body.Body.{Body}
-use Rattle.sources.specs.Held.{PfilList}
 use Rattle.filling.specs.Rows.{Put}
 use Rattle.filling.proofs.RowLaws.{put_none, put_more, put_same}
 use Rattle.gathering.specs.Forms.{form_length, puts_of, all_puts}
 use Rattle.gathering.specs.Gathered.{gathered_of}
-use Rattle.gathering.specs.Parts.{has_surl}
 use Rattle.gathering.specs.Pass.{segments_by, Gathers}
-use Rattle.gathering.specs.Step.{Noted, Beside, Segmented}
+use Rattle.gathering.specs.Noted.{Noted}
+use Rattle.gathering.specs.Step.{Beside, Segmented}
+use Rattle.gathering.specs.declared.tables.SourceTables.{SourceTables}
 use Rattle.gathering.specs.declared.gathered.Gathered.{Gathered}
-use Rattle.gathering.specs.declared.pass.Passed.{Passed}
-use Rattle.gathering.specs.declared.pass.Passed.TheVariants.{Refused, Given}
-use Rattle.gathering.specs.declared.step.SegmentRead.TheVariants as SegmentRead
 use Rattle.partial.proofs.Meaning.SourceLaws.{numbered_none, numbered_more}
 use Rattle.partial.proofs.Reading.NumberedLaws.{segment_beside}
 use Rattle.partial.proofs.Reading.RowLaws.{segment_rows_long, segment_rows_last}
 use Rattle.gathering.proofs.FormLaws.{all_puts_none, all_puts_long, all_puts_last}
 
--- a box of no kind may be looked at first
-pub searched_none : {f : List ℕ} {bs : List Box} (b : Framed) → b.kind ≡ 0 → boxes_in File f 0 (length f) ≡ given bs → Searched f (box_of b) bs
-searched_none b kindless known =
+-- no box need be looked at first
+pub searched_none : {f : List ℕ} {bs : List Box} → boxes_in File f 0 (length f) ≡ given bs → Searched f None bs
+searched_none known =
     record {
       boxes = known;
-      known = λ is-data.
-          let kind : false ≡ is pdat (box_of b) = sym (is-eqb pdat (box_of b) ∙ ap (λ (x : Box). eqb x.kind pdat.code) (box_fields b) ∙ rw kindless refl) in
-          absurd (false≢true (kind ∙ is-data));
+      known = λ e.
+          let z : ◌≡◌ {A = ℕ} 0 1 = cc in
+          absurd (omega arith);
     }
 
 -- the rows of segments with one more
@@ -68,24 +63,24 @@ module _ (ss : List Segment) (s : Segment) where
       put_same refl (sym (all_puts_last numbered ss s)) (put_more 0 (all_puts numbered ss) _ p (put_same here refl q))
 
 -- the segments before were read, and the boxes that are left decide
-pub record Midway (f : List ℕ) (h : Heading) (numbered : Bool) (t₀ u₀ t u z n l : List ℕ) (w : Walk) (g : Gathered) (last : Framed) : Type 0 where
+pub record Midway (f : List ℕ) (h : Heading) (numbered : Bool) (t₀ u₀ t u : List ℕ) (n : SourceTables) (w : Walk) (g : Gathered) (last : Option Framed) : Type 0 where
   pub before : List Segment
   pub rest : List Box
   pub left : ahead f w ≡ given rest
   pub decide : segments_by f h ≡ segments_from source_limit f h before (those pseg rest)
   pub gathered : g ≡ gathered_of before
-  pub known : Searched f (box_of last) h.boxes
+  pub known : Searched f last h.boxes
   pub segments : Put t₀ 0 (segment_rows before) t
   pub chunks : Put u₀ 0 (all_puts numbered before) u
   pub few : length before + length (those pseg rest) ≤ segment_limit
   pub sources : Numbered before
-  pub noted : Noted f h z n l before
+  pub noted : Noted f h n before
 
 module _ (f : List ℕ) (h : Heading) (numbered : Bool) (t₀ u₀ : List ℕ) where
-  pub midway_none : {z n l : List ℕ} {w : Walk} {g : Gathered} {last : Framed} → ahead f w ≡ given h.boxes → length (those pseg h.boxes) ≤ segment_limit → g ≡ gathered_of []
-      → Searched f (box_of last) h.boxes
-      → Noted f h z n l []
-      → Midway f h numbered t₀ u₀ t₀ u₀ z n l w g last
+  pub midway_none : {n : SourceTables} {w : Walk} {g : Gathered} {last : Option Framed} → ahead f w ≡ given h.boxes → length (those pseg h.boxes) ≤ segment_limit → g ≡ gathered_of []
+      → Searched f last h.boxes
+      → Noted f h n []
+      → Midway f h numbered t₀ u₀ t₀ u₀ n w g last
   unfolding segment_rows
   midway_none all few nothing known clear =
       record {
@@ -102,9 +97,9 @@ module _ (f : List ℕ) (h : Heading) (numbered : Bool) (t₀ u₀ : List ℕ) w
         noted = clear;
       }
 
-  module _ {t u z n l : List ℕ} {w : Walk} {g : Gathered} {last : Framed} (m : Midway f h numbered t₀ u₀ t u z n l w g last) where
-    module _ {b : Box} {w' : Walk} (step : stepped f w ≡ given (some (b, w'))) where
-      pub midway_other : is pseg b ≡ false → Midway f h numbered t₀ u₀ t u z n l w' g last
+  module _ {t u : List ℕ} {n : SourceTables} {w : Walk} {g : Gathered} {last : Option Framed} (m : Midway f h numbered t₀ u₀ t u n w g last) where
+    module _ {b : Box} {w' : Walk} (step : stepped f w ≡ given (Some (b, w'))) where
+      pub midway_other : is pseg b ≡ false → Midway f h numbered t₀ u₀ t u n w' g last
       midway_other other =
           let (more, after, split) = known_next f w m.left step in
           let same : those pseg m.rest ≡ those pseg more = ap (those pseg) split ∙ those_other pseg b more other in
@@ -132,16 +127,15 @@ module _ (f : List ℕ) (h : Heading) (numbered : Bool) (t₀ u₀ : List ℕ) w
         decided = m.decide ∙ ap (λ (bs : List Box). segments_from source_limit f h m.before bs) next.2
 
         -- it is beside those before it
-        pub midway_beside : {list : Body} {listed : Bool} → PfilList f h list → listed ≡ has_surl h.inner → Beside f h list listed g z n l m.before
-        midway_beside pfil any =
-            record { gathered = m.gathered; few = omega (arith, m.few, ap length next.2); numbered = m.sources; in_pfil = pfil; any = any; noted = m.noted }
+        pub midway_beside : Beside f h g n m.before
+        midway_beside = record { gathered = m.gathered; few = omega (arith, m.few, ap length next.2); numbered = m.sources; noted = m.noted }
 
         pub midway_refused : {n : ℕ} → segment source_limit f h m.before b ≡ refused n → segments_by f h ≡ refused n
         unfolding segments_from
         midway_refused fault = decided ∙ rw fault
 
-        pub midway_more : {t' u' z' n' l' : List ℕ} {g' : Gathered} {last' : Framed} → Segmented f h m.before b numbered t t' u u' z' n' l' (SegmentRead.Given g' last')
-            → Midway f h numbered t₀ u₀ t' u' z' n' l' w' g' last'
+        pub midway_more : {t' u' : List ℕ} {n' : SourceTables} {g' : Gathered} {last' : Option Framed} → Segmented f h m.before b numbered t t' u u' n' (Ok (g', last'))
+            → Midway f h numbered t₀ u₀ t' u' n' w' g' last'
         unfolding Segmented segments_from
         midway_more told =
             let (s, read, gathered, known, segment-row, chunk-rows, noted) = told in
@@ -160,7 +154,7 @@ module _ (f : List ℕ) (h : Heading) (numbered : Bool) (t₀ u₀ : List ℕ) w
               noted = noted;
             }
 
-    pub midway_end : stepped f w ≡ given none → Gathers f h numbered t₀ t u₀ u z n l (Given g)
+    pub midway_end : stepped f w ≡ given None → Gathers f h numbered t₀ t u₀ u n (Ok g)
     unfolding Gathers segments_from
     midway_end step =
         let over = ap (λ (bs : List Box). segments_from source_limit f h m.before bs) (ap (those pseg) (known_end f w m.left step) ∙ those-nil pseg) in
@@ -170,13 +164,13 @@ module _ (f : List ℕ) (h : Heading) (numbered : Bool) (t₀ u₀ : List ℕ) w
     midway_sound step = known_sound f w m.left step
 
 -- the pass over a file whose segments are known puts their rows and notes their ends and sources
-pub rows_put : (f : List ℕ) (h : Heading) (numbered : Bool) {t₀ t u₀ u : List ℕ} (z n l : List ℕ) (r : Passed) {ss : List Segment} → Gathers f h numbered t₀ t u₀ u z n l r → segments_by f h ≡ given ss
-    → Put t₀ 0 (segment_rows ss) t × Put u₀ 0 (all_puts numbered ss) u × Noted f h z n l ss
+pub rows_put : (f : List ℕ) (h : Heading) (numbered : Bool) {t₀ t u₀ u : List ℕ} (n : SourceTables) (r : Result Gathered Refusal) {ss : List Segment} → Gathers f h numbered t₀ t u₀ u n r → segments_by f h ≡ given ss
+    → Put t₀ 0 (segment_rows ss) t × Put u₀ 0 (all_puts numbered ss) u × Noted f h n ss
 unfolding Gathers
-rows_put f h numbered z n l (Refused m) fault read = absurd (not_both (sym fault ∙ read))
-rows_put f h numbered {t₀ = t₀} {t = t} {u₀ = u₀} {u = u} z n l (Given g) (ss, read', _, one, two, noted) read =
+rows_put f h numbered n (Err m) fault read = absurd (not_both (sym fault ∙ read))
+rows_put f h numbered {t₀ = t₀} {t = t} {u₀ = u₀} {u = u} n (Ok g) (ss, read', _, one, two, noted) read =
     let same = given_same (sym read' ∙ read) in (
       subst (λ (ss : List Segment). Put t₀ 0 (segment_rows ss) t) same one,
       subst (λ (ss : List Segment). Put u₀ 0 (all_puts numbered ss) u) same two,
-      subst (Noted f h z n l) same noted,
+      subst (Noted f h n) same noted,
     )

@@ -31,8 +31,8 @@ use Rattle.partial.proofs.Reading.LimitLaws.{segment_low}
 use Rattle.partial.proofs.Reading.OneSourceLaws.{urls_own, urls_pfil}
 use Rattle.fields.specs.Fields.{values_of}
 use Rattle.fields.specs.declared.fields.Fields.{Fields}
-use Rattle.surls.specs.declared.body.Body.{Body}
-use Rattle.sources.specs.Held.{Stands}
+use Rattle.boxes.specs.declared.body.Body.{Body}
+use Rattle.sources.specs.Held.{PfilList, Stands}
 use Rattle.sources.proofs.HeldLaws.{Next, pfil_stands, pfil_urls, own_stands, own_urls, joined_number, joined}
 use Rattle.segment.specs.declared.chunk.Cursor.{Cursor}
 use Rattle.filling.proofs.RowLaws.{put_same}
@@ -43,7 +43,10 @@ use Rattle.gathering.specs.Rows.{row_by}
 use Rattle.gathering.specs.Step.{first_entry, chosen_list, Beside, Entered, Segmented}
 use Rattle.gathering.specs.declared.gathered.Gathered.{Gathered}
 use Rattle.gathering.specs.declared.parts.Parts.{Parts as CodeParts}
-use Rattle.gathering.specs.declared.step.SegmentRead.TheVariants.{Given}
+use Rattle.std.specs.Prelude.{Option, Ok}
+use Rattle.gathering.specs.Basis.{Based}
+use Rattle.gathering.specs.declared.basis.Basis.{Basis}
+use Rattle.gathering.specs.declared.tables.SourceTables.{SourceTables}
 use Rattle.gathering.proofs.GatheredLaws.{gathered-segments, gathered_chunks, gathered-sources}
 use Rattle.gathering.proofs.PartsLaws.{surl_none}
 
@@ -116,9 +119,8 @@ listed_by f bs us =
     ]
 
 -- `pfil` has one exactly if it has a `surl`
-pub any_told : (f : List ℕ) (h : Heading) {list : Body} {in_pfil : Bool} {before : Gathered} {z n l : List ℕ} {ss : List Segment} → Beside f h list in_pfil before z n l ss
-    → in_pfil ≡ ltb 0 (length h.urls)
-any_told f h beside = beside.any ∙ ap (ltb 0) (sym (ap length beside.in_pfil.urls ∙ urls_many f h.inner))
+pub any_told : (f : List ℕ) (h : Heading) {basis : Basis} → Based f h basis → basis.listed ≡ ltb 0 (length h.urls)
+any_told f h based = based.any ∙ ap (ltb 0) (sym (ap length based.in_pfil.urls ∙ urls_many f h.inner))
 
 -- the parts among these boxes
 abbrev parts_with : List ℕ → Bool → List Box → Answer Parts
@@ -173,11 +175,11 @@ module _ (f : List ℕ) (h : Heading) (ss : List Segment) (b : Framed) {in_pfil 
         (sym (ap (λ p. p.indexed) (given_same e)), sym (ap (λ p. p.listed) (given_same e)))
 
     -- its list of URLs is its own, or that in `pfil`
-    module _ {before : Gathered} {list : Body} {z n l : List ℕ} (ends : b.end.0 ≤ length f) (beside : Beside f h list in_pfil before z n l ss) (cs : List Chunk) where
+    module _ {before : Gathered} {list : Body} {n : SourceTables} (ends : b.end.0 ≤ length f) (pfil : PfilList f h list) (beside : Beside f h before n ss) (cs : List Chunk) where
       pub next_list : Next f h ss before.segments before.sources (chosen_list b p.listed list) (built f h ss b.at.0 inside.0 (parts_of p) cs)
       next_list =
           record {
-            within = beside.in_pfil.within;
+            within = pfil.within;
             segments = gathered-segments ss beside.gathered;
             few = beside.few;
             sources = gathered-sources ss beside.gathered;
@@ -192,11 +194,11 @@ module _ (f : List ℕ) (h : Heading) (ss : List Segment) (b : Framed) {in_pfil 
 
           list_stands : (own : Bool) → own ≡ has_surl inside.0 → Stands f (chosen_list b own list) (list_boxes h s)
           list_stands true own = own_stands f h s (ltb-true 0 (length (those surl inside.0)) (sym own)) (record { boxes = rw (box_fields b) at inside.1; inside = ends })
-          list_stands false own = pfil_stands f h beside.in_pfil s (surl_none inside.0 (sym own))
+          list_stands false own = pfil_stands f h pfil s (surl_none inside.0 (sym own))
 
           list_urls : (own : Bool) → own ≡ has_surl inside.0 → urls_in f (list_boxes h s) ≡ s.urls
           list_urls true own = own_urls f h s (ltb-true 0 (length (those surl inside.0)) (sym own)) refl
-          list_urls false own = pfil_urls f h beside.in_pfil s (surl_none inside.0 (sym own)) refl
+          list_urls false own = pfil_urls f h pfil s (surl_none inside.0 (sym own)) refl
 
     by_parts : segment source_limit f h ss (box_of b) ≡ judged source_limit f h ss b.at.0 inside.0 (parts_of p)
     by_parts = segment-with inside.1 ∙ rw (sym (parts-with inside.1) ∙ parts)
@@ -208,7 +210,7 @@ module _ (f : List ℕ) (h : Heading) (ss : List Segment) (b : Framed) {in_pfil 
       pub segment_far : source_limit < p.fields.offset.0 → segment source_limit f h ss (box_of b) ≡ refused 23
       segment_far far = by_parts ∙ rw (le-leb (length (chunks_of ss) + p.location.count) chunk_limit few, lt-leb p.fields.offset.0 source_limit far)
 
-      module _ (near : p.fields.offset.0 ≤ source_limit) (last : Framed) where
+      module _ (near : p.fields.offset.0 ≤ source_limit) (last : Option Framed) where
         -- the cursor at the first entry
         abbrev first : Cursor
         first = first_entry p last
@@ -222,15 +224,16 @@ module _ (f : List ℕ) (h : Heading) (ss : List Segment) (b : Framed) {in_pfil 
         pub segment_read : {cs : List Chunk} → chunks_by f h b.at.0 p.location first ≡ given cs → segment source_limit f h ss (box_of b) ≡ given (built f h ss b.at.0 inside.0 (parts_of p) cs)
         segment_read e = by_chunks ∙ rw e
 
-        pub segment-told : {before g : Gathered} {list : Body} {numbered : Bool} {t₀ t u₀ u z₀ z n₀ n l₀ l : List ℕ} {cs : List Chunk} {c : Cursor} → b.end.0 ≤ length f
-            → Beside f h list in_pfil before z₀ n₀ l₀ ss
+        pub segment-told : {before g : Gathered} {list : Body} {numbered : Bool} {t₀ t u₀ u : List ℕ} {n₀ n : SourceTables} {cs : List Chunk} {c : Cursor} → b.end.0 ≤ length f
+            → PfilList f h list
+            → Beside f h before n₀ ss
             → chunks_by f h b.at.0 p.location first ≡ given cs → length cs ≡ p.location.count → Ran f h.boxes first before numbered u₀ cs c u
-            → Entered f (chosen_list b p.listed list) before b.at.0 p c.start.0 t₀ t z₀ z n₀ n l₀ l g
-            → Segmented f h ss (box_of b) numbered t₀ t u₀ u z n l (Given g c.last)
+            → Entered f (chosen_list b p.listed list) before b.at.0 p c.start.0 t₀ t n₀ n g
+            → Segmented f h ss (box_of b) numbered t₀ t u₀ u n (Ok (g, c.last))
         unfolding Segmented end_of segment_row
-        segment-told {numbered = numbered} {cs = cs} ends beside e many ran entered =
+        segment-told {numbered = numbered} {cs = cs} ends pfil beside e many ran entered =
             let s = built f h ss b.at.0 inside.0 (parts_of p) cs in
-            let next = next_list ends beside cs in
+            let next = next_list ends pfil beside cs in
             let sourced = beside.noted.sourced in
             let source = joined_number next sourced entered.joins in
             let low : s.source ≤ length ss = omega (arith, beside_most ss s.urls, count_most ss beside.numbered) in

@@ -1,4 +1,6 @@
 pub mod Parts
+pub mod Basis
+pub mod Noted
 pub mod Rows
 pub mod Numbers
 pub mod Forms

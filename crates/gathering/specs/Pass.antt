@@ -1,5 +1,7 @@
 -- Document 01, refusals 14 to 24, and document 02, [8], 41: what is told of all segments of a file.
-use Rattle.std.specs.Prelude.{ℕ, ◌≤◌, Bool, List, [], ◌≡◌, length}
+use Rattle.std.specs.Prelude.{ℕ, ◌≤◌, Bool, List, [], Result, Ok, Err, ◌≡◌, length}
+use Rattle.refusals.specs.Refusals.{refusal_no}
+use Rattle.refusals.specs.declared.Refusal.{Refusal}
 use Rattle.boxes.specs.Answer.{Answer, refused, given}
 use Rattle.boxes.specs.Framing.{boxes_in}
 use Rattle.boxes.specs.Kinds.{pseg, those}
@@ -10,13 +12,13 @@ use Rattle.partial.specs.Reading.{segments_from}
 use Rattle.partial.specs.Segments.{Segment}
 use Rattle.partial.specs.Tables.{segment_rows}
 use Rattle.filling.specs.Rows.{Put}
-use Rattle.surls.specs.declared.body.Body.{Body}
+use Rattle.boxes.specs.declared.body.Body.{Body}
 use Rattle.sources.specs.Held.{PfilList}
 use Rattle.gathering.specs.Forms.{all_puts}
 use Rattle.gathering.specs.Gathered.{gathered_of}
-use Rattle.gathering.specs.Step.{Noted}
-use Rattle.gathering.specs.declared.pass.Passed.{Passed}
-use Rattle.gathering.specs.declared.pass.Passed.TheVariants.{Refused, Given}
+use Rattle.gathering.specs.Noted.{Noted}
+use Rattle.gathering.specs.declared.gathered.Gathered.{Gathered}
+use Rattle.gathering.specs.declared.tables.SourceTables.{SourceTables}
 
 -- the segments of a file with that heading
 abbrev pub segments_by : List ℕ → Heading → Answer (List Segment)
@@ -32,12 +34,12 @@ pub record Opened (f : List ℕ) (mixed : Bool) (list : Body) (h : Heading) : Ty
 
 -- what an answer about them says: the first refusal, or what is gathered of them, with their rows, their chunks by
 -- numbers or rows, and what is noted of their ends and sources
-unfoldable pub Gathers : List ℕ → Heading → Bool → List ℕ → List ℕ → List ℕ → List ℕ → List ℕ → List ℕ → List ℕ → Passed → Type 0
-Gathers f h numbered t₀ t u₀ u z n l (Refused m) = segments_by f h ≡ refused m
-Gathers f h numbered t₀ t u₀ u z n l (Given g) =
+unfoldable pub Gathers : List ℕ → Heading → Bool → List ℕ → List ℕ → List ℕ → List ℕ → SourceTables → Result Gathered Refusal → Type 0
+Gathers f h numbered t₀ t u₀ u n (Err m) = segments_by f h ≡ refused (refusal_no m)
+Gathers f h numbered t₀ t u₀ u n (Ok g) =
     (ss : List Segment)
     × (segments_by f h ≡ given ss)
     × (g ≡ gathered_of ss)
     × Put t₀ 0 (segment_rows ss) t
     × Put u₀ 0 (all_puts numbered ss) u
-    × Noted f h z n l ss
+    × Noted f h n ss

@@ -9,7 +9,6 @@ ghost use Rattle.gathering.specs.Gathered.{gathered_of};
 
 use ends::sizes::gives_size;
 use ends::table::{ALL_SIZES, put_sizes, sizes_at};
-use numerals::order::{larger, sum_of};
 use partial::position::Position;
 
 // How many segments there are, how many chunks they have, of how many sources they are, and whether some segment has an
@@ -45,7 +44,7 @@ impl Gathered {
         Gathered {
             segments: self.segments + 1,
             chunks: self.chunks + count,
-            sources: larger(self.sources, sum_of(source, 1)),
+            sources: self.sources.max(source.saturating_add(1)),
             indexed: self.indexed | indexed,
         }
     }

@@ -8,7 +8,6 @@ ghost use Rattle.gathering.specs.Kept.{ChunksKept, Kept};
 
 use crate::numbers::chunk_by;
 use crate::rows::put_chunk;
-use numerals::order::sum_of;
 use partial::limits::{CHUNK_LIMIT, SEGMENT_LIMIT};
 use partial::position::Position;
 use partial::rows::{ALL_NUMBERS, ALL_SEGMENT_ROWS, SEGMENT_ROW};
@@ -27,16 +26,15 @@ fn put_rows(
         → Put table.old (chunk_row_length * at) (chunk_rows_of segment 0 cs) table.new }
 {
     let mut start = first;
-    let mut i = 0;
-    while i < count {
+    for i in 0..count {
         let c = chunk_by(numbers[(at + i) as usize], start);
         put_chunk(table, false, at + i, segment, i, c);
-        start = Position(sum_of(start.0, c.size));
-        i += 1;
+        start = Position(start.0.saturating_add(c.size));
     }
 }
 
-// Puts the rows of the chunks of so many segments into a table that has room for them all.
+// Puts the rows of the chunks of so many segments into a table that has room for them all. The rows of the segments lie
+// in fixed memory, with room for as many as a file may have, so that their number stands beside them.
 pub fn fill_rows(
     segments: &[u64; ALL_SEGMENT_ROWS],
     many: u64,
@@ -49,8 +47,7 @@ pub fn fill_rows(
         return;
     }
     let mut at = 0;
-    let mut k = 0;
-    while k < many {
+    for k in 0..many {
         let row = (SEGMENT_ROW * k) as usize;
         let first = segments[row + 1];
         let count = segments[row + 4];
@@ -59,6 +56,5 @@ pub fn fill_rows(
         }
         put_rows(numbers, at, count, k, Position(first), table);
         at += count;
-        k += 1;
     }
 }

@@ -2,6 +2,7 @@
 // and what all of them say is gathered. Salvage's pass leaves out those that refuse.
 #![tactic(auto)]
 
+mod basis;
 mod chunks;
 pub mod gathered;
 pub mod keeping;
@@ -11,3 +12,4 @@ mod parts;
 pub mod pass;
 pub mod rows;
 mod step;
+pub mod tables;

@@ -18,6 +18,7 @@ use segment::chunk::Chunk;
 
 // Writes a chunk behind so many others, by its number or by its row: the number of its segment, its index there, its
 // start, size, state and place.
+// A flag says which, and no closure, since the contracts of a pass say what either form leaves in the table.
 pub(crate) fn put_chunk(
     table: &mut [u64],
     numbered: bool,
@@ -34,7 +35,14 @@ pub(crate) fn put_chunk(
         put_row(table, before as usize, &number);
         return;
     }
-    let row = [segment, index, c.start.0, c.size, c.state, c.place.0];
+    let row = [
+        segment,
+        index,
+        c.start.0,
+        c.size,
+        c.state.number(),
+        c.place.0,
+    ];
     put_row(table, (CHUNK_ROW * before) as usize, &row);
 }
 

@@ -6,7 +6,8 @@ use mathlib.Core.List.{List, []}
 use mathlib.Core.Path.{◌≡◌, sym, ◌∙◌}
 use lib.ListN.{length}
 use Rattle.boxes.specs.Answer.{given}
-use Rattle.boxes.specs.Framing.{Box, boxes_in}
+use Rattle.boxes.specs.Bodies.{boxes_of}
+use Rattle.boxes.specs.Framing.{Box}
 use Rattle.numerals.proofs.Determined.{OneKnown}
 use Rattle.partial.specs.Heading.{Heading}
 use Rattle.partial.specs.ReadingDemands.{Numbered}
@@ -20,7 +21,7 @@ use Rattle.going.proofs.texts.same_texts.Reads as same-texts
 
 same_texts_result : OneKnown same-texts.Post
     (λ κs args (bs : List Box).
-    (boxes_in args.1.0.container args.0.now args.1.0.start.0 args.1.0.end.0 ≡ given bs) × (args.1.0.end.0 ≤ length args.0.now))
+    (boxes_of args.0.now args.1.0 ≡ given bs) × (args.1.0.end.0 ≤ length args.0.now))
 same_texts_result κs args bs (known, inside) x y after after' p q = p bs known inside ∙ sym (q bs known inside)
 
 source_for_result : OneKnown source-for.Post

@@ -6,7 +6,8 @@ use mathlib.Core.Path.{◌≡◌, refl, sym, ap, subst, ◌∙◌}
 use native.Mathlib.Omega.{arith}
 use lib.ListN.{length}
 use Rattle.boxes.specs.Answer.{given}
-use Rattle.boxes.specs.Framing.{Box, boxes_in}
+use Rattle.boxes.specs.Bodies.{boxes_of}
+use Rattle.boxes.specs.Framing.{Box}
 use Rattle.additions.specs.Addition.{surls_of}
 use Rattle.partial.specs.Heading.{Heading, urls_in}
 use Rattle.partial.specs.ReadingDemands.{Numbered}
@@ -15,12 +16,12 @@ use Rattle.partial.specs.Sources.{urls_for, same_urls, source_beside, of_source,
 use Rattle.partial.specs.Texts.{list_boxes}
 use Rattle.partial.proofs.Meaning.SameLaws.{urls_equal, urls_same}
 use Rattle.partial.proofs.Meaning.SourceLaws.{member_of, beside_there, of_urls_member}
-use Rattle.surls.specs.declared.body.Body.{Body}
+use Rattle.boxes.specs.declared.body.Body.{Body}
 use Rattle.sources.specs.Held.{Stands, ListHeld}
 use Rattle.going.specs.Texts.{urls_of}
 
 module _ (f : List ℕ) (h : Heading) (ss : List Segment) (numbered : Numbered ss) (us : List (List ℕ)) {n : ℕ} {list : Body} (held : ListHeld f h ss n list) {one : Body} {r : Bool}
-    (is : one ≡ list) (told : (bs : List Box) → boxes_in one.container f one.start.0 one.end.0 ≡ given bs → one.end.0 ≤ length f → r ≡ same_urls (urls_in f bs) us) where
+    (is : one ≡ list) (told : (bs : List Box) → boxes_of f one ≡ given bs → one.end.0 ≤ length f → r ≡ same_urls (urls_in f bs) us) where
   said : r ≡ same_urls (urls_in f (list_boxes h held.first)) us
   said =
       let stands = subst (λ (b : Body). Stands f b (list_boxes h held.first)) (sym is) held.stands in

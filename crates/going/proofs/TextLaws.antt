@@ -1,51 +1,37 @@
--- Laws of a part of the file and of the URLs of a container, held against texts.
+-- Laws of the URLs of a container, held against texts.
 use Prim.Native.Nat.{ℕ, suc, ◌+◌, ◌-◌, ◌*◌, ◌/◌, ◌≤◌, ◌<◌, min}
 use mathlib.Core.Bool.{true, false}
 use mathlib.Core.List.{List, [], ◌∷◌, map}
 use mathlib.Core.Logic.{inl, inr}
+use Rattle.std.specs.Prelude.{Option, None, Some}
 use mathlib.Core.Path.{◌≡◌, refl, sym, ap, subst, ◌∙◌}
 use native.Mathlib.Omega.{arith}
 use borrow.Author.Tests.{leb-true, leb-false}
-use lib.Dec.{leb}
-use lib.ListN.{length, take, drop, get_or, length-take, length-drop}
-use lib.Seq.{get_or-take, get_or-drop, ext_get_or, drop-cons}
+use lib.Dec.{leb, eqb}
+use lib.Pointwise.{pointwise}
+use lib.ListN.{length, take, drop, get_or, length-drop}
+use lib.Seq.{drop-cons}
 use Rattle.boxes.specs.Framing.{Box, box_of}
 use Rattle.boxes.specs.Kinds.{surl, is}
 use Rattle.boxes.specs.declared.framing.Framed.{Framed}
 use Rattle.boxes.proofs.KindLaws.{those-nil, those_one, those_other}
 use Rattle.additions.specs.Addition.{surls_of}
-use Rattle.partial.specs.Heading.{Part, url, bytes_in, urls_in}
+use Rattle.partial.specs.Heading.{url, bytes_in, urls_in}
+use Rattle.surls.specs.Parts.{part_of, Within}
+use Rattle.surls.specs.declared.part.Part.{Part}
+use Rattle.surls.proofs.UrlLaws.{text_compared}
 use Rattle.partial.specs.Sources.{same_list, same_text, same_urls}
-use Rattle.partial.proofs.Meaning.SameLaws.{text_exact, unequal}
 use Rattle.partial.proofs.Meaning.SequenceLaws.{which}
 use Rattle.outside.proofs.ItemLaws.{data-part, data-behind}
 use Rattle.going.specs.Texts.{urls_from, left_same, Passes}
 use Rattle.going.specs.declared.texts.Cut.{Cut}
-use Rattle.going.specs.declared.texts.Past.{Past}
-use Rattle.going.specs.declared.texts.Past.TheVariants.{On, Differ}
 
--- ---- a part against a text
-
-module _ (f : List ℕ) (p : Part) (inside : p.size ≤ length f - p.place) (text : List ℕ) where
-  part_length : length (bytes_in f p) ≡ p.size
-  unfolding bytes_in
-  part_length = simp (length-take, length-drop) (omega arith)
-
-  part_byte : (k : ℕ) → k < p.size → get_or (bytes_in f p) k 0 ≡ get_or f (p.place + k) 0
-  unfolding bytes_in
-  part_byte k h = rw (get_or-take, get_or-drop)
-
-  pub size_differs : (p.size ≡ length text → ⊥) → same_text (bytes_in f p) text ≡ false
-  size_differs other = unequal text_exact _ _ (λ e. other (sym part_length ∙ ap length e))
-
-  pub byte_differs : (k : ℕ) → k < p.size → (get_or f (p.place + k) 0 ≡ get_or text k 0 → ⊥) → same_text (bytes_in f p) text ≡ false
-  byte_differs k h other = unequal text_exact _ _ (λ e. other (sym (part_byte k h) ∙ ap (λ (l : List ℕ). get_or l k 0) e))
-
-  pub bytes_same : p.size ≡ length text → ((k : ℕ) → k < p.size → get_or f (p.place + k) 0 ≡ get_or text k 0) → same_text (bytes_in f p) text ≡ true
-  bytes_same sizes all =
-      let lengths = part_length in
-      let e = ext_get_or 0 (bytes_in f p) text (lengths ∙ sizes) (λ k h. part_byte k (omega arith) ∙ all k (omega arith)) in
-      ap (same_text (bytes_in f p)) (sym e) ∙ text_exact.alike (bytes_in f p)
+-- the URL of a box against a text
+pub url_compared : (f : List ℕ) (b : Framed) (p : Part) {xs : List ℕ} (ys : List ℕ) → Within (length f) b → (Within (length f) b → part_of p ≡ url f (box_of b))
+    → xs ≡ bytes_in f (part_of p)
+    → pointwise eqb xs ys ≡ same_text (bytes_in f (url f (box_of b))) ys
+url_compared f b p ys within told bytes =
+    text_compared _ ys ∙ ap (λ (xs : List ℕ). same_text xs ys) (bytes ∙ ap (bytes_in f) (told within))
 
 -- ---- a box against the texts that are left
 
@@ -123,9 +109,9 @@ module _ (f texts lengths : List ℕ) (cut : Cut) where
       ]
 
 -- what each answer about a box says
-module _ (f texts lengths : List ℕ) (b : Framed) (cut : Cut) (r : Past) (passes : Passes f b texts lengths cut r) where
-  pub passed_on : {left : Cut} → r ≡ On left → Passes f b texts lengths cut (On left)
+module _ (f texts lengths : List ℕ) (b : Framed) (cut : Cut) (r : Option Cut) (passes : Passes f b texts lengths cut r) where
+  pub passed_on : {left : Cut} → r ≡ Some left → Passes f b texts lengths cut (Some left)
   passed_on e = subst (Passes f b texts lengths cut) e passes
 
-  pub passed_off : r ≡ Differ → Passes f b texts lengths cut Differ
+  pub passed_off : r ≡ None → Passes f b texts lengths cut None
   passed_off e = subst (Passes f b texts lengths cut) e passes

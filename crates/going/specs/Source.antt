@@ -6,7 +6,7 @@ use Rattle.partial.specs.Heading.{Heading, urls_in}
 use Rattle.partial.specs.ReadingDemands.{Numbered}
 use Rattle.partial.specs.Segments.{Segment}
 use Rattle.partial.specs.Sources.{urls_for, same_urls, source_count, source_beside}
-use Rattle.surls.specs.declared.body.Body.{Body}
+use Rattle.boxes.specs.declared.body.Body.{Body}
 use Rattle.sources.specs.Held.{Stands, ListsHeld}
 use Rattle.going.specs.Texts.{urls_of}
 

@@ -2,9 +2,9 @@
 ghost use Rattle.going.specs.Source.{SourceWith, SourceFor, GoesTo, HasList};
 
 use crate::texts::same_texts;
+use boxes::body::Body;
 use sources::find::source_of;
 use sources::lists::{ALL_LISTS, list_at};
-use surls::body::Body;
 use surls::first::has_surl;
 
 // The number of the source whose URLs are those of the texts, beside segments of so many sources: that of a source with
@@ -18,12 +18,10 @@ fn source_with(
 ) -> u64
     ensures { SourceWith file.now lists.now many texts.now lengths.now result }
 {
-    let mut n = 0;
-    while n < many {
+    for n in 0..many {
         if same_texts(file, list_at(lists, n), texts, lengths) {
             return n;
         }
-        n += 1;
     }
     many
 }
@@ -49,19 +47,12 @@ pub fn source_for(
 pub fn goes_to(file: &[u8], list: Body, texts: &[u8], lengths: &[u64]) -> bool
     ensures { GoesTo file.now list texts.now lengths.now result }
 {
-    if lengths.len() <= 1 {
-        return true;
-    }
-    same_texts(file, list, texts, lengths)
+    lengths.len() <= 1 || same_texts(file, list, texts, lengths)
 }
 
 // Whether an addition with texts of these lengths has a list of URLs: its own, or that in a container.
 pub fn has_list(file: &[u8], list: Body, lengths: &[u64]) -> bool
     ensures { HasList file.now list lengths.now result }
 {
-    if 2 <= lengths.len() {
-        true
-    } else {
-        has_surl(file, list)
-    }
+    2 <= lengths.len() || has_surl(file, list)
 }

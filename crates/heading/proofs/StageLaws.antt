@@ -6,6 +6,8 @@ use mathlib.Core.Path.{◌≡◌, sym, ap, ◌∙◌}
 use borrow.Author.Tests.{le-leb, lt-leb}
 use lib.ListN.{length}
 use Rattle.boxes.specs.Answer.{refused, given}
+use Rattle.boxes.specs.Bodies.{boxes_of, body_of}
+use Rattle.boxes.specs.declared.body.Body.{Body}
 use Rattle.boxes.specs.Framing.{Box, boxes_in, box_of}
 use Rattle.boxes.specs.Kinds.{pseg, those, box_at}
 use Rattle.boxes.specs.declared.framing.Framed.{Framed}
@@ -17,8 +19,7 @@ use Rattle.partial.specs.Index.{has_index}
 use Rattle.partial.specs.Tables.{first_text}
 use Rattle.surls.specs.Parts.{part_of}
 use Rattle.heading.specs.declared.answers.Head.{Head}
-use Rattle.heading.specs.declared.answers.Headed.TheVariants.{Found}
-use Rattle.heading.specs.Facts.{pfil_body, facts_of, headed_answer}
+use Rattle.heading.specs.Facts.{pfil_body, facts_of, facts_by}
 use Rattle.heading.specs.Steps.{Fronted}
 
 module _ (f : List ℕ) where
@@ -49,26 +50,26 @@ module _ (f : List ℕ) where
     pfil_refused ftyp brand wrong = rw (ftyp, brand, wrong)
 
     -- after stage 9, with the box that is second
-    module _ {mixed : Bool} (t : Fronted f mixed bs) (b : Framed) (same : box_of b ≡ box_at 1 bs) where
-      pub inner_refused : {n : ℕ} → boxes_in Pfil f b.body.0 b.end.0 ≡ refused n → judged f bs ≡ refused n
+    module _ {mixed : Bool} (t : Fronted f mixed bs) (b : Framed) (same : box_of b ≡ box_at 1 bs) {list : Body} (body : list ≡ body_of Pfil b) where
+      pub inner_refused : {n : ℕ} → boxes_of f list ≡ refused n → judged f bs ≡ refused n
       unfolding judged
-      inner_refused e = rw (t.ftyp, t.brand, t.pfil, ← same, box_fields b, e)
+      inner_refused e = rw (t.ftyp, t.brand, t.pfil, ← same, box_fields b, rw body at e)
 
-      module _ {is : List Box} (inner : boxes_in Pfil f b.body.0 b.end.0 ≡ given is) where
+      module _ {is : List Box} (inner : boxes_of f list ≡ given is) where
         pub pfhd_refused : pfhd_right f is ≡ false → judged f bs ≡ refused 10
         unfolding judged
-        pfhd_refused wrong = rw (t.ftyp, t.brand, t.pfil, ← same, box_fields b, inner, wrong)
+        pfhd_refused wrong = rw (t.ftyp, t.brand, t.pfil, ← same, box_fields b, rw body at inner, wrong)
 
         pub surl_refused : pfhd_right f is ≡ true → surl_right f is ≡ false → judged f bs ≡ refused 11
         unfolding judged
-        surl_refused pfhd wrong = rw (t.ftyp, t.brand, t.pfil, ← same, box_fields b, inner, pfhd, wrong)
+        surl_refused pfhd wrong = rw (t.ftyp, t.brand, t.pfil, ← same, box_fields b, rw body at inner, pfhd, wrong)
 
         pub all_right : pfhd_right f is ≡ true → surl_right f is ≡ true → judged f bs ≡ given (record { boxes = bs; inner = is; urls = urls_in f is; mixed = mixed })
         unfolding judged
-        all_right pfhd surl = rw (t.ftyp, t.brand, t.pfil, ← same, box_fields b, inner, pfhd, surl, ← t.brands)
+        all_right pfhd surl = rw (t.ftyp, t.brand, t.pfil, ← same, box_fields b, rw body at inner, pfhd, surl, ← t.brands)
 
   -- where the second box has its body
-  pub body_told : (bs : List Box) (b : Framed) → box_of b ≡ box_at 1 bs → record { container = Pfil; start = b.body; end = b.end } ≡ pfil_body bs
+  pub body_told : (bs : List Box) (b : Framed) → box_of b ≡ box_at 1 bs → body_of Pfil b ≡ pfil_body bs
   body_told bs b same =
       let body : b.body.0 ≡ (box_at 1 bs).body = sym (ap (λ x. x.body) (box_fields b)) ∙ ap (λ x. x.body) same in
       let end : b.end.0 ≡ (box_at 1 bs).end = sym (ap (λ x. x.end) (box_fields b)) ∙ ap (λ x. x.end) same in
@@ -80,7 +81,7 @@ module _ (f : List ℕ) where
       → h.list ≡ pfil_body bs
       → part_of h.url ≡ first_text url f is
       → part_of h.mime ≡ first_text mime f is
-      → headed_answer (Found h) ≡ given (facts_of f (record { boxes = bs; inner = is; urls = urls_in f is; mixed = h.mixed }))
-  unfolding headed_answer facts_of
+      → given (facts_by h) ≡ given (facts_of f (record { boxes = bs; inner = is; urls = urls_in f is; mixed = h.mixed }))
+  unfolding facts_of
   found-told bs is h boxes segments indexed list url mime =
       λ i. given (record { boxes = boxes i; segments = segments i; mixed = h.mixed; indexed = indexed i; list = list i; url = url i; mime = mime i })

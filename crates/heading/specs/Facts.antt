@@ -1,6 +1,7 @@
 -- What the heading of a file tells the layers above, and what an answer of the call says of it.
-use Rattle.std.specs.Prelude.{ℕ, Bool, List, length}
-use Rattle.boxes.specs.Answer.{Answer, refused, given, ◌>>=◌}
+use Rattle.std.specs.Prelude.{ℕ, Bool, List, length, Result}
+use Rattle.refusals.specs.declared.Refusal.{Refusal}
+use Rattle.boxes.specs.Answer.{Answer, given, ◌>>=◌, told_as}
 use Rattle.boxes.specs.Framing.{Box}
 use Rattle.boxes.specs.Kinds.{pseg, those, box_at}
 use Rattle.boxes.specs.declared.kinds.Container.TheVariants.{Pfil}
@@ -8,10 +9,8 @@ use Rattle.partial.specs.Heading.{Part, Heading, url, mime}
 use Rattle.partial.specs.Index.{has_index}
 use Rattle.partial.specs.Tables.{first_text}
 use Rattle.surls.specs.Parts.{part_of}
-use Rattle.surls.specs.declared.body.Body.{Body}
+use Rattle.boxes.specs.declared.body.Body.{Body}
 use Rattle.heading.specs.declared.answers.Head.{Head}
-use Rattle.heading.specs.declared.answers.Headed.{Headed}
-use Rattle.heading.specs.declared.answers.Headed.TheVariants.{Refused, Found}
 
 -- how many boxes the file has, how many of them are `pseg`, whether it is mixed, whether its `pfil` has an index, where
 -- the list of URLs in `pfil` stands, and the URL and the MIME text of the first `surl` there
@@ -49,6 +48,5 @@ abbrev pub facts_by : Head → Facts
 facts_by h = record { boxes = h.boxes; segments = h.segments; mixed = h.mixed; indexed = h.indexed; list = h.list; url = part_of h.url; mime = part_of h.mime }
 
 -- what an answer about a heading says
-unfoldable pub headed_answer : Headed → Answer Facts
-headed_answer (Refused n) = refused n
-headed_answer (Found h) = given (facts_by h)
+abbrev pub headed_answer : Result Head Refusal → Answer Facts
+headed_answer = told_as facts_by

@@ -1,5 +1,5 @@
 // The answer of the heading's call.
-use surls::body::Body;
+use boxes::body::Body;
 use surls::part::Part;
 
 // How many boxes the file has, how many of them are `pseg`, whether it is mixed, whether its `pfil` has an index, where
@@ -13,11 +13,4 @@ pub struct Head {
     pub list: Body,
     pub url: Part,
     pub mime: Part,
-}
-
-// A refusal, or what the heading tells.
-#[derive(Clone, Copy)]
-pub enum Headed {
-    Refused(u64),
-    Found(Head),
 }

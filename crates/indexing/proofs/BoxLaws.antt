@@ -2,7 +2,7 @@
 use Prim.Native.Nat.{ℕ, suc, ◌+◌, ◌-◌, ◌*◌, ◌≤◌}
 use mathlib.Core.Bool.{Bool, true, false, ◌&&◌}
 use mathlib.Core.List.{List, [], ◌∷◌, map}
-use mathlib.Core.Option.{Option, some}
+use Rattle.std.specs.Prelude.{Option, Some}
 use mathlib.Core.Path.{◌≡◌, refl, sym, ap, subst, ◌∙◌}
 use native.Mathlib.Decide.{dec_le}
 use native.Mathlib.Omega.{arith}
@@ -51,14 +51,14 @@ and_both false b h = let z : ◌≡◌ {A = ℕ} 0 1 = cc in absurd (omega arith
 -- an end that is known is within the limit
 pub record Headed (b : Box) (x : IndexFields) (end : Option ℕ) : Type 0 where
   pub fields : Fielded b x
-  pub near : {e : ℕ} → end ≡ some e → e ≤ source_limit
+  pub near : {e : ℕ} → end ≡ Some e → e ≤ source_limit
 
-judged_near : (enclosing : Option ℕ) (place : ℕ) (x : IndexFields) {end : Option ℕ} → judged_end enclosing place x ≡ given end → {e : ℕ} → end ≡ some e → e ≤ source_limit
+judged_near : (enclosing : Option ℕ) (place : ℕ) (x : IndexFields) {end : Option ℕ} → judged_end enclosing place x ≡ given end → {e : ℕ} → end ≡ Some e → e ≤ source_limit
 unfolding judged_end end_right wherever
 judged_near enclosing place x {end} h {e} ends =
     let (right, same) = held 36 (end_right source_limit place x (end_from enclosing place x)) _ h in
-    let here : end_from enclosing place x ≡ some e = given_same same ∙ ends in
-    let tested : end_right source_limit place x (some e) ≡ true = rw here at right in
+    let here : end_from enclosing place x ≡ Some e = given_same same ∙ ends in
+    let tested : end_right source_limit place x (Some e) ≡ true = rw here at right in
     leb-true e source_limit (and_both (leb (place + x.front) e) (leb e source_limit) tested)
 
 pub head_lies : (f : List ℕ) (b : Box) (enclosing : Option ℕ) (last : Bool) (place : ℕ) {x : IndexFields} {end : Option ℕ} → head_in f b enclosing last place ≡ given (x, end) → Headed b x end
@@ -190,7 +190,7 @@ module _ (f : List ℕ) (level : ℕ) (deepest : level ≤ level_limit) where
           box-filled h = box_list ∙ rw (listed, h)
 
     -- where a box ends is within the limit
-    pub box_near : {told : Told} → box_on f level enclosing last place b ≡ given told → {e : ℕ} → told.end ≡ some e → e ≤ source_limit
+    pub box_near : {told : Told} → box_on f level enclosing last place b ≡ given told → {e : ℕ} → told.end ≡ Some e → e ≤ source_limit
     box_near {told} h {e} ends =
         let (head, headed, more) = both_given (head_in f b enclosing last place) _ (sym box_opens ∙ h) in
         let (inner, framed, rest) = both_given (list_framed (boxes_in Bidx f head.0.list b.end)) _ more in

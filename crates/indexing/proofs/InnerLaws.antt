@@ -2,9 +2,9 @@
 use Prim.Native.Nat.{ℕ, ◌+◌, ◌-◌, ◌≤◌}
 use mathlib.Core.Bool.{true, false}
 use mathlib.Core.List.{List, [], ◌∷◌, ◌++◌, append-nil}
-use mathlib.Core.Path.{◌≡◌, sym, ap, ◌∙◌}
+use mathlib.Core.Path.{◌≡◌, refl, sym, ap, ◌∙◌}
 use native.Mathlib.Omega.{arith}
-use borrow.Author.Tests.{leb-true}
+use borrow.Author.Tests.{leb-true, eq-eqb, ne_eqb}
 use lib.ListN.{length, length-append, drop_of_length-le}
 use Rattle.boxes.specs.Answer.{refused, given}
 use Rattle.boxes.specs.Framing.{Box, boxes_in, box_of}
@@ -20,9 +20,9 @@ use Rattle.indexing.specs.declared.inner.InnerCounts.{InnerCounts}
 
 -- ---- the counts along a walk
 
-pub counted_none : InnerCounted [] (record { many = 0; parts = 0; size = 0 })
+pub counted_none : (c : InnerCounts) → c.many ≡ 0 → c.parts ≡ 0 → c.size ≡ 0 → InnerCounted [] c
 unfolding front_part first_of box_at
-counted_none = record { many = rw those-nil; parts = rw those-nil; size = λ few. rw those-nil }
+counted_none c many parts size = record { many = rw those-nil many; parts = rw those-nil parts; size = λ few. rw those-nil size }
 
 module _ (bs : List Box) (b : Framed) {c : InnerCounts} (so_far : InnerCounted bs c) where
   -- a box of another kind leaves the front part
@@ -33,32 +33,32 @@ module _ (bs : List Box) (b : Framed) {c : InnerCounts} (so_far : InnerCounted b
   unfolding front_part first_of
   front_kept other few = so_far.size (rw (front_other other) at few) ∙ rw (front_other other)
 
-  kind : (box_of b).kind ≡ b.kind
+  kind : (box_of b).kind ≡ b.kind.code
   kind = ap (λ (x : Box). x.kind) (box_fields b)
 
-  pub counted_box : b.kind ≡ bidx.code → InnerCounted (bs ++ (box_of b ∷ [])) (record { many = c.many + 1; parts = c.parts; size = c.size })
+  pub counted_box : b.kind.code ≡ bidx.code → InnerCounted (bs ++ (box_of b ∷ [])) (record { many = c.many + 1; parts = c.parts; size = c.size })
   counted_box e =
-      let other : b.kind ≡ frpa.code → ⊥ = λ same. omega (arith, e, same) in
+      let other : b.kind.code ≡ frpa.code → ⊥ = λ same. omega (arith, e, same) in
       record {
         many = one_found bidx bs (box_of b) so_far.many (kind ∙ e);
         parts = one_passed frpa bs (box_of b) so_far.parts (λ same. other (sym kind ∙ same));
-        size = front_kept (is_other frpa b other);
+        size = front_kept (is_other frpa b refl (ne_eqb _ _ other));
       }
 
-  pub counted_other : (b.kind ≡ bidx.code → ⊥) → (b.kind ≡ frpa.code → ⊥) → InnerCounted (bs ++ (box_of b ∷ [])) c
+  pub counted_other : (b.kind.code ≡ bidx.code → ⊥) → (b.kind.code ≡ frpa.code → ⊥) → InnerCounted (bs ++ (box_of b ∷ [])) c
   counted_other no-box no_part =
       record {
         many = one_passed bidx bs (box_of b) so_far.many (λ same. no-box (sym kind ∙ same));
         parts = one_passed frpa bs (box_of b) so_far.parts (λ same. no_part (sym kind ∙ same));
-        size = front_kept (is_other frpa b no_part);
+        size = front_kept (is_other frpa b refl (ne_eqb _ _ no_part));
       }
 
-  pub counted_part : (b.kind ≡ bidx.code → ⊥) → b.kind ≡ frpa.code → {size : ℕ} → size ≡ b.end.0 - b.body.0
+  pub counted_part : (b.kind.code ≡ bidx.code → ⊥) → b.kind.code ≡ frpa.code → {size : ℕ} → size ≡ b.end.0 - b.body.0
       → InnerCounted (bs ++ (box_of b ∷ [])) (record { many = c.many; parts = c.parts + 1; size = size })
   unfolding front_part first_of box_at
   counted_part no-box e same_size =
       let here : those frpa (bs ++ (box_of b ∷ [])) ≡ those frpa bs ++ (box_of b ∷ []) =
-      those-append frpa bs (box_of b ∷ []) ∙ rw (those_one frpa (box_of b) [] (is_kind frpa b e), those-nil) in
+      those-append frpa bs (box_of b ∷ []) ∙ rw (those_one frpa (box_of b) [] (is_kind frpa b refl (eq-eqb _ _ e)), those-nil) in
       record {
         many = one_passed bidx bs (box_of b) so_far.many (λ same. no-box (sym kind ∙ same));
         parts = one_found frpa bs (box_of b) so_far.parts (kind ∙ e);

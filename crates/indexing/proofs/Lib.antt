@@ -1,4 +1,4 @@
-pub mod EndLaws
+pub mod KnownLaws
 pub mod FieldsLaws
 pub mod HeadLaws
 pub mod InnerLaws
@@ -9,3 +9,4 @@ pub mod ListLaws
 pub mod ReadyLaws
 pub mod IndexLaws
 pub mod Determined
+pub mod ReplacedLaws

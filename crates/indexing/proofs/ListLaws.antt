@@ -2,41 +2,42 @@
 use Prim.Native.Nat.{ℕ, ◌+◌, ◌-◌, ◌*◌, ◌≤◌}
 use mathlib.Core.Bool.{Bool, true, false}
 use mathlib.Core.List.{List, [], ◌∷◌}
-use mathlib.Core.Option.{Option, none, some}
+use Rattle.std.specs.Prelude.{Option, None, Some, Ok, IsErrAnd}
+use Rattle.std.proofs.lemmas.Result.{err_from_is_err_and}
+use Rattle.refusals.specs.Refusals.{refusal_no}
+use Rattle.refusals.specs.declared.Refusal.{Refusal}
 use mathlib.Core.Path.{◌≡◌, refl, sym, ap, subst, ◌∙◌}
 use native.Mathlib.Omega.{arith}
 use lib.Dec.{eqb}
 use lib.ListN.{length}
-use Rattle.numerals.specs.declared.place.Place.{Place}
 use Rattle.boxes.specs.Answer.{Answer, refused, given}
 use Rattle.boxes.specs.Framing.{Box, box_of}
 use Rattle.boxes.specs.Kinds.{bidx, is, those}
 use Rattle.boxes.specs.Walk.{walk_over, stepped}
+use Rattle.boxes.specs.declared.body.Body.{Body}
 use Rattle.boxes.specs.declared.framing.Framed.{Framed}
-use Rattle.boxes.specs.declared.kinds.Container.{Container}
 use Rattle.boxes.specs.declared.walk.Walk.{Walk}
 use Rattle.boxes.proofs.AnswerLaws.{given_same}
 use Rattle.boxes.proofs.KindLaws.{those-nil, those_one, those_other}
 use Rattle.boxes.proofs.WalkLaws.{ahead, met, walk_boxes, known_next, known_end, known_sound}
 use Rattle.partial.specs.Index.{Told, nothing_told, none_follows, level_limit}
 use Rattle.partial.specs.Limits.{file_limit, source_limit}
+use Rattle.partial.specs.declared.position.Position.{Position}
 use Rattle.indexing.specs.Ends.{end_of}
-use Rattle.indexing.specs.Lists.{list_on, box_on, place_after, Placed, ListReady, BoxReady, Counted, Listed}
+use Rattle.indexing.specs.Lists.{list_on, box_on, place_after, Placed, ListReady, BoxReady, Read, Counted, Listed}
 use Rattle.indexing.specs.Marks.{Marked}
-use Rattle.indexing.specs.declared.end.End.{End}
-use Rattle.indexing.specs.declared.lists.ListRead.TheVariants.{Given}
 use Rattle.indexing.specs.declared.marks.Marks.{Marks}
 use Rattle.indexing.proofs.BoxLaws.{list_opens, box_near}
 use Rattle.indexing.proofs.MarksLaws.{marked_none, marked_more}
 use Rattle.indexing.proofs.RowLaws.{none-follows, joined, resumed, row_none, row-end, row_refused, row_more}
 
 -- a place after a box is on the level too
-place_on : (level : ℕ) {place : ℕ} (e : Option ℕ) → Placed level place → ((n : ℕ) → e ≡ some n → n ≤ source_limit) → Placed level (place_after place e)
-place_on level none placed near = placed
-place_on level (some end) placed near = let low = near end refl in omega arith
+place_on : (level : ℕ) {place : ℕ} (e : Option ℕ) → Placed level place → ((n : ℕ) → e ≡ Some n → n ≤ source_limit) → Placed level (place_after place e)
+place_on level None placed near = placed
+place_on level (Some end) placed near = let low = near end refl in omega arith
 
 module _ (f : List ℕ) (level : ℕ) (enclosing : Option ℕ) (t₀ : List ℕ) (w₀ : Walk) (before : Marks) (from : ℕ) where
-  pub record Midway (t : List ℕ) (w : Walk) (m : Marks) (place : ℕ) (filled : End) (left : ℕ) : Type 0 where
+  pub record Midway (t : List ℕ) (w : Walk) (m : Marks) (place : ℕ) (filled : Option Position) (left : ℕ) : Type 0 where
     pub all : List Box
     pub rest : List Box
     pub told : Told
@@ -53,8 +54,8 @@ module _ (f : List ℕ) (level : ℕ) (enclosing : Option ℕ) (t₀ : List ℕ)
     pub placed : Placed level place
     pub rows : 16 * m.count ≤ w.at.0
 
-  module _ {t : List ℕ} {w : Walk} {m : Marks} {place : ℕ} {filled : End} {left : ℕ} (so_far : Midway t w m place filled left) where
-    module _ (b : Framed) {w' : Walk} (step : stepped f w ≡ given (some (box_of b, w'))) where
+  module _ {t : List ℕ} {w : Walk} {m : Marks} {place : ℕ} {filled : Option Position} {left : ℕ} (so_far : Midway t w m place filled left) where
+    module _ (b : Framed) {w' : Walk} (step : stepped f w ≡ given (Some (box_of b, w'))) where
       -- the walk after a box
       onward : (w'.at.0 ≡ b.end.0) × (w'.end.0 ≡ w.end.0) × (b.end.0 ≤ w.end.0) × (w.at.0 ≡ b.at.0) × (b.at.0 + 8 ≤ b.body.0) × (b.body.0 ≤ b.end.0)
       unfolding box_of
@@ -125,8 +126,8 @@ module _ (f : List ℕ) (level : ℕ) (enclosing : Option ℕ) (t₀ : List ℕ)
             let these : bs ≡ so_far.all = given_same (sym known ∙ so_far.started) in
             ap (λ (bs : List Box). list_on f level enclosing from (those bidx bs)) these ∙ decided more same ∙ row_refused (box_on f level enclosing) so_far.told place (box_of b) (those bidx more) (read_as more same fault)
 
-        pub midway_more : {t' : List ℕ} {m' : Marks} {e : End} {place' : ℕ} → Listed (box_on f level enclosing (eqb (left - 1) 0) place (box_of b)) m t t' (Given m' e)
-            → Counted b.end.0 (Given m' e)
+        pub midway_more : {t' : List ℕ} {m' : Marks} {e : Option Position} {place' : ℕ} → Listed (box_on f level enclosing (eqb (left - 1) 0) place (box_of b)) m t t' (Ok (m', e))
+            → Counted b.end.0 (Ok (m', e))
             → place' ≡ place_after place (end_of e)
             → Midway t' w' m' place' e (left - 1)
         unfolding Listed Counted
@@ -153,7 +154,7 @@ module _ (f : List ℕ) (level : ℕ) (enclosing : Option ℕ) (t₀ : List ℕ)
               rows = omega arith;
             }
 
-    pub midway_end : stepped f w ≡ given none → (bs : List Box) → ahead f w₀ ≡ given bs → Listed (list_on f level enclosing from (those bidx bs)) before t₀ t (Given m filled)
+    pub midway_end : stepped f w ≡ given None → (bs : List Box) → ahead f w₀ ≡ given bs → Listed (list_on f level enclosing from (those bidx bs)) before t₀ t (Ok (m, filled))
     unfolding Listed
     midway_end step bs known =
         let these : bs ≡ so_far.all = given_same (sym known ∙ so_far.started) in
@@ -171,12 +172,11 @@ module _ (f : List ℕ) (level : ℕ) (enclosing : Option ℕ) (t₀ : List ℕ)
     midway_sound step = known_sound f w so_far.left_over step
 
 -- where a list begins nothing is told
-pub midway_none : {f : List ℕ} {c : Container} {start end : Place} {many level from : ℕ} {before : Marks} {w : Walk} (enclosing : Option ℕ) (t : List ℕ) (filled : End)
-    → w ≡ walk_over c start end
-    → end_of filled ≡ none
-    → ListReady f c start.0 end.0 many level from before.count
-    → Midway f level enclosing t w before from t w before from filled many
-midway_none {f} {level = level} {from = from} {before = before} enclosing t filled new unended ready =
+pub midway_none : {f : List ℕ} {body : Body} {many level from : ℕ} {before : Marks} {w : Walk} (enclosing : Option ℕ) (t : List ℕ)
+    → w ≡ walk_over body.container body.start body.end
+    → ListReady f body many level from before.count
+    → Midway f level enclosing t w before from t w before from None many
+midway_none {f} {level = level} {from = from} {before = before} enclosing t new ready =
     let (bs, known, many) = ready.framed in
     record {
       all = bs;
@@ -186,7 +186,7 @@ midway_none {f} {level = level} {from = from} {before = before} enclosing t fill
       left_over = sym (walk_boxes f new) ∙ known;
       many = many;
       decide = list_opens f level ready.deepest enclosing from (those bidx bs) ∙ row_none (box_on f level enclosing) from (those bidx bs);
-      ends = unended;
+      ends = refl;
       marked = marked_none before t;
       deepest = ready.deepest;
       within = omega (arith, ap (λ (w : Walk). w.at.0) new, ap (λ (w : Walk). w.end.0) new, ready.ordered);
@@ -195,3 +195,18 @@ midway_none {f} {level = level} {from = from} {before = before} enclosing t fill
       placed = ready.placed;
       rows = omega (arith, ap (λ (w : Walk). w.at.0) new, ready.rows);
     }
+
+-- a refusal that is handed on says the same
+module _ (r : Read) (end : ℕ) (n : Refusal) (handed : IsErrAnd r (λ e. e ≡ n)) where
+  pub handed_counted : Counted end r
+  unfolding Counted
+  handed_counted = let (e, is, same) = err_from_is_err_and r handed in rw is tt
+
+  pub handed_listed : {x : Answer Told} (before : Marks) (t₀ t : List ℕ) → x ≡ refused (refusal_no n) → Listed x before t₀ t r
+  unfolding Listed
+  handed_listed before t₀ t fault =
+      let (e, is, same) = err_from_is_err_and r handed in
+      rw is (fault ∙ ap (λ n. refused (refusal_no n)) (sym same))
+
+  pub handed_read : {x : Answer Told} (before : Marks) (t₀ t : List ℕ) → x ≡ refused (refusal_no n) → Counted end r × Listed x before t₀ t r
+  handed_read before t₀ t fault = (handed_counted, handed_listed before t₀ t fault)

@@ -2,7 +2,7 @@
 use Prim.Native.Nat.{ℕ, ◌+◌, ◌-◌, ◌*◌, ◌≤◌, ◌<◌}
 use mathlib.Core.Bool.{Bool, true, false}
 use mathlib.Core.List.{List, [], ◌∷◌, map}
-use mathlib.Core.Option.{Option}
+use Rattle.std.specs.Prelude.{Option, Ok}
 use mathlib.Core.Path.{◌≡◌, refl, sym, ap, ◌∙◌}
 use native.Mathlib.Omega.{arith}
 use lib.Dec.{eqb}
@@ -15,16 +15,14 @@ use Rattle.boxes.specs.declared.kinds.Container.TheVariants.{Bidx}
 use Rattle.boxes.proofs.AnswerLaws.{not_both, given_same, both_given}
 use Rattle.partial.specs.Index.{Told, wherever, front_part, untold, level_limit}
 use Rattle.partial.specs.Limits.{file_limit}
+use Rattle.partial.specs.declared.position.Position.{Position}
 use Rattle.indexing.specs.Ends.{end_of}
 use Rattle.indexing.specs.Fields.{fields_of}
 use Rattle.indexing.specs.Head.{head_in}
-use Rattle.indexing.specs.Inner.{inner_in, inner_counts, inner_answer}
+use Rattle.indexing.specs.Inner.{inner_in, inner_counts}
 use Rattle.indexing.specs.Lists.{list_on, box_on, ListReady, BoxReady, Listed}
 use Rattle.indexing.specs.Marks.{indexed_of, Marked}
-use Rattle.indexing.specs.declared.end.End.{End}
 use Rattle.indexing.specs.declared.fields.IndexFields.{IndexFields as CodeFields}
-use Rattle.indexing.specs.declared.inner.InnerRead.{InnerRead}
-use Rattle.indexing.specs.declared.lists.ListRead.TheVariants.{Given}
 use Rattle.indexing.specs.declared.marks.Marks.{Marks}
 use Rattle.indexing.proofs.BoxLaws.{head_lies, inner_known, front_short, box_last, box-filled, box_unfilled, box_list_wrong}
 use Rattle.indexing.proofs.MarksLaws.{marked_more}
@@ -38,15 +36,6 @@ pub list_below : (level : ℕ) {t : ℕ} → level ≤ level_limit → 2 * (9 - 
 list_below level deepest e = omega arith
 
 -- ---- the counts of the list inside
-
-module _ {r : InnerRead} {read : Answer (ℕ × ℕ)} (answer : inner_answer r ≡ read) where
-  pub inner_given : {many part : ℕ} → r ≡ InnerRead.Given many part → read ≡ given (many, part)
-  unfolding inner_answer
-  inner_given e = sym answer ∙ ap inner_answer e
-
-  pub inner_refused : {n : ℕ} → r ≡ InnerRead.Refused n → read ≡ refused n
-  unfolding inner_answer
-  inner_refused e = sym answer ∙ ap inner_answer e
 
 -- the boxes that were counted
 pub record Inner (f : List ℕ) (start end many part : ℕ) : Type 0 where
@@ -80,7 +69,7 @@ pub record Roomy (b : Framed) (x : CodeFields) (count : ℕ) : Type 0 where
   pub rows : 16 * count ≤ file_limit
   pub high : x.front ≤ 32
 
-module _ (f : List ℕ) (b : Framed) (enclosing : Option ℕ) (last : Bool) (place level count : ℕ) (ready : BoxReady b level place count) (x : CodeFields) (e : End)
+module _ (f : List ℕ) (b : Framed) (enclosing : Option ℕ) (last : Bool) (place level count : ℕ) (ready : BoxReady b level place count) (x : CodeFields) (e : Option Position)
     (headed : head_in f (box_of b) enclosing last place ≡ given (fields_of x, end_of e)) where
   pub box-roomy : Roomy b x count
   unfolding box_of
@@ -98,7 +87,7 @@ module _ (f : List ℕ) (b : Framed) (enclosing : Option ℕ) (last : Bool) (pla
     part_short = omega (arith, inner.part_is, front_short f x.list.0 b.end.0 inner.read, ready.short)
 
     pub list_ready : (level ≡ level_limit → ⊥) → {count' : ℕ} → count' ≡ count + 1
-        → ListReady f Bidx x.list.0 b.end.0 many (level + 1) (place + x.front + part) count'
+        → ListReady f (record { container = Bidx; start = x.list; end = b.end }) many (level + 1) (place + x.front + part) count'
     list_ready not_last counted =
         let room = box-roomy in
         record {
@@ -113,22 +102,22 @@ module _ (f : List ℕ) (b : Framed) (enclosing : Option ℕ) (last : Bool) (pla
     same_list : list_on f (level + 1) (end_of e) (place + x.front + part) (those bidx inner.boxes) ≡ list_on f (level + 1) (end_of e) (place + x.front + front_part inner.boxes) (those bidx inner.boxes)
     same_list = ap (λ (n : ℕ). list_on f (level + 1) (end_of e) (place + x.front + n) (those bidx inner.boxes)) inner.part_is
 
-    module _ {before m : Marks} {t₀ t : List ℕ} (own : Marked before t₀ (indexed_of level place (end_of e) x.kind ∷ []) m t) where
+    module _ {before m : Marks} {t₀ t : List ℕ} (own : Marked before t₀ (indexed_of level place (end_of e) x.kind.code ∷ []) m t) where
       pub listed_last : level ≡ level_limit → {m' : Marks} → Marked m t (map (untold (level + 1)) (those bidx inner.boxes)) m' t
-          → Listed (box_on f level enclosing last place (box_of b)) before t₀ t (Given m' e)
+          → Listed (box_on f level enclosing last place (box_of b)) before t₀ t (Ok (m', e))
       unfolding Listed box_of
       listed_last deep under = (_, box_last f level ready.deepest enclosing last place (box_of b) headed inner.read deep, refl, marked_more own under)
 
-      pub listed-filled : (filled : End) {told : Told} {m' : Marks} {t' : List ℕ} → list_on f (level + 1) (end_of e) (place + x.front + part) (those bidx inner.boxes) ≡ given told
+      pub listed-filled : (filled : Option Position) {told : Told} {m' : Marks} {t' : List ℕ} → list_on f (level + 1) (end_of e) (place + x.front + part) (those bidx inner.boxes) ≡ given told
           → end_of filled ≡ told.end
           → Marked m t told.boxes m' t'
           → wherever (λ to. wherever (eqb to) (end_of e)) (end_of filled) ≡ true
-          → Listed (box_on f level enclosing last place (box_of b)) before t₀ t' (Given m' e)
+          → Listed (box_on f level enclosing last place (box_of b)) before t₀ t' (Ok (m', e))
       unfolding Listed box_of
       listed-filled filled listed ends under fills =
           (_, box-filled f level ready.deepest enclosing last place (box_of b) headed inner.read (sym same_list ∙ listed) (rw ends at fills), refl, marked_more own under)
 
-    pub listed_unfilled : (filled : End) {told : Told} → list_on f (level + 1) (end_of e) (place + x.front + part) (those bidx inner.boxes) ≡ given told
+    pub listed_unfilled : (filled : Option Position) {told : Told} → list_on f (level + 1) (end_of e) (place + x.front + part) (those bidx inner.boxes) ≡ given told
         → end_of filled ≡ told.end
         → wherever (λ to. wherever (eqb to) (end_of e)) (end_of filled) ≡ false
         → box_on f level enclosing last place (box_of b) ≡ refused 36

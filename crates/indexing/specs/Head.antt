@@ -1,15 +1,14 @@
 -- Document 02, [7], refusal 36 of one indexed box: what its fields and its end in the source are.
 use Rattle.std.specs.Prelude.{ℕ, Bool, List}
-use Rattle.std.proofs.Math.Option.{Option}
-use Rattle.boxes.specs.Answer.{Answer, refused, given, ◌>>=◌, hold}
+use Rattle.std.specs.Prelude.{Option}
+use Rattle.boxes.specs.Answer.{Answer, given, ◌>>=◌, hold}
 use Rattle.boxes.specs.Framing.{Box}
 use Rattle.partial.specs.Index.{IndexFields, index_fields, end_from, end_right, last_or_sized}
 use Rattle.partial.specs.Limits.{source_limit}
+use Rattle.partial.specs.declared.position.Position.{Position}
 use Rattle.indexing.specs.Ends.{end_of}
 use Rattle.indexing.specs.Fields.{fields_of}
-use Rattle.indexing.specs.declared.head.EndRead.{EndRead}
-use Rattle.indexing.specs.declared.head.HeadRead.{HeadRead}
-use Rattle.indexing.specs.declared.head.HeadRead.TheVariants.{Refused, Given}
+use Rattle.indexing.specs.declared.fields.IndexFields.{IndexFields as CodeFields}
 
 -- the end of a box that starts at a place in what ends there
 unfoldable pub judged_end : Option ℕ → ℕ → IndexFields → Answer (Option ℕ)
@@ -25,12 +24,6 @@ head_in f b enclosing last place = do
   end ← judged_end enclosing place x
   given (x, end)
 
--- what an answer about an end says
-unfoldable pub end_answer : EndRead → Answer (Option ℕ)
-end_answer (EndRead.Refused n) = refused n
-end_answer (EndRead.Given e) = given (end_of e)
-
--- what an answer about both says
-unfoldable pub head_answer : HeadRead → Answer (IndexFields × Option ℕ)
-head_answer (Refused n) = refused n
-head_answer (Given x e) = given (fields_of x, end_of e)
+-- what fields and an end that were read say
+abbrev pub head_told : CodeFields × Option Position → IndexFields × Option ℕ
+head_told (x, end) = (fields_of x, end_of end)

@@ -1,13 +1,11 @@
 -- Document 02, [7]: the list inside an indexed box, with its front part (5.2.6).
 use Rattle.std.specs.Prelude.{ℕ, ◌≤◌, List, ◌≡◌, length}
-use Rattle.boxes.specs.Answer.{Answer, refused, given, ◌>>=◌, hold}
+use Rattle.boxes.specs.Answer.{Answer, given, ◌>>=◌, hold}
 use Rattle.boxes.specs.Framing.{Box, boxes_in}
 use Rattle.boxes.specs.Kinds.{bidx, frpa, right, those}
 use Rattle.boxes.specs.declared.kinds.Container.TheVariants.{Bidx}
 use Rattle.partial.specs.Index.{front_part, list_framed}
 use Rattle.indexing.specs.declared.inner.InnerCounts.{InnerCounts}
-use Rattle.indexing.specs.declared.inner.InnerRead.{InnerRead}
-use Rattle.indexing.specs.declared.inner.InnerRead.TheVariants.{Refused, Given}
 
 -- its boxes
 unfoldable pub inner_in : List ℕ → ℕ → ℕ → Answer (List Box)
@@ -27,8 +25,3 @@ pub record InnerCounted (bs : List Box) (c : InnerCounts) : Type 0 where
   pub many : c.many ≡ length (those bidx bs)
   pub parts : c.parts ≡ length (those frpa bs)
   pub size : length (those frpa bs) ≤ 1 → c.size ≡ front_part bs
-
--- what an answer about them says
-unfoldable pub inner_answer : InnerRead → Answer (ℕ × ℕ)
-inner_answer (Refused n) = refused n
-inner_answer (Given many part) = given (many, part)

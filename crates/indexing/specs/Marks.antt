@@ -1,6 +1,6 @@
 -- Document 02, [7], refusals 37 and 39 and the rows: what is marked of indexed boxes, as the code gathers it.
 use Rattle.std.specs.Prelude.{ℕ, ◌+◌, ◌*◌, Bool, true, false, not, ◌||◌, List, [], ◌∷◌, ◌++◌, ◌≡◌, leb, length}
-use Rattle.std.proofs.Math.Option.{Option}
+use Rattle.std.specs.Prelude.{Option}
 use Rattle.partial.specs.Index.{Indexed, indexed_size, is_known, level_limit, index_row_length}
 use Rattle.partial.specs.Sequences.{all_of}
 use Rattle.filling.specs.Rows.{Put}

@@ -1,111 +1,79 @@
 // The index in a container, `pfil` or `pseg`.
-ghost use Rattle.std.specs.Prelude.{true, List, ◌≡◌};
+ghost use Rattle.std.specs.Prelude.{List, ◌≡◌, ◌↔◌, IsTrue};
 ghost use Rattle.boxes.specs.Framing.{Box, box_of};
 ghost use Rattle.indexing.specs.Ends.{end_of};
 ghost use Rattle.indexing.specs.Index.{list_in, Bounded, Contained, Indexes, CountedIn};
 ghost use Rattle.indexing.specs.Lists.{Counted, Listed};
 
-use crate::end::End;
-use crate::lists::{ListRead, index_list};
+use crate::lists::index_list;
 use crate::marks::Marks;
+use crate::spot::Spot;
+use boxes::body::Body;
 use boxes::framing::Framed;
 use boxes::kinds::{BIDX, Container, FIDX};
-use numerals::place::Place;
 use partial::limits::{FILE_LIMIT, SOURCE_LIMIT};
 use partial::position::Position;
-use partial::refusals::INDEX_WRONG;
+use refusals::Refusal;
 use tallying::counting::tally;
 use tallying::find::first_of;
 use tallying::rules::keeps;
 
-// Whether there is an index, and what is marked with its boxes; or the number of a refusal.
-#[derive(Clone, Copy)]
-pub enum IndexRead {
-    Refused(u64),
-    Given(bool, Marks),
-}
-
 // Whether a list lies in a file, behind sixteen bytes for each row, and its boxes start in a source: no number that is
 // made of these is over 64 bits.
 fn bounded(b: Framed, from: Position, before: Marks) -> bool
-    ensures { (result ≡ true → Bounded b from.0 before.count) × (Bounded b from.0 before.count → result ≡ true) }
+    ensures { IsTrue result ↔ Bounded b from.0 before.count }
 {
     let body = b.body;
     let end = b.end;
-    if end.0 < body.0 {
-        return false;
-    }
-    if FILE_LIMIT < end.0 {
-        return false;
-    }
-    if SOURCE_LIMIT < from.0 {
-        return false;
-    }
-    before.count <= body.0 / 16
+    body.0 <= end.0 && end.0 <= FILE_LIMIT && from.0 <= SOURCE_LIMIT && before.count <= body.0 / 16
 }
 
-// The list of a `fidx`, whose boxes start at a place of the source.
+// The list of a `fidx`, whose boxes start at a place of the source: what is marked with them, and where the last ends.
 fn list_of(
     file: &[u8],
     b: Framed,
-    size: End,
+    size: Option<Position>,
     from: Position,
     before: Marks,
     table: &mut [u64],
-) -> ListRead
+) -> Result<(Marks, Option<Position>), Refusal>
     ensures { Counted b.end.0 result × (Bounded b from.0 before.count
         → Listed (list_in file.now (box_of b) (end_of size) from.0) before table.old table.new result) }
 {
     if !bounded(b, from, before) {
-        return ListRead::Refused(INDEX_WRONG);
+        return Err(Refusal::IndexWrong);
     }
-    let body = b.body;
-    let end = b.end;
-    let inner = tally(file, Container::Fidx, body, end);
-    if inner.fault != 0 {
-        return ListRead::Refused(INDEX_WRONG);
-    }
-    index_list(
-        file,
-        Container::Fidx,
-        body,
-        end,
-        inner.of(BIDX),
-        1,
-        size,
-        from,
-        before,
-        table,
-    )
+    let body = b.as_container(Container::Fidx);
+    let inner = tally(file, body).or(Err(Refusal::IndexWrong))?;
+    let spot = Spot {
+        level: 1,
+        enclosing: size,
+        place: from,
+    };
+    index_list(file, body, inner.of(BIDX), spot, before, table)
 }
 
-// The index in the container that starts and ends at these places, of a source that ends there: its `fidx`, if it has
-// one, whose boxes start at a place of the source.
+// What is marked with the index in a container, if it has one, of a source that ends there: its `fidx`, whose boxes
+// start at a place of the source.
 pub fn index_in(
     file: &[u8],
-    container: Container,
-    start: Place,
-    end: Place,
-    size: End,
+    body: Body,
+    size: Option<Position>,
     from: Position,
     before: Marks,
     table: &mut [u64],
-) -> IndexRead
-    ensures { (bs : List Box) → Contained file.now container start.0 end.0 from.0 before.count bs
-        → Indexes file.now container bs (end_of size) from.0 before table.old table.new result
-        × CountedIn end.0 result }
+) -> Result<Option<Marks>, Refusal>
+    ensures { (bs : List Box) → Contained file.now body from.0 before.count bs
+        → Indexes file.now body.container bs (end_of size) from.0 before table.old table.new result
+        × CountedIn body.end.0 before result }
 {
-    let counts = tally(file, container, start, end);
-    let many = counts.of(FIDX);
-    if !keeps(container, FIDX, many) {
-        return IndexRead::Refused(INDEX_WRONG);
+    let counts = tally(file, body)?;
+    if !keeps(body.container, FIDX, counts.of(FIDX)) {
+        return Err(Refusal::IndexWrong);
     }
-    if many == 0 {
-        return IndexRead::Given(false, before);
-    }
-    let list = first_of(file, container, FIDX, start, end);
-    match list_of(file, list, size, from, before, table) {
-        ListRead::Refused(n) => IndexRead::Refused(n),
-        ListRead::Given(marks, _) => IndexRead::Given(true, marks),
-    }
+    let Some(list) = first_of(file, body, FIDX) else {
+        return Ok(None);
+    };
+    let (marks, _) = list_of(file, list, size, from, before, table)?;
+    Ok(Some(marks))
 }

@@ -7,14 +7,13 @@ ghost use Rattle.partial.specs.Limits.{file_limit};
 ghost use Rattle.indexing.specs.Ends.{end_of};
 ghost use Rattle.indexing.specs.Marks.{indexed_of, Marked};
 
-use crate::end::End;
+use boxes::kinds::Kind;
 use filling::rows::put_row;
-use numerals::order::between;
 use partial::position::Position;
 use partial::rows::INDEX_ROW;
 
 // How many rows there are, whether a box of a ninth level was met, and whether an end that is not known.
-#[derive(Clone, Copy)]
+#[derive(Clone, Copy, Default)]
 pub struct Marks {
     pub count: u64,
     pub deep: bool,
@@ -22,11 +21,13 @@ pub struct Marks {
 }
 
 // How many bytes a box has that starts at a place, none where its end is not known.
-fn size_from(place: Position, end: End) -> u64
+fn size_from(place: Position, end: Option<Position>) -> u64
     ensures { (level kind : ℕ) → result ≡ indexed_size (indexed_of level place.0 (end_of end) kind) }
 {
-    let at = end.at;
-    if end.known { between(place.0, at.0) } else { 0 }
+    match end {
+        Some(at) => at.0.saturating_sub(place.0),
+        None => 0,
+    }
 }
 
 // The marks with so many boxes of a ninth level, which are not looked into.
@@ -35,9 +36,8 @@ pub(crate) fn deepened(marks: Marks, many: u64) -> Marks
         → many ≡ length bs → Marked marks t (map (untold level) bs) result t) }
 {
     Marks {
-        count: marks.count,
         deep: marks.deep || many != 0,
-        unknown: marks.unknown,
+        ..marks
     }
 }
 
@@ -48,19 +48,19 @@ pub(crate) fn put_box(
     before: Marks,
     level: u64,
     place: Position,
-    end: End,
-    kind: u32,
+    end: Option<Position>,
+    kind: Kind,
 ) -> Marks
     requires { (16 * before.count ≤ file_limit) × (level ≤ level_limit) }
     ensures { (result.count ≡ before.count + 1)
-        × Marked before table.old (indexed_of level place.0 (end_of end) kind ∷ []) result table.new }
+        × Marked before table.old (indexed_of level place.0 (end_of end) kind.code ∷ []) result table.new }
 {
     let size = size_from(place, end);
-    let row = [level, place.0, size, kind as u64, 0];
+    let row = [level, place.0, size, kind.code as u64, 0];
     put_row(table, (INDEX_ROW * before.count) as usize, &row);
     Marks {
         count: before.count + 1,
-        deep: before.deep,
-        unknown: before.unknown || !end.known,
+        unknown: before.unknown || end.is_none(),
+        ..before
     }
 }

@@ -3,7 +3,10 @@
 use Prim.Native.Nat.{ℕ, ◌+◌, ◌*◌, ◌≤◌, ◌<◌}
 use mathlib.Core.Bool.{true}
 use mathlib.Core.List.{List, [], ◌∷◌, ◌++◌, Memᴰ}
-use mathlib.Core.Option.{Option}
+use Rattle.std.specs.Prelude.{Option, Result, Ok, Err, IsErrAnd}
+use Rattle.std.proofs.lemmas.Result.{err_from_is_err_and}
+use Rattle.refusals.specs.Refusals.{refusal_no}
+use Rattle.refusals.specs.declared.Refusal.{Refusal}
 use mathlib.Core.Path.{◌≡◌, refl, sym, ap, subst, ◌∙◌}
 use native.Mathlib.Omega.{arith}
 use borrow.Author.Tests.{le-leb, lt-leb}
@@ -14,7 +17,6 @@ use Rattle.boxes.specs.Framing.{Box}
 use Rattle.boxes.specs.declared.kinds.Container.{Container}
 use Rattle.boxes.specs.declared.kinds.Container.TheVariants.{Pseg}
 use Rattle.boxes.proofs.AnswerLaws.{not_both, given_same, both_given}
-use Rattle.partial.specs.Answers.{counted_answer}
 use Rattle.partial.specs.Heading.{Heading, heading}
 use Rattle.partial.specs.Index.{Indexed, SourceBox, boxes_alone, belonging, index_in, index_for, index_of_segments, index_of, indexed, index_row, index_rows, index_row_length, level_limit}
 use Rattle.partial.specs.Limits.{segment_limit, source_limit}
@@ -24,7 +26,6 @@ use Rattle.partial.specs.Segments.{Segment}
 use Rattle.partial.specs.Sequences.{all_of}
 use Rattle.partial.specs.Sources.{source_count, source_beside}
 use Rattle.partial.specs.Tables.{index_tabled}
-use Rattle.partial.specs.declared.answers.Counted.TheVariants as Counted
 use Rattle.partial.proofs.Meaning.SequenceLaws.{both}
 use Rattle.partial.proofs.Meaning.SourceLaws.{source_low, beside_there, beside_most, count_most}
 use Rattle.partial.proofs.Reading.IndexedLaws.{indexed_whole}
@@ -34,8 +35,8 @@ use Rattle.sources.specs.Held.{SourceOf, ListsHeld}
 use Rattle.gathering.proofs.GatheredLaws.{gathered-sources}
 use Rattle.gathering.proofs.RowLaws.{put_filled}
 use Rattle.filling.proofs.RowLaws.{put_same}
+use Rattle.indexing.specs.declared.marks.Marks.{Marks}
 use Rattle.fileindex.specs.File.{Tells, source_row, rows_by}
-use Rattle.fileindex.specs.declared.file.FileIndex.{FileIndex}
 use Rattle.reading.specs.Judged.{Judged}
 use Rattle.reading.proofs.JudgedLaws.{Accepted, read_opened}
 use Rattle.indexrows.specs.Calls.{Indexes}
@@ -64,15 +65,20 @@ module _ (f table : List ℕ) where
     index_given room = rw (read, head, told, le-leb (length (index_rows ss is)) (length table) (omega (arith, index_long ss is)))
 
   -- after a refusal the table is as it was
-  pub indexes_refused : {n : ℕ} → index_tabled source_limit f table ≡ refused n → Indexes f table table (Counted.Refused n)
-  unfolding counted_answer after
-  indexes_refused e = record { answer = rw e; rows = rw e }
+  pub indexes_refused : (n : Refusal) → index_tabled source_limit f table ≡ refused (refusal_no n) → Indexes f table table (Err n)
+  unfolding after
+  indexes_refused n e = record { answer = rw e; rows = rw e }
+
+  pub indexes_handed : (n : Refusal) (r : Result ℕ Refusal) → IsErrAnd r (λ e. e ≡ n) → index_tabled source_limit f table ≡ refused (refusal_no n) → Indexes f table table r
+  indexes_handed n r handed e =
+      let (m, is, same) = err_from_is_err_and r handed in
+      rw is (indexes_refused m (e ∙ ap (λ n. refused (refusal_no n)) (sym same)))
 
   -- else it is filled
   pub indexes_given : {table' : List ℕ} {count : ℕ} (ss : List Segment) (is : List SourceBox) → index_tabled source_limit f table ≡ given (ss, is) → count ≡ length is
       → table' ≡ filled (index_rows ss is) table
-      → Indexes f table table' (Counted.Rows count)
-  unfolding counted_answer after
+      → Indexes f table table' (Ok count)
+  unfolding after
   indexes_given ss is e many rows = record { answer = rw e (ap given many); rows = rw e rows }
 
 -- an index without a box fills nothing
@@ -92,26 +98,31 @@ rows-by number (i ∷ is) all =
     let (here, there) = both (leb i.box.level level_limit) (all_of (λ i. leb i.level level_limit) (boxes_alone is)) all in
     rw (rows_by, here) (ap (λ (rows : List ℕ). source_row (number i.urls) i.box ++ rows) (rows-by number is there))
 
--- the rows of a pass that told of the index of an accepted file, with the numbers of their sources
-pub told-filled : (f : List ℕ) (h : Heading) (ss : List Segment) (t₀ : List ℕ) {t : List ℕ} (r : FileIndex) (is : List SourceBox)
-    → Tells (source_beside ss) (index_of source_limit f h ss) t₀ t r
-    → indexed source_limit f h ss ≡ given is
-    → index_row_length * length is ≤ length t₀
-    → t ≡ filled (rows_with (marked_below ss 0) is) t₀
-unfolding index_of Tells
-told-filled f h ss t₀ {t} r is tells e room =
+-- an accepted file's index is told
+index_known : (f : List ℕ) (h : Heading) (ss : List Segment) {is : List SourceBox} → indexed source_limit f h ss ≡ given is → index_of source_limit f h ss ≡ given is
+unfolding index_of
+index_known f h ss e =
     let (first, later, whole, same) = indexed_whole source_limit f h ss e in
-    let read : index_of source_limit f h ss ≡ given is = rw (whole.in_pfil, whole.in_segments) (ap given same) in
-    let all = subst (λ (is : List SourceBox). all_of (λ i. leb i.level level_limit) (boxes_alone is) ≡ true) same whole.shallow in
-    go r tells read (rows-by (source_beside ss) is all ∙ sym (rows_none ss is))
-  where
-    go : (r : FileIndex) → Tells (source_beside ss) (index_of source_limit f h ss) t₀ t r → index_of source_limit f h ss ≡ given is
-        → rows_by (source_beside ss) is ≡ rows_with (marked_below ss 0) is
-        → t ≡ filled (rows_with (marked_below ss 0) is) t₀
-    go (FileIndex.Refused n) told read rows = absurd (not_both (sym told ∙ read))
-    go (FileIndex.Given m) (js, told, marked) read rows =
-        let same : rows_by (source_beside ss) js ≡ rows_with (marked_below ss 0) is = ap (rows_by (source_beside ss)) (given_same (sym told ∙ read)) ∙ rows in
-        put_filled (rows_with (marked_below ss 0) is) (put_same refl same marked.rows) (omega (arith, rows_long (marked_below ss 0) is))
+    rw (whole.in_pfil, whole.in_segments) (ap given same)
+
+module _ (f : List ℕ) (h : Heading) (ss : List Segment) (t₀ t : List ℕ) (is : List SourceBox) where
+  -- so the pass over it refuses nothing
+  pub told_sound : (n : Refusal) → Tells (source_beside ss) (index_of source_limit f h ss) t₀ t (Err n) → indexed source_limit f h ss ≡ given is → ⊥
+  unfolding Tells
+  told_sound n fault e = not_both (sym fault ∙ index_known f h ss e)
+
+  -- and puts the rows with the numbers of their sources
+  pub told-filled : (m : Marks) → Tells (source_beside ss) (index_of source_limit f h ss) t₀ t (Ok m)
+      → indexed source_limit f h ss ≡ given is
+      → index_row_length * length is ≤ length t₀
+      → t ≡ filled (rows_with (marked_below ss 0) is) t₀
+  unfolding Tells
+  told-filled m (js, told, marked) e room =
+      let (first, later, whole, same_boxes) = indexed_whole source_limit f h ss e in
+      let all = subst (λ (is : List SourceBox). all_of (λ i. leb i.level level_limit) (boxes_alone is) ≡ true) same_boxes whole.shallow in
+      let same : rows_by (source_beside ss) js ≡ rows_with (marked_below ss 0) is =
+      ap (rows_by (source_beside ss)) (given_same (sym told ∙ index_known f h ss e)) ∙ rows-by (source_beside ss) is all ∙ sym (rows_none ss is) in
+      put_filled (rows_with (marked_below ss 0) is) (put_same refl same marked.rows) (omega (arith, rows_long (marked_below ss 0) is))
 
 -- a table that they fill has room for them
 pub filled-room : (say : SourceBox → ℕ) (is : List SourceBox) (t₀ : List ℕ) {t : List ℕ} → t ≡ filled (rows_with say is) t₀ → index_row_length * length is ≤ length t

@@ -1,16 +1,17 @@
 -- Laws of the list had of a source of a file whose segments are kept: it is the source's, and has room where it is put.
-use Prim.Native.Nat.{ℕ, ◌*◌, ◌≤◌}
-use mathlib.Core.List.{List, ◌++◌}
-use mathlib.Core.Path.{◌≡◌, sym, ap, ◌∙◌}
+use Prim.Native.Nat.{ℕ, zero, suc, ◌*◌, ◌≤◌}
+use mathlib.Core.List.{List, [], ◌∷◌, ◌++◌, map}
+use mathlib.Core.Path.{◌≡◌, refl, sym, ap, ◌∙◌}
 use native.Mathlib.Omega.{arith}
-use lib.ListN.{length, drop, length-append}
+use lib.ListN.{length, take, drop}
 use lib.Seq.{drop-append_seam}
+use Rattle.std.specs.Simd.{first_chunks}
 use Rattle.boxes.specs.Answer.{given}
 use Rattle.partial.specs.Heading.{Heading, heading}
 use Rattle.partial.specs.Limits.{chunk_limit, source_limit}
 use Rattle.partial.specs.Meaning.{described_length}
 use Rattle.partial.specs.Memory.{filled}
-use Rattle.partial.specs.Ranges.{had_list}
+use Rattle.partial.specs.Ranges.{Range, had_list}
 use Rattle.partial.specs.Reading.{segments}
 use Rattle.partial.specs.Segments.{Segment, good, chunks_of}
 use Rattle.partial.specs.Sources.{of_source}
@@ -18,19 +19,21 @@ use Rattle.partial.specs.Tables.{range_row_length, range_rows}
 use Rattle.partial.proofs.Meaning.ListingLaws.{listing}
 use Rattle.partial.proofs.Reading.ReadingLaws.{accepted_of}
 use Rattle.ends.specs.Table.{Holds}
-use Rattle.gathering.specs.Kept.{Kept}
 use Rattle.gathering.proofs.RowLaws.{put_filled}
+use Rattle.spans.specs.KeptOf.{KeptOf}
+use Rattle.spans.specs.declared.kept.Kept.{Kept}
 use Rattle.spans.specs.Chunks.{many_of, SpansOf}
 use Rattle.spans.specs.Spans.{class_by}
 use Rattle.spans.proofs.ChunkLaws.{many_few, source-few}
-use Rattle.spans.proofs.FileLaws.{spanned_by}
-use Rattle.listing.specs.Lists.{Lists}
-use Rattle.listing.specs.declared.lists.Totals.{Totals}
+use Rattle.spans.proofs.FileLaws.{spanned_by, spanned_front}
+use Rattle.spans.specs.declared.span.Span.{Span}
+use Rattle.listing.specs.Lists.{PutLists}
+use Rattle.partial.specs.declared.answers.Lists.{Lists}
 use Rattle.listing.proofs.CallsLaws.{spanned_lists}
 use Rattle.listing.proofs.ListLaws.{range_rows_long}
 use Rattle.listing.proofs.ManyLaws.{had-few}
 use Rattle.indexrows.specs.Marking.{range_limit, AcceptedIn}
-use Rattle.indexrows.specs.Serving.{HadIn}
+use Rattle.indexrows.specs.Serving.{range_row, HadIn}
 
 -- a table that rows filled starts with them
 pub starts_filled : (rows t₀ : List ℕ) {t : List ℕ} → t ≡ filled rows t₀ → t ≡ filled rows t
@@ -41,41 +44,58 @@ starts_filled rows t₀ e =
 -- ---- an accepted file
 
 -- the lists of its sources are as they should be, and none has more ranges than it may
-pub accepted_in : (f : List ℕ) (h : Heading) {rows : List ℕ} {many : ℕ} {sources numbers sizes : List ℕ} {ss : List Segment} → heading f ≡ given h → segments source_limit f h ≡ given ss
-    → Kept rows many sources numbers ss → Holds sizes ss
-    → AcceptedIn rows many sources numbers sizes ss
-accepted_in f h {ss = ss} head all kept held =
+pub accepted_in : (f : List ℕ) (h : Heading) {kept : Kept} {sizes : List ℕ} {ss : List Segment} → heading f ≡ given h → segments source_limit f h ≡ given ss
+    → KeptOf kept ss → Holds sizes ss
+    → AcceptedIn kept sizes ss
+accepted_in f h {ss = ss} head all stands held =
     record {
-      kept = kept;
+      kept = stands;
       ends = held;
       lists = λ source.
           let ok = accepted_of source_limit f h head all source in
           listing (of_source source ss) ok.agreed ok.order;
-      few = λ source. omega (arith, had-few source ss (accepted_of source_limit f h head all source).order, kept.few, kept.chunks);
+      few = λ source. omega (arith, had-few source ss (accepted_of source_limit f h head all source).order, stands.few, stands.chunks);
     }
 
-module _ {rows : List ℕ} {many : ℕ} {sources numbers sizes : List ℕ} {ss : List Segment} (a : AcceptedIn rows many sources numbers sizes ss) (source : ℕ) where
+-- the first so many pairs of a table that starts with the rows of so many ranges are these
+pairs : (rs : List Range) (rest : List ℕ) (k : ℕ) → length rs ≤ k → take (length rs) (first_chunks 2 k (range_rows rs ++ rest)) ≡ map range_row rs
+unfolding range_rows
+pairs [] rest k low = refl
+pairs (r ∷ rs) rest zero low = absurd (omega arith)
+pairs (r ∷ rs) rest (suc k) low = ap (λ (rows : List (List ℕ)). range_row r ∷ rows) (pairs rs rest k (omega arith))
+
+module _ {kept : Kept} {sizes : List ℕ} {ss : List Segment} (a : AcceptedIn kept sizes ss) (source : ℕ) where
   -- no more of a source's chunks are good than a file may have
   pub good_few : many_of good (chunks_of (of_source source ss)) ≤ chunk_limit
   good_few = omega (arith, many_few good (chunks_of (of_source source ss)), source-few source ss, a.kept.chunks)
 
-  pub had-many : {end : ℕ} {t : List ℕ} {n : ℕ} {had₀ had₁ missing₀ missing₁ : List ℕ} {totals : Totals} → end ≡ described_length (of_source source ss)
+  pub had-many : {end : ℕ} {t : List Span} {n : ℕ} {had₀ had₁ missing₀ missing₁ : List ℕ} {totals : Lists} → end ≡ described_length (of_source source ss)
       → SpansOf good (chunks_of (of_source source ss)) end t n
-      → Lists (class_by t n) end had₀ had₁ missing₀ missing₁ totals
+      → PutLists (class_by (take n t) (length (take n t))) end had₀ had₁ missing₀ missing₁ totals
       → range_row_length * range_limit ≤ length had₀
-      → HadIn (of_source source ss) had₁ totals.had
-  had-many described spans listed room =
-      let lists = spanned_lists (spanned_by described spans) listed in
+      → {k : ℕ} {ranges : List (List ℕ)} → ranges ≡ first_chunks 2 k had₁
+      → range_limit ≤ k
+      → HadIn (of_source source ss) (take totals.had ranges)
+  unfolding filled
+  had-many {had₀ = had₀} {totals = totals} described spans listed room {k} paired pairs_there =
+      let lists = spanned_lists (spanned_front spans.spans.room (spanned_by described spans)) listed in
       let mine = had_list (of_source source ss) in
+      let few = a.few source in
+      let put = put_filled (range_rows mine) lists.had (omega (arith, range_rows_long mine, few)) in
       record {
         lists = a.lists source;
-        long = lists.counts.had_many;
-        rows = starts_filled (range_rows mine) _ (put_filled (range_rows mine) lists.had (omega (arith, range_rows_long mine, a.few source)));
+        rows =
+            ap (take totals.had) paired
+            ∙ ap (λ (t : List ℕ). take totals.had (first_chunks 2 k t)) put
+            ∙ ap (λ (n : ℕ). take n (first_chunks 2 k (range_rows mine ++ drop (length (range_rows mine)) had₀))) lists.counts.had_many
+            ∙ pairs mine (drop (length (range_rows mine)) had₀) k (omega arith);
       }
 
--- a table that starts with them has room for them
-pub had-room : {ss : List Segment} {t : List ℕ} {n : ℕ} → HadIn ss t n → range_row_length * n ≤ length t
-unfolding filled
-had-room {ss} {t} h =
-    let rows = range_rows (had_list ss) in
-    omega (arith, h.long, range_rows_long (had_list ss), ap length h.rows, length-append rows (drop (length rows) t))
+  -- there are no more of them than the table has pairs
+  pub had-room : {end : ℕ} {t : List Span} {n : ℕ} {had₀ had₁ missing₀ missing₁ : List ℕ} {totals : Lists} → end ≡ described_length (of_source source ss)
+      → SpansOf good (chunks_of (of_source source ss)) end t n
+      → PutLists (class_by (take n t) (length (take n t))) end had₀ had₁ missing₀ missing₁ totals
+      → totals.had ≤ range_limit
+  had-room described spans listed =
+      let lists = spanned_lists (spanned_front spans.spans.room (spanned_by described spans)) listed in
+      omega (arith, lists.counts.had_many, a.few source)

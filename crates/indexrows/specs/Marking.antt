@@ -8,15 +8,16 @@ use Rattle.partial.specs.ReadingDemands.{Listing}
 use Rattle.partial.specs.Segments.{Segment}
 use Rattle.partial.specs.Sources.{source_beside, of_source, of_urls}
 use Rattle.ends.specs.Table.{Holds}
-use Rattle.gathering.specs.Kept.{Kept}
+use Rattle.spans.specs.KeptOf.{KeptOf}
+use Rattle.spans.specs.declared.kept.Kept.{Kept}
 
 -- the ranges that a source may have: one, and one more for each segment and each chunk
 abbrev pub range_limit : ℕ
 range_limit = 1 + segment_limit + chunk_limit
 
--- tables keep the segments of an accepted file, so many, their sources and where these end
-pub record AcceptedIn (rows : List ℕ) (many : ℕ) (sources numbers sizes : List ℕ) (ss : List Segment) : Type 0 where
-  pub kept : Kept rows many sources numbers ss
+-- an accepted file is kept with these segments, and a table of sizes has where their sources end
+pub record AcceptedIn (file : Kept) (sizes : List ℕ) (ss : List Segment) : Type 0 where
+  pub kept : KeptOf file ss
   pub ends : Holds sizes ss
   pub lists : (source : ℕ) → Listing (of_source source ss)
   pub few : (source : ℕ) → length (had_list (of_source source ss)) ≤ range_limit

@@ -1,61 +1,57 @@
-// How much of a box is served, by the ranges had in a table: a first position and a length each, ascending and apart.
-ghost use Rattle.std.specs.Prelude.{◌*◌, ◌≤◌, List, ◌≡◌, length};
+// How much of a box is served, by the ranges had: a first position and a length each, ascending and apart.
+ghost use Rattle.std.specs.Prelude.{◌≤◌, List, ◌≡◌, length};
 ghost use Rattle.partial.specs.Index.{served_of};
 ghost use Rattle.partial.specs.Segments.{Segment};
-ghost use Rattle.partial.specs.Tables.{range_row_length};
-ghost use Rattle.indexrows.specs.Serving.{HadIn, Ended};
+ghost use Rattle.indexrows.specs.Serving.{HadIn, Ended, served_no};
 
 use numerals::order::ends_by;
 use partial::position::Position;
 
-// None of its positions are served.
-const NONE_SERVED: u64 = 0;
-// Some are.
-const SOME_SERVED: u64 = 1;
-// All are.
-const ALL_SERVED: u64 = 2;
-
-// How many of the first so many ranges end by a place, by halves.
-fn ended_by(had: &[u64], many: usize, place: Position) -> usize
-    requires { range_row_length * many ≤ length had.now }
-    ensures { Ended had.now many place.0 result }
-{
-    let mut low = 0;
-    let mut high = many;
-    while low < high {
-        let middle = low + (high - low) / 2;
-        if ends_by(had[2 * middle], had[2 * middle + 1], place.0) {
-            low = middle + 1;
-        } else {
-            high = middle;
-        }
-    }
-    low
+// How many of its positions are served, each with its number.
+#[derive(Clone, Copy)]
+pub(crate) enum Served {
+    Nothing = 0,
+    Part = 1,
+    All = 2,
 }
 
-// Whether none, some or all of so many positions from a place on are served: the first range that ends behind the place
-// decides it.
-pub(crate) fn served_of(had: &[u64], many: usize, place: Position, size: u64) -> u64
-    requires { range_row_length * many ≤ length had.now }
-    ensures { (ss : List Segment) → HadIn ss had.now many → result ≡ served_of ss place.0 size }
+impl Served {
+    // Its number.
+    pub(crate) fn number(self) -> u64
+        ensures { result ≡ served_no self }
+    {
+        self as u64
+    }
+}
+
+// How many of the ranges end by a place, by halves.
+fn ended_by(had: &[[u64; 2]], place: Position) -> usize
+    ensures { (result ≤ length had.now) × ((ss : List Segment) → HadIn ss had.now → Ended had.now place.0 result) }
+{
+    had.partition_point(|r| ends_by(r[0], r[1], place.0))
+}
+
+// How many of so many positions from a place on are served: the first range that ends behind the place decides it.
+pub(crate) fn served_of(had: &[[u64; 2]], place: Position, size: u64) -> Served
+    ensures { (ss : List Segment) → HadIn ss had.now → served_no result ≡ served_of ss place.0 size }
 {
     if size == 0 {
-        return ALL_SERVED;
+        return Served::All;
     }
-    let k = ended_by(had, many, place);
-    if k == many {
-        return NONE_SERVED;
+    let k = ended_by(had, place);
+    if k == had.len() {
+        return Served::Nothing;
     }
-    let first = had[2 * k];
+    let first = had[k][0];
     if ends_by(place.0, size, first) {
-        return NONE_SERVED;
+        return Served::Nothing;
     }
     if place.0 < first {
-        return SOME_SERVED;
+        return Served::Part;
     }
-    if ends_by(place.0 - first, size, had[2 * k + 1]) {
-        ALL_SERVED
+    if ends_by(place.0 - first, size, had[k][1]) {
+        Served::All
     } else {
-        SOME_SERVED
+        Served::Part
     }
 }

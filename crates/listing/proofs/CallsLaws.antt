@@ -10,29 +10,31 @@ use borrow.Author.Tests.{leb-true, leb-false, le-leb, lt-leb}
 use lib.Dec.{leb}
 use lib.ListN.{length}
 use Rattle.boxes.specs.Answer.{Answer, refused, given}
-use Rattle.partial.specs.Answers.{listed_answer}
 use Rattle.partial.specs.Limits.{source_limit}
 use Rattle.partial.specs.Memory.{fits, after}
 use Rattle.partial.specs.Ranges.{ranges, class_of, ranges_of, had_list, missing_list}
 use Rattle.partial.specs.Segments.{Segment}
 use Rattle.partial.specs.Sources.{of_source}
 use Rattle.partial.specs.Tables.{range_row_length, range_rows, tabled, listed, segment_rows, chunk_rows, had_rows, missing_rows, totals}
-use Rattle.partial.specs.declared.answers.Listed.{Listed}
+use Rattle.refusals.specs.Refusals.{refusal_no}
+use Rattle.refusals.specs.declared.Refusal.{Refusal}
+use Rattle.std.specs.Prelude.{Result, Ok, Err}
 use Rattle.partial.proofs.Meaning.SequenceLaws.{which, both}
 use Rattle.filling.specs.Rows.{Put}
 use Rattle.gathering.proofs.RowLaws.{put_filled}
+use Rattle.spans.specs.declared.span.Span.{Span}
 use Rattle.spans.specs.Files.{Spanned}
 use Rattle.spans.specs.Spans.{class_by}
 use Rattle.sweeping.proofs.RangeLaws.{ranges_same}
 use Rattle.listing.specs.Calls.{Counted, roomy, Leaves, Listing}
-use Rattle.listing.specs.Lists.{Lists}
-use Rattle.listing.specs.declared.lists.Totals.{Totals}
+use Rattle.listing.specs.Lists.{PutLists}
+use Rattle.partial.specs.declared.answers.Lists.{Lists as Totals}
 use Rattle.listing.proofs.ListLaws.{range_rows_long}
 
 -- ---- the lists of a source
 
 -- the ranges by the spans of some segments are theirs
-pub spanned_ranges : {ss : List Segment} {t : List ℕ} {n described : ℕ} → Spanned ss t n described → ranges (class_by t n) described 0 ≡ ranges_of ss
+pub spanned_ranges : {ss : List Segment} {t : List Span} {n described : ℕ} → Spanned ss t n described → ranges (class_by t n) described 0 ≡ ranges_of ss
 unfolding ranges_of
 spanned_ranges {ss} {t} {n} {described} s =
     ranges_same (class_by t n) (class_of ss) described 0 (λ q from below. s.class q (omega arith)) ∙ ap (λ (end : ℕ). ranges (class_of ss) end 0) s.long
@@ -43,8 +45,8 @@ pub record Theirs (ss : List Segment) (had₀ had₁ missing₀ missing₁ : Lis
   pub had : Put had₀ 0 (range_rows (had_list ss)) had₁
   pub missing : Put missing₀ 0 (range_rows (missing_list ss)) missing₁
 
-pub spanned_lists : {table : List ℕ} {n end : ℕ} {had₀ had₁ missing₀ missing₁ : List ℕ} {t : Totals} {ss : List Segment} → Spanned ss table n end
-    → Lists (class_by table n) end had₀ had₁ missing₀ missing₁ t
+pub spanned_lists : {table : List Span} {n end : ℕ} {had₀ had₁ missing₀ missing₁ : List ℕ} {t : Totals} {ss : List Segment} → Spanned ss table n end
+    → PutLists (class_by table n) end had₀ had₁ missing₀ missing₁ t
     → Theirs ss had₀ had₁ missing₀ missing₁ t
 unfolding had_list missing_list
 spanned_lists spanned s =
@@ -109,8 +111,8 @@ module _ (source : ℕ) (ss : List Segment) where
 
 module _ {decided : Answer (List Segment)} (source : ℕ) (a b c d : List ℕ) where
   -- after a refusal all four are as they were
-  pub leaves_refused : {n : ℕ} → decided ≡ refused n → Leaves decided source a a b b c c d d (Listed.Refused n)
-  unfolding listed_answer after
+  pub leaves_refused : {n : Refusal} → decided ≡ refused (refusal_no n) → Leaves decided source a a b b c c d d (Err n)
+  unfolding after
   leaves_refused e = record { answer = rw e; tables = rw e (record { segment_table = refl; chunk_table = refl }); had_table = rw e; missing_table = rw e }
 
   -- else they are filled
@@ -120,8 +122,8 @@ module _ {decided : Answer (List Segment)} (source : ℕ) (a b c d : List ℕ) w
       → Theirs (of_source source ss) c c' d d' t
       → range_row_length * length (had_list (of_source source ss)) ≤ length c
       → range_row_length * length (missing_list (of_source source ss)) ≤ length d
-      → Leaves decided source a a' b b' c c' d d' (Listed.Lists t.had t.missing t.received t.missed)
-  unfolding listed_answer after totals had_rows missing_rows
+      → Leaves decided source a a' b b' c c' d d' (Ok t)
+  unfolding after totals had_rows missing_rows
   leaves_given ss e one Fits-one two fits-two lists room space =
       let counts = lists.counts in
       record {
@@ -142,6 +144,6 @@ module _ (f : List ℕ) (source : ℕ) (a b c d : List ℕ) where
   unfolding listed roomy
   listed-roomy e = rw e
 
-  pub listing_roomy : {a' b' c' d' : List ℕ} {r : Listed} {ss : List Segment} → tabled source_limit f a b ≡ given ss → Leaves (roomy source ss c d) source a a' b b' c c' d d' r
+  pub listing_roomy : {a' b' c' d' : List ℕ} {r : Result Totals Refusal} {ss : List Segment} → tabled source_limit f a b ≡ given ss → Leaves (roomy source ss c d) source a a' b b' c c' d d' r
       → Listing f source a a' b b' c c' d d' r
   listing_roomy {a'} {b'} {c'} {d'} {r} read leaves = subst (λ (x : Answer (List Segment)). Leaves x source a a' b b' c c' d d' r) (sym (listed-roomy read)) leaves

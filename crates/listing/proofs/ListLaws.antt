@@ -10,11 +10,12 @@ use Rattle.partial.specs.Tables.{range_row_length, range_rows}
 use Rattle.partial.proofs.Meaning.RangeLaws.{last_in, last_out, total_last}
 use Rattle.filling.specs.Rows.{Put}
 use Rattle.filling.proofs.RowLaws.{put_none, put_more, put_same}
+use Rattle.sweeping.specs.Classes.{class_no, run_of}
 use Rattle.sweeping.specs.Ranges.{range_in}
 use Rattle.sweeping.specs.declared.ranges.Range.{Range}
 use Rattle.sweeping.proofs.RangeLaws.{found_next}
-use Rattle.listing.specs.Lists.{Stands, Lists, Joins}
-use Rattle.listing.specs.declared.lists.Totals.{Totals}
+use Rattle.listing.specs.Lists.{Stands, PutLists, Joins}
+use Rattle.partial.specs.declared.answers.Lists.{Lists as Totals}
 
 -- ---- one range more
 
@@ -38,10 +39,10 @@ module _ {t₀ t t' : List ℕ} (rs : List Stretch) (r : Stretch) (n : ℕ) wher
 module _ (p : ℕ) (r : Range) (rs : List Stretch) {had₀ had₁ missing₀ missing₁ : List ℕ} {t : Totals} (s : Stands rs had₀ had₁ missing₀ missing₁ t) where
   -- the range, as it is listed
   abbrev listed : Stretch
-  listed = record { class = r.class; first = p; length = r.length }
+  listed = record { class = class_no r.class; first = p; length = r.length }
 
-  pub join_had : {had₂ : List ℕ} → r.class ≡ had → Put had₁ (range_row_length * t.had) (p ∷ r.length ∷ []) had₂
-      → Stands (rs ++ (listed ∷ [])) had₀ had₂ missing₀ missing₁ (record { had = t.had + 1; missing = t.missing; received = t.received + r.length; missed = t.missed })
+  pub join_had : {had₂ : List ℕ} → class_no r.class ≡ had → Put had₁ (range_row_length * t.had) (p ∷ r.length ∷ []) had₂
+      → Stands (rs ++ (listed ∷ [])) had₀ had₂ missing₀ missing₁ (record { had = t.had + 1; missing = t.missing; received_total = t.received_total + r.length; missing_total = t.missing_total })
   join_had kind put =
       let mine = last_in had listed kind rs in
       let others = last_out missing listed (λ e. omega arith) rs in
@@ -54,8 +55,8 @@ module _ (p : ℕ) (r : Range) (rs : List Stretch) {had₀ had₁ missing₀ mis
         missing_rows = rw others s.missing_rows;
       }
 
-  pub join_missing : {missing₂ : List ℕ} → r.class ≡ missing → Put missing₁ (range_row_length * t.missing) (p ∷ r.length ∷ []) missing₂
-      → Stands (rs ++ (listed ∷ [])) had₀ had₁ missing₀ missing₂ (record { had = t.had; missing = t.missing + 1; received = t.received; missed = t.missed + r.length })
+  pub join_missing : {missing₂ : List ℕ} → class_no r.class ≡ missing → Put missing₁ (range_row_length * t.missing) (p ∷ r.length ∷ []) missing₂
+      → Stands (rs ++ (listed ∷ [])) had₀ had₁ missing₀ missing₂ (record { had = t.had; missing = t.missing + 1; received_total = t.received_total; missing_total = t.missing_total + r.length })
   join_missing kind put =
       let mine = last_in missing listed kind rs in
       let others = last_out had listed (λ e. omega arith) rs in
@@ -77,7 +78,7 @@ pub record Midway (of : ℕ → ℕ) (end : ℕ) (had₀ had₁ missing₀ missi
   pub rest : ranges of end 0 ≡ done ++ ranges of (end - p) p
 
 module _ (of : ℕ → ℕ) (end : ℕ) (had₀ missing₀ : List ℕ) where
-  pub midway_none : Midway of end had₀ had₀ missing₀ missing₀ (record { had = 0; missing = 0; received = 0; missed = 0 }) 0
+  pub midway_none : Midway of end had₀ had₀ missing₀ missing₀ (record { had = 0; missing = 0; received_total = 0; missing_total = 0 }) 0
   unfolding of_class total sum range_rows
   midway_none =
       let all : end ≡ end - 0 = omega arith in
@@ -88,19 +89,19 @@ module _ (of : ℕ → ℕ) (end : ℕ) (had₀ missing₀ : List ℕ) where
       }
 
   module _ {had₁ missing₁ : List ℕ} {t : Totals} {p : ℕ} (m : Midway of end had₀ had₁ missing₀ missing₁ t p) where
-    pub midway_more : p < end → {r : Range} → r ≡ range_in of p end → {had₂ missing₂ : List ℕ} {t' : Totals} → Joins t p r had₁ had₂ missing₁ missing₂ t'
+    pub midway_more : p < end → (r : Range) → run_of r ≡ range_in of p end → {had₂ missing₂ : List ℕ} {t' : Totals} → Joins t p r had₁ had₂ missing₁ missing₂ t'
         → Midway of end had₀ had₂ missing₀ missing₂ t' (p + r.length)
-    midway_more some {r} found joins =
+    midway_more some r found joins =
         record {
-          done = m.done ++ (record { class = r.class; first = p; length = r.length } ∷ []);
+          done = m.done ++ (record { class = class_no r.class; first = p; length = r.length } ∷ []);
           stands = joins m.done had₀ missing₀ m.stands;
           rest =
               m.rest
               ∙ ap (λ (rs : List Stretch). m.done ++ rs) (found_next of p end some found)
-              ∙ sym (append_assoc m.done (record { class = r.class; first = p; length = r.length } ∷ []) (ranges of (end - (p + r.length)) (p + r.length)));
+              ∙ sym (append_assoc m.done (record { class = class_no r.class; first = p; length = r.length } ∷ []) (ranges of (end - (p + r.length)) (p + r.length)));
         }
 
-    pub midway_end : end ≤ p → Lists of end had₀ had₁ missing₀ missing₁ t
+    pub midway_end : end ≤ p → PutLists of end had₀ had₁ missing₀ missing₁ t
     unfolding ranges
     midway_end over =
         let none : end - p ≡ 0 = omega arith in

@@ -6,7 +6,15 @@ use printing::marks::mark;
 use serving::calls::{ask, serve};
 use std::io;
 
-// How many numbers are lent for the rows of each table and for the ranges of each list.
+// The most numbers of the rows of each table that a file can fill, and of the ranges of a list.
+const MOST_SEGMENTS: usize = 512;
+
+const MOST_CHUNKS: usize = 6144;
+
+const MOST_RANGES: usize = 2050;
+
+// How many numbers are lent for the rows of each table and for the ranges of each list. A record that asks for more
+// than a file can fill has no answer.
 #[derive(Clone, Copy)]
 pub struct Rooms {
     pub segments: usize,
@@ -15,80 +23,53 @@ pub struct Rooms {
     pub missing: usize,
 }
 
-// Lists a source of a file. The tables and lists are parts of the longest that a file can fill; a record that asks for longer ones
-// has no answer.
+// Lists a source of a file.
 pub fn listed(rt: &impl Print, file: &[u8], source: u64, rooms: Rooms) -> io::Result<()> {
-    let segments = rooms.segments;
-    let chunks = rooms.chunks;
-    let had = rooms.had;
-    let missing = rooms.missing;
-    let mut segment_space = [0u64; 512];
-    let mut chunk_space = [0u64; 6144];
-    let mut had_space = [0u64; 2050];
-    let mut missing_space = [0u64; 2050];
-    if segments <= segment_space.len()
-        && chunks <= chunk_space.len()
-        && had <= had_space.len()
-        && missing <= missing_space.len()
+    let mut segment_space = [0; MOST_SEGMENTS];
+    let mut chunk_space = [0; MOST_CHUNKS];
+    let mut had_space = [0; MOST_RANGES];
+    let mut missing_space = [0; MOST_RANGES];
+    if rooms.segments <= MOST_SEGMENTS
+        && rooms.chunks <= MOST_CHUNKS
+        && rooms.had <= MOST_RANGES
+        && rooms.missing <= MOST_RANGES
     {
-        listed_in(
-            rt,
-            file,
-            source,
-            &mut segment_space[0..segments],
-            &mut chunk_space[0..chunks],
-            &mut had_space[0..had],
-            &mut missing_space[0..missing],
-        )?;
+        let segments = &mut segment_space[..rooms.segments];
+        let chunks = &mut chunk_space[..rooms.chunks];
+        let had = &mut had_space[..rooms.had];
+        let missing = &mut missing_space[..rooms.missing];
+        mark(segments);
+        mark(chunks);
+        mark(had);
+        mark(missing);
+        let answer = list(file, source, segments, chunks, had, missing);
+        report::listed(rt, answer, had, missing)?;
+        report::table(rt, "segments", segments)?;
+        report::table(rt, "chunks", chunks)?;
     }
     Ok(())
 }
 
-fn listed_in(
-    rt: &impl Print,
-    file: &[u8],
-    source: u64,
-    segments: &mut [u64],
-    chunks: &mut [u64],
-    had: &mut [u64],
-    missing: &mut [u64],
-) -> io::Result<()> {
-    mark(segments);
-    mark(chunks);
-    mark(had);
-    mark(missing);
-    let answer = list(file, source, segments, chunks, had, missing);
-    report::listed(rt, answer, had, missing)?;
-    report::table(rt, b"segments", segments)?;
-    report::table(rt, b"chunks", chunks)
-}
-
-// Asks of a position.
-pub fn asked(
+// Asks of a position, and has it served.
+pub fn found(
     rt: &impl Print,
     file: &[u8],
     source: u64,
     rooms: Rooms,
     p: Position,
 ) -> io::Result<()> {
-    let segments = rooms.segments;
-    let chunks = rooms.chunks;
-    let mut segment_space = [0u64; 512];
-    let mut chunk_space = [0u64; 6144];
-    if segments <= segment_space.len() && chunks <= chunk_space.len() {
-        asked_in(
-            rt,
-            file,
-            source,
-            &mut segment_space[0..segments],
-            &mut chunk_space[0..chunks],
-            p,
-        )?;
+    let mut segment_space = [0; MOST_SEGMENTS];
+    let mut chunk_space = [0; MOST_CHUNKS];
+    if rooms.segments <= MOST_SEGMENTS && rooms.chunks <= MOST_CHUNKS {
+        let segments = &mut segment_space[..rooms.segments];
+        let chunks = &mut chunk_space[..rooms.chunks];
+        asked(rt, file, source, segments, chunks, p)?;
+        served(rt, file, source, segments, chunks, p)?;
     }
     Ok(())
 }
 
-fn asked_in(
+fn asked(
     rt: &impl Print,
     file: &[u8],
     source: u64,
@@ -103,32 +84,7 @@ fn asked_in(
     report::tables(rt, segments, chunks)
 }
 
-// Has a position served.
-pub fn served(
-    rt: &impl Print,
-    file: &[u8],
-    source: u64,
-    rooms: Rooms,
-    p: Position,
-) -> io::Result<()> {
-    let segments = rooms.segments;
-    let chunks = rooms.chunks;
-    let mut segment_space = [0u64; 512];
-    let mut chunk_space = [0u64; 6144];
-    if segments <= segment_space.len() && chunks <= chunk_space.len() {
-        served_in(
-            rt,
-            file,
-            source,
-            &mut segment_space[0..segments],
-            &mut chunk_space[0..chunks],
-            p,
-        )?;
-    }
-    Ok(())
-}
-
-fn served_in(
+fn served(
     rt: &impl Print,
     file: &[u8],
     source: u64,

@@ -10,15 +10,13 @@ use Rattle.filling.proofs.RowLaws.{put_none}
 use Rattle.filling.proofs.PutsLaws.{puts_same, puts_more}
 use Rattle.partial.specs.Map.{range_line, range_lines}
 use Rattle.partial.specs.Ranges.{Range as Stretch, ranges}
-use Rattle.sweeping.specs.Naming.{name_by, both_at_start, OverTheSame, BothReady, Names}
+use Rattle.sweeping.specs.Naming.{both_at_start, BothReady}
+use Rattle.sweeping.specs.Classes.{class_no, run_of}
 use Rattle.sweeping.specs.Ranges.{range_in}
-use Rattle.spans.specs.Spans.{Ordered}
-use Rattle.sweeping.specs.declared.naming.Named.{Named}
 use Rattle.sweeping.specs.declared.naming.Sweeps.{Sweeps}
 use Rattle.sweeping.specs.declared.ranges.Range.{Range}
 use Rattle.sweeping.proofs.NameLaws.{both_ready}
 use Rattle.sweeping.proofs.RangeLaws.{found_next}
-use Rattle.mapping.specs.Outline.{Drawn}
 use Rattle.mapping.specs.declared.outline.Outline.{Outline}
 
 -- ---- the ranges so far
@@ -36,11 +34,11 @@ module _ (of : ℕ → ℕ) (end : ℕ) {Done : List Stretch → Type 0} where
       record { done = []; holds = none; rest = ap (λ (n : ℕ). ranges of n 0) all }
 
   module _ {p : ℕ} (m : Midway of end Done p) where
-    pub midway_more : {More : List Stretch → Type 0} → p < end → {r : Range} → r ≡ range_in of p end
-        → ((rs : List Stretch) → Done rs → More (rs ++ (record { class = r.class; first = p; length = r.length } ∷ [])))
+    pub midway_more : {More : List Stretch → Type 0} → p < end → (r : Range) → run_of r ≡ range_in of p end
+        → ((rs : List Stretch) → Done rs → More (rs ++ (record { class = class_no r.class; first = p; length = r.length } ∷ [])))
         → Midway of end More (p + r.length)
-    midway_more some {r} found step =
-        let new : Stretch = record { class = r.class; first = p; length = r.length } in
+    midway_more some r found step =
+        let new : Stretch = record { class = class_no r.class; first = p; length = r.length } in
         record {
           done = m.done ++ (new ∷ []);
           holds = step m.done m.holds;
@@ -84,29 +82,10 @@ module _ (word : ℕ → List ℕ) (s : List ℕ) (at : ℕ) where
 
 -- ---- the sweeps
 
--- the sweeps are over the spans of an outline, and ready for a position
-pub record Swept (good damaged : List ℕ) (o : Outline) (p : ℕ) (s : Sweeps) : Type 0 where
-  pub many : s.good.n ≡ o.good
-  pub many_damaged : s.damaged.n ≡ o.damaged
-  pub ready : BothReady good damaged o.end.0 p s
+-- the sweeps are ready for a position
+abbrev pub Swept : Outline → ℕ → Sweeps → Type 0
+Swept o p s = BothReady o.good.now o.damaged.now o.end.0 p s
 
-module _ (good damaged : List ℕ) (o : Outline) where
-  pub swept_start : {s : Sweeps} → s ≡ both_at_start o.good o.damaged → Swept good damaged o 0 s
-  swept_start e =
-      subst (Swept good damaged o 0) (sym e)
-      (record {
-        many = λ i. o.good;
-        many_damaged = λ i. o.damaged;
-        ready = both_ready good damaged o.end.0 0 o.good o.damaged;
-      })
-
-  pub swept_next : Drawn good damaged o → {p : ℕ} {s : Sweeps} → Swept good damaged o p s → p < o.end.0 → {r : Named} → OverTheSame s r.sweeps
-      → (Ordered good s.good.n o.end.0 → Ordered damaged s.damaged.n o.end.0 → BothReady good damaged o.end.0 p s → p < o.end.0 → Names good damaged s p o.end.0 r)
-      → (r.range ≡ range_in (name_by good o.good damaged o.damaged) p o.end.0) × Swept good damaged o (p + r.range.length) r.sweeps
-  swept_next drawn {p} {s} swept some {r} kept names =
-      let one = subst (λ (n : ℕ). Ordered good n o.end.0) (sym swept.many) drawn.of_good in
-      let two = subst (λ (n : ℕ). Ordered damaged n o.end.0) (sym swept.many_damaged) drawn.of_damaged in
-      let found = names one two swept.ready some in (
-        found.range ∙ (λ i. range_in (name_by good (swept.many i) damaged (swept.many_damaged i)) p o.end.0),
-        record { many = kept.good ∙ swept.many; many_damaged = kept.damaged ∙ swept.many_damaged; ready = found.ready },
-      )
+module _ (o : Outline) where
+  pub swept_start : {s : Sweeps} → s ≡ both_at_start → Swept o 0 s
+  swept_start e = subst (Swept o 0) (sym e) (both_ready o.good.now o.damaged.now o.end.0 0)

@@ -2,6 +2,7 @@
 use Rattle.std.specs.Prelude.{ℕ, ◌≤◌, Bool, true, false, List, [], ◌∷◌, ◌++◌, ◌≡◌}
 use Rattle.partial.specs.Naming.{held, lost}
 use Rattle.partial.specs.Ranges.{Range as Stretch, had, of_class, total}
+use Rattle.sweeping.specs.Classes.{class_no}
 use Rattle.sweeping.specs.declared.ranges.Range.{Range}
 use Rattle.mapping.specs.declared.totals.Totals.{Totals}
 
@@ -18,7 +19,7 @@ pub record Bounded (t : Totals) (p : ℕ) : Type 0 where
 
 -- one range more
 abbrev pub Joins : Totals → ℕ → Range → Totals → Type 0
-Joins t p r t' = (rs : List Stretch) → Counts rs t → Counts (rs ++ (record { class = r.class; first = p; length = r.length } ∷ [])) t'
+Joins t p r t' = (rs : List Stretch) → Counts rs t → Counts (rs ++ (record { class = class_no r.class; first = p; length = r.length } ∷ [])) t'
 
 -- the numbers that are told of them
 unfoldable pub told_of : Bool → Totals → List ℕ

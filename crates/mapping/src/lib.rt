@@ -4,6 +4,7 @@
 pub mod call;
 mod damage;
 mod each;
+mod film;
 mod lines;
 mod outline;
 mod ranges;

@@ -4,13 +4,13 @@ ghost use Rattle.filling.specs.Rows.{Puts};
 ghost use Rattle.partial.specs.Map.{ascii, decimal, line, source_line, range_line};
 ghost use Rattle.partial.specs.Meaning.{described_length, is_closed};
 ghost use Rattle.partial.specs.Segments.{Segment};
+ghost use Rattle.sweeping.specs.Classes.{class_no};
 ghost use Rattle.mapping.specs.Outline.{word_of};
 ghost use Rattle.mapping.specs.Totals.{told_of};
 
 use crate::totals::Totals;
 use partial::position::Position;
-use sweeping::naming::HELD;
-use sweeping::ranges::{HAD, Range};
+use sweeping::ranges::{Class, Range};
 use texts::puts::{put_decimal, put_text};
 
 // A word with its tab, or the tab alone, and the number behind it.
@@ -44,17 +44,17 @@ pub(crate) fn put_source(buffer: &mut [u8], at: u64, described: Position, closed
 }
 
 // The word of a class, with its tab: `have`, and of what is missing `held` or `lost` where it is named, else `miss`.
-fn word_of(class: u64, named: bool) -> [u8; 5]
-    ensures value { result ≡ word_of named class ++ (9 ∷ []) }
+fn word_of(class: Class, named: bool) -> [u8; 5]
+    ensures value { result ≡ word_of named (class_no class) ++ (9 ∷ []) }
     ensures value_2 { 5 ≡ length result }
 {
-    if class == HAD {
+    if class == Class::Had {
         return *b"have\t";
     }
     if !named {
         return *b"miss\t";
     }
-    if class == HELD {
+    if class == Class::Held {
         return *b"held\t";
     }
     *b"lost\t"
@@ -63,7 +63,7 @@ fn word_of(class: u64, named: bool) -> [u8; 5]
 // The word of its class, the first position, the length.
 pub(crate) fn put_range(buffer: &mut [u8], at: u64, first: Position, r: Range, named: bool) -> u64
     requires { at < 2 ^ 61 }
-    ensures { Puts buffer.old at (range_line (word_of named) (record { class = r.class; first = first.0; length = r.length })) buffer.new result × (result ≤ at + 50) }
+    ensures { Puts buffer.old at (range_line (word_of named) (record { class = class_no r.class; first = first.0; length = r.length })) buffer.new result × (result ≤ at + 50) }
 {
     let word = word_of(r.class, named);
     let tab = put_field(buffer, at, &word, first.0);

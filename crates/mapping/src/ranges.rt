@@ -11,26 +11,14 @@ use crate::totals::Totals;
 use partial::position::Position;
 use sweeping::naming::{Sweeps, named_at};
 
-// Where the lines of the ranges end, and what the ranges hold together.
-#[derive(Clone, Copy)]
-pub struct RangesPut {
-    pub next: u64,
-    pub totals: Totals,
-}
-
-// Puts a line for each range below the end, by the spans in both tables, and counts what it holds.
-pub(crate) fn put_ranges(
-    buffer: &mut [u8],
-    at: u64,
-    good: &[u64],
-    damaged: &[u64],
-    o: Outline,
-) -> RangesPut
-    requires { (at < 2 ^ 60) × Drawn good.now damaged.now o }
-    ensures { Puts buffer.old at (range_lines (word_of o.named) (ranges_in good.now damaged.now o)) buffer.new result.next
-        × (result.next ≤ at + 50 * o.end.0)
-        × (result.next ≤ at + 50 * length (ranges_in good.now damaged.now o))
-        × Counts (ranges_in good.now damaged.now o) result.totals }
+// Puts a line for each range below the end, by the spans of both kinds, and answers where the lines end and what the
+// ranges hold together.
+pub(crate) fn put_ranges(buffer: &mut [u8], at: u64, o: Outline<'_>) -> (u64, Totals)
+    requires { (at < 2 ^ 60) × Drawn o }
+    ensures { Puts buffer.old at (range_lines (word_of o.entry.named) (ranges_in o.entry)) buffer.new result.0
+        × (result.0 ≤ at + 50 * o.entry.end.0)
+        × (result.0 ≤ at + 50 * length (ranges_in o.entry))
+        × Counts (ranges_in o.entry) result.1 }
 {
     let mut next = at;
     let mut totals = Totals {
@@ -38,15 +26,15 @@ pub(crate) fn put_ranges(
         held: 0,
         lost: 0,
     };
-    let mut sweeps = Sweeps::start(o.good, o.damaged);
+    let mut sweeps = Sweeps::start();
     let mut p = 0;
     while p < o.end.0 {
-        let found = named_at(good, damaged, sweeps, Position(p), o.end);
+        let found = named_at(o.good, o.damaged, sweeps, Position(p), o.end);
         let r = found.range;
         next = put_range(buffer, next, Position(p), r, o.named);
         totals = totals.with(Position(p), r);
         sweeps = found.sweeps;
         p += r.length;
     }
-    RangesPut { next, totals }
+    (next, totals)
 }

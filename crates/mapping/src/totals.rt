@@ -1,14 +1,11 @@
 // What the ranges of a map hold together: the numbers of its last line.
 ghost use Rattle.std.specs.Prelude.{◌+◌, ◌<◌, ◌≤◌, ◌^◌};
-ghost use Rattle.partial.specs.Naming.{held};
 ghost use Rattle.mapping.specs.Totals.{Bounded, Joins};
 
 use partial::position::Position;
-use sweeping::naming::HELD;
-use sweeping::ranges::{HAD, Range};
+use sweeping::ranges::{Class, Range};
 
-// How many positions are received, held and lost. Where the missing ones are not named,
-// all of them are among the lost.
+// How many positions are received, held and lost. Where the missing ones are not named, all of them are among the lost.
 #[derive(Clone, Copy)]
 pub struct Totals {
     pub received: u64,
@@ -19,19 +16,22 @@ pub struct Totals {
 impl Totals {
     // With one range more, from a position on.
     pub(crate) fn with(self, p: Position, r: Range) -> Self
-        requires { Bounded self p.0 × (r.class ≤ held) × (0 < r.length) × (p.0 + r.length < 2 ^ 64) }
+        requires { Bounded self p.0 × (0 < r.length) × (p.0 + r.length < 2 ^ 64) }
         ensures { Bounded result (p.0 + r.length) × Joins self p.0 r result }
     {
-        let mut totals = self;
-        if r.class == HAD {
-            totals.received = self.received + r.length;
-            return totals;
+        match r.class {
+            Class::Had => Totals {
+                received: self.received + r.length,
+                ..self
+            },
+            Class::Held => Totals {
+                held: self.held + r.length,
+                ..self
+            },
+            Class::Missing => Totals {
+                lost: self.lost + r.length,
+                ..self
+            },
         }
-        if r.class == HELD {
-            totals.held = self.held + r.length;
-            return totals;
-        }
-        totals.lost = self.lost + r.length;
-        totals
     }
 }

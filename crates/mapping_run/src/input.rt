@@ -1,67 +1,54 @@
-// The records of standard input. Three numbers, most significant byte first: the length of the name in two bytes, then
-// the length of the file and that of the buffer in three bytes each. Then the name and the file.
+// The records of an input. Three numbers, most significant byte first: the length of the name in two bytes, then the
+// length of the file and that of the buffer in three bytes each. Then the name and the file.
 use crate::lent;
-use printing::input::read_full;
+use printing::input::fill;
 use printing::records;
-use printing::records::pair;
 use std::io;
+use std::io::Read;
 
 // One byte more than the longest file that has a map.
 const LARGEST_FILE: usize = 65_537;
 
-// The three numbers of the next record.
+// The three numbers of a record.
 #[derive(Clone, Copy)]
-enum Head {
-    End,
-    Given {
-        name: usize,
-        file: usize,
-        buffer: usize,
-    },
+struct Head {
+    name: usize,
+    file: usize,
+    buffer: usize,
 }
 
 // Takes the next record, and prints its name and the answer. Whether there was one.
-pub fn record(rt: &(impl Input + Print)) -> io::Result<bool> {
-    match next(rt)? {
-        Head::End => Ok(false),
-        Head::Given { name, file, buffer } => {
-            records::name(rt, name)?;
-            answer(rt, file, buffer)?;
-            Ok(true)
-        }
-    }
+pub fn record<R: Read>(rt: &impl Print, input: &mut R) -> io::Result<bool> {
+    let Some(head) = next(input)? else {
+        return Ok(false);
+    };
+    records::name(rt, input, head.name)?;
+    answer(rt, input, head.file, head.buffer)?;
+    Ok(true)
 }
 
-fn next(rt: &impl Input) -> io::Result<Head> {
-    let mut bytes = [0u8; 8];
-    if read_full(rt, &mut bytes)? < 8 {
-        return Ok(Head::End);
-    }
-    Ok(Head::Given {
-        name: pair(bytes[0], bytes[1]),
-        file: three(bytes[2], bytes[3], bytes[4]),
-        buffer: three(bytes[5], bytes[6], bytes[7]),
-    })
+fn next<R: Read>(input: &mut R) -> io::Result<Option<Head>> {
+    let Some(name) = records::number(input, 2)? else {
+        return Ok(None);
+    };
+    let Some(file) = records::number(input, 3)? else {
+        return Ok(None);
+    };
+    let Some(buffer) = records::number(input, 3)? else {
+        return Ok(None);
+    };
+    Ok(Some(Head {
+        name: name as usize,
+        file: file as usize,
+        buffer: buffer as usize,
+    }))
 }
 
-fn three(high: u8, middle: u8, low: u8) -> usize {
-    65536 * (high as usize) + 256 * (middle as usize) + (low as usize)
-}
-
-fn answer(rt: &(impl Input + Print), length: usize, buffer: usize) -> io::Result<()> {
-    let mut space = [0u8; LARGEST_FILE];
-    file_in(rt, &mut space, length, buffer)
-}
-
-fn file_in(
-    rt: &(impl Input + Print),
-    space: &mut [u8],
-    length: usize,
-    buffer: usize,
-) -> io::Result<()> {
+fn answer<R: Read>(rt: &impl Print, input: &mut R, length: usize, buffer: usize) -> io::Result<()> {
+    let mut space = [0; LARGEST_FILE];
     if length <= space.len() {
-        let file = &mut space[0..length];
-        read_full(rt, file)?;
+        let file = &mut space[..length];
+        fill(input, file)?;
         lent::mapped(rt, file, buffer)?;
     }
     Ok(())

@@ -3,13 +3,8 @@
 #![tactic(auto)]
 
 use mapping::call::missmap;
-use program::{INPUT, TEXT, limit, print, read_full};
 use std::io;
 
 fn main(rt: HostRuntime) -> io::Result<()> {
-    let mut input = [0u8; INPUT];
-    let mut text = [0u8; TEXT];
-    let n = read_full(&rt, &mut input)?;
-    let answer = missmap(&input[..n], limit(), &mut text);
-    print(&rt, answer, &text)
+    program::run(&rt, |file, most, text| missmap(file, most, text))
 }

@@ -9,7 +9,10 @@ use native.Mathlib.Numerals.{add-one}
 use native.Mathlib.Omega.{arith}
 use mathlib.Core.List.{List, [], ◌∷◌, ◌++◌, append_assoc, append-nil}
 use lib.Arith.{digits_lt, digits_div, digits_mod, mod-mul}
-use lib.ListN.{length, get_or, length-append, get_or-append, get_or-eq_default}
+use lib.ListN.{length, get_or, take, drop, length-append, get_or-append, get_or-eq_default}
+use Rattle.std.specs.Int.{w64, byte_at, bytes_high_first, from_be_bytes, to_be_bytes}
+use Rattle.std.proofs.lemmas.List.{get_or-take, get_or-drop}
+use Rattle.std.proofs.Math.Nat.{div-div-eq-div-mul, mul_comm, zero-add, suc-add}
 use lib.Pow.{pow-add, ones_split, ones_lt, suc_ones, high}
 use lib.Seq.{get_or_at, get_or-append-add}
 use Rattle.numerals.specs.Numbers.{number, bytes_of}
@@ -45,6 +48,17 @@ number_same s t a b (suc w) same =
 -- what follows a list changes no number inside it
 pub number_append : (s t : List ℕ) (at w : ℕ) → at + w ≤ length s → number (s ++ t) at w ≡ number s at w
 number_append s t at w h = number_same (s ++ t) s at at w (λ k l. get_or-append s t 0 (at + k) (omega arith))
+
+-- eight bytes that stand together are the number that std reads of them
+pub number_eight : (s t : List ℕ) (at : ℕ) → t ≡ take 8 (drop at s) → from_be_bytes w64 t ≡ number s at 8
+unfolding number
+number_eight s t at part =
+    number-read t
+    ∙ number_same t s 0 at 8
+    (λ k h. rw (zero-add, part) (get_or-take 8 (drop at s) k 0 h ∙ get_or-drop at s k 0))
+  where
+    number-read : (t : List ℕ) → from_be_bytes w64 t ≡ number t 0 8
+    number-read t = omega arith
 
 -- ---- what w bytes can hold
 
@@ -109,10 +123,29 @@ unfolding bytes_of
 length-bytes_of zero n = refl
 length-bytes_of (suc w) n = rw (length-append, length-bytes_of w (n / 256), add-one)
 
--- one byte more: the step of a loop that writes a number from its last byte to its first
-pub bytes_of_more : (w n : ℕ) → bytes_of (w + 1) n ≡ bytes_of w (n / 256) ++ (n % 256 ∷ [])
+-- std writes the same bytes, of which the last w are those of that width
+byte_at-shifted : (w n : ℕ) → byte_at (suc w) n ≡ byte_at w (n / 256)
+byte_at-shifted zero n = omega arith
+byte_at-shifted (suc w) n =
+    ap (λ (m : ℕ). m % 256) (ap (λ (m : ℕ). n / m) (rw (pow-suc 256 (suc w), mul_comm (256 ^ suc w) 256)) ∙ sym (div-div-eq-div-mul n 256 (256 ^ suc w)))
+
+bytes_high-split : (w n : ℕ) → bytes_high_first (suc w) n ≡ bytes_high_first w (n / 256) ++ (n % 256 ∷ [])
+bytes_high-split zero n = refl
+bytes_high-split (suc w) n = rw (byte_at-shifted w n, bytes_high-split w n)
+
+bytes_high-is : (w n : ℕ) → bytes_high_first w n ≡ bytes_of w n
 unfolding bytes_of
-bytes_of_more w n = rw add-one
+bytes_high-is zero n = refl
+bytes_high-is (suc w) n = bytes_high-split w n ∙ ap (λ (b : List ℕ). b ++ (n % 256 ∷ [])) (bytes_high-is w (n / 256))
+
+bytes_high-last : (v w n : ℕ) → drop v (bytes_high_first (v + w) n) ≡ bytes_high_first w n
+bytes_high-last zero w n = rw zero-add
+bytes_high-last (suc v) w n = rw suc-add (bytes_high-last v w n)
+
+pub bytes_of-last : (w n : ℕ) → w ≤ 8 → drop (8 - w) (to_be_bytes w64 n) ≡ bytes_of w n
+bytes_of-last w n h =
+    let all : (8 - w) + w ≡ 8 = omega arith in
+    ap (λ (k : ℕ). drop (8 - w) (bytes_high_first k n)) (sym all) ∙ bytes_high-last (8 - w) w n ∙ bytes_high-is w n
 
 -- the bytes of 0 are zeros
 pub bytes_of_zero : (w k : ℕ) → get_or (bytes_of w 0) k 0 ≡ 0

@@ -1,22 +1,25 @@
 -- Laws of `stored`: what a buffer holds after bytes were written into it.
-use mathlib.Core.Path.{◌≡◌, refl, sym, ap, ◌∙◌}
+use mathlib.Core.Path.{◌≡◌, refl, sym}
 use mathlib.Core.Bool.{Bool, true, false}
-use mathlib.Core.List.{List, [], ◌∷◌, ◌++◌, append_assoc}
-use Prim.Native.Nat.{ℕ, zero, suc, ◌+◌, ◌-◌, ◌/◌, ◌%◌, ◌≤◌, ◌<◌}
-use native.Mathlib.Nat.{le_refl, add-zero, add_assoc}
+use mathlib.Core.List.{List, ◌++◌, append_assoc}
+use Prim.Native.Nat.{ℕ, ◌+◌, ◌≤◌, ◌<◌}
+use native.Mathlib.Nat.{add_assoc}
 use native.Mathlib.Omega.{arith}
 use borrow.Author.Tests.{le-leb, lt-leb}
-use lib.ListN.{length, take, drop, set, length-append, length-drop, length-set, take-append-drop}
-use lib.Seq.{length-take-le, drop-cons, drop-set-lt, take-set-le, get_or-set_same, take_at, drop_at, drop-drop}
-use Rattle.numerals.specs.Numbers.{bytes_of}
+use borrow.Rule.Slice.PartMut.{put_mid}
+use lib.ListN.{length, take, drop, length-append, length-drop}
+use lib.Seq.{length-take-le, take_at, drop_at, drop-drop}
 use Rattle.numerals.specs.Stored.{room_for, stored, Stores}
-use Rattle.numerals.proofs.NumberLaws.{length-bytes_of, bytes_of_more}
 
 module _ (s : List ℕ) (at : ℕ) (bytes : List ℕ) where
   -- with room: what was before, the bytes, what was after
   pub stored-room : at + length bytes ≤ length s → stored s at bytes ≡ take at s ++ (bytes ++ drop (at + length bytes) s)
   unfolding stored room_for
   stored-room h = rw (le-leb (at + length bytes) (length s) h, stored)
+
+  -- that is what std leaves where a part of a buffer is written
+  pub part_stored : (k : ℕ) → k ≡ length bytes → at + length bytes ≤ length s → put_mid at k s bytes ≡ stored s at bytes
+  part_stored k e h = rw (e, drop-drop) (sym (stored-room h))
 
   -- without: as it was
   pub stored_none : length s < at + length bytes → stored s at bytes ≡ s
@@ -60,39 +63,6 @@ stored-append s at a b h =
       ← add_assoc,
     )
     (simp append_assoc)
-
--- a byte that is set right after some bytes is one more to store
-pub stored_more : (s : List ℕ) (at : ℕ) (bytes : List ℕ) (i d : ℕ) → at + length bytes ≡ i → i < length s
-    → stored (set s i d) at bytes ≡ stored s at (bytes ++ (d ∷ []))
-stored_more s at bytes i d e h =
-    let inside : i < length (set s i d) = rw length-set h in
-    let end : at + length (bytes ++ (d ∷ [])) ≡ suc i = omega (arith, length-append bytes (d ∷ [])) in
-    rw (
-      stored-room (set s i d) at bytes (omega arith),
-      e,
-      take-set-le at s i d (omega arith),
-      drop-cons (set s i d) i 0 inside,
-      get_or-set_same s i d 0 h,
-      drop-set-lt (suc i) s i d (le_refl (suc i)),
-      stored-room s at (bytes ++ (d ∷ [])) (omega arith),
-      end,
-      append_assoc bytes (d ∷ []) (drop (suc i) s),
-    )
-
--- the step of a loop that writes a number from its last byte to its first
-pub stored-number_more : (s : List ℕ) (at i n : ℕ) → 0 < i → at + i ≤ length s
-    → stored (set s (at + (i - 1)) (n % 256)) at (bytes_of (i - 1) (n / 256)) ≡ stored s at (bytes_of i n)
-stored-number_more s at i n some fits =
-    let one : i ≡ (i - 1) + 1 = omega arith in
-    let bytes : bytes_of i n ≡ bytes_of (i - 1) (n / 256) ++ (n % 256 ∷ []) =
-    ap (λ (w : ℕ). bytes_of w n) one ∙ bytes_of_more (i - 1) n in
-    rw bytes (stored_more s at (bytes_of (i - 1) (n / 256)) (at + (i - 1)) (n % 256) (rw length-bytes_of) (omega arith))
-
--- the end of that loop: no bytes change nothing
-pub stored-number_none : (s : List ℕ) (at i n : ℕ) → i ≤ 0 → at ≤ length s → s ≡ stored s at (bytes_of i n)
-unfolding bytes_of
-stored-number_none s at zero n none fits = sym (stored-room s at [] (omega arith) ∙ rw add-zero (take-append-drop at s))
-stored-number_none s at (suc i) n none fits = absurd (omega arith)
 
 -- what a call that writes bytes has done
 module _ (held : Bool) (s : List ℕ) (at : ℕ) (bytes : List ℕ) where

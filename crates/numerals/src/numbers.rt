@@ -1,5 +1,5 @@
 // Numbers of any width from 0 to 8 bytes, unsigned and in two's complement.
-ghost use Rattle.std.specs.Prelude.{ℕ, ◌+◌, ◌-◌, ◌^◌, ◌≤◌, ◌<◌, min, true, ◌≡◌, leb, length, get_or};
+ghost use Rattle.std.specs.Prelude.{ℕ, ◌+◌, ◌-◌, ◌^◌, ◌≤◌, ◌<◌, min, true, ◌≡◌, length, get_or, MatchOption};
 ghost use Rattle.numerals.specs.Numbers.{number, bytes_of, signed, twos_complement, holds, holds_offset, least_width};
 ghost use Rattle.numerals.specs.Stored.{stored, Stores};
 
@@ -7,7 +7,7 @@ use crate::place::Place;
 
 // A signed number: so many ahead, or so many back. Its size stands apart from its sign, so that adding it to a place
 // can neither lose the sign nor wrap.
-#[derive(Clone, Copy)]
+#[derive(Clone, Copy, PartialEq, Eq)]
 pub enum Offset {
     Ahead(u64),
     Back(u64),
@@ -17,56 +17,35 @@ pub enum Offset {
 pub fn within(width: usize) -> usize
     ensures { result ≡ min width 8 }
 {
-    if width < 8 { width } else { 8 }
+    width.min(8)
 }
 
-// The byte so many after a place, 0 past the end.
-fn byte_after(s: &[u8], at: Place, i: usize) -> u8
-    ensures { result ≡ get_or s.now (at.0 + i) 0 }
+// The byte so many after one, 0 past the end.
+fn byte_after(s: &[u8], from: usize, i: usize) -> u8
+    ensures { result ≡ get_or s.now (from + i) 0 }
 {
-    let from = at.0 as usize;
-    if s.len() <= from {
-        return 0;
-    }
-    if i < s.len() - from { s[from + i] } else { 0 }
+    s.get(from.saturating_add(i)).copied().unwrap_or(0)
 }
 
-// The number of w bytes at a place, byte by byte. Those past the end count as 0.
-fn by_bytes(s: &[u8], at: Place, w: usize) -> u64
+// The number of w bytes from one on, byte by byte. Those past the end count as 0.
+fn by_bytes(s: &[u8], from: usize, w: usize) -> u64
     requires { w ≤ 8 }
-    ensures { result ≡ number s.now at.0 w }
+    ensures { result ≡ number s.now from w }
 {
-    let mut n: u64 = 0;
-    let mut i = 0;
-    while i < w {
-        n = n * 256 + byte_after(s, at, i) as u64;
-        i += 1;
+    let mut n = 0;
+    for i in 0..w {
+        n = n * 256 + u64::from(byte_after(s, from, i));
     }
     n
 }
 
-// Whether eight bytes stand from one on.
-fn eight_stand(s: &[u8], from: usize) -> bool
-    ensures { result ≡ leb (from + 8) (length s.now) }
+// The number of the eight bytes from one on, if so many stand there. Their end is tested and none of them alone, so that
+// the compiler makes one load of them.
+fn eight(s: &[u8], from: usize) -> Option<u64>
+    ensures { MatchOption result (length s.now < from + 8) (λ n. n ≡ number s.now from 8) }
 {
-    if s.len() < 8 {
-        return false;
-    }
-    from <= s.len() - 8
-}
-
-// The number of the eight bytes from one on. None of them is tested, so that the compiler makes one load of the loop.
-fn eight(s: &[u8], from: usize) -> u64
-    requires { from + 8 ≤ length s.now }
-    ensures { result ≡ number s.now from 8 }
-{
-    let mut n: u64 = 0;
-    let mut i = 0;
-    while i < 8 {
-        n = n * 256 + s[from + i] as u64;
-        i += 1;
-    }
-    n
+    let bytes = s.get(from..)?.first_chunk()?;
+    Some(u64::from_be_bytes(*bytes))
 }
 
 // The number of that width at a place, worked out straight from the bytes: where eight stand there, it is what is left
@@ -79,10 +58,10 @@ pub fn unsigned(s: &[u8], at: Place, width: usize) -> u64
         return 0;
     }
     let from = at.0 as usize;
-    if eight_stand(s, from) {
-        return eight(s, from) >> (64 - 8 * w);
+    match eight(s, from) {
+        Some(n) => n >> (64 - 8 * w),
+        None => by_bytes(s, from, w),
     }
-    by_bytes(s, at, w)
 }
 
 // The largest number of w bytes: one more would not fit where w is 8.
@@ -93,7 +72,7 @@ fn largest(w: usize) -> u64
     if w == 0 {
         return 0;
     }
-    0xffff_ffff_ffff_ffff >> (64 - 8 * w)
+    u64::MAX >> (64 - 8 * w)
 }
 
 // The offset of that width at a place, in two's complement.
@@ -109,18 +88,13 @@ pub fn signed(s: &[u8], at: Place, width: usize) -> Offset
     }
 }
 
-// The w bytes of a number, from the last to the first.
+// The w bytes of a number.
 fn store(buf: &mut [u8], from: usize, w: usize, n: u64)
-    requires { from + w ≤ length buf.old }
+    requires { (w ≤ 8) × (from + w ≤ length buf.old) }
     ensures { buf.new ≡ stored buf.old from (bytes_of w n) }
 {
-    let mut i = w;
-    let mut rest = n;
-    while 0 < i {
-        i -= 1;
-        buf[from + i] = (rest % 256) as u8;
-        rest = rest / 256;
-    }
+    let bytes = n.to_be_bytes();
+    buf[from..from + w].copy_from_slice(&bytes[8 - w..]);
 }
 
 // Writes a number in that width at a place, if the width holds it and there is room; else the buffer stays as it was.
@@ -132,10 +106,7 @@ pub fn put_number(buf: &mut [u8], at: Place, width: usize, n: u64) -> bool
     if largest(w) < n {
         return false;
     }
-    if buf.len() < from {
-        return false;
-    }
-    if buf.len() - from < w {
+    if buf.len() < from || buf.len() - from < w {
         return false;
     }
     store(buf, from, w, n);
@@ -187,26 +158,16 @@ pub fn put_offset(buf: &mut [u8], at: Place, width: usize, z: Offset) -> bool
 pub fn width_of(n: u64) -> usize
     ensures { result ≡ least_width (λ w. holds w n) }
 {
-    let mut w = 0;
-    while w < 8 {
+    for w in 0..8 {
         if n <= largest(w) {
             return w;
         }
-        w += 1;
     }
-    w
+    8
 }
 
-// The lesser of a number and 2 to the 62, so that it can be doubled: past that, the double takes 8 bytes in any case.
-fn capped(n: u64) -> u64
-    ensures { result ≡ min n (2 ^ 62) }
-{
-    if n < 0x4000_0000_0000_0000 {
-        n
-    } else {
-        0x4000_0000_0000_0000
-    }
-}
+// 2 to the 62: past that, the double of a number takes 8 bytes in any case.
+const DOUBLED: u64 = 1 << 62;
 
 // A number as wide as an offset: its size twice, for the sign, less one if it is back, since each width holds one more
 // back than ahead.
@@ -214,12 +175,12 @@ fn spread(z: Offset) -> u64
     ensures { (w : ℕ) → w < 8 → holds w result ≡ holds_offset w z }
 {
     match z {
-        Offset::Ahead(n) => 2 * capped(n),
+        Offset::Ahead(n) => 2 * n.min(DOUBLED),
         Offset::Back(n) => {
             if n == 0 {
                 return 0;
             }
-            2 * capped(n) - 1
+            2 * n.min(DOUBLED) - 1
         }
     }
 }

@@ -1,5 +1,5 @@
 // Places in a partial file.
 
 // How many bytes of the file stand before it. A position in the source is another type.
-#[derive(Clone, Copy)]
+#[derive(Clone, Copy, PartialEq, Eq)]
 pub struct Place(pub u64);

@@ -3,6 +3,7 @@ use Prim.Native.Nat.{ℕ, ◌+◌, ◌-◌, ◌/◌, ◌≤◌, ◌<◌, min}
 use mathlib.Core.Bool.{Bool, true, false, ◌&&◌, and-true, and-false, and_assoc, true≢false}
 use mathlib.Core.List.{List, [], ◌∷◌}
 use mathlib.Core.Logic.{inl, inr}
+use Rattle.std.specs.Prelude.{None, Some}
 use mathlib.Core.Path.{◌≡◌, refl, sym, ap, ◌∙◌}
 use native.Mathlib.Nat.{add_assoc}
 use native.Mathlib.Omega.{arith}
@@ -14,7 +15,6 @@ use Rattle.partial.proofs.Meaning.SequenceLaws.{which, both}
 use Rattle.outside.specs.Chunks.{many, no_chunk, chunk_of, together, outside_of}
 use Rattle.outside.specs.Whole.{whole_of}
 use Rattle.outside.specs.declared.chunks.Outside.{Outside}
-use Rattle.outside.specs.declared.whole.Whole.TheVariants.{Boxes, Not}
 use Rattle.outside.proofs.ItemLaws.{item_at, items_from, items-from, items_none, data-part, data-behind, data_chosen, data_passed}
 use Rattle.outside.proofs.ItemLaws.{boxes_chosen, boxes_passed, many_on, many_past}
 use Rattle.outside.proofs.WholeLaws.{boxes_told, other_told, many_most, none_right, none_many, joined-right, joined-many}
@@ -39,7 +39,7 @@ module _ (bytes : List ℕ) where
       ]
 
 module _ (x : Outside) (bytes : List ℕ) where
-  pub with-boxes : {n : ℕ} → Boxes n ≡ whole_of bytes
+  pub with-boxes : {n : ℕ} → Some n ≡ whole_of bytes
       → record { right = x.right; chunks = x.chunks + 1; bytes = x.bytes + length bytes; boxes = x.boxes + n } ≡ together x (chunk_of bytes)
   unfolding together
   with-boxes {n} told =
@@ -48,7 +48,7 @@ module _ (x : Outside) (bytes : List ℕ) where
       rw (chunk_right bytes right)
       (λ k. record { right = same k; chunks = x.chunks + 1; bytes = x.bytes + length bytes; boxes = x.boxes + many k })
 
-  pub with_other : Not ≡ whole_of bytes
+  pub with_other : None ≡ whole_of bytes
       → record { right = false; chunks = x.chunks + 1; bytes = x.bytes + length bytes; boxes = x.boxes } ≡ together x (chunk_of bytes)
   unfolding together
   with_other told =

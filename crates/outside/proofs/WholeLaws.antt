@@ -4,7 +4,7 @@ use Prim.Native.Nat.{ℕ, ◌+◌, ◌≤◌}
 use mathlib.Core.Bool.{true, false, ◌&&◌, and-false, false≢true}
 use mathlib.Core.List.{List, [], ◌∷◌, ◌++◌, map, append-nil}
 use mathlib.Core.Logic.{inl, inr}
-use mathlib.Core.Option.{none, some}
+use Rattle.std.specs.Prelude.{Option, None, Some}
 use mathlib.Core.Path.{◌≡◌, refl, sym, ap, ◌∙◌}
 use native.Mathlib.Omega.{arith}
 use lib.ListN.{length, length-append, length-map}
@@ -21,7 +21,6 @@ use Rattle.partial.specs.Mixed.{allowed, boxes_of, are_boxes, boxes_many}
 use Rattle.partial.specs.Sequences.{all_of}
 use Rattle.partial.proofs.Meaning.SequenceLaws.{which, all_append}
 use Rattle.outside.specs.Whole.{whole_of}
-use Rattle.outside.specs.declared.whole.Whole.TheVariants.{Boxes, Not}
 
 -- ---- what bytes are, by a walk over them
 
@@ -47,26 +46,26 @@ module _ (bytes : List ℕ) where
   unfolding are_boxes
   are_refused n read = simp (are_boxes, read)
 
-  pub whole_right : are_boxes bytes ≡ true → whole_of bytes ≡ Boxes (boxes_many bytes)
+  pub whole_right : are_boxes bytes ≡ true → whole_of bytes ≡ Some (boxes_many bytes)
   unfolding whole_of
   whole_right right = simp (whole_of, right)
 
-  pub whole_wrong : are_boxes bytes ≡ false → whole_of bytes ≡ Not
+  pub whole_wrong : are_boxes bytes ≡ false → whole_of bytes ≡ None
   unfolding whole_of
   whole_wrong wrong = simp (whole_of, wrong)
 
   -- and what they are told to be
-  pub boxes_told : {n : ℕ} → Boxes n ≡ whole_of bytes → (are_boxes bytes ≡ true) × (n ≡ boxes_many bytes)
+  pub boxes_told : {n : ℕ} → Some n ≡ whole_of bytes → (are_boxes bytes ≡ true) × (n ≡ boxes_many bytes)
   boxes_told {n} told =
       elim (which (are_boxes bytes)) [
-        | inl right ↦ let same : Boxes n ≡ Boxes (boxes_many bytes) = told ∙ whole_right right in (right, cc)
-        | inr wrong ↦ let other : Boxes n ≡ Not = told ∙ whole_wrong wrong in let z : ◌≡◌ {A = ℕ} 0 1 = cc in absurd (omega arith)
+        | inl right ↦ let same : ◌≡◌ {A = Option ℕ} (Some n) (Some (boxes_many bytes)) = told ∙ whole_right right in (right, cc)
+        | inr wrong ↦ let other : ◌≡◌ {A = Option ℕ} (Some n) None = told ∙ whole_wrong wrong in let z : ◌≡◌ {A = ℕ} 0 1 = cc in absurd (omega arith)
       ]
 
-  pub other_told : Not ≡ whole_of bytes → are_boxes bytes ≡ false
+  pub other_told : None ≡ whole_of bytes → are_boxes bytes ≡ false
   other_told told =
       elim (which (are_boxes bytes)) [
-        | inl right ↦ let other : Not ≡ Boxes (boxes_many bytes) = told ∙ whole_right right in let z : ◌≡◌ {A = ℕ} 0 1 = cc in absurd (omega arith)
+        | inl right ↦ let other : ◌≡◌ {A = Option ℕ} None (Some (boxes_many bytes)) = told ∙ whole_right right in let z : ◌≡◌ {A = ℕ} 0 1 = cc in absurd (omega arith)
         | inr wrong ↦ wrong
       ]
 
@@ -80,25 +79,25 @@ module _ (bytes : List ℕ) {bs : List Box} {w : Walk} (p : Passed bytes (walk_a
   read_on = p.rest
 
   -- at their end
-  pub passed_end : all_of allowed bs ≡ true → stepped bytes w ≡ given none → Boxes (length bs) ≡ whole_of bytes
+  pub passed_end : all_of allowed bs ≡ true → stepped bytes w ≡ given None → Some (length bs) ≡ whole_of bytes
   passed_end right end =
       let read : boxes_of bytes ≡ given bs = read_on ∙ rw (walk_steps bytes w, end) (ap given (append-nil bs)) in
-      sym (whole_right bytes (are_given bytes read ∙ right) ∙ ap Boxes (many_given bytes read))
+      sym (whole_right bytes (are_given bytes read ∙ right) ∙ ap Some (many_given bytes read))
 
   -- at a fault
-  pub passed_fault : {n : ℕ} → stepped bytes w ≡ refused n → Not ≡ whole_of bytes
+  pub passed_fault : {n : ℕ} → stepped bytes w ≡ refused n → None ≡ whole_of bytes
   passed_fault {n} fault =
       sym (whole_wrong bytes (are_refused bytes n (read_on ∙ rw (walk_steps bytes w, fault))))
 
   -- at a box that is not allowed, whatever stands behind it
-  pub passed_other : {b : Box} {w' : Walk} → stepped bytes w ≡ given (some (b, w')) → allowed b ≡ false → Not ≡ whole_of bytes
+  pub passed_other : {b : Box} {w' : Walk} → stepped bytes w ≡ given (Some (b, w')) → allowed b ≡ false → None ≡ whole_of bytes
   unfolding all_of
   passed_other {b} {w'} met other = go (ahead bytes w') refl
     where
       wrong : (more : List Box) → all_of allowed (bs ++ (b ∷ more)) ≡ false
       wrong more = all_append allowed bs (b ∷ more) ∙ rw other (and-false (all_of allowed bs))
 
-      go : (rest : Answer (List Box)) → ahead bytes w' ≡ rest → Not ≡ whole_of bytes
+      go : (rest : Answer (List Box)) → ahead bytes w' ≡ rest → None ≡ whole_of bytes
       go (refused n) e =
           sym (whole_wrong bytes (are_refused bytes n (read_on ∙ rw (walk_steps bytes w, met, e))))
       go (given more) e =

@@ -5,7 +5,7 @@ ghost use Rattle.additions.specs.Addition.{items};
 ghost use Rattle.outside.specs.Chunks.{no_chunk, chunk_of, together, outside_of};
 
 use crate::items::{end_of, goes_out};
-use crate::whole::{Whole, whole_of};
+use crate::whole::whole_of;
 
 // Whether each chunk is whole allowed boxes; how many chunks there are, how many bytes they have, and how many boxes
 // those are that are whole.
@@ -38,13 +38,13 @@ impl Outside {
         let chunks = self.chunks + 1;
         let all = self.bytes + bytes.len() as u64;
         match whole_of(bytes) {
-            Whole::Boxes(n) => Outside {
+            Some(n) => Outside {
                 right: self.right,
                 chunks,
                 bytes: all,
                 boxes: self.boxes + n,
             },
-            Whole::Not => Outside {
+            None => Outside {
                 right: false,
                 chunks,
                 bytes: all,
@@ -60,8 +60,7 @@ pub fn outside_of(outside: bool, list: &[u64], data: &[u8]) -> Outside
 {
     let mut stored = Outside::none();
     let mut at = 0;
-    let mut i = 0;
-    while i < list.len() / 2 {
+    for i in 0..list.len() / 2 {
         let size = list[2 * i];
         let state = list[2 * i + 1];
         let end = end_of(at, size, state, data.len());
@@ -69,7 +68,6 @@ pub fn outside_of(outside: bool, list: &[u64], data: &[u8]) -> Outside
             stored = stored.with(&data[at..end]);
         }
         at = end;
-        i += 1;
     }
     stored
 }

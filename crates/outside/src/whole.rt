@@ -3,19 +3,12 @@ ghost use Rattle.std.specs.Prelude.{◌≡◌};
 ghost use Rattle.outside.specs.Whole.{whole_of};
 
 use boxes::kinds::Container;
-use boxes::walk::{Step, Walk};
+use boxes::walk::Walk;
 use fields::allowed::may_stand;
 use numerals::place::Place;
 
-// What bytes are: so many whole allowed boxes from the first byte to the last, or not.
-#[derive(Clone, Copy)]
-pub enum Whole {
-    Boxes(u64),
-    Not,
-}
-
-// Walks over bytes, which have no more boxes than bytes.
-pub fn whole_of(bytes: &[u8]) -> Whole
+// How many whole allowed boxes bytes are from the first to the last, if they are. They have no more boxes than bytes.
+pub fn whole_of(bytes: &[u8]) -> Option<u64>
     ensures { result ≡ whole_of bytes.now }
 {
     let end = bytes.len() as u64;
@@ -26,17 +19,12 @@ pub fn whole_of(bytes: &[u8]) -> Whole
         left: end,
     };
     let mut boxes: u64 = 0;
-    loop {
-        match walk.step(bytes) {
-            Step::Next(b, next) => {
-                if !may_stand(b) {
-                    return Whole::Not;
-                }
-                walk = next;
-                boxes += 1;
-            }
-            Step::End => return Whole::Boxes(boxes),
-            Step::Refused(_) => return Whole::Not,
+    while let Some((b, next)) = walk.step(bytes).ok()? {
+        if !may_stand(b) {
+            return None;
         }
+        walk = next;
+        boxes += 1;
     }
+    Some(boxes)
 }

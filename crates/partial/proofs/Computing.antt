@@ -25,7 +25,7 @@ unfolding
     Numbers.least_width
     Framing.user_size Framing.sized Framing.large Framing.header Framing.walked Framing.faultless Framing.boxes_from Framing.box_limit Framing.walked_in
     Framing.boxes_in Framing.box_of
-    Framing.header_answer Framing.front_size Framing.front Framing.boxed
+    Framing.front_size Framing.front Framing.boxed
     Kinds.is Kinds.those Kinds.keeps Kinds.right_count Kinds.right Kinds.box_at Kinds.first_of
     Sequences.some_of Sequences.all_of Sequences.sum Sequences.largest Sequences.within Sequences.stretch Sequences.or_else
     Segments.present Segments.corrupted Segments.has_place Segments.is_open Segments.is_last Segments.end_of

@@ -1,7 +1,7 @@
 -- Document 02, [1] and [9]: the list of a file's top-level boxes, with whose a vendor's box is, and its first framing
 -- error, as the bytes that a program prints.
 use Rattle.std.specs.Prelude.{ℕ, ◌+◌, ◌-◌, Bool, true, false, ◌&&◌, List, [], ◌∷◌, ◌++◌, length, leb, eqb}
-use Rattle.std.proofs.Math.Option.{none, some}
+use Rattle.std.specs.Prelude.{None, Some}
 use Rattle.io.specs.Digits.{last_digits}
 use Rattle.boxes.specs.Answer.{refused, given, ◌>>=◌, hold}
 use Rattle.boxes.specs.Framing.{Box, Fault, Walked, uuid, walked_in}
@@ -50,7 +50,7 @@ fault_line x = line (decimal x.at) (decimal x.number ∷ [])
 
 -- a line for each box that a walk over a file met, and behind them that of the framing error, if it met one
 unfoldable pub walk_lines : List ℕ → Walked → List ℕ
-walk_lines f w = each (box_line f) w.boxes ++ elim w.fault [ none ↦ [] | some x ↦ fault_line x ]
+walk_lines f w = each (box_line f) w.boxes ++ elim w.fault [ None ↦ [] | Some x ↦ fault_line x ]
 
 -- what a program prints that takes an input of at most so many bytes: the single line of 27 or 1, or those of the walk
 unfoldable pub boxes_text : ℕ → List ℕ → List ℕ

@@ -1,7 +1,7 @@
 -- Document 01, the `ploc` paragraph and refusals 17 to 24, with document 02, [4]: the entries of a `ploc`, and the
 -- chunks that they tell of.
 use Rattle.std.specs.Prelude.{ℕ, zero, suc, ◌+◌, ◌-◌, ◌/◌, ◌%◌, Bool, true, false, ◌&&◌, ◌||◌, List, [], ◌∷◌, get_or, leb, ltb, eqb}
-use Rattle.std.proofs.Math.Option.{Option, none, some}
+use Rattle.std.specs.Prelude.{Option, None, Some}
 use Rattle.boxes.specs.Answer.{Answer, refused, given, ◌>>=◌, hold}
 use Rattle.numerals.specs.Numbers.{number, signed}
 use Rattle.boxes.specs.Framing.{Box}
@@ -77,8 +77,8 @@ may_lie h state place size = in_data h.boxes place size || (h.mixed && eqb state
 
 -- the place that an offset gives, counted from the first byte of the `pseg` box; none before the file's first byte
 unfoldable pub offset_place : ℕ → Offset → Option ℕ
-offset_place pseg (Ahead n) = some (pseg + n)
-offset_place pseg (Back n) = elim (leb n pseg) [ true ↦ some (pseg - n) | false ↦ none ]
+offset_place pseg (Ahead n) = Some (pseg + n)
+offset_place pseg (Back n) = elim (leb n pseg) [ true ↦ Some (pseg - n) | false ↦ None ]
 
 -- 24, and the place of an entry's chunk: 0 if not present or empty, and then it is not checked
 unfoldable pub place_of : Heading → ℕ → Entry → Answer ℕ
@@ -86,8 +86,8 @@ place_of h pseg e =
     elim (has_place e.state e.size) [
       | true ↦
           elim (offset_place pseg e.offset) [
-            | none ↦ refused 24
-            | some place ↦ hold 24 (may_lie h e.state place e.size) >>= λ _. given place
+            | None ↦ refused 24
+            | Some place ↦ hold 24 (may_lie h e.state place e.size) >>= λ _. given place
           ]
       | false ↦ given 0
     ]

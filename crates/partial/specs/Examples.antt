@@ -3,7 +3,7 @@
 -- their files; the others are the maps and the rows of P10, a case of each error that no P shows, and those of document
 -- 02. The examples of begin and append stand in the crate `additions`.
 use Rattle.std.specs.Prelude.{ℕ, ◌-◌, true, false, List, [], ◌∷◌, ◌++◌, map, ◌≡◌, length, take, drop, replicate, ℤ, pos, negsuc}
-use Rattle.std.proofs.Math.Option.{get_or}
+use Rattle.std.specs.Prelude.{unwrap_or}
 use Rattle.boxes.specs.Answer.{Answer, refused, given, ◌>>=◌, hold}
 use Rattle.numerals.specs.Numbers.{number, bytes_of, value_of, signed, holds_offset, least_width}
 use Rattle.boxes.specs.Framing.{uuid, header, boxed}
@@ -104,7 +104,7 @@ P9 = record { defined = says (missing_in (begun_bytes ++ first_bytes)); paper = 
 abbrev served_in : List ℕ → Answer (List ℤ)
 served_in f = do
   ss ← reading source_limit f
-  given (map pos (get_or (served f ss 2) 0 ∷ get_or (served f ss 3) 0 ∷ []))
+  given (map pos (unwrap_or (served f ss 2) 0 ∷ unwrap_or (served f ss 3) 0 ∷ []))
 
 -- P10's file, which has a segment at 2 besides: positions 2 and 3 still come from the first; missing is (7, 3)
 abbrev P10 : Example
@@ -425,7 +425,7 @@ abbrev served_far : Example
 served_far =
     let f = begun_bytes ++ carrying (version1 0 4_294_967_296) 0x40 (81 ∷ 82 ∷ []) in
     record {
-      defined = says (reading source_limit f >>= λ ss. given (pos (get_or (served f ss 4_294_967_297) 0) ∷ []));
+      defined = says (reading source_limit f >>= λ ss. given (pos (unwrap_or (served f ss 4_294_967_297) 0) ∷ []));
       paper = pos 82 ∷ [];
     }
 

@@ -1,7 +1,7 @@
 -- Document 02, [7], with 5.2.2, 5.2.3 and 5.2.6 of source document 000: the box index and refusals 36 to 39. An index
 -- list holds indexed boxes, and each of those may hold a list. Document 02, [8]: each index belongs to a source.
 use Rattle.std.specs.Prelude.{ℕ, zero, suc, ◌+◌, ◌-◌, Bool, true, false, not, ◌&&◌, ◌||◌, List, [], ◌∷◌, ◌++◌, map, length, leb, ltb, eqb}
-use Rattle.std.proofs.Math.Option.{Option, none, some}
+use Rattle.std.specs.Prelude.{Option, None, Some}
 use Rattle.boxes.specs.Answer.{Answer, refused, given, ◌>>=◌, hold}
 use Rattle.numerals.specs.Numbers.{number}
 use Rattle.boxes.specs.Framing.{Box, user_size, boxes_in}
@@ -27,7 +27,7 @@ pub record IndexFields : Type 0 where
 -- the size by `indexed_box_size` and the 64 bits that may follow the type: 0 runs to the end, 1 means that they do
 -- follow
 unfoldable pub size_by : ℕ → ℕ → Option ℕ
-size_by size large = elim (eqb size 0) [ true ↦ none | false ↦ some (elim (eqb size 1) [ true ↦ large | false ↦ size ]) ]
+size_by size large = elim (eqb size 0) [ true ↦ None | false ↦ Some (elim (eqb size 1) [ true ↦ large | false ↦ size ]) ]
 
 -- how many bytes a header has: size and type, the 64-bit size where there is one, the user type of a `uuid`
 unfoldable pub front_by : ℕ → ℕ → ℕ
@@ -45,17 +45,17 @@ index_fields f b = do
 
 -- whether a size or an end is known
 unfoldable pub is_known : Option ℕ → Bool
-is_known none = false
-is_known (some n) = true
+is_known None = false
+is_known (Some n) = true
 
 -- where a box ends that starts at a place: a size of 0 runs to the end of what encloses it, where that is known
 unfoldable pub end_from : Option ℕ → ℕ → IndexFields → Option ℕ
-end_from enclosing place x = elim x.size [ some size ↦ some (place + size) | none ↦ enclosing ]
+end_from enclosing place x = elim x.size [ Some size ↦ Some (place + size) | None ↦ enclosing ]
 
 -- "no unknown end is judged": a test of an end holds of one that is not known
 unfoldable pub wherever : (ℕ → Bool) → Option ℕ → Bool
-wherever test none = true
-wherever test (some end) = test end
+wherever test None = true
+wherever test (Some end) = test end
 
 -- 36: no size under its header, no end over the limit of 23
 unfoldable pub end_right : ℕ → ℕ → IndexFields → Option ℕ → Bool
@@ -85,7 +85,7 @@ pub record Told : Type 0 where
 
 -- a list without a box
 abbrev pub nothing_told : Told
-nothing_told = record { boxes = []; end = none }
+nothing_told = record { boxes = []; end = None }
 
 -- 36: a size of 0 stands last in its list
 unfoldable pub last_or_sized : Bool → IndexFields → Bool
@@ -106,12 +106,12 @@ unfoldable pub in_aRow : (Bool → ℕ → Box → Answer Told) → ℕ → List
 in_aRow one place [] = given nothing_told
 in_aRow one place (b ∷ bs) = do
   told ← one (none_follows bs) place b
-  rest ← in_aRow one (elim told.end [ some end ↦ end | none ↦ place ]) bs
+  rest ← in_aRow one (elim told.end [ Some end ↦ end | None ↦ place ]) bs
   given (with_rest told bs rest)
 
 -- a box of a ninth level, which is not looked into
 unfoldable pub untold : ℕ → Box → Indexed
-untold level b = record { level = level; place = 0; end = none; kind = 0 }
+untold level b = record { level = level; place = 0; end = None; kind = 0 }
 
 -- ---- the list and the box, which call each other: a level has two of so many calls
 
@@ -120,7 +120,7 @@ module _ (limit : ℕ) (f : List ℕ) where
     -- the `bidx` boxes of a list on a level, inside what has that end: the first at a place, each other where the one
     -- before it ends. No box of a ninth level is looked into
     pub index_list : ℕ → ℕ → Option ℕ → ℕ → List Box → Answer Told
-    index_list zero level enclosing place bs = given (record { boxes = map (untold level) bs; end = none })
+    index_list zero level enclosing place bs = given (record { boxes = map (untold level) bs; end = None })
     index_list (suc calls) level enclosing place bs = in_aRow (λ last at b. indexed_box calls level enclosing last at b) place bs
 
     -- one of them at its place, the last or another: its own fields, then the list inside, behind its header and front
@@ -224,7 +224,7 @@ served_of ss place size =
 
 -- how many bytes a box has whose end is known
 unfoldable pub indexed_size : Indexed → ℕ
-indexed_size i = elim i.end [ some end ↦ end - i.place | none ↦ 0 ]
+indexed_size i = elim i.end [ Some end ↦ end - i.place | None ↦ 0 ]
 
 -- how many numbers there are in a row of the index
 abbrev pub index_row_length : ℕ

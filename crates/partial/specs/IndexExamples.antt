@@ -1,6 +1,6 @@
 -- Document 02, [7]: worked examples of the index, computed over the definitions, as one table with one statement.
 use Rattle.std.specs.Prelude.{ℕ, zero, suc, ◌+◌, ◌-◌, false, List, [], ◌∷◌, ◌++◌, map, ◌≡◌, length, take, drop, replicate, ℤ, pos}
-use Rattle.std.proofs.Math.Option.{Option, none, some, get_or}
+use Rattle.std.specs.Prelude.{Option, None, Some, unwrap_or}
 use Rattle.boxes.specs.Answer.{Answer, given, ◌>>=◌}
 use Rattle.numerals.specs.Numbers.{bytes_of}
 use Rattle.boxes.specs.Framing.{Box, uuid, boxed, boxes_in}
@@ -54,7 +54,7 @@ index = boxed_large fidx.code
 -- what is told of an index: each box as its level, place, end and type; an end that is not known is 0
 abbrev numbers_of : List Indexed → List ℤ
 numbers_of [] = []
-numbers_of (i ∷ is) = pos i.level ∷ pos i.place ∷ pos (get_or i.end 0) ∷ pos i.kind ∷ numbers_of is
+numbers_of (i ∷ is) = pos i.level ∷ pos i.place ∷ pos (unwrap_or i.end 0) ∷ pos i.kind ∷ numbers_of is
 
 abbrev tells : Answer (List Indexed) → List ℤ
 tells answer = says (answer >>= λ boxes. given (numbers_of boxes))
@@ -74,7 +74,7 @@ two_levels =
     let other = boxed dint (1 ∷ []) in
     record {
       defined =
-          index_over (some 100) 0
+          index_over (Some 100) 0
           (front_part_of 1
           ++ (front_part_of 1
           ++ (indexed_as 40 moov (boxed_large bidx.code (fields_of 20 trak []) ++ (other ++ (indexed_as 8 trak [] ++ front_part_of 4)))
@@ -88,7 +88,7 @@ abbrev headers : Example
 headers =
     record {
       defined =
-          index_over none 0
+          index_over None 0
           (indexed_as 1 moov (bytes_of 8 40 ++ indexed_as 24 trak [])
           ++ (indexed_as 40 uuid (user ++ indexed_as 16 trak [])
           ++ (indexed_as 1 uuid (bytes_of 8 48 ++ (user ++ indexed_as 16 trak []))
@@ -105,7 +105,7 @@ abbrev from_offset : Example
 from_offset =
     record {
       defined =
-          index_over none 1_000
+          index_over None 1_000
           (indexed_as 40 moov (indexed_as 0 trak []) ++ indexed_as 0 uuid (user ++ (indexed_as 9 trak [] ++ indexed_as 0 trak [])));
       paper =
           map pos
@@ -118,8 +118,8 @@ abbrev right_indexes : Example
 right_indexes =
     record {
       defined =
-          index_over none 0 (indexed_as 8 moov (front_part_of 9))
-          ++ (index_over (some 100) 0 (indexed_as 101 mdat []) ++ index_over none (source_limit - 8) (indexed_as 8 mdat []));
+          index_over None 0 (indexed_as 8 moov (front_part_of 9))
+          ++ (index_over (Some 100) 0 (indexed_as 101 mdat []) ++ index_over None (source_limit - 8) (indexed_as 8 mdat []));
       paper = map pos (1 ∷ 0 ∷ 8 ∷ moov ∷ 1 ∷ 0 ∷ 101 ∷ mdat ∷ 1 ∷ (source_limit - 8) ∷ source_limit ∷ mdat ∷ []);
     }
 
@@ -135,7 +135,7 @@ abbrev wrong_indexes : Example
 wrong_indexes =
     record {
       defined =
-          each_over (some 100)
+          each_over (Some 100)
           (bytes_of 4 9
           ∷ indexed_as 8 moov (0 ∷ [])
           ∷ boxed bidx.code (bytes_of 7 0)
@@ -163,9 +163,9 @@ abbrev wrong_inside : Example
 wrong_inside =
     record {
       defined =
-          each_over none (indexed_as 0 moov (indexed_as 7 trak []) ∷ indexed_as 0 moov (indexed_as 0 trak [] ++ indexed_as 8 trak []) ∷ [])
-          ++ (index_over none (source_limit - 7) (indexed_as 8 mdat [])
-          ++ index_over none (source_limit - 15) (indexed_as 0 moov (indexed_as 8 trak [])));
+          each_over None (indexed_as 0 moov (indexed_as 7 trak []) ∷ indexed_as 0 moov (indexed_as 0 trak [] ++ indexed_as 8 trak []) ∷ [])
+          ++ (index_over None (source_limit - 7) (indexed_as 8 mdat [])
+          ++ index_over None (source_limit - 15) (indexed_as 0 moov (indexed_as 8 trak [])));
       paper = map pos (replicate 4 36);
     }
 
@@ -310,7 +310,7 @@ served_of_source =
     let row : List (List ℕ) → List ℕ = λ urls. drop 4
     (index_row (segment_of b 0 0 (chunk_of good 0 9) [] ∷ segment_of a 1 0 (chunk_of good 0 4) [] ∷ []) (record {
       urls = urls;
-      box = record { level = 1; place = 0; end = some 9; kind = mdat };
+      box = record { level = 1; place = 0; end = Some 9; kind = mdat };
     })) in
     record { defined = map pos (row a ++ (row b ++ row (ascii "c" ∷ []))); paper = map pos (1 ∷ 2 ∷ 0 ∷ []) }
 

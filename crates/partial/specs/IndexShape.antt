@@ -1,7 +1,7 @@
 -- Document 02, [7], as sentences about the boxes of an index: each stands before those of its own list, on a level of
 -- one to eight, and those lie inside it.
 use Rattle.std.specs.Prelude.{ℕ, ◌+◌, ◌≤◌, ◌<◌, List, [], ◌∷◌, true, false, ◌↔◌, ◌≡◌, T, leb}
-use Rattle.std.proofs.Math.Option.{some}
+use Rattle.std.specs.Prelude.{Some}
 use Rattle.partial.specs.Sequences.{all_of}
 use Rattle.partial.specs.Segments.{Segment}
 use Rattle.partial.specs.Meaning.{supplied}
@@ -10,7 +10,7 @@ use Rattle.partial.specs.Index.{Indexed, is_known, level_limit, served_of}
 -- one box lies inside another, where both ends are known
 pub record Inside (i j : Indexed) : Type 0 where
   pub from : i.place ≤ j.place
-  pub to : (a b : ℕ) → i.end ≡ some a → j.end ≡ some b → b ≤ a
+  pub to : (a b : ℕ) → i.end ≡ Some a → j.end ≡ Some b → b ≤ a
 
 -- the boxes that follow one lie inside it, as long as they are on a deeper level
 abbrev pub Under : Indexed → List Indexed → Type 0

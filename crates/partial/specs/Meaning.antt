@@ -1,7 +1,7 @@
 -- Document 01, "Meaning" and "Serving", over a list of segments: who supplies a position, the known size, the described
 -- length.
 use Rattle.std.specs.Prelude.{ℕ, suc, ◌+◌, ◌-◌, Bool, true, false, not, ◌&&◌, ◌||◌, List, [], ◌∷◌, map, length, get_or, leb, ltb, eqb}
-use Rattle.std.proofs.Math.Option.{Option, none, some}
+use Rattle.std.specs.Prelude.{Option, None, Some}
 use Rattle.partial.specs.Sequences.{all_of, largest, within, stretch}
 use Rattle.partial.specs.Segments.{Chunk, no_chunk, Segment, good, is_open, is_last, end_of, chunks_of}
 
@@ -11,23 +11,23 @@ gives_size s = is_last s.flags && not (is_open s)
 
 -- the size of the source, where it is known: that segment's end
 unfoldable pub known_size : List Segment → Option ℕ
-known_size [] = none
-known_size (s ∷ ss) = elim (gives_size s) [ true ↦ some (end_of s) | false ↦ known_size ss ]
+known_size [] = None
+known_size (s ∷ ss) = elim (gives_size s) [ true ↦ Some (end_of s) | false ↦ known_size ss ]
 
 -- the described length: that size, else the largest of all segment ends and all offsets of open segments
 unfoldable pub described_length : List Segment → ℕ
-described_length ss = elim (known_size ss) [ some n ↦ n | none ↦ largest (map end_of ss) ]
+described_length ss = elim (known_size ss) [ Some n ↦ n | None ↦ largest (map end_of ss) ]
 
 -- whether the size is known
 unfoldable pub is_closed : List Segment → Bool
-is_closed ss = elim (known_size ss) [ some n ↦ true | none ↦ false ]
+is_closed ss = elim (known_size ss) [ Some n ↦ true | None ↦ false ]
 
 -- 25: no two known sizes differ, and no segment end or open offset lies above the known size
 unfoldable pub agree : List Segment → Bool
 agree ss =
     elim (known_size ss) [
-      | some n ↦ all_of (λ s. leb (end_of s) n && (not (gives_size s) || eqb (end_of s) n)) ss
-      | none ↦ true
+      | Some n ↦ all_of (λ s. leb (end_of s) n && (not (gives_size s) || eqb (end_of s) n)) ss
+      | None ↦ true
     ]
 
 -- a chunk covers the positions from its start, as many as its size
@@ -64,7 +64,7 @@ place_of_byte ss p = (chunk_for ss p).place + (p - (chunk_for ss p).start)
 
 -- the byte that is served for a position: the file's byte at the supplier's place
 unfoldable pub served : List ℕ → List Segment → ℕ → Option ℕ
-served f ss p = elim (supplied ss p) [ true ↦ some (get_or f (place_of_byte ss p) 0) | false ↦ none ]
+served f ss p = elim (supplied ss p) [ true ↦ Some (get_or f (place_of_byte ss p) 0) | false ↦ None ]
 
 -- how many positions from p on, below the described length, pass a test
 unfoldable pub onward : List Segment → (ℕ → Bool) → ℕ → ℕ

@@ -2,7 +2,7 @@
 -- `source_limit`. Each field has the sentence that it states. The three demands stand whole in the crate `additions`.
 use Rattle.std.specs.Prelude.{ℕ, ◌+◌, ◌-◌, ◌≤◌, ◌<◌, Bool, true, false, not, ◌&&◌, ◌||◌, ◌↔◌, ◌⊎◌, ◌≡◌, length, get_or, T, eqb}
 use mathlib.Core.List.{List, [], ◌∷◌, ◌++◌, Memᴰ}
-use Rattle.std.proofs.Math.Option.{some}
+use Rattle.std.specs.Prelude.{Some}
 use Rattle.boxes.specs.Answer.{refused, given}
 use Rattle.boxes.specs.Faults.{FirstFault}
 use Rattle.boxes.specs.Framing.{Box, box_limit, boxes_in}
@@ -173,9 +173,9 @@ pub record Serving (f : List ℕ) (h : Heading) (ss : List Segment) (p : ℕ) : 
   -- out of one `pdat` body, or of whole boxes
   pub lies : InData h (chunk_for ss p) ⊎ Whole h (chunk_for ss p)
   -- the byte is the file's, as far behind the chunk's place as the position is behind the chunk's start
-  pub byte : served f ss p ≡ some (get_or f ((chunk_for ss p).place + (p - (chunk_for ss p).start)) 0)
+  pub byte : served f ss p ≡ Some (get_or f ((chunk_for ss p).place + (p - (chunk_for ss p).start)) 0)
   -- the part holds p and the positions after it, as long as they are supplied by the same chunk, and no longer
-  pub part : (i : ℕ) → i < served_run ss p → served f ss (p + i) ≡ some (get_or (bytes_in f (part_of ss p)) i 0)
+  pub part : (i : ℕ) → i < served_run ss p → served f ss (p + i) ≡ Some (get_or (bytes_in f (part_of ss p)) i 0)
   pub long : length (bytes_in f (part_of ss p)) ≡ served_run ss p
   pub same_chunk : (i : ℕ) → i < served_run ss p → supplier (chunks_of ss) (p + i) ≡ supplier (chunks_of ss) p
   pub no_longer : supplier (chunks_of ss) (p + served_run ss p) ≡ supplier (chunks_of ss) p → ⊥

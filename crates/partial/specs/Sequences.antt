@@ -1,7 +1,7 @@
 -- What is said of a list, or of numbers in a row: some or all pass a test, a sum, the largest, how many in a row; and
 -- of two numbers that may be there, the first.
 use Rattle.std.specs.Prelude.{ℕ, zero, suc, ◌+◌, max, Bool, true, false, ◌&&◌, ◌||◌, List, [], ◌∷◌, leb, ltb}
-use Rattle.std.proofs.Math.Option.{Option, none, some}
+use Rattle.std.specs.Prelude.{Option, None, Some}
 
 module _ {A : Type 0} where
   -- some of the list pass the test
@@ -33,5 +33,5 @@ stretch test (suc more) at = elim (test at) [ true ↦ suc (stretch test more (s
 
 -- the first of two that is there
 unfoldable pub or_else : Option ℕ → Option ℕ → Option ℕ
-or_else none other = other
-or_else (some b) other = some b
+or_else None other = other
+or_else (Some b) other = Some b

@@ -8,7 +8,13 @@ use std::io::Read;
 pub fn read_full(rt: &impl Input, space: &mut [u8]) -> io::Result<usize>
     ensures { ReadsAtMost result space.new }
 {
-    let mut reader = rt.reader();
+    fill(&mut rt.reader(), space)
+}
+
+// The same from any reader. `read_exact` would not tell how many bytes there were before the end.
+pub fn fill<R: Read>(reader: &mut R, space: &mut [u8]) -> io::Result<usize>
+    ensures { ReadsAtMost result space.new }
+{
     let mut done = 0;
     while done < space.len() {
         let n = reader.read(&mut space[done..])?;

@@ -1,82 +1,84 @@
 // The parts of a line of output.
-use crate::marks::{kept, kept_bytes};
+ghost use Rattle.std.specs.Prelude.{◌*◌, ◌<◌, ◌≤◌, length, IfOk};
+
+use crate::marks::{Marked, kept};
+use refusals::Refusal;
 use std::io;
 
-pub fn text(rt: &impl Print, s: &[u8]) -> io::Result<()> {
-    rt.write_all(s)
-}
-
-pub fn number(rt: &impl Print, n: u64) -> io::Result<()> {
-    text(rt, b" ")?;
-    rt.print(n)
-}
-
+// The line of a name.
 pub fn title(rt: &impl Print, name: &[u8]) -> io::Result<()> {
-    text(rt, b"= ")?;
-    text(rt, name)?;
-    text(rt, b"\n")
+    rt.write_all(b"= ")?;
+    rt.write_all(name)?;
+    println!(rt)
 }
 
 // The line of a refusal.
-pub fn refused(rt: &impl Print, n: u64) -> io::Result<()> {
-    text(rt, b"refused")?;
-    number(rt, n)?;
-    text(rt, b"\n")
+pub fn refused(rt: &impl Print, e: Refusal) -> io::Result<()> {
+    let n = e.number();
+    println!(rt; "refused {n}")
 }
 
-// The end of a line: whether the size of the source is known.
-pub fn known(rt: &impl Print, closed: bool) -> io::Result<()> {
-    if closed {
-        text(rt, b" closed\n")
-    } else {
-        text(rt, b" open\n")
-    }
+// Whether the size of the source is known.
+pub fn known(closed: bool) -> &'static str {
+    if closed { "closed" } else { "open" }
 }
 
-// How many numbers of a table, from one on, still hold their mark, and how many there are.
-pub fn kept_of(rt: &impl Print, table: &[u64], from: usize) -> io::Result<()> {
-    kept_behind(rt, kept(table, from), table.len(), from)
+// How many places of something lent, from one on, still hold their mark, and how many there are.
+pub fn kept_of<T: Marked>(rt: &impl Print, lent: &[T], from: usize) -> io::Result<()> {
+    let held = kept(lent, from);
+    let all = lent.len().saturating_sub(from);
+    print!(rt; "kept {held} of {all}")
 }
 
-// How many behind a place of something so long still hold their mark, and how many there are.
-fn kept_behind(rt: &impl Print, kept: u64, length: usize, from: usize) -> io::Result<()> {
-    text(rt, b"kept")?;
-    number(rt, kept)?;
-    text(rt, b" of")?;
-    number(rt, behind(length, from))
-}
-
-// The line of what was left behind the rows.
-pub fn rest(rt: &impl Print, table: &[u64], from: usize) -> io::Result<()> {
-    kept_of(rt, table, from)?;
-    text(rt, b"\n")
-}
-
-// The line of what was left of a buffer behind a place.
-pub fn rest_bytes(rt: &impl Print, buffer: &[u8], from: usize) -> io::Result<()> {
-    kept_behind(rt, kept_bytes(buffer, from), buffer.len(), from)?;
-    text(rt, b"\n")
-}
-
-fn behind(length: usize, from: usize) -> u64 {
-    if from <= length {
-        (length - from) as u64
-    } else {
-        0
-    }
+// The line of what was left of something lent, from a place on.
+pub fn rest<T: Marked>(rt: &impl Print, lent: &[T], from: usize) -> io::Result<()> {
+    kept_of(rt, lent, from)?;
+    println!(rt)
 }
 
 // Bytes of a file, in two hexadecimal digits each.
 pub fn bytes(rt: &impl Print, part: &[u8]) -> io::Result<()> {
-    let mut i = 0;
-    while i < part.len() {
-        byte(rt, part[i])?;
-        i += 1;
+    for b in part {
+        print!(rt; " {b:02x}")?;
     }
     Ok(())
 }
 
-fn byte(rt: &impl Print, b: u8) -> io::Result<()> {
-    text(rt, b" ")?;
-    print!(rt; "{b:02x}")
+// The line of a part of the file, byte by byte.
+pub fn part(rt: &impl Print, word: &str, part: &[u8]) -> io::Result<()> {
+    print!(rt; "{word}")?;
+    bytes(rt, part)?;
+    println!(rt)
+}
+
+// The line of a row of numbers.
+pub fn row(rt: &impl Print, word: &str, numbers: &[u64]) -> io::Result<()> {
+    print!(rt; "{word}")?;
+    for n in numbers {
+        print!(rt; " {n}")?;
+    }
+    println!(rt)
+}
+
+// The rows of so many numbers that stand in a table, as many as are claimed and no more than it holds, and the line of
+// its rest.
+pub fn rows(
+    rt: &impl Print,
+    word: &str,
+    table: &[u64],
+    claimed: u64,
+    width: usize,
+) -> io::Result<()>
+    requires { 0 < width }
+{
+    let mut left = table;
+    for _ in 0..claimed {
+        if left.len() < width {
+            break;
+        }
+        let (first, others) = left.split_at(width);
+        row(rt, word, first)?;
+        left = others;
+    }
+    rest(rt, table, table.len() - left.len())
 }

@@ -1,55 +1,51 @@
 // Marks in a lent table or buffer, by which it is seen what of it was written over.
+ghost use Rattle.std.specs.Prelude.{ℕ, ◌-◌, ◌%◌, ◌^◌, ◌<◌, ◌≤◌, ◌≡◌, Some, length, slice_get};
 
-pub fn mark(table: &mut [u64]) {
-    let mut i = 0;
-    while i < table.len() {
-        table[i] = mark_at(i);
-        i += 1;
+// What can be lent with marks in it.
+pub trait Marked: Copy + PartialEq {
+    ghost mark: { ℕ → Self };
+
+    // The mark of that place.
+    fn mark_at(i: usize) -> Self
+        ensures { result ≡ mark i };
+}
+
+// The numbers of a table count down from the largest.
+impl Marked for u64 {
+    ghost mark = { λ i. 2 ^ 64 - 1 - i };
+
+    fn mark_at(i: usize) -> u64 {
+        u64::MAX - i as u64
     }
 }
 
-// The number that marks that place of a table.
-fn mark_at(i: usize) -> u64 {
-    18446744073709551615 - (i as u64)
+// The bytes of a buffer count down from 255, over and over, so that no two that stand near each other are the same.
+impl Marked for u8 {
+    ghost mark = { λ i. 255 - i % 251 };
+
+    fn mark_at(i: usize) -> u8 {
+        (255 - i % 251) as u8
+    }
 }
 
-// How many numbers of a table, from one on, still hold their mark.
-pub fn kept(table: &[u64], from: usize) -> u64 {
+// Marks a lent table or buffer.
+pub fn mark<T: Marked>(lent: &mut [T])
+    ensures { (k : ℕ) → k < length lent.new → slice_get lent.new k ≡ Some (T.mark k) }
+{
+    for (i, place) in lent.iter_mut().enumerate() {
+        *place = T::mark_at(i);
+    }
+}
+
+// How many places of a table or buffer, from one on, still hold their mark.
+pub fn kept<T: Marked>(lent: &[T], from: usize) -> usize
+    ensures { result ≤ length lent.now - from }
+{
     let mut n = 0;
-    let mut i = from;
-    while i < table.len() {
-        if table[i] == mark_at(i) {
+    for i in from..lent.len() {
+        if lent[i] == T::mark_at(i) {
             n += 1;
         }
-        i += 1;
-    }
-    n
-}
-
-// Marks a lent buffer: the bytes count down from 255, over and over, so that no two that stand near each other are the
-// same.
-pub fn mark_bytes(buffer: &mut [u8]) {
-    let mut i = 0;
-    while i < buffer.len() {
-        buffer[i] = byte_at(i);
-        i += 1;
-    }
-}
-
-// The byte that marks that place of a buffer.
-fn byte_at(i: usize) -> u8 {
-    (255 - i % 251) as u8
-}
-
-// How many bytes of a buffer, from one on, still hold their mark.
-pub fn kept_bytes(buffer: &[u8], from: usize) -> u64 {
-    let mut n = 0;
-    let mut i = from;
-    while i < buffer.len() {
-        if buffer[i] == byte_at(i) {
-            n += 1;
-        }
-        i += 1;
     }
     n
 }

@@ -1,42 +1,45 @@
-// The parts of a record of standard input: numbers, most significant byte first, and its name.
-ghost use Rattle.std.specs.Prelude.{◌<◌};
-
-use crate::input::read_full;
+// The parts of a record of an input: numbers, most significant byte first, and its name.
+use crate::input::fill;
 use crate::lines;
 use std::io;
-
-// The number in two bytes.
-pub fn pair(high: u8, low: u8) -> usize {
-    256 * (high as usize) + (low as usize)
-}
-
-// Takes a number of eight bytes.
-pub fn eight(rt: &impl Input) -> io::Result<u64> {
-    let mut bytes = [0u8; 8];
-    read_full(rt, &mut bytes)?;
-    let high = four(bytes[0], bytes[1], bytes[2], bytes[3]);
-    Ok(4294967296 * high + four(bytes[4], bytes[5], bytes[6], bytes[7]))
-}
-
-fn four(a: u8, b: u8, c: u8, d: u8) -> u64
-    ensures { result < 4294967296 }
-{
-    16777216 * (a as u64) + 65536 * (b as u64) + 256 * (c as u64) + (d as u64)
-}
+use std::io::Read;
 
 // The most bytes of a name; a longer one is not taken.
 const LONGEST_NAME: usize = 4096;
 
-// Takes a name of so many bytes, and prints it.
-pub fn name(rt: &(impl Input + Print), length: usize) -> io::Result<()> {
-    let mut space = [0u8; LONGEST_NAME];
-    name_in(rt, &mut space, length)
+// Takes a number of so many bytes, of eight at the most, if the input has them.
+pub fn number<R: Read>(input: &mut R, width: usize) -> io::Result<Option<u64>> {
+    let taken = width.min(8);
+    let mut bytes = [0; 8];
+    if fill(input, &mut bytes[8 - taken..])? < taken {
+        return Ok(None);
+    }
+    Ok(Some(u64::from_be_bytes(bytes)))
 }
 
-fn name_in(rt: &(impl Input + Print), space: &mut [u8], length: usize) -> io::Result<()> {
+// Takes numbers of two bytes each, if the input has them all.
+pub fn numbers<R: Read, const N: usize>(input: &mut R) -> io::Result<Option<[usize; N]>> {
+    let mut numbers = [0; N];
+    for place in numbers.iter_mut() {
+        match number(input, 2)? {
+            Some(n) => *place = n as usize,
+            None => return Ok(None),
+        }
+    }
+    Ok(Some(numbers))
+}
+
+// Takes a number of eight bytes, 0 where the input has ended.
+pub fn eight<R: Read>(input: &mut R) -> io::Result<u64> {
+    Ok(number(input, 8)?.unwrap_or(0))
+}
+
+// Takes a name of so many bytes, and prints it.
+pub fn name<R: Read>(rt: &impl Print, input: &mut R, length: usize) -> io::Result<()> {
+    let mut space = [0; LONGEST_NAME];
     if length <= space.len() {
-        let name = &mut space[0..length];
-        read_full(rt, name)?;
+        let name = &mut space[..length];
+        fill(input, name)?;
         lines::title(rt, name)?;
     }
     Ok(())

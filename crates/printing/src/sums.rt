@@ -10,26 +10,12 @@ fn with(sum: u64, n: u64) -> u64 {
 
 // A sum with the numbers of a table more, each in two halves.
 pub fn numbers(sum: u64, table: &[u64]) -> u64 {
-    let mut s = sum;
-    let mut i = 0;
-    while i < table.len() {
-        s = with(with(s, table[i] / 4294967296), table[i]);
-        i += 1;
-    }
-    s
+    table
+        .iter()
+        .fold(sum, |s, n| with(with(s, *n / 4294967296), *n))
 }
 
 // The sum of bytes.
 pub fn bytes(part: &[u8]) -> u64 {
-    let mut s = 0;
-    let mut i = 0;
-    while i < part.len() {
-        s = with(s, wide(part[i]));
-        i += 1;
-    }
-    s
-}
-
-fn wide(b: u8) -> u64 {
-    b as u64
+    part.iter().fold(0, |s, b| with(s, u64::from(*b)))
 }

@@ -1,13 +1,19 @@
 -- Laws of the boxes that are written: the numbers that each is made of, and how long they are.
 use Prim.Native.Nat.{ℕ, ◌+◌, ◌*◌, ◌%◌, ◌^◌, ◌≤◌, ◌<◌, min}
-use mathlib.Core.Bool.{Bool, true, false}
+use mathlib.Core.Bool.{Bool, true, false, false≢true}
 use mathlib.Core.List.{List, [], ◌∷◌, ◌++◌, map}
 use mathlib.Core.Logic.{◌⊎◌, inl, inr, ⊎_elim}
 use mathlib.Core.Path.{◌≡◌, refl, sym, ap, ◌∙◌}
+use native.Mathlib.Decide.{dec_le}
 use native.Mathlib.Omega.{arith}
 use borrow.Author.Tests.{ne_eqb, eqb-true, eqb-false}
 use lib.Dec.{eqb, lit<}
 use lib.ListN.{length, length-append}
+use Rattle.std.specs.Prelude.{Result, Err, IsOk}
+use Rattle.std.specs.Result.{is_ok}
+use Rattle.refusals.specs.declared.Refusal.{Refusal}
+use Rattle.fields.specs.declared.state.State.{State}
+use Rattle.outside.proofs.ItemLaws.{no_state}
 use Rattle.boxes.specs.Framing.{boxed}
 use Rattle.boxes.specs.Kinds.{pseg, pshd, ploc, pdat}
 use Rattle.boxes.proofs.BoxedLaws.{front-size, length-boxed}
@@ -149,6 +155,17 @@ module _ (h : SegmentHeader) where
 pub no_flags : (state : ℕ) → (state ≡ 2 → ⊥) → (state ≡ 1 → ⊥) → (state ≡ 0 → ⊥) → flag_byte state ≡ 0
 unfolding flag_byte present corrupted
 no_flags state good damaged lost = rw (flag_byte, present, corrupted, ne_eqb state 2 good, ne_eqb state 1 damaged, ne_eqb state 0 lost)
+
+-- nor has a number of no state, and it is not present
+pub no_state_flags : {n : ℕ} {r : Result State Refusal} {e : Refusal} → r ≡ Err e → (n ≤ 3 → IsOk r) → (flag_byte 3 ≡ flag_byte n) × (present 3 ≡ present n)
+unfolding flag_byte present corrupted
+no_state_flags {n} err states =
+    elim (dec_le n 3) [
+      | yes small ↦ absurd (false≢true (sym (ap is_ok err) ∙ states small))
+      | no over ↦
+          let absent : present n ≡ false = no_state err states in
+          (sym (no_flags n (λ h. over (omega arith)) (λ h. over (omega arith)) (λ h. over (omega arith))), sym absent)
+    ]
 
 pub flags_low : (state : ℕ) → flag_byte state < 256
 unfolding flag_byte

@@ -31,7 +31,7 @@ pub fn put_ftyp(buffer: &mut [u8], at: Place, brand: Brand) -> Place
     ensures { PutsPieces buffer.old at.0 (ftyp_box brand) buffer.new result.0 }
 {
     let code = code_of(brand);
-    let major = put_front(buffer, at, FTYP.code, FTYP_BODY);
+    let major = put_front(buffer, at, FTYP, FTYP_BODY);
     let minor = put_field(buffer, major, 4, code);
     let compatible = put_field(buffer, minor, 4, 0);
     put_field(buffer, compatible, 4, code)

@@ -1,14 +1,25 @@
 // The data of an addition, as it is written: the `pdat` with what goes there, and the chunks outside.
 ghost use Rattle.std.specs.Prelude.{ℕ, ◌<◌, ◌^◌, ◌≡◌, length};
 ghost use Rattle.additions.specs.Addition.{items, data_for, goes_in};
+ghost use Rattle.partial.specs.Segments.{present};
 ghost use Rattle.puts.specs.Boxes.{chosen, data_part};
 ghost use Rattle.puts.specs.Pieces.{PutsPieces};
 
 use crate::pieces::{put_bytes, put_front};
 use boxes::kinds::PDAT;
-use fields::state::present;
+use fields::state::State;
 use numerals::place::Place;
 use outside::items::{end_of, goes_out};
+
+// Whether a number is that of a state in which a chunk is present.
+fn is_present(state: u64) -> bool
+    ensures { result ≡ present state }
+{
+    match State::try_from(state) {
+        Ok(known) => known.is_present(),
+        Err(_) => false,
+    }
+}
 
 // Whether an item's data is among what goes outside, or else among what goes into `pdat`.
 fn is_chosen(outside: bool, out: bool, state: u64) -> bool
@@ -17,7 +28,7 @@ fn is_chosen(outside: bool, out: bool, state: u64) -> bool
     if goes_out(outside, state) {
         return out;
     }
-    if out { false } else { present(state) }
+    !out && is_present(state)
 }
 
 // Copies what goes outside, or else what goes into `pdat`, out of the data of all in chunk order: each chunk in one
@@ -34,8 +45,7 @@ pub fn put_chosen(
 {
     let mut next = at;
     let mut from = 0;
-    let mut i = 0;
-    while i < list.len() / 2 {
+    for i in 0..list.len() / 2 {
         let size = list[2 * i];
         let state = list[2 * i + 1];
         let end = end_of(from, size, state, bytes.len());
@@ -43,7 +53,6 @@ pub fn put_chosen(
             next = put_bytes(buffer, next, &bytes[from..end]);
         }
         from = end;
-        i += 1;
     }
     next
 }
@@ -65,6 +74,6 @@ pub fn put_pdat(
     if !there {
         return at;
     }
-    let body = put_front(buffer, at, PDAT.code, size);
+    let body = put_front(buffer, at, PDAT, size);
     put_chosen(buffer, body, outside, false, list, bytes)
 }

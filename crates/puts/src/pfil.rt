@@ -7,7 +7,6 @@ use crate::pieces::{put_field, put_front};
 use crate::surl::{SURL_SIZE, put_surl};
 use boxes::framing::FRONT_SIZE;
 use boxes::kinds::{PFHD, PFIL};
-use numerals::order::sum_of;
 use numerals::place::Place;
 
 // Version and flags.
@@ -23,7 +22,7 @@ pub const PFIL_SIZE: u64 = FRONT_SIZE + PFIL_BODY;
 pub fn put_pfhd(buffer: &mut [u8], at: Place) -> Place
     ensures { PutsPieces buffer.old at.0 pfhd_box buffer.new result.0 }
 {
-    let body = put_front(buffer, at, PFHD.code, PFHD_BODY);
+    let body = put_front(buffer, at, PFHD, PFHD_BODY);
     put_field(buffer, body, 4, 0)
 }
 
@@ -32,8 +31,8 @@ pub fn put_pfil(buffer: &mut [u8], at: Place, url: &[u8], mime: &[u8]) -> Place
     ensures { length (pfil_box url.now mime.now) < 2 ^ 32
         → PutsPieces buffer.old at.0 (pfil_box url.now mime.now) buffer.new result.0 }
 {
-    let n = sum_of(PFIL_BODY + url.len() as u64, mime.len() as u64);
-    let body = put_front(buffer, at, PFIL.code, n);
+    let n = (PFIL_BODY + url.len() as u64).saturating_add(mime.len() as u64);
+    let body = put_front(buffer, at, PFIL, n);
     let surl = put_pfhd(buffer, body);
     put_surl(buffer, surl, url, mime)
 }

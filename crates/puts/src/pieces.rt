@@ -8,8 +8,8 @@ ghost use Rattle.texts.specs.Pieces.{PutsPiece};
 ghost use Rattle.puts.specs.Pieces.{PutsField, large_front};
 
 use boxes::framing::{FRONT_SIZE, put_header};
+use boxes::kinds::Kind;
 use numerals::numbers::{Offset, put_number, within};
-use numerals::order::sum_of;
 use numerals::place::Place;
 use texts::puts::put_text;
 
@@ -31,7 +31,7 @@ pub fn put_field(buffer: &mut [u8], at: Place, width: usize, n: u64) -> Place
     ensures { PutsField (holds (min width 8) n) buffer.old at.0 (bytes_of (min width 8) n) buffer.new result.0 }
 {
     put_number(buffer, at, width, n);
-    Place(sum_of(at.0, within(width) as u64))
+    Place(at.0.saturating_add(within(width) as u64))
 }
 
 // Puts an offset of that width; a width over 8 counts as 8.
@@ -39,27 +39,27 @@ pub fn put_offset(buffer: &mut [u8], at: Place, width: usize, z: Offset) -> Plac
     ensures { PutsField (holds_offset (min width 8) z) buffer.old at.0 (bytes_of (min width 8) (twos_complement (min width 8) z)) buffer.new result.0 }
 {
     numerals::numbers::put_offset(buffer, at, width, z);
-    Place(sum_of(at.0, within(width) as u64))
+    Place(at.0.saturating_add(within(width) as u64))
 }
 
 // Puts the header of a box with a body of n bytes; 32 bits have to hold the size of the box.
-pub fn put_front(buffer: &mut [u8], at: Place, kind: u32, n: u64) -> Place
-    ensures { PutsField (holds 4 (front_size + n)) buffer.old at.0 (front kind n) buffer.new result.0 }
+pub fn put_front(buffer: &mut [u8], at: Place, kind: Kind, n: u64) -> Place
+    ensures { PutsField (holds 4 (front_size + n)) buffer.old at.0 (front kind.code n) buffer.new result.0 }
 {
     put_header(buffer, at, kind, n);
-    Place(sum_of(at.0, FRONT_SIZE))
+    Place(at.0.saturating_add(FRONT_SIZE))
 }
 
 // Puts the header of a box with a body of n bytes in the large form, as one piece; 64 bits have to hold the size of the
 // box.
-pub fn put_large_front(buffer: &mut [u8], at: Place, kind: u32, n: u64) -> Place
-    ensures { PutsField (holds 8 (16 + n)) buffer.old at.0 (large_front kind n) buffer.new result.0 }
+pub fn put_large_front(buffer: &mut [u8], at: Place, kind: Kind, n: u64) -> Place
+    ensures { PutsField (holds 8 (16 + n)) buffer.old at.0 (large_front kind.code n) buffer.new result.0 }
 {
     if LARGE_BODY < n {
-        return Place(sum_of(at.0, LARGE_FRONT_SIZE as u64));
+        return Place(at.0.saturating_add(LARGE_FRONT_SIZE as u64));
     }
     let mut front = [0u8; LARGE_FRONT_SIZE];
-    put_number(&mut front, Place(0), 8, 0x1_0000_0000 + kind as u64);
+    put_number(&mut front, Place(0), 8, 0x1_0000_0000 + kind.code as u64);
     put_number(&mut front, Place(8), 8, LARGE_FRONT_SIZE as u64 + n);
     put_bytes(buffer, at, &front)
 }

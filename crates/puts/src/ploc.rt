@@ -2,7 +2,9 @@
 ghost use Rattle.std.specs.Prelude.{ℕ, ◌≤◌, List, ◌∷◌, ◌≡◌, length};
 ghost use Rattle.additions.specs.Addition.{Item, items, size_of, goes_out};
 ghost use Rattle.additions.specs.Append.{back, placed, placed_with, flag_byte, entry_bytes};
+ghost use Rattle.fields.specs.State.{state_no};
 ghost use Rattle.partial.specs.Limits.{file_limit};
+ghost use Rattle.partial.specs.Segments.{present};
 ghost use Rattle.adding.specs.Counts.{Whole};
 ghost use Rattle.adding.specs.Layout.{PlocLaid};
 ghost use Rattle.puts.specs.Boxes.{ploc_box};
@@ -13,23 +15,31 @@ use crate::pieces::{put_field, put_front, put_offset};
 use adding::counts::Counts;
 use adding::layout::Layout;
 use boxes::kinds::PLOC;
-use fields::state::{DAMAGED, GOOD, LOST, present};
+use fields::state::State;
 use numerals::numbers::{Offset, within};
-use numerals::order::between;
 use numerals::place::Place;
 use outside::items::{data_of, goes_out};
 
 // The flags of a chunk: bit corrupted, bit present, six zero bits.
-fn flags_of(state: u64) -> u64
-    ensures { result ≡ flag_byte state }
+fn flags_of(state: State) -> u64
+    ensures { result ≡ flag_byte (state_no state) }
 {
-    if state == GOOD {
-        return 0x40;
+    match state {
+        State::Good => 0x40,
+        State::Damaged => 0xc0,
+        State::Lost => 0x80,
+        State::Elsewhere => 0,
     }
-    if state == DAMAGED {
-        return 0xc0;
+}
+
+// The state of a number in a chunk list; a number of no state has the flags of one that is elsewhere.
+fn state_for(number: u64) -> State
+    ensures { (flag_byte (state_no result) ≡ flag_byte number) × (present (state_no result) ≡ present number) }
+{
+    match State::try_from(number) {
+        Ok(state) => state,
+        Err(_) => State::Elsewhere,
     }
-    if state == LOST { 0x80 } else { 0 }
 }
 
 // Two widths: of the sizes and of the offsets.
@@ -45,15 +55,15 @@ pub fn put_entry(
     at: Place,
     widths: Widths,
     size: u64,
-    state: u64,
+    state: State,
     offset: Offset,
 ) -> Place
-    ensures { Entry widths.size widths.offset size state offset
-        → PutsPieces buffer.old at.0 (entry_of widths.size widths.offset size state offset) buffer.new result.0 }
+    ensures { Entry widths.size widths.offset size (state_no state) offset
+        → PutsPieces buffer.old at.0 (entry_of widths.size widths.offset size (state_no state) offset) buffer.new result.0 }
 {
     let sized = put_field(buffer, at, 1, flags_of(state));
     let next = put_field(buffer, sized, widths.size, size);
-    if !present(state) {
+    if !state.is_present() {
         return next;
     }
     put_offset(buffer, next, widths.offset, offset)
@@ -88,11 +98,11 @@ impl Backs {
         if goes_out(outside, state) {
             Backs {
                 inside: self.inside,
-                outside: between(n, self.outside),
+                outside: self.outside.saturating_sub(n),
             }
         } else {
             Backs {
-                inside: between(n, self.inside),
+                inside: self.inside.saturating_sub(n),
                 outside: self.outside,
             }
         }
@@ -115,14 +125,13 @@ fn put_entries(
 {
     let mut next = at;
     let mut left = backs;
-    let mut i = 0;
-    while i < list.len() / 2 {
+    for i in 0..list.len() / 2 {
         let size = list[2 * i];
-        let state = list[2 * i + 1];
-        let back = left.of(outside, state);
+        let number = list[2 * i + 1];
+        let state = state_for(number);
+        let back = left.of(outside, number);
         next = put_entry(buffer, next, widths, size, state, Offset::Back(back));
-        left = left.past(outside, size, state);
-        i += 1;
+        left = left.past(outside, size, number);
     }
     next
 }
@@ -145,7 +154,7 @@ pub(crate) fn put_ploc(
 {
     let size = within(layout.length_size);
     let offset = within(layout.offset_size);
-    let version = put_front(buffer, at, PLOC.code, layout.ploc);
+    let version = put_front(buffer, at, PLOC, layout.ploc);
     let widths = put_field(buffer, version, 4, 0);
     let index = put_field(buffer, widths, 1, (size * 16 + offset) as u64);
     let count = put_field(buffer, index, 2, 0);

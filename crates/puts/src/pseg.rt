@@ -12,9 +12,9 @@ use crate::pieces::put_front;
 use crate::ploc::put_ploc;
 use crate::pshd::put_pshd;
 use crate::surl::put_surls;
+use adding::addition::Addition;
 use adding::counts::Counts;
 use adding::layout::Layout;
-use additions::header::SegmentHeader;
 use boxes::kinds::PSEG;
 use numerals::place::Place;
 
@@ -22,22 +22,21 @@ use numerals::place::Place;
 pub fn put_pseg(
     buffer: &mut [u8],
     at: Place,
-    header: SegmentHeader,
+    addition: Addition,
     counts: Counts,
     layout: Layout,
-    outside: bool,
     out: u64,
-    list: &[u64],
-    texts: &[u8],
-    lengths: &[u64],
 ) -> Place
-    ensures { Whole (items list.now) counts → PsegLaid (asks header outside list.now [] texts.now lengths.now) layout
-        → Fits (items list.now) → out ≡ size_of (goes_out outside) (items list.now)
-        → length (pseg_box header outside list.now texts.now lengths.now) ≤ file_limit
-        → PutsPieces buffer.old at.0 (pseg_box header outside list.now texts.now lengths.now) buffer.new result.0 }
+    ensures { let a = addition.entry in Whole (items a.list.now) counts
+        → PsegLaid (asks a.header a.outside a.list.now [] a.texts.now a.lengths.now) layout
+        → Fits (items a.list.now) → out ≡ size_of (goes_out a.outside) (items a.list.now)
+        → length (pseg_box a.header a.outside a.list.now a.texts.now a.lengths.now) ≤ file_limit
+        → PutsPieces buffer.old at.0 (pseg_box a.header a.outside a.list.now a.texts.now a.lengths.now) buffer.new result.0 }
 {
-    let body = put_front(buffer, at, PSEG.code, layout.pseg);
-    let ploc = put_pshd(buffer, body, header, layout);
+    let outside = addition.outside;
+    let list = addition.list;
+    let body = put_front(buffer, at, PSEG, layout.pseg);
+    let ploc = put_pshd(buffer, body, addition.header, layout);
     let surls = put_ploc(buffer, ploc, counts, layout, outside, out, list);
-    put_surls(buffer, surls, texts, lengths)
+    put_surls(buffer, surls, addition.texts, addition.lengths)
 }

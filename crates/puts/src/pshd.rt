@@ -26,7 +26,7 @@ pub(crate) fn put_pshd(buffer: &mut [u8], at: Place, header: SegmentHeader, layo
 {
     let offset = header.offset;
     let width = layout.offset_width;
-    let version = put_front(buffer, at, PSHD.code, layout.pshd);
+    let version = put_front(buffer, at, PSHD, layout.pshd);
     let flags = put_field(buffer, version, 1, version_of(width));
     let source = put_field(buffer, flags, 3, header.flags as u64 % 2);
     let repair = put_field(buffer, source, width as usize, offset.0);

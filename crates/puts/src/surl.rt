@@ -8,7 +8,6 @@ ghost use Rattle.puts.specs.Pieces.{PutsPieces};
 use crate::pieces::{put_bytes, put_field, put_front};
 use boxes::framing::FRONT_SIZE;
 use boxes::kinds::SURL;
-use numerals::order::{smaller, sum_of};
 use numerals::place::Place;
 
 // Version, flags and the zero bytes that close the two texts.
@@ -30,8 +29,8 @@ pub fn put_surl(buffer: &mut [u8], at: Place, url: &[u8], mime: &[u8]) -> Place
     ensures { length (surl_box url.now mime.now) < 2 ^ 32
         → PutsPieces buffer.old at.0 (surl_box url.now mime.now) buffer.new result.0 }
 {
-    let n = sum_of(SURL_BODY + url.len() as u64, mime.len() as u64);
-    let body = put_front(buffer, at, SURL.code, n);
+    let n = (SURL_BODY + url.len() as u64).saturating_add(mime.len() as u64);
+    let body = put_front(buffer, at, SURL, n);
     let first = put_field(buffer, body, 4, 0);
     let second = put_closed(buffer, first, url);
     put_closed(buffer, second, mime)
@@ -41,7 +40,7 @@ pub fn put_surl(buffer: &mut [u8], at: Place, url: &[u8], mime: &[u8]) -> Place
 fn end_by(from: usize, n: u64, all: usize) -> usize
     ensures { result ≡ min (from + n) all }
 {
-    smaller(sum_of(from as u64, n), all as u64) as usize
+    (from as u64).saturating_add(n).min(all as u64) as usize
 }
 
 // Puts the `surl` boxes of texts, which a list of their lengths cuts, URL and MIME by turns; 32 bits have to hold the
@@ -52,13 +51,11 @@ pub fn put_surls(buffer: &mut [u8], at: Place, texts: &[u8], lengths: &[u64]) ->
 {
     let mut next = at;
     let mut from = 0;
-    let mut i = 0;
-    while i < lengths.len() / 2 {
+    for i in 0..lengths.len() / 2 {
         let middle = end_by(from, lengths[2 * i], texts.len());
         let end = end_by(middle, lengths[2 * i + 1], texts.len());
         next = put_surl(buffer, next, &texts[from..middle], &texts[middle..end]);
         from = end;
-        i += 1;
     }
     next
 }

@@ -8,7 +8,8 @@ use mathlib.Core.Path.{◌≡◌, sym, ap, ◌∙◌}
 use lib.ListN.{length, take}
 use Rattle.numerals.proofs.Determined.{OneResult, OneKnown, OneLeft, OneLeftKnown}
 use Rattle.boxes.specs.Answer.{Answer, given}
-use Rattle.boxes.proofs.ToldLaws.{Tells}
+use Rattle.boxes.proofs.ToldLaws.{Tells, result-told}
+use Rattle.surls.proofs.Determined.{part_told}
 use Rattle.sources.specs.Held.{Sourced}
 use Rattle.sources.specs.Lists.{list_in}
 use Rattle.ends.specs.Table.{sizes_in, Holds}
@@ -16,21 +17,16 @@ use Rattle.fileindex.specs.File.{NumberedBy}
 use Rattle.gathering.specs.Numbers.{numbers_of}
 use Rattle.gathering.proofs.Determined.{OneRead, one_put, boxes_at, one_list}
 use Rattle.heading.proofs.Determined.{head_told}
-use Rattle.partial.specs.Answers.{read_answer, counted_answer}
+use Rattle.partial.specs.Answers.{summary_of, read_answer, number_answer}
 use Rattle.partial.specs.Heading.{Part, Heading, heading}
 use Rattle.partial.specs.Limits.{source_limit}
 use Rattle.partial.specs.Reading.{segments, reading, earlier_segments}
 use Rattle.partial.specs.Segments.{Segment}
 use Rattle.partial.specs.Sources.{source_count}
-use Rattle.partial.specs.Tables.{Summary, tabled, segment_rows}
-use Rattle.partial.specs.declared.answers.Counted.TheVariants as Counted
-use Rattle.partial.specs.declared.answers.Read.TheVariants as Read
-use Rattle.surls.specs.Parts.{part_of}
-use Rattle.reading.specs.Judged.{Judged, judged_by, judged_answer}
+use Rattle.partial.specs.Tables.{tabled, segment_rows}
+use Rattle.reading.specs.Judged.{Judged, judged_by}
 use Rattle.reading.specs.Parts.{HandedBack, located_answer}
 use Rattle.reading.specs.Staged.{HasIndexes}
-use Rattle.reading.specs.declared.judging.Judgement.TheVariants as Judgement
-use Rattle.reading.specs.declared.parts.Located.TheVariants as Located
 use Rattle.reading.proofs.indexed.index_stages.Reads as index-stages
 use Rattle.reading.proofs.judging.earlier_of.Reads as earlier-of
 use Rattle.reading.proofs.judging.judge.Reads as judge
@@ -61,40 +57,23 @@ same_sizes p q = λ i n. (p.said n ∙ sym (q.said n)) i
 same_sources : {f : List ℕ} {h : Heading} {n n' l l' : List ℕ} {ss : List Segment} → Sourced f h n l ss → Sourced f h n' l' ss → take (length ss) n ≡ take (length ss) n'
 same_sources p q = p.sources.numbers ∙ sym q.sources.numbers
 
-judged-told : Tells judged_answer
-unfolding judged_answer
-judged-told (Judgement.Refused n) (Judgement.Refused m) e = cc
-judged-told (Judgement.Refused n) (Judgement.Given k) e = cc
-judged-told (Judgement.Given j) (Judgement.Refused m) e = cc
-judged-told (Judgement.Given j) (Judgement.Given k) e =
-    let same : judged_by j ≡ judged_by k = cc in
+-- two judgements that say the same are the same
+judged-told : Tells judged_by
+judged-told j k same =
     let head = head_told j.head k.head (ap (λ (x : Judged). x.facts) same) in
-    ap Judgement.Given (λ i. record { head = head i; gathered = (same i).gathered; index = (same i).index })
+    λ i. record { head = head i; gathered = (same i).gathered; index = (same i).index }
 
-read_told : Tells read_answer
-unfolding read_answer
-read_told (Read.Refused n) (Read.Refused m) e = cc
-read_told (Read.Refused n) (Read.Tables a b s c d) e = cc
-read_told (Read.Tables a b s c d) (Read.Refused m) e = cc
-read_told (Read.Tables a b s c d) (Read.Tables a' b' s' c' d') e =
-    let same : ◌≡◌ {A = Summary} (record { segments = a; chunks = b; sources = s; described = c.0; closed = d }) (record { segments = a'; chunks = b'; sources = s'; described = c'.0; closed = d' }) = cc in
-    λ i. Read.Tables (same i).segments (same i).chunks (same i).sources (record { 0 = (same i).described }) (same i).closed
+summary_told : Tells summary_of
+summary_told t u e = λ i. record { segments = (e i).segments; chunks = (e i).chunks; sources = (e i).sources; described = record { 0 = (e i).described }; closed = (e i).closed }
 
-pub counted_told : Tells counted_answer
-unfolding counted_answer
-counted_told (Counted.Refused n) (Counted.Refused m) e = cc
-counted_told (Counted.Refused n) (Counted.Rows m) e = cc
-counted_told (Counted.Rows n) (Counted.Refused m) e = cc
-counted_told (Counted.Rows n) (Counted.Rows m) e = cc
+pub read_told : Tells read_answer
+read_told = result-told summary_told
+
+pub counted_told : Tells number_answer
+counted_told = result-told (λ n m e. e)
 
 pub located_told : Tells located_answer
-unfolding located_answer
-located_told (Located.Refused n) (Located.Refused m) e = cc
-located_told (Located.Refused n) (Located.At q) e = cc
-located_told (Located.At p) (Located.Refused m) e = cc
-located_told (Located.At p) (Located.At q) e =
-    let same : part_of p ≡ part_of q = cc in
-    λ i. Located.At (record { place = record { 0 = (same i).place }; size = (same i).size })
+located_told = result-told part_told
 
 pub one_part : {f : List ℕ} {file : ℕ × ℕ} {part : Part} {there there' : ℕ × ℕ} {bytes bytes' : List ℕ} → HandedBack f file part there bytes
     → HandedBack f file part there' bytes'
@@ -111,20 +90,20 @@ index_stages_result : OneKnown index-stages.Post
 index_stages_result κs args (h, ss, number) (head, known, by, has) x y after after' p q = counted_told x y (p h ss number head known by has ∙ sym (q h ss number head known by has))
 
 earlier_of-result : OneResult earlier-of.Post
-earlier_of-result κs args x y after after' p q = judged-told x y (p.0 ∙ sym q.0)
+earlier_of-result κs args x y after after' p q = result-told judged-told x y (p.0 ∙ sym q.0)
 
-earlier_of_sizes : OneLeftKnown earlier-of.Post (λ κs args (ss : List Segment). earlier_segments source_limit args.0.now ≡ given ss) (λ κs after. sizes_in after.1.0.now)
+earlier_of_sizes : OneLeftKnown earlier-of.Post (λ κs args (ss : List Segment). earlier_segments source_limit args.0.now ≡ given ss) (λ κs after. sizes_in after.1.0.now.sizes)
 earlier_of_sizes κs args ss read x y after after' p q = same_sizes (p.1 ss read) (q.1 ss read)
 
-earlier_of-sources : OneRead earlier-of.Post (λ κs args (known : Heading × List Segment). Headed (earlier_segments source_limit) args.0.now known) (λ κs args after known. take (length known.1) after.1.1.0.now)
+earlier_of-sources : OneRead earlier-of.Post (λ κs args (known : Heading × List Segment). Headed (earlier_segments source_limit) args.0.now known) (λ κs args after known. take (length known.1) after.1.0.now.sources)
 earlier_of-sources κs args (h, ss) (head, read) x y after after' p q = same_sources (p.2 ss read h head) (q.2 ss read h head)
 
 earlier_of_lists : OneRead earlier-of.Post (λ κs args (known : (Heading × List Segment) × ℕ). Headed (earlier_segments source_limit) args.0.now known.0 × (known.1 < source_count known.0.1))
-    (λ κs args after known. boxes_at args.0.now (list_in after.1.1.1.0.now known.1))
+    (λ κs args after known. boxes_at args.0.now (list_in after.1.0.now.lists known.1))
 earlier_of_lists κs args ((h, ss), n) ((head, read), low) x y after after' p q = one_list ((p.2 ss read h head).lists.each n low) ((q.2 ss read h head).lists.each n low)
 
 judge_into_result : OneResult judge-into.Post
-judge_into_result κs args x y after after' p q = judged-told x y (p.0 ∙ sym q.0)
+judge_into_result κs args x y after after' p q = result-told judged-told x y (p.0 ∙ sym q.0)
 
 judge_into_rows : OneLeftKnown judge-into.Post
     (λ κs args (ss : List Segment). (reading source_limit args.0.now ≡ given ss) × (length (segment_rows ss) ≤ length args.1.0.now))
@@ -136,27 +115,27 @@ judge_into_numbers : OneLeftKnown judge-into.Post
     (λ κs after. after.1.1.0.now)
 judge_into_numbers κs args ss (read, room) x y after after' p q = one_put room (p.1 ss read).1 (q.1 ss read).1
 
-judge_into_sizes : OneLeftKnown judge-into.Post (λ κs args (ss : List Segment). reading source_limit args.0.now ≡ given ss) (λ κs after. sizes_in after.1.1.1.0.now)
+judge_into_sizes : OneLeftKnown judge-into.Post (λ κs args (ss : List Segment). reading source_limit args.0.now ≡ given ss) (λ κs after. sizes_in after.1.1.1.0.now.sizes)
 judge_into_sizes κs args ss read x y after after' p q = same_sizes (p.2 ss read) (q.2 ss read)
 
-judge_into_sources : OneRead judge-into.Post (λ κs args (known : Heading × List Segment). Headed (reading source_limit) args.0.now known) (λ κs args after known. take (length known.1) after.1.1.1.1.0.now)
+judge_into_sources : OneRead judge-into.Post (λ κs args (known : Heading × List Segment). Headed (reading source_limit) args.0.now known) (λ κs args after known. take (length known.1) after.1.1.1.0.now.sources)
 judge_into_sources κs args (h, ss) (head, read) x y after after' p q = same_sources (p.3 ss read h head) (q.3 ss read h head)
 
 judge_into_lists : OneRead judge-into.Post (λ κs args (known : (Heading × List Segment) × ℕ). Headed (reading source_limit) args.0.now known.0 × (known.1 < source_count known.0.1))
-    (λ κs args after known. boxes_at args.0.now (list_in after.1.1.1.1.1.0.now known.1))
+    (λ κs args after known. boxes_at args.0.now (list_in after.1.1.1.0.now.lists known.1))
 judge_into_lists κs args ((h, ss), n) ((head, read), low) x y after after' p q = one_list ((p.3 ss read h head).lists.each n low) ((q.3 ss read h head).lists.each n low)
 
 judge_result : OneResult judge.Post
-judge_result κs args x y after after' p q = judged-told x y (p.0 ∙ sym q.0)
+judge_result κs args x y after after' p q = result-told judged-told x y (p.0 ∙ sym q.0)
 
-judge_sizes : OneLeftKnown judge.Post (λ κs args (ss : List Segment). reading source_limit args.0.now ≡ given ss) (λ κs after. sizes_in after.1.0.now)
+judge_sizes : OneLeftKnown judge.Post (λ κs args (ss : List Segment). reading source_limit args.0.now ≡ given ss) (λ κs after. sizes_in after.1.0.now.sizes)
 judge_sizes κs args ss read x y after after' p q = same_sizes (p.1 ss read) (q.1 ss read)
 
-judge_sources : OneRead judge.Post (λ κs args (known : Heading × List Segment). Headed (reading source_limit) args.0.now known) (λ κs args after known. take (length known.1) after.1.1.0.now)
+judge_sources : OneRead judge.Post (λ κs args (known : Heading × List Segment). Headed (reading source_limit) args.0.now known) (λ κs args after known. take (length known.1) after.1.0.now.sources)
 judge_sources κs args (h, ss) (head, read) x y after after' p q = same_sources (p.2 ss read h head) (q.2 ss read h head)
 
 judge_lists : OneRead judge.Post (λ κs args (known : (Heading × List Segment) × ℕ). Headed (reading source_limit) args.0.now known.0 × (known.1 < source_count known.0.1))
-    (λ κs args after known. boxes_at args.0.now (list_in after.1.1.1.0.now known.1))
+    (λ κs args after known. boxes_at args.0.now (list_in after.1.0.now.lists known.1))
 judge_lists κs args ((h, ss), n) ((head, read), low) x y after after' p q = one_list ((p.2 ss read h head).lists.each n low) ((q.2 ss read h head).lists.each n low)
 
 read_source_result : OneResult read-source.Post
@@ -169,7 +148,7 @@ read_source_chunks : OneLeft read-source.Post (λ κs after. after.1.1.1.0.now)
 read_source_chunks κs args x y after after' p q = p.0.tables.chunk_table ∙ sym q.0.tables.chunk_table
 
 read_source_sources : OneRead read-source.Post (λ κs args (ss : List Segment). tabled source_limit args.0.now args.1.1.0.now args.1.1.1.0.now ≡ given ss)
-    (λ κs args after ss. take (length ss) after.1.1.1.1.0.now)
+    (λ κs args after ss. take (length ss) after.1.1.1.1.0.now.sources)
 read_source_sources κs args ss read x y after after' p q = (p.1 ss read).numbers ∙ sym (q.1 ss read).numbers
 
 read_result : OneResult read.Post

@@ -10,6 +10,10 @@ use lib.ListN.{length}
 use Rattle.boxes.specs.Answer.{Answer, refused, given, ◌>>=◌, hold}
 use Rattle.boxes.specs.Kinds.{pseg, those, right}
 use Rattle.boxes.specs.declared.kinds.Container.TheVariants.{File}
+use Rattle.std.specs.Prelude.{Result, Ok, Err}
+use Rattle.refusals.specs.Refusals.{refusal_no}
+use Rattle.refusals.specs.declared.Refusal.{Refusal}
+use Rattle.boxes.proofs.ToldLaws.{told-ok, told-err}
 use Rattle.boxes.proofs.AnswerLaws.{not_both, refused_same, given_same, both_given, held}
 use Rattle.partial.specs.Heading.{Heading, heading}
 use Rattle.partial.specs.Index.{SourceBox, has_index, indexed}
@@ -24,18 +28,16 @@ use Rattle.partial.proofs.Reading.ReadingLaws.{reading-segments}
 use Rattle.partial.proofs.Reading.RefusalLaws.{no_segments, earlier_read}
 use Rattle.heading.specs.Facts.{Facts, facts_of, facts_by, told, headed_answer}
 use Rattle.heading.specs.declared.answers.Head.{Head}
-use Rattle.heading.specs.declared.answers.Headed.{Headed}
 use Rattle.heading.proofs.FoundLaws.{pfil_inside}
 use Rattle.sources.specs.Held.{Sourced}
 use Rattle.gathering.specs.Forms.{all_puts}
 use Rattle.gathering.specs.Gathered.{gathered_of}
 use Rattle.gathering.specs.Pass.{segments_by, Opened, Gathers}
-use Rattle.gathering.specs.Step.{Noted}
+use Rattle.gathering.specs.Noted.{Noted}
 use Rattle.gathering.proofs.PassLaws.{rows_put}
 use Rattle.gathering.specs.declared.gathered.Gathered.{Gathered}
-use Rattle.gathering.specs.declared.pass.Passed.{Passed}
-use Rattle.reading.specs.Judged.{Judged, gathered_in, indexed_told, judged_in, earlier_told, reading_told, gathered_answer, judged_by, judged_answer, WhereRead, KeptIn, SizedIn, SourcedIn}
-use Rattle.reading.specs.declared.judging.Judgement.{Judgement}
+use Rattle.gathering.specs.declared.tables.SourceTables.{SourceTables}
+use Rattle.reading.specs.Judged.{Judged, gathered_in, indexed_told, judged_in, earlier_told, reading_told, judged_by, judged_answer, WhereRead, KeptIn, SizedIn, SourcedIn}
 use Rattle.reading.specs.declared.judging.Judged.{Judged as CodeJudged}
 
 -- a refusal behind which nothing is refused stands before it
@@ -45,15 +47,13 @@ first_refused (given a) next e = absurd (not_both (sym e))
 
 -- ---- the heading
 
-module _ (f : List ℕ) {r : Headed} (answer : headed_answer r ≡ told f (heading f)) where
-  pub heading_refused : {n : ℕ} → r ≡ Headed.Refused n → heading f ≡ refused n
-  unfolding headed_answer
-  heading_refused e = first_refused (heading f) (facts_of f) (sym answer ∙ ap headed_answer e)
+module _ (f : List ℕ) {r : Result Head Refusal} (answer : headed_answer r ≡ told f (heading f)) where
+  pub heading_refused : {n : Refusal} → r ≡ Err n → heading f ≡ refused (refusal_no n)
+  heading_refused e = first_refused (heading f) (facts_of f) (told-err facts_by answer e)
 
-  pub heading-found : {head : Head} → r ≡ Headed.Found head → (h : Heading) × (heading f ≡ given h) × (facts_of f h ≡ facts_by head)
-  unfolding headed_answer
+  pub heading-found : {head : Head} → r ≡ Ok head → (h : Heading) × (heading f ≡ given h) × (facts_of f h ≡ facts_by head)
   heading-found e =
-      let (h, known, same) = both_given (heading f) _ (sym answer ∙ ap headed_answer e) in
+      let (h, known, same) = both_given (heading f) _ (told-ok facts_by answer e) in
       (h, known, given_same same)
 
 pub facts_segments : (f : List ℕ) (h : Heading) (head : Head) → facts_of f h ≡ facts_by head → head.segments ≡ length (those pseg h.boxes)
@@ -106,36 +106,30 @@ segments-by f h e = (segmented source_limit f h e).read
 pub few_segments : (f : List ℕ) (h : Heading) {ss : List Segment} → segments source_limit f h ≡ given ss → length (those pseg h.boxes) ≤ segment_limit
 few_segments f h e = leb-true (length (those pseg h.boxes)) segment_limit (segmented source_limit f h e).few
 
--- what the pass over them told
-module _ (f : List ℕ) (h : Heading) (t₀ t u₀ u z n l : List ℕ) (r : Passed) (gathers : Gathers f h true t₀ t u₀ u z n l r) where
-  pub passed_refused : {m : ℕ} → r ≡ Passed.Refused m → segments_by f h ≡ refused m
-  unfolding Gathers
-  passed_refused e = subst (Gathers f h true t₀ t u₀ u z n l) e gathers
+-- what the pass over them told, with the numbers of their chunks or their rows
+pub pass_refused : (f : List ℕ) (h : Heading) (numbered : Bool) (t₀ t u₀ u : List ℕ) (n : SourceTables) (r : Result Gathered Refusal) → Gathers f h numbered t₀ t u₀ u n r → {m : Refusal} → r ≡ Err m
+    → segments_by f h ≡ refused (refusal_no m)
+unfolding Gathers
+pass_refused f h numbered t₀ t u₀ u n r gathers e = subst (Gathers f h numbered t₀ t u₀ u n) e gathers
 
-  pub passed_given : {g : Gathered} → r ≡ Passed.Given g → (ss : List Segment) × (segments_by f h ≡ given ss) × (g ≡ gathered_of ss) × Noted f h z n l ss
+module _ (f : List ℕ) (h : Heading) (t₀ t u₀ u : List ℕ) (n : SourceTables) (r : Result Gathered Refusal) (gathers : Gathers f h true t₀ t u₀ u n r) where
+  pub passed_refused : {m : Refusal} → r ≡ Err m → segments_by f h ≡ refused (refusal_no m)
+  passed_refused = pass_refused f h true t₀ t u₀ u n r gathers
+
+  pub passed_given : {g : Gathered} → r ≡ Ok g → (ss : List Segment) × (segments_by f h ≡ given ss) × (g ≡ gathered_of ss) × Noted f h n ss
   unfolding Gathers
   passed_given e =
-      let (ss, read, same, _, _, noted) = subst (Gathers f h true t₀ t u₀ u z n l) e gathers in
+      let (ss, read, same, _, _, noted) = subst (Gathers f h true t₀ t u₀ u n) e gathers in
       (ss, read, same, noted)
 
   pub passed_kept : KeptIn (segments source_limit f h) t₀ t u₀ u
   unfolding all_puts
   passed_kept = λ ss all.
-      let (rows, numbers, _) = rows_put f h true z n l r gathers (segments-by f h all) in
+      let (rows, numbers, _) = rows_put f h true n r gathers (segments-by f h all) in
       (rows, numbers)
 
-  pub passed_noted : WhereRead (segments source_limit f h) (Noted f h z n l)
-  passed_noted = λ ss all. (rows_put f h true z n l r gathers (segments-by f h all)).2
-
--- what each answer about the segments says
-module _ {r : Passed} {x : Answer Gathered} (answer : gathered_answer r ≡ x) where
-  pub answer_refused : {n : ℕ} → r ≡ Passed.Refused n → x ≡ refused n
-  unfolding gathered_answer
-  answer_refused e = sym answer ∙ ap gathered_answer e
-
-  pub answer_given : {g : Gathered} → r ≡ Passed.Given g → x ≡ given g
-  unfolding gathered_answer
-  answer_given e = sym answer ∙ ap gathered_answer e
+  pub passed_noted : WhereRead (segments source_limit f h) (Noted f h n)
+  passed_noted = λ ss all. (rows_put f h true n r gathers (segments-by f h all)).2
 
 -- ---- what is kept, of which nothing is said after a refusal
 
@@ -155,12 +149,12 @@ module _ {P : List Segment → Type 0} (f : List ℕ) (h : Heading) where
   kept_earlier known kept = λ ss all. kept ss (earlier_read source_limit f known all)
 
 -- what is noted of segments that were read, by the heading of their file
-module _ (f : List ℕ) (h : Heading) (known : heading f ≡ given h) {z n l : List ℕ} (noted : WhereRead (segments source_limit f h) (Noted f h z n l)) where
-  pub noted_sized : SizedIn (segments source_limit f h) z
+module _ (f : List ℕ) (h : Heading) (known : heading f ≡ given h) {t : SourceTables} (noted : WhereRead (segments source_limit f h) (Noted f h t)) where
+  pub noted_sized : SizedIn (segments source_limit f h) t.sizes
   noted_sized = λ ss all. (noted ss all).sizes
 
-  pub noted_sourced : SourcedIn f (segments source_limit f h) n l
-  noted_sourced = λ ss all k head. subst (λ (h : Heading). Sourced f h n l ss) (given_same (sym known ∙ head)) (noted ss all).sourced
+  pub noted_sourced : SourcedIn f (segments source_limit f h) t.sources t.lists
+  noted_sourced = λ ss all k head. subst (λ (h : Heading). Sourced f h t.sources t.lists ss) (given_same (sym known ∙ head)) (noted ss all).sourced
 
 -- ---- the index
 
@@ -306,11 +300,9 @@ module _ (f : List ℕ) where
     read_segments = segments-by f a.h a.all
 
 -- what each answer about a file says
-module _ {r : Judgement} {x : Answer Judged} (answer : judged_answer r ≡ x) where
-  pub judgement_refused : {n : ℕ} → r ≡ Judgement.Refused n → x ≡ refused n
-  unfolding judged_answer
-  judgement_refused e = sym answer ∙ ap judged_answer e
+module _ {r : Result CodeJudged Refusal} {x : Answer Judged} (answer : judged_answer r ≡ x) where
+  pub judgement_refused : {n : Refusal} → r ≡ Err n → x ≡ refused (refusal_no n)
+  judgement_refused = told-err judged_by answer
 
-  pub judgement_given : {j : CodeJudged} → r ≡ Judgement.Given j → x ≡ given (judged_by j)
-  unfolding judged_answer
-  judgement_given e = sym answer ∙ ap judged_answer e
+  pub judgement_given : {j : CodeJudged} → r ≡ Ok j → x ≡ given (judged_by j)
+  judgement_given = told-ok judged_by answer

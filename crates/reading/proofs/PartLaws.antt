@@ -12,27 +12,27 @@ use Rattle.partial.specs.Tables.{nowhere}
 use Rattle.surls.specs.Parts.{part_of}
 use Rattle.surls.specs.declared.part.Part as Stated
 use Rattle.reading.specs.Parts.{HandedBack, located_answer, handed}
-use Rattle.reading.specs.declared.parts.Located.{Located}
-use Rattle.reading.specs.declared.parts.Located.TheVariants.{Refused, At}
+use Rattle.std.specs.Prelude.{Result, Ok, Err}
+use Rattle.refusals.specs.declared.Refusal.{Refusal}
 
 pub handed_whole : (f : List ℕ) (part : Part) → part.place + part.size ≤ length f → handed f (given part) ≡ part
 unfolding handed
 handed_whole f part inside = rw (le-leb (part.place + part.size) (length f) inside, handed)
 
 -- by an answer
-module _ (f : List ℕ) {located : Located} where
-  pub handed_refused : {n : ℕ} → located ≡ Refused n → handed f (located_answer located) ≡ nowhere
-  unfolding handed located_answer
-  handed_refused e = ap (λ (x : Located). handed f (located_answer x)) e
+module _ (f : List ℕ) {located : Result Stated.Part Refusal} where
+  pub handed_refused : {n : Refusal} → located ≡ Err n → handed f (located_answer located) ≡ nowhere
+  unfolding handed
+  handed_refused e = ap (λ (x : Result Stated.Part Refusal). handed f (located_answer x)) e
 
-  module _ {part : Stated.Part} (e : located ≡ At part) where
+  module _ {part : Stated.Part} (e : located ≡ Ok part) where
     pub handed_past : leb (part.place.0 + part.size) (length f) ≡ false → handed f (located_answer located) ≡ nowhere
-    unfolding handed located_answer
-    handed_past past = ap (λ (x : Located). handed f (located_answer x)) e ∙ rw (past, handed)
+    unfolding handed
+    handed_past past = ap (λ (x : Result Stated.Part Refusal). handed f (located_answer x)) e ∙ rw (past, handed)
 
     pub handed_at : leb (part.place.0 + part.size) (length f) ≡ true → handed f (located_answer located) ≡ part_of part
-    unfolding handed located_answer
-    handed_at inside = ap (λ (x : Located). handed f (located_answer x)) e ∙ rw (inside, handed)
+    unfolding handed
+    handed_at inside = ap (λ (x : Result Stated.Part Refusal). handed f (located_answer x)) e ∙ rw (inside, handed)
 
 -- what is handed back as one part is handed back as one that is equal
 pub handed_same : {f : List ℕ} {file : ℕ × ℕ} {part part' : Part} {there : ℕ × ℕ} {bytes : List ℕ} → part ≡ part' → HandedBack f file part there bytes

@@ -3,7 +3,9 @@
 use Prim.Native.Nat.{ℕ, suc, ◌≤◌}
 use mathlib.Core.Bool.{Bool, true, false, not, ◌&&◌, ◌||◌, false≢true}
 use mathlib.Core.List.{List, [], ◌∷◌, map, Memᴰ}
-use mathlib.Core.Option.{Option}
+use Rattle.std.specs.Prelude.{Option, Result, Ok, Err}
+use Rattle.refusals.specs.Refusals.{refusal_no}
+use Rattle.refusals.specs.declared.Refusal.{Refusal}
 use mathlib.Core.Path.{◌≡◌, refl, sym, ap, ap₂, subst, ◌∙◌}
 use native.Mathlib.Nat.{zero-add}
 use native.Mathlib.Omega.{arith}
@@ -35,13 +37,12 @@ use Rattle.indexing.specs.Marks.{deep_in, unknown_in, shown, marks_with}
 use Rattle.indexing.specs.declared.marks.Marks.{Marks}
 use Rattle.indexing.proofs.MarksLaws.{shown_all}
 use Rattle.fileindex.specs.File.{index_by, end_in, NumberedBy, no_marks, Tells}
-use Rattle.fileindex.specs.declared.file.FileIndex.{FileIndex}
-use Rattle.fileindex.specs.declared.file.FileIndex.TheVariants.{Refused, Given}
 use Rattle.fileindex.proofs.FileLaws.{by_first, ends_held}
 use Rattle.heading.specs.Facts.{facts_of, facts_by}
 use Rattle.heading.specs.declared.answers.Head.{Head}
 use Rattle.gathering.specs.Gathered.{gathered_of}
-use Rattle.gathering.specs.Step.{Noted}
+use Rattle.gathering.specs.Noted.{Noted}
+use Rattle.gathering.specs.declared.tables.SourceTables.{SourceTables}
 use Rattle.gathering.specs.declared.gathered.Gathered.{Gathered}
 use Rattle.gathering.proofs.GatheredLaws.{gathered-sources, gathered-indexed}
 use Rattle.reading.specs.Judged.{indexed_told}
@@ -160,13 +161,13 @@ begun-told f h s {in_pfil} index lacks =
 -- ---- what the calls told
 
 -- the index that was read
-module _ (f : List ℕ) (h : Heading) (size : List (List ℕ) → Option ℕ) (ss : List Segment) (number : List (List ℕ) → ℕ) (t₀ t : List ℕ) (r : FileIndex)
+module _ (f : List ℕ) (h : Heading) (size : List (List ℕ) → Option ℕ) (ss : List Segment) (number : List (List ℕ) → ℕ) (t₀ t : List ℕ) (r : Result Marks Refusal)
     (told : Tells number (index_by f h size ss) t₀ t r) where
-  pub index-refused : (both : Bool) {n : ℕ} → r ≡ Refused n → staged both (index_by f h size ss) ≡ refused n
+  pub index-refused : (both : Bool) {n : Refusal} → r ≡ Err n → staged both (index_by f h size ss) ≡ refused (refusal_no n)
   unfolding Tells staged
   index-refused both e = rw (subst (Tells number (index_by f h size ss) t₀ t) e told)
 
-  pub index-marked : {m : Marks} → r ≡ Given m → (is : List SourceBox) × (index_by f h size ss ≡ given is) × (m ≡ marks_with no_marks (boxes_alone is))
+  pub index-marked : {m : Marks} → r ≡ Ok m → (is : List SourceBox) × (index_by f h size ss ≡ given is) × (m ≡ marks_with no_marks (boxes_alone is))
   unfolding Tells
   index-marked e =
       let (is, read, marked) = subst (Tells number (index_by f h size ss) t₀ t) e told in
@@ -183,21 +184,21 @@ module _ (h : Heading) (ss : List Segment) (few : length ss ≤ segment_limit) (
   numbered_by held pfil = record { small = λ us. omega (arith, beside_most ss us, count_most ss numbered); pfil = pfil; segments = held.numbers ∙ beside_each ss (λ t there. there) }
 
 -- the stages of a file by what its heading tells, what is gathered of its segments and what is noted of them
-pub stages_given : (f : List ℕ) (h : Heading) (ss : List Segment) {head : Head} {g : Gathered} {z n l : List ℕ} {source : ℕ} {x : Answer ℕ} → heading f ≡ given h → facts_of f h ≡ facts_by head
+pub stages_given : (f : List ℕ) (h : Heading) (ss : List Segment) {head : Head} {g : Gathered} {t : SourceTables} {source : ℕ} {x : Answer ℕ} → heading f ≡ given h → facts_of f h ≡ facts_by head
     → segments source_limit f h ≡ given ss
     → g ≡ gathered_of ss
-    → Noted f h z n l ss
-    → SourceOf f l g.sources head.list source
-    → ((h : Heading) (ss : List Segment) (number : List (List ℕ) → ℕ) → heading f ≡ given h → segments source_limit f h ≡ given ss → NumberedBy number h ss n source
+    → Noted f h t ss
+    → SourceOf f t.lists g.sources head.list source
+    → ((h : Heading) (ss : List Segment) (number : List (List ℕ) → ℕ) → heading f ≡ given h → segments source_limit f h ≡ given ss → NumberedBy number h ss t.sources source
     → HasIndexes h ss head.indexed g.indexed
-    → x ≡ staged (head.indexed && g.indexed) (index_by f h (λ us. end_in z (number us)) ss))
+    → x ≡ staged (head.indexed && g.indexed) (index_by f h (λ us. end_in t.sizes (number us)) ss))
     → x ≡ indexed_told f h ss
 unfolding facts_of
-stages_given f h ss {head} {g} {z} headed facts all same noted found answer =
+stages_given f h ss {head} {g} {t} headed facts all same noted found answer =
     let has : HasIndexes h ss head.indexed g.indexed = record { pfil = facts_indexed f h head facts; segments = gathered-indexed ss same } in
     let numbered = segments_numbered source_limit f h all in
     let in_pfil = (opened f h headed facts (few_segments f h all)).in_pfil in
     let source = found h ss h.inner (gathered-sources ss same) numbered noted.sourced.lists in_pfil.stands ∙ ap (source_beside ss) (sym in_pfil.urls) in
     answer h ss (source_beside ss) headed all (numbered_by h ss (segments_limited source_limit f h all) numbered noted.sourced.sources source) has
-    ∙ ap (λ (size : List (List ℕ) → Option ℕ). staged (head.indexed && g.indexed) (index_by f h size ss)) (ends_held z ss noted.sizes)
+    ∙ ap (λ (size : List (List ℕ) → Option ℕ). staged (head.indexed && g.indexed) (index_by f h size ss)) (ends_held t.sizes ss noted.sizes)
     ∙ stages_told f h ss has

@@ -1,6 +1,6 @@
 -- Laws of reading into the tables: what each test decides, and what both passes leave.
 use Prim.Native.Nat.{ℕ, ◌*◌, ◌≤◌, ◌<◌}
-use mathlib.Core.Bool.{and-false}
+use mathlib.Core.Bool.{Bool, true, false, and-false}
 use mathlib.Core.List.{List}
 use mathlib.Core.Path.{◌≡◌, refl, ap, ◌∙◌}
 use native.Mathlib.Omega.{arith}
@@ -8,15 +8,19 @@ use borrow.Author.Tests.{le-leb, lt-leb}
 use lib.ListN.{length, take}
 use lib.Seq.{take_at}
 use Rattle.boxes.specs.Answer.{refused, given}
-use Rattle.partial.specs.Answers.{read_answer}
+use Rattle.partial.specs.Answers.{summary_of, read_answer}
 use Rattle.partial.specs.Limits.{segment_limit, chunk_limit, source_limit}
-use Rattle.partial.specs.Meaning.{described_length}
+use Rattle.partial.specs.Meaning.{known_size, described_length, is_closed}
 use Rattle.partial.specs.Memory.{fits, filled, after}
 use Rattle.partial.specs.Reading.{reading}
 use Rattle.partial.specs.Segments.{Segment, chunks_of}
 use Rattle.partial.specs.Sources.{of_source}
 use Rattle.partial.specs.Tables.{segment_row_length, chunk_row_length, tabled, segment_rows, chunk_rows, summary}
-use Rattle.partial.specs.declared.answers.Read.{Read}
+use Rattle.partial.specs.declared.answers.Tables.{Tables}
+use Rattle.std.specs.Prelude.{Option, None, Some, Result, Err, option_map}
+use Rattle.std.specs.Option.{is_some}
+use Rattle.refusals.specs.Refusals.{refusal_no}
+use Rattle.refusals.specs.declared.Refusal.{Refusal}
 use Rattle.partial.specs.declared.position.Position.{Position}
 use Rattle.filling.specs.Rows.{Put}
 use Rattle.filling.proofs.RowLaws.{put_fills}
@@ -63,22 +67,30 @@ module _ (f a b : List ℕ) where
         )
 
   -- after a refusal both tables are as they were
-  pub reads_refused : (source : ℕ) {n : ℕ} → tabled source_limit f a b ≡ refused n → Reads f source a a b b (Read.Refused n)
-  unfolding read_answer after
+  pub reads_refused : (source : ℕ) {n : Refusal} → tabled source_limit f a b ≡ refused (refusal_no n) → Reads f source a a b b (Err n)
+  unfolding after
   reads_refused source e = record { answer = rw e; tables = rw e (record { segment_table = refl; chunk_table = refl }) }
 
   -- of an accepted file they are filled
-  pub reads_given : {a' b' : List ℕ} {r : Read} (source : ℕ) (ss : List Segment) → tabled source_limit f a b ≡ given ss → read_answer r ≡ given (summary source ss)
+  pub reads_given : {a' b' : List ℕ} {r : Result Tables Refusal} (source : ℕ) (ss : List Segment) → tabled source_limit f a b ≡ given ss → read_answer r ≡ given (summary source ss)
       → a' ≡ filled (segment_rows ss) a → b' ≡ filled (chunk_rows ss) b → Reads f source a a' b b' r
   unfolding after
   reads_given source ss e answer one two = record { answer = rw e answer; tables = rw e (record { segment_table = one; chunk_table = two }) }
 
+-- whether the size is known
+closed_told : (known : Option ℕ) → is_some {T = Position} (option_map (λ n. record { 0 = n }) known) ≡ elim known [ Some n ↦ true | None ↦ false ]
+closed_told (Some n) = refl
+closed_told None = refl
+
 -- what is gathered of segments and what their ends say is what is answered of them
 pub answered : {g : Gathered} {x : Sizes} (source : ℕ) (ss : List Segment) → g ≡ gathered_of ss → x ≡ sizes_of (of_source source ss)
     → (described : Position) → described.0 ≡ described_length (of_source source ss)
-    → read_answer (Read.Tables g.segments g.chunks g.sources described x.known) ≡ given (summary source ss)
-unfolding read_answer summary gathered_of sizes_of
-answered source ss e said described length = λ i. given (record { segments = (e i).segments; chunks = (e i).chunks; sources = (e i).sources; described = length i; closed = (said i).known })
+    → {closed : Bool} → closed ≡ is_some x.size
+    → given (summary_of (record { segments = g.segments; chunks = g.chunks; sources = g.sources; described = described; closed = closed })) ≡ given (summary source ss)
+unfolding summary gathered_of sizes_of is_closed
+answered source ss e said described long closed =
+    let known = closed ∙ ap (λ x. is_some x.size) said ∙ closed_told (known_size (of_source source ss)) in
+    λ i. given (record { segments = (e i).segments; chunks = (e i).chunks; sources = (e i).sources; described = long i; closed = known i })
 
 -- rows that fit fill a table
 pub segments-filled : (ss : List Segment) {a a' : List ℕ} → Put a 0 (segment_rows ss) a' → segment_row_length * length ss ≤ length a → a' ≡ filled (segment_rows ss) a

@@ -32,7 +32,7 @@ use Rattle.heading.specs.Facts.{facts_of}
 use Rattle.reading.specs.Judged.{Judged}
 use Rattle.reading.specs.Parts.{handed}
 use Rattle.surls.specs.First.{text_in}
-use Rattle.surls.specs.declared.body.Body.{Body}
+use Rattle.boxes.specs.declared.body.Body.{Body}
 use Rattle.surls.specs.declared.first.Text.{Text}
 use Rattle.surls.specs.declared.first.Text.TheVariants.{Url, Mime}
 use Rattle.sources.specs.Held.{ListHeld}

@@ -1,7 +1,8 @@
 -- Document 01, refusals 1 to 25, and document 02, [8] and [7], 40 and 36 to 39, as the calls are told of them before any
 -- table is filled.
-use Rattle.std.specs.Prelude.{ℕ, true, false, List, [], ◌≡◌, length}
-use Rattle.boxes.specs.Answer.{Answer, refused, given, ◌>>=◌, hold}
+use Rattle.std.specs.Prelude.{ℕ, true, false, List, [], ◌≡◌, length, Result}
+use Rattle.refusals.specs.declared.Refusal.{Refusal}
+use Rattle.boxes.specs.Answer.{Answer, given, ◌>>=◌, hold, told_as}
 use Rattle.boxes.specs.Kinds.{pseg, right}
 use Rattle.boxes.specs.declared.kinds.Container.TheVariants.{File}
 use Rattle.partial.specs.Heading.{Heading, heading}
@@ -17,10 +18,7 @@ use Rattle.heading.specs.Facts.{Facts, facts_of, facts_by}
 use Rattle.gathering.specs.Numbers.{numbers_of}
 use Rattle.gathering.specs.Gathered.{gathered_of}
 use Rattle.gathering.specs.declared.gathered.Gathered.{Gathered}
-use Rattle.gathering.specs.declared.pass.Passed.{Passed}
 use Rattle.reading.specs.declared.judging.Judged.{Judged as CodeJudged}
-use Rattle.reading.specs.declared.judging.Judgement.{Judgement}
-use Rattle.reading.specs.declared.judging.Judgement.TheVariants.{Refused, Given}
 
 -- what the heading tells, what is gathered of the segments, and how many rows the index has
 pub record Judged : Type 0 where
@@ -62,18 +60,16 @@ earlier_told f = do
   elim (right File pseg h.boxes) [ true ↦ reading_told f | false ↦ given (record { facts = facts_of f h; gathered = gathered_of []; index = 0 }) ]
 
 -- what an answer about the segments says
-unfoldable pub gathered_answer : Passed → Answer Gathered
-gathered_answer (Passed.Refused n) = refused n
-gathered_answer (Passed.Given g) = given g
+abbrev pub gathered_answer : Result Gathered Refusal → Answer Gathered
+gathered_answer = told_as (λ g. g)
 
 -- what was judged of a file
 abbrev pub judged_by : CodeJudged → Judged
 judged_by j = record { facts = facts_by j.head; gathered = j.gathered; index = j.index }
 
 -- what an answer about a file says
-unfoldable pub judged_answer : Judgement → Answer Judged
-judged_answer (Refused n) = refused n
-judged_answer (Given j) = given (judged_by j)
+abbrev pub judged_answer : Result CodeJudged Refusal → Answer Judged
+judged_answer = told_as judged_by
 
 -- something is so of segments where they were read
 abbrev pub WhereRead : Answer (List Segment) → (List Segment → Type 0) → Type 0

@@ -1,16 +1,15 @@
 -- Document 01, "handed back as parts of the file": where a part that was handed back lies, and its bytes.
-use Rattle.std.specs.Prelude.{ℕ, ◌+◌, true, false, List, ◌≡◌, leb, length}
-use Rattle.boxes.specs.Answer.{Answer, refused, given}
+use Rattle.std.specs.Prelude.{ℕ, ◌+◌, true, false, List, ◌≡◌, leb, length, Result}
+use Rattle.refusals.specs.declared.Refusal.{Refusal}
+use Rattle.boxes.specs.Answer.{Answer, refused, given, told_as}
 use Rattle.partial.specs.Heading.{Part, bytes_in}
 use Rattle.partial.specs.Tables.{nowhere}
 use Rattle.surls.specs.Parts.{part_of}
-use Rattle.reading.specs.declared.parts.Located.{Located}
-use Rattle.reading.specs.declared.parts.Located.TheVariants.{Refused, At}
+use Rattle.surls.specs.declared.part.Part as Stated
 
 -- what an answer about where a part lies says
-unfoldable pub located_answer : Located → Answer Part
-located_answer (Refused n) = refused n
-located_answer (At part) = given (part_of part)
+abbrev pub located_answer : Result Stated.Part Refusal → Answer Part
+located_answer = told_as part_of
 
 -- the part that is handed back: empty after a refusal, and where it would not lie in the file
 unfoldable pub handed : List ℕ → Answer Part → Part

@@ -1,7 +1,7 @@
 // Stages 36 to 39 of a file whose heading and segments are right, and how many boxes its index has.
 ghost use Rattle.std.specs.Prelude.{ℕ, ◌&&◌, List, ◌≡◌};
 ghost use Rattle.boxes.specs.Answer.{given};
-ghost use Rattle.partial.specs.Answers.{counted_answer};
+ghost use Rattle.partial.specs.Answers.{number_answer};
 ghost use Rattle.partial.specs.Heading.{Heading, heading};
 ghost use Rattle.partial.specs.Index.{SourceBox, boxes_alone};
 ghost use Rattle.partial.specs.Limits.{source_limit};
@@ -12,26 +12,25 @@ ghost use Rattle.fileindex.specs.File.{index_by, end_in, NumberedBy, no_marks};
 ghost use Rattle.reading.specs.Staged.{staged, HasIndexes};
 
 use ends::table::ALL_SIZES;
-use fileindex::file::{FileIndex, index_of};
+use fileindex::file::index_of;
 use indexing::marks::Marks;
-use partial::answers::Counted;
-use partial::refusals::{END_UNKNOWN, INDEXES_IN_BOTH, NINTH_LEVEL};
+use refusals::Refusal;
 use sources::numbers::ALL_SOURCES;
 
 // 37, 38 and 39 of an index, by what is marked with its boxes and by whether both `pfil` and a segment have one.
-fn past_36(marks: Marks, both: bool) -> Counted
-    ensures { (is : List SourceBox) → marks ≡ marks_with no_marks (boxes_alone is) → counted_answer result ≡ staged both (given is) }
+fn past_36(marks: Marks, both: bool) -> Result<u64, Refusal>
+    ensures { (is : List SourceBox) → marks ≡ marks_with no_marks (boxes_alone is) → number_answer result ≡ staged both (given is) }
 {
     if marks.deep {
-        return Counted::Refused(NINTH_LEVEL);
+        return Err(Refusal::NinthLevel);
     }
     if both {
-        return Counted::Refused(INDEXES_IN_BOTH);
+        return Err(Refusal::IndexesInBoth);
     }
     if marks.unknown {
-        return Counted::Refused(END_UNKNOWN);
+        return Err(Refusal::EndUnknown);
     }
-    Counted::Rows(marks.count)
+    Ok(marks.count)
 }
 
 // The stages of a file, by where each source ends, the sources of its segments and that of the list in `pfil`. Whether
@@ -43,18 +42,16 @@ pub fn index_stages(
     sizes: &[u64; ALL_SIZES],
     sources: &[u64; ALL_SOURCES],
     source: u64,
-) -> Counted
+) -> Result<u64, Refusal>
     ensures { (h : Heading) (ss : List Segment) (number : List (List ℕ) → ℕ) → heading file.now ≡ given h
         → segments source_limit file.now h ≡ given ss → NumberedBy number h ss sources.now source
         → HasIndexes h ss in_pfil in_segments
-        → counted_answer result ≡ staged (in_pfil && in_segments) (index_by file.now h (λ us. end_in sizes.now (number us)) ss) }
+        → number_answer result ≡ staged (in_pfil && in_segments) (index_by file.now h (λ us. end_in sizes.now (number us)) ss) }
 {
     if !(in_pfil | in_segments) {
-        return Counted::Rows(0);
+        return Ok(0);
     }
     let mut no_rows = [0; 1];
-    match index_of(file, sizes, sources, source, &mut no_rows) {
-        FileIndex::Refused(n) => Counted::Refused(n),
-        FileIndex::Given(marks) => past_36(marks, in_pfil & in_segments),
-    }
+    let marks = index_of(file, sizes, sources, source, &mut no_rows)?;
+    past_36(marks, in_pfil & in_segments)
 }

@@ -7,68 +7,56 @@ ghost use Rattle.partial.specs.Tables.{tabled};
 ghost use Rattle.sources.specs.Held.{SourcesHeld};
 ghost use Rattle.reading.specs.Tables.{Reads};
 
-use crate::judging::{Judgement, judge};
-use ends::table::{ALL_SIZES, sizes_at};
+use crate::judging::judge;
+use ends::table::sizes_at;
 use gathering::pass::pass;
-use partial::answers::Read;
-use partial::refusals::TABLE_TOO_SHORT;
+use gathering::tables::SourceTables;
+use partial::answers::Tables;
 use partial::rows::{CHUNK_ROW, SEGMENT_ROW};
-use sources::lists::ALL_LISTS;
-use sources::numbers::ALL_SOURCES;
+use refusals::Refusal;
 
 // Reads a file: its segments and its chunks in rows, how many there are, of how many sources, the described length of
-// one, and whether the size of that is known. After a refusal both tables are as they were. The sources of the segments go into a table
-// of the caller's own.
+// one, and whether the size of that is known. After a refusal both tables are as they were. What the ends of the
+// segments say, their sources and where the lists of these stand go into tables of the caller's own.
 pub fn read_source(
     file: &[u8],
     source: u64,
     segments: &mut [u64],
     chunks: &mut [u64],
-    sources: &mut [u64; ALL_SOURCES],
-) -> Read
+    tables: &mut SourceTables,
+) -> Result<Tables, Refusal>
     ensures { Reads file.now source segments.old segments.new chunks.old chunks.new result
-        × ((ss : List Segment) → tabled source_limit file.now segments.old chunks.old ≡ given ss → SourcesHeld sources.new ss) }
+        × ((ss : List Segment) → tabled source_limit file.now segments.old chunks.old ≡ given ss → SourcesHeld tables.new.sources ss) }
 {
-    let mut sizes = [0; ALL_SIZES];
-    let mut lists = [0; ALL_LISTS];
-    match judge(file, &mut sizes, sources, &mut lists) {
-        Judgement::Refused(n) => Read::Refused(n),
-        Judgement::Given(judged) => {
-            let gathered = judged.gathered;
-            let list = judged.head.list;
-            let said = sizes_at(&sizes, source);
-            if segments.len() as u64 / SEGMENT_ROW < gathered.segments {
-                return Read::Refused(TABLE_TOO_SHORT);
-            }
-            if chunks.len() as u64 / CHUNK_ROW < gathered.chunks {
-                return Read::Refused(TABLE_TOO_SHORT);
-            }
-            pass(
-                file,
-                judged.head.mixed,
-                list,
-                false,
-                segments,
-                chunks,
-                &mut sizes,
-                sources,
-                &mut lists,
-            );
-            Read::Tables {
-                segments: gathered.segments,
-                chunks: gathered.chunks,
-                sources: gathered.sources,
-                described: said.described(),
-                closed: said.known,
-            }
-        }
+    let judged = judge(file, tables)?;
+    let gathered = judged.gathered;
+    let said = sizes_at(&tables.sizes, source);
+    if segments.len() as u64 / SEGMENT_ROW < gathered.segments {
+        return Err(Refusal::TableTooShort);
     }
+    if chunks.len() as u64 / CHUNK_ROW < gathered.chunks {
+        return Err(Refusal::TableTooShort);
+    }
+    let head = judged.head;
+    pass(file, head.mixed, head.list, false, segments, chunks, tables)?;
+    Ok(Tables {
+        segments: gathered.segments,
+        chunks: gathered.chunks,
+        sources: gathered.sources,
+        described: said.described(),
+        closed: said.size.is_some(),
+    })
 }
 
 // The same where the sources of the segments are wanted in their rows alone.
-pub fn read(file: &[u8], source: u64, segments: &mut [u64], chunks: &mut [u64]) -> Read
+pub fn read(
+    file: &[u8],
+    source: u64,
+    segments: &mut [u64],
+    chunks: &mut [u64],
+) -> Result<Tables, Refusal>
     ensures { Reads file.now source segments.old segments.new chunks.old chunks.new result }
 {
-    let mut sources = [0; ALL_SOURCES];
-    read_source(file, source, segments, chunks, &mut sources)
+    let mut tables = SourceTables::new();
+    read_source(file, source, segments, chunks, &mut tables)
 }

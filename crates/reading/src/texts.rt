@@ -8,33 +8,23 @@ ghost use Rattle.surls.specs.First.{text_in};
 ghost use Rattle.reading.specs.Parts.{HandedBack, located_answer};
 ghost use Rattle.reading.specs.Texts.{text_located, part_given};
 
-use crate::judging::{Judgement, judge};
-use crate::parts::{Located, part_of};
-use ends::table::ALL_SIZES;
-use numerals::place::Place;
-use sources::lists::{ALL_LISTS, list_at};
-use sources::numbers::ALL_SOURCES;
+use crate::judging::judge;
+use crate::parts::part_of;
+use gathering::tables::SourceTables;
+use refusals::Refusal;
+use sources::lists::list_at;
 use surls::first::{Text, first_text};
 use surls::part::Part;
 
 // Where a text of the first `surl` in `pfil` lies, or the number of the file's refusal.
-pub fn text_at(file: &[u8], which: Text) -> Located
+pub fn text_at(file: &[u8], which: Text) -> Result<Part, Refusal>
     ensures { located_answer result ≡ text_located which file.now }
 {
-    let mut sizes = [0; ALL_SIZES];
-    let mut sources = [0; ALL_SOURCES];
-    let mut lists = [0; ALL_LISTS];
-    match judge(file, &mut sizes, &mut sources, &mut lists) {
-        Judgement::Refused(n) => Located::Refused(n),
-        Judgement::Given(judged) => {
-            let head = judged.head;
-            let url = head.url;
-            let mime = head.mime;
-            match which {
-                Text::Url => Located::At(url),
-                Text::Mime => Located::At(mime),
-            }
-        }
+    let mut tables = SourceTables::new();
+    let judged = judge(file, &mut tables)?;
+    match which {
+        Text::Url => Ok(judged.head.url),
+        Text::Mime => Ok(judged.head.mime),
     }
 }
 
@@ -53,25 +43,15 @@ pub fn mime(file: &[u8]) -> &[u8]
 }
 
 // Where the first URL, or the first MIME text, of a source lies, or the number of the file's refusal.
-pub fn source_text_at(file: &[u8], source: u64, which: Text) -> Located
+pub fn source_text_at(file: &[u8], source: u64, which: Text) -> Result<Part, Refusal>
     ensures { located_answer result ≡ source_text_of (text_in which) source_limit file.now source }
 {
-    let mut sizes = [0; ALL_SIZES];
-    let mut sources = [0; ALL_SOURCES];
-    let mut lists = [0; ALL_LISTS];
-    match judge(file, &mut sizes, &mut sources, &mut lists) {
-        Judgement::Refused(n) => Located::Refused(n),
-        Judgement::Given(judged) => {
-            if judged.gathered.sources <= source {
-                return Located::At(Part {
-                    place: Place(0),
-                    size: 0,
-                });
-            }
-            let list = list_at(&lists, source);
-            Located::At(first_text(file, list, which))
-        }
+    let mut tables = SourceTables::new();
+    let judged = judge(file, &mut tables)?;
+    if judged.gathered.sources <= source {
+        return Ok(Part::NOWHERE);
     }
+    Ok(first_text(file, list_at(&tables.lists, source), which))
 }
 
 // The first URL of a source; empty after a refusal or where the file has no such source.

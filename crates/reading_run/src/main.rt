@@ -8,11 +8,15 @@ mod report;
 
 use std::io;
 
-// A proved loop has to end, and nothing says that the input does: so it counts down, from more records than there are.
+// More records than there are: a proved loop has to end, and nothing says that the input does.
+const MOST_RECORDS: u64 = 65536;
+
 fn main(rt: HostRuntime) -> io::Result<()> {
-    let mut left: u64 = 65536;
-    while left > 0 && input::record(&rt)? {
-        left -= 1;
+    let mut input = rt.reader();
+    for _ in 0..MOST_RECORDS {
+        if !input::record(&rt, &mut input)? {
+            break;
+        }
     }
     Ok(())
 }

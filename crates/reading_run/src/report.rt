@@ -1,108 +1,59 @@
 // The lines of the output.
 ghost use Rattle.std.specs.Prelude.{◌≤◌};
 
-use partial::answers::Read;
-use printing::lines::{bytes, known, number, refused, rest, rest_bytes, text};
+use partial::answers::Tables;
+use printing::lines::{known, part, refused, rest, row, rows};
+use refusals::Refusal;
 use std::io;
-use surltexts::calls::Told;
+use surltexts::answers::Texts;
 
 // A refusal, or the counts, the described length and the rows; then how the rest of each table was left.
 pub fn answer(
     rt: &impl Print,
-    r: Read,
-    segment_table: &[u64],
-    chunk_table: &[u64],
+    answer: Result<Tables, Refusal>,
+    segments: &[u64],
+    chunks: &[u64],
 ) -> io::Result<()> {
-    match r {
-        Read::Refused(n) => {
-            refused(rt, n)?;
-            rest(rt, segment_table, 0)?;
-            rest(rt, chunk_table, 0)
-        }
-        Read::Tables {
-            segments,
-            chunks,
-            sources,
-            described,
-            closed,
-        } => {
-            text(rt, b"read")?;
-            number(rt, segments)?;
-            number(rt, chunks)?;
-            number(rt, sources)?;
-            number(rt, described.0)?;
-            known(rt, closed)?;
-            rest(
-                rt,
-                segment_table,
-                rows(rt, b"segment", segment_table, segments, 8)?,
+    match answer {
+        Ok(t) => {
+            let end = known(t.closed);
+            println!(rt;
+                "read {} {} {} {} {end}",
+                t.segments, t.chunks, t.sources, t.described.0
             )?;
-            rest(rt, chunk_table, rows(rt, b"chunk", chunk_table, chunks, 6)?)
+            rows(rt, "segment", segments, t.segments, 8)?;
+            rows(rt, "chunk", chunks, t.chunks, 6)
+        }
+        Err(e) => {
+            refused(rt, e)?;
+            rest(rt, segments, 0)?;
+            rest(rt, chunks, 0)
         }
     }
-}
-
-// The rows that stand in a table, as many as are claimed and no more than it holds. How many numbers they are.
-fn rows(
-    rt: &impl Print,
-    word: &[u8],
-    table: &[u64],
-    count: u64,
-    width: usize,
-) -> io::Result<usize> {
-    let mut left = count;
-    let mut at = 0;
-    while left > 0 {
-        if table.len() - at < width {
-            return Ok(at);
-        }
-        row(rt, word, &table[at..at + width])?;
-        at += width;
-        left -= 1;
-    }
-    Ok(at)
-}
-
-fn row(rt: &impl Print, word: &[u8], numbers: &[u64]) -> io::Result<()> {
-    text(rt, word)?;
-    let mut i = 0;
-    while i < numbers.len() {
-        number(rt, numbers[i])?;
-        i += 1;
-    }
-    text(rt, b"\n")
-}
-
-// A part of the file, byte by byte.
-pub fn part(rt: &impl Print, word: &[u8], s: &[u8]) -> io::Result<()> {
-    text(rt, word)?;
-    bytes(rt, s)?;
-    text(rt, b"\n")
 }
 
 // A refusal, or how many bytes and lengths there are, and these; then how the rest of each memory was left.
-pub fn texts(rt: &impl Print, r: Told, text_bytes: &[u8], text_lengths: &[u64]) -> io::Result<()> {
-    text(rt, b"texts")?;
-    match r {
-        Told::Refused(n) => {
-            text(rt, b" ")?;
-            refused(rt, n)?;
-            rest_bytes(rt, text_bytes, 0)?;
-            rest(rt, text_lengths, 0)
+pub fn texts(
+    rt: &impl Print,
+    answer: Result<Texts, Refusal>,
+    bytes: &[u8],
+    lengths: &[u64],
+) -> io::Result<()> {
+    print!(rt; "texts ")?;
+    match answer {
+        Ok(t) => {
+            println!(rt; "{} {}", t.bytes, t.lengths)?;
+            let end = front(t.bytes, bytes.len());
+            let last = front(t.lengths, lengths.len());
+            part(rt, "bytes", &bytes[..end])?;
+            row(rt, "lengths", &lengths[..last])?;
+            rest(rt, bytes, end)?;
+            rest(rt, lengths, last)
         }
-        Told::Texts {
-            bytes: size,
-            lengths: count,
-        } => {
-            number(rt, size)?;
-            number(rt, count)?;
-            text(rt, b"\n")?;
-            let end = front(size, text_bytes.len());
-            let last = front(count, text_lengths.len());
-            part(rt, b"bytes", &text_bytes[0..end])?;
-            row(rt, b"lengths", &text_lengths[0..last])?;
-            rest_bytes(rt, text_bytes, end)?;
-            rest(rt, text_lengths, last)
+        Err(e) => {
+            refused(rt, e)?;
+            rest(rt, bytes, 0)?;
+            rest(rt, lengths, 0)
         }
     }
 }
@@ -111,9 +62,5 @@ pub fn texts(rt: &impl Print, r: Told, text_bytes: &[u8], text_lengths: &[u64]) 
 fn front(claimed: u64, length: usize) -> usize
     ensures { result ≤ length }
 {
-    if claimed <= length as u64 {
-        claimed as usize
-    } else {
-        length
-    }
+    length.min(claimed as usize)
 }

@@ -4,7 +4,7 @@ use mathlib.Core.Bool.{true, false, ◌&&◌, true≢false}
 use mathlib.Core.List.Memᴰ
 use mathlib.Core.List.{List, [], ◌∷◌, ◌++◌, append-nil, append_assoc}
 use mathlib.Core.Logic.{inl, inr, ⊎_elim}
-use mathlib.Core.Option.{none}
+use Rattle.std.specs.Prelude.{None}
 use mathlib.Core.Path.{◌≡◌, refl, sym, ap, ◌∙◌}
 use native.Mathlib.Decide.{dec_le}
 use native.Mathlib.Omega.{arith}
@@ -68,11 +68,11 @@ filled_paired c f g end same (next {at = at} {b = b} short read rest) =
     )
 
 module _ (f : List ℕ) (h : Heading) (head : heading f ≡ given h) where
-  accepted_walk : walk_of f ≡ record { boxes = h.boxes; fault = none }
+  accepted_walk : walk_of f ≡ record { boxes = h.boxes; fault = None }
   unfolding walk_of boxes_in
   accepted_walk = no-fault (walk_of f) (headed f h head).boxes
 
-  pub accepted_faultless : (walk_of f).fault ≡ none
+  pub accepted_faultless : (walk_of f).fault ≡ None
   accepted_faultless = ap (λ (w : Walked). w.fault) accepted_walk
 
   pub accepted_framed : framed f ≡ f
@@ -220,7 +220,7 @@ module _ (f : List ℕ) (h : Heading) (boxes : boxes_in File f 0 (length f) ≡ 
 
 -- a file whose boxes all stay prints no line, and one of which nothing goes is salvaged as it is
 module _ (limit : ℕ) (f : List ℕ) (h : Heading) (opens : opening f ≡ given h) where
-  pub stay_silent : (walk_of f).fault ≡ none → Each (λ x. staying x.fate ≡ true) (fates limit f h) → (most : ℕ) → length f ≤ most
+  pub stay_silent : (walk_of f).fault ≡ None → Each (λ x. staying x.fate ≡ true) (fates limit f h) → (most : ℕ) → length f ≤ most
       → salvage_text limit most f ≡ []
   unfolding salvage_text
   stay_silent faultless stay most few =

@@ -3,7 +3,7 @@ use Prim.Native.Nat.{ℕ, ◌+◌, ◌^◌, ◌<◌, ◌≤◌}
 use mathlib.Core.Bool.{true}
 use mathlib.Core.List.{List, [], ◌∷◌, map-map}
 use mathlib.Core.Logic.{◌↔◌, inl, inr, ⊎_elim}
-use mathlib.Core.Option.{some}
+use Rattle.std.specs.Prelude.{Some}
 use mathlib.Core.Path.{◌≡◌, refl, sym, ap, subst, ◌∙◌}
 use native.Mathlib.Omega.{arith}
 use borrow.Author.Tests.{le-leb, lt-leb, ltb-true, lt-ltb}
@@ -108,7 +108,7 @@ module _ (limit : ℕ) (f : List ℕ) (h : Heading) (bytes : Bytes f) (opens : o
       elim (which (supplied ss p)) [
         | inl e ↦
             let lie = chunks-of source (lies h) kept (kept_lying limit (framed f) h) in
-            rw (served, e) (ap some (framed_at f (place_of_byte ss p) (place_below (framed f) h ss boxes_framed lie p e)))
+            rw (served, e) (ap Some (framed_at f (place_of_byte ss p) (place_below (framed f) h ss boxes_framed lie p e)))
         | inr e ↦ rw (served, e)
       ]
 

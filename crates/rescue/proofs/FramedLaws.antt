@@ -2,7 +2,7 @@
 use Prim.Native.Nat.{ℕ, ◌<◌, ◌≤◌}
 use mathlib.Core.List.{List, [], ◌∷◌}
 use mathlib.Core.Logic.{⊎_elim}
-use mathlib.Core.Option.{Option, none, some}
+use Rattle.std.specs.Prelude.{Option, None, Some}
 use mathlib.Core.Path.{◌≡◌, refl, sym, ap, ◌∙◌}
 use native.Mathlib.Decide.{dec_le}
 use native.Mathlib.Nat.{le_refl}
@@ -45,7 +45,7 @@ record Cut (f s : List ℕ) : Type 0 where
 
 module _ (f : List ℕ) where
   -- a file without a framing error is all whole boxes
-  pub faultless-framed : (walk_of f).fault ≡ none → framed f ≡ f
+  pub faultless-framed : (walk_of f).fault ≡ None → framed f ≡ f
   unfolding framed
   faultless-framed faultless = rw (framed, faultless)
 
@@ -53,8 +53,8 @@ module _ (f : List ℕ) where
   unfolding walk_of framed boxes_in faultless
   cut = go (walk_of f).fault refl
     where
-      go : (x : Option Fault) → (walk_of f).fault ≡ x → Cut f (elim x as (λ _. List ℕ) [ none ↦ f | some x ↦ take x.at f ])
-      go none e =
+      go : (x : Option Fault) → (walk_of f).fault ≡ x → Cut f (elim x as (λ _. List ℕ) [ None ↦ f | Some x ↦ take x.at f ])
+      go None e =
           let known : boxes_in File f 0 (length f) ≡ given (walk_of f).boxes = rw e in
           record {
             to = length f;
@@ -63,7 +63,7 @@ module _ (f : List ℕ) where
             filled = boxes_filled File f 0 (length f) known;
             few = boxes_few File f 0 (length f) known;
           }
-      go (some x) e =
+      go (Some x) e =
           let fault = fault_stands File f 0 (length f) x e in
           record {
             to = x.at;
@@ -98,7 +98,7 @@ module _ (f : List ℕ) where
       rw (framed_long, c.same)
       (boxes_same f (take c.to f) c.to (λ i less. get_or-take c.to f i 0 less) File 0 ∙ filled_boxes File c.filled c.few)
 
-  pub framed-faultless : walk_of (framed f) ≡ record { boxes = (walk_of f).boxes; fault = none }
+  pub framed-faultless : walk_of (framed f) ≡ record { boxes = (walk_of f).boxes; fault = None }
   unfolding walk_of boxes_in
   framed-faultless = no-fault (walk_of (framed f)) framed_boxes
 

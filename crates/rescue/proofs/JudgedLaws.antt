@@ -5,7 +5,7 @@ use mathlib.Core.Bool.{Bool, true, false, ◌&&◌, true≢false}
 use mathlib.Core.List.Memᴰ
 use mathlib.Core.List.{List, [], ◌∷◌, ◌++◌, map, append-nil, append_assoc, Memᴰ}
 use mathlib.Core.Logic.{◌↔◌, inl, inr, ⊎_elim}
-use mathlib.Core.Option.{none, some}
+use Rattle.std.specs.Prelude.{None, Some}
 use mathlib.Core.Path.{◌≡◌, refl, sym, ap, subst, ◌∙◌}
 use native.Mathlib.Decide.{dec_le}
 use native.Mathlib.Omega.{arith}
@@ -43,11 +43,11 @@ use Rattle.rescue.proofs.WholeLaws.{fates_boxed}
 -- ---- the whole boxes, and the first two of them
 
 module _ (f : List ℕ) where
-  pub walk_fault : (x : Fault) → (walk_of f).fault ≡ some x → FirstFault File f 0 (length f) box_limit (walk_of f).boxes x
+  pub walk_fault : (x : Fault) → (walk_of f).fault ≡ Some x → FirstFault File f 0 (length f) box_limit (walk_of f).boxes x
   unfolding walk_of
   walk_fault = fault_stands File f 0 (length f)
 
-  pub walk_faultless : (walk_of f).fault ≡ none → boxes_in File f 0 (length f) ≡ given (walk_of f).boxes
+  pub walk_faultless : (walk_of f).fault ≡ None → boxes_in File f 0 (length f) ≡ given (walk_of f).boxes
   unfolding walk_of boxes_in faultless
   walk_faultless e = rw e
 
@@ -181,7 +181,7 @@ module _ (limit : ℕ) (f : List ℕ) (h : Heading) where
   unfolding fates
   heads_stay x there =
       ⊎_elim (λ same. ap goes same)
-      (λ more. ⊎_elim (λ same. ap goes same) (λ none. absurd (Memᴰ.not-nil none)) (Memᴰ.cases_cons more)) (Memᴰ.cases_cons there)
+      (λ more. ⊎_elim (λ same. ap goes same) (λ None. absurd (Memᴰ.not-nil None)) (Memᴰ.cases_cons more)) (Memᴰ.cases_cons there)
 
 -- one of the list that passes a test
 some_there : {A : Type 0} (test : A → Bool) (xs : List A) → some_of test xs ≡ true → (x : A) × Memᴰ x xs × (test x ≡ true)

@@ -5,7 +5,7 @@ use mathlib.Core.Bool.{true, false≢true}
 use mathlib.Core.List.{List, [], ◌∷◌, ◌++◌, map, append-nil, append_assoc}
 use mathlib.Core.List.{Memᴰ}
 use mathlib.Core.Logic.{⊎_elim}
-use mathlib.Core.Option.{Option, none, some}
+use Rattle.std.specs.Prelude.{Option, None, Some}
 use mathlib.Core.Path.{◌≡◌, refl, sym, ap, ◌∙◌}
 use native.Mathlib.Omega.{arith}
 use borrow.Author.Tests.{le-leb}
@@ -48,8 +48,8 @@ by_first P x xs goes stays = go x.fate refl
 -- those of the dropped boxes and of the framing error, in order
 pub lines_each : (xs : List Fated) (fault : Option Fault) → dropped_lines xs fault ≡ each fault_line (dropped_of xs ++ fault_of fault)
 unfolding dropped_lines dropped_line each
-lines_each [] none = refl
-lines_each [] (some x) = sym (append-nil (fault_line x))
+lines_each [] None = refl
+lines_each [] (Some x) = sym (append-nil (fault_line x))
 lines_each (x ∷ xs) fault = rw (append_assoc, lines_each xs fault) (go x.fate)
   where
     go : (t : Fate) → dropped_line (record { box = x.box; fate = t }) ++ each fault_line (dropped_of xs ++ fault_of fault)
@@ -65,9 +65,9 @@ none_dropped [] stay = refl
 none_dropped (x ∷ xs) (here, there) =
     by_first (λ l. l ≡ []) x xs (λ n e. absurd (false≢true (rw e at here))) (λ _. none_dropped xs there)
 
-pub lines_none : (xs : List Fated) → Each (λ x. staying x.fate ≡ true) xs → dropped_lines xs none ≡ []
+pub lines_none : (xs : List Fated) → Each (λ x. staying x.fate ≡ true) xs → dropped_lines xs None ≡ []
 unfolding each
-lines_none xs stay = lines_each xs none ∙ rw (none_dropped xs stay)
+lines_none xs stay = lines_each xs None ∙ rw (none_dropped xs stay)
 
 -- ---- the boxes that they name
 
@@ -177,7 +177,7 @@ module _ (limit : ℕ) (f : List ℕ) (h : Heading) (opens : opening f ≡ given
       (boxes_filled File (framed f) 0 (length (framed f)) (framed_boxes f))
 
   -- the framing error stands where the whole boxes end
-  fault_behind : (x : Fault) → (walk_of f).fault ≡ some x → length (framed f) ≡ x.at
+  fault_behind : (x : Fault) → (walk_of f).fault ≡ Some x → length (framed f) ≡ x.at
   unfolding walk_of framed
   fault_behind x e =
       let short = (fault_stands File f 0 (length f) x e).short in
@@ -187,8 +187,8 @@ module _ (limit : ℕ) (f : List ℕ) (h : Heading) (opens : opening f ≡ given
   fault_ascending = go (walk_of f).fault refl
     where
       go : (x : Option Fault) → (walk_of f).fault ≡ x → Ascending (λ (y : Fault). y.at) (length (framed f)) (fault_of x)
-      go none e = tt
-      go (some x) e = (omega (arith, fault_behind x e), tt)
+      go None e = tt
+      go (Some x) e = (omega (arith, fault_behind x e), tt)
 
   -- in file order, each once
   pub ascending : Ascending (λ y. y.at) 0 named

@@ -3,8 +3,8 @@ use Prim.Native.Nat.{ℕ, zero, suc, ◌+◌, ◌-◌, ◌*◌, ◌/◌, ◌%◌
 use mathlib.Core.Bool.{Bool, true, false, ◌&&◌}
 use mathlib.Core.List.{List, ◌∷◌, ◌++◌, map}
 use mathlib.Core.Logic.{inl, inr}
-use mathlib.Core.Option
-use mathlib.Core.Option.{Option, none, some}
+use Rattle.std.specs.Prelude.{unwrap_or}
+use Rattle.std.specs.Prelude.{Option, None, Some}
 use mathlib.Core.Path.{◌≡◌, refl, sym, ap, subst, ◌∙◌}
 use native.Mathlib.Decide.{dec_le}
 use native.Mathlib.Nat.{zero-add}
@@ -49,12 +49,12 @@ module _ (from to : ℕ) where
   to_back h = rw (offset_to, lt-leb from to h)
 
   -- it gives the second, and is never the second name of 0
-  offset-place : offset_place from (offset_to from to) ≡ some to
+  offset-place : offset_place from (offset_to from to) ≡ Some to
   unfolding offset_place
   offset-place =
       elim (dec_le from to) [
-        | yes ahead ↦ rw (to_ahead ahead) (ap some (omega arith))
-        | no back ↦ rw (to_back (omega arith), offset_place, le-leb (from - to) from (omega arith)) (ap some (omega arith))
+        | yes ahead ↦ rw (to_ahead ahead) (ap Some (omega arith))
+        | no back ↦ rw (to_back (omega arith), offset_place, le-leb (from - to) from (omega arith)) (ap Some (omega arith))
       ]
 
   offset_some : offset_to from to ≡ Back 0 → ⊥
@@ -81,7 +81,7 @@ signed-held w n =
     ]
 
 -- so they hold the offset of the place that it gives
-offset_again : (w : ℕ) (z : Offset) (pseg place : ℕ) → holds_offset w z ≡ true → offset_place pseg z ≡ some place → holds_offset w (offset_to pseg place) ≡ true
+offset_again : (w : ℕ) (z : Offset) (pseg place : ℕ) → holds_offset w z ≡ true → offset_place pseg z ≡ Some place → holds_offset w (offset_to pseg place) ≡ true
 unfolding offset_place
 offset_again w (Ahead n) pseg place h e =
     let there : pseg + n ≡ place = cc in
@@ -89,14 +89,14 @@ offset_again w (Ahead n) pseg place h e =
 offset_again w (Back n) pseg place h e =
     elim (which (leb n pseg)) [
       | inl fits ↦
-          let here : some (pseg - n) ≡ some place = rw (offset_place, fits) at e in
+          let here : Some (pseg - n) ≡ Some place = rw (offset_place, fits) at e in
           let there : pseg - n ≡ place = cc in
           elim (dec_le pseg place) [
             | yes ahead ↦ ahead-held pseg place w ahead (omega (arith, power_pos w))
             | no back ↦ back-held pseg place w (omega arith) (omega (arith, back-within w n h, leb-true n pseg fits))
           ]
       | inr over ↦
-          let nowhere : none ≡ some place = rw (offset_place, over) at e in
+          let nowhere : None ≡ Some place = rw (offset_place, over) at e in
           let z : ◌≡◌ {A = ℕ} 0 1 = cc in
           absurd (omega arith)
     ]
@@ -177,10 +177,10 @@ module _ (l : Ploc) where
         (by_offset (offset_place pseg x.offset) (rw (place_of, has) at e))
       where
         by_offset : (o : Option ℕ)
-            → ◌≡◌ {A = Answer ℕ} (elim o [ none ↦ refused 24 | some place ↦ hold 24 (may_lie h x.state place x.size) >>= λ _. given place ]) (given place)
-            → o ≡ some place
-        by_offset none e = absurd (not_both e)
-        by_offset (some there) e = ap some (given_same (held 24 (may_lie h x.state there x.size) _ e).1)
+            → ◌≡◌ {A = Answer ℕ} (elim o [ None ↦ refused 24 | Some place ↦ hold 24 (may_lie h x.state place x.size) >>= λ _. given place ]) (given place)
+            → o ≡ Some place
+        by_offset None e = absurd (not_both e)
+        by_offset (Some there) e = ap Some (given_same (held 24 (may_lie h x.state there x.size) _ e).1)
 
     module _ (new : ℕ → ℕ) where
       -- the new offset of a chunk, and the place that it gives
@@ -193,7 +193,7 @@ module _ (l : Ploc) where
       offset_empty c empty = rw (placed_anew, empty)
 
       place_anew : (c : Chunk)
-          → (elim (has_place c.state c.size) [ true ↦ Option.get_or (offset_place (new pseg) (placed_anew new pseg c).offset) 0 | false ↦ 0 ]) ≡ (chunk_anew new c).place
+          → (elim (has_place c.state c.size) [ true ↦ unwrap_or (offset_place (new pseg) (placed_anew new pseg c).offset) 0 | false ↦ 0 ]) ≡ (chunk_anew new c).place
       place_anew c =
           elim (which (has_place c.state c.size)) [
             | inl has ↦ rw (chunk_anew, has, offset_has c has, offset-place)

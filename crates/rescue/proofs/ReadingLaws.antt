@@ -4,7 +4,7 @@ use mathlib.Core.Bool.{Bool, true, false, not, ◌&&◌, ◌||◌}
 use mathlib.Core.List.Memᴰ
 use mathlib.Core.List.{List, [], ◌∷◌, ◌++◌, map, map-map, append-nil, append_assoc, Memᴰ}
 use mathlib.Core.Logic.{inl, inr}
-use mathlib.Core.Option.{Option, none, some}
+use Rattle.std.specs.Prelude.{Option, None, Some}
 use mathlib.Core.Path.{◌≡◌, refl, sym, ap, ◌∙◌}
 use native.Mathlib.Nat.{add-zero, zero-add}
 use native.Mathlib.Omega.{arith}
@@ -124,9 +124,9 @@ module _ {new : ℕ → ℕ} where
   unfolding agree
   anew_agree {ss} {ts} a = rw (agree, anew_known a) (go (known_size ss))
     where
-      go : (known : Option ℕ) → ◌≡◌ {A = Bool} (elim known [ some n ↦ all_of (under n) ts | none ↦ true ]) (elim known [ some n ↦ all_of (under n) ss | none ↦ true ])
-      go none = refl
-      go (some n) = anew_all (under n) (under n) (λ b s. rw (anew_ends new b s, anew_gives new b s)) a
+      go : (known : Option ℕ) → ◌≡◌ {A = Bool} (elim known [ Some n ↦ all_of (under n) ts | None ↦ true ]) (elim known [ Some n ↦ all_of (under n) ss | None ↦ true ])
+      go None = refl
+      go (Some n) = anew_all (under n) (under n) (λ b s. rw (anew_ends new b s, anew_gives new b s)) a
 
   pub anew_agreed : {ss ts : List Segment} → Anew new ss ts → agreed ts ≡ agreed ss
   unfolding agreed
@@ -149,7 +149,7 @@ module _ (f g : List ℕ) (new : ℕ → ℕ) (p : ℕ) where
             let (is-good, covered) = both (eqb c.state good) (covers p c) e in
             let (low, high) = within_true c.start c.size p covered in
             let placed : has_place c.state c.size ≡ true = unfold has_place present in rw (eqb-true c.state good is-good, lt-ltb 0 c.size (omega arith)) in
-            rw (byte_from, e, chunk_anew, placed) (ap some (carried c (Memᴰ.head refl) placed (p - c.start) (omega arith)))
+            rw (byte_from, e, chunk_anew, placed) (ap Some (carried c (Memᴰ.head refl) placed (p - c.start) (omega arith)))
         | inr e ↦ rw (byte_from, e) (chunks_anew cs ds es (λ d there. carried d (Memᴰ.tail there)) rest)
       ]
 

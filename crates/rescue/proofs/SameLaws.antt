@@ -3,7 +3,7 @@ use Prim.Native.Nat.{ℕ, zero, suc, ◌+◌, ◌-◌, ◌*◌, ◌/◌, ◌%◌
 use mathlib.Core.Bool.{Bool, true, false, false≢true, ◌&&◌}
 use mathlib.Core.List.{List, [], ◌∷◌, ◌++◌, map, map-id, append-nil, append_assoc}
 use mathlib.Core.Logic.{inl, inr}
-use mathlib.Core.Option.{Option, none, some}
+use Rattle.std.specs.Prelude.{Option, None, Some}
 use mathlib.Core.Path.{◌≡◌, refl, sym, ap, subst, ◌∙◌}
 use native.Mathlib.Nat.{add-zero, sub-zero, le_refl}
 use native.Mathlib.Numerals.{add-one}
@@ -53,7 +53,7 @@ use Rattle.rescue.proofs.WholeLaws.{Stood, fates_all, fates_stood, fates_ready, 
 
 -- of a file nothing goes: it has no framing error, every box stays, there is no index, and empty chunks have offset 0
 pub record Clean (limit : ℕ) (f : List ℕ) (h : Heading) : Type 0 where
-  pub faultless : (walk_of f).fault ≡ none
+  pub faultless : (walk_of f).fault ≡ None
   pub stay : Each (λ x. staying x.fate ≡ true) (fates limit f h)
   pub pfil : has_index h.inner ≡ false
   pub segments : Each (λ s. has_index s.inner ≡ false) (kept_of limit f h)
@@ -98,7 +98,7 @@ field_back f at to end w n bytes same on fits inside =
 module _ {A : Type 0} (text : A → List ℕ) (box : A → Box) (c : Container) (f : List ℕ) (end : ℕ) where
   pieces_back : {at : ℕ} (xs : List A) → Filled c f end at (map box xs) → Each (λ x. text x ≡ box_bytes f (box x)) xs → each text xs ≡ part f at end
   unfolding each box_bytes bytes_in
-  pieces_back {at} [] (full e) same = let none : end - at ≡ 0 = omega arith in rw none
+  pieces_back {at} [] (full e) same = let None : end - at ≡ 0 = omega arith in rw None
   pieces_back {at} (x ∷ xs) (next short read rest) (here, there) =
       let i = header_inside c f at end read in
       rw (here, i.starts, pieces_back {at = (box x).end} xs rest there) (part_join f at (box x).end end (omega arith) i.ends)
@@ -193,7 +193,7 @@ module _ (w n : ℕ) (low : n < 256 ^ w) where
       ]
 
 -- an offset by the place that it gives
-offset_told : (z : Offset) (pseg place : ℕ) → offset_place pseg z ≡ some place → (z ≡ Back 0 → ⊥) → offset_to pseg place ≡ z
+offset_told : (z : Offset) (pseg place : ℕ) → offset_place pseg z ≡ Some place → (z ≡ Back 0 → ⊥) → offset_to pseg place ≡ z
 unfolding offset_place offset_to
 offset_told (Ahead n) pseg place e not_None =
     let there : pseg + n ≡ place = cc in
@@ -202,12 +202,12 @@ offset_told (Back zero) pseg place e not_None = absurd (not_None refl)
 offset_told (Back (suc n)) pseg place e not_None =
     elim (which (leb (suc n) pseg)) [
       | inl fits ↦
-          let here : some (pseg - suc n) ≡ some place = rw (offset_place, fits) at e in
+          let here : Some (pseg - suc n) ≡ Some place = rw (offset_place, fits) at e in
           let there : pseg - suc n ≡ place = cc in
           let low = leb-true (suc n) pseg fits in
           rw (offset_to, lt-leb pseg place (omega arith)) (ap Back (omega arith))
       | inr over ↦
-          let nowhere : none ≡ some place = rw (offset_place, over) at e in
+          let nowhere : None ≡ Some place = rw (offset_place, over) at e in
           let z : ◌≡◌ {A = ℕ} 0 1 = cc in
           absurd (omega arith)
     ]
@@ -274,18 +274,18 @@ module _ (f : List ℕ) (bytes : (k : ℕ) → get_or f k 0 < 256) (l : Ploc) (i
         ]
 
     place_told : (x : Entry) (place : ℕ) → place_of h pseg x ≡ given place → has_place x.state x.size ≡ true
-        → (offset_place pseg x.offset ≡ some place) × (may_lie h x.state place x.size ≡ true)
+        → (offset_place pseg x.offset ≡ Some place) × (may_lie h x.state place x.size ≡ true)
     unfolding place_of
     place_told x place e has = go (offset_place pseg x.offset) (rw (place_of, has) at e)
       where
         go : (o : Option ℕ)
-            → ◌≡◌ {A = Answer ℕ} (elim o [ none ↦ refused 24 | some place ↦ hold 24 (may_lie h x.state place x.size) >>= λ _. given place ]) (given place)
-            → (o ≡ some place) × (may_lie h x.state place x.size ≡ true)
-        go none e = absurd (not_both e)
-        go (some there) e =
+            → ◌≡◌ {A = Answer ℕ} (elim o [ None ↦ refused 24 | Some place ↦ hold 24 (may_lie h x.state place x.size) >>= λ _. given place ]) (given place)
+            → (o ≡ Some place) × (may_lie h x.state place x.size ≡ true)
+        go None e = absurd (not_both e)
+        go (Some there) e =
             let (may, here) = held 24 (may_lie h x.state there x.size) _ e in
             let found = given_same here in
-            (ap some found, rw found at may)
+            (ap Some found, rw found at may)
 
     -- an entry's chunk has its old offset
     offset_kept : (at start place : ℕ) (x : Entry) → entry f l at ≡ given x → place_of h pseg x ≡ given place
@@ -306,8 +306,8 @@ module _ (f : List ℕ) (bytes : (k : ℕ) → get_or f k 0 < 256) (l : Ploc) (i
     unfolding chunks_from chunk_step entry_bytes
     entries_back limit zero c cs e zeroed =
         let (ended, e1) = held 17 (eqb c.at l.end) _ e in
-        let none : l.end - c.at ≡ 0 = omega (arith, eqb-true c.at l.end ended) in
-        subst (λ (cs : List Chunk). written (map (placed_anew new pseg) cs) ≡ part f c.at l.end) (given_same e1) (rw none)
+        let None : l.end - c.at ≡ 0 = omega (arith, eqb-true c.at l.end ended) in
+        subst (λ (cs : List Chunk). written (map (placed_anew new pseg) cs) ≡ part f c.at l.end) (given_same e1) (rw None)
     entries_back limit (suc more) c cs e zeroed =
         let (met, step, e1) = both_given (chunk_step limit f h pseg l c) _ e in
         let (rest, others, e2) = both_given (chunks_from limit f h pseg l more met.1) _ e1 in
@@ -495,7 +495,7 @@ module _ (f : List ℕ) (h : Heading) (opens : opening f ≡ given h) where
       rw (← inner) (cut_inner f o.filled o.inside o.two k (ap (λ (bs : List Box). heading (first_two f bs)) o.boxes ∙ known))
 
   -- without a framing error its boxes are all of it
-  all_filled : (walk_of f).fault ≡ none → Filled File f (length f) 0 h.boxes
+  all_filled : (walk_of f).fault ≡ None → Filled File f (length f) 0 h.boxes
   all_filled faultless = rw (opened f h opens).boxes (boxes_filled File f 0 (length f) (rw (faultless-framed f faultless) at (framed_boxes f)))
 
   -- and each ends in it

@@ -2,7 +2,7 @@
 -- product's is `source_limit`. Each field has the sentence that it states.
 use Rattle.std.specs.Prelude.{ℕ, zero, suc, ◌+◌, ◌-◌, ◌<◌, ◌≤◌, Bool, true, false, not, ◌||◌, ◌&&◌, ◌↔◌, ◌≡◌, length, get_or, take, T, leb}
 use mathlib.Core.List.{List, [], ◌∷◌, ◌++◌, map, Memᴰ}
-use Rattle.std.proofs.Math.Option.{Option, none, some}
+use Rattle.std.specs.Prelude.{Option, None, Some}
 use Rattle.boxes.specs.Answer.{Answer, refused, given, ◌>>=◌, hold}
 use Rattle.boxes.specs.Faults.{Follow, FirstFault}
 use Rattle.boxes.specs.Framing.{Box, Fault, boxes_in, box_limit}
@@ -187,8 +187,8 @@ dropped_of (x ∷ xs) =
 
 -- the framing error, if there is one
 abbrev pub fault_of : Option Fault → List Fault
-fault_of none = []
-fault_of (some x) = x ∷ []
+fault_of None = []
+fault_of (Some x) = x ∷ []
 
 -- places that ascend strictly, from one on
 abbrev pub Ascending : {A : Type 0} → (A → ℕ) → ℕ → List A → Type 0
@@ -208,8 +208,8 @@ pub record Salvage (limit : ℕ) : Type 0 where
       → (salvage limit f ≡ refused n) ↔ (heading (take b.end f) ≡ refused n)
   pub of_fewer : (f : List ℕ) (n : ℕ) → length f ≤ file_limit → length (walk_of f).boxes < 2 → (salvage limit f ≡ refused n) ↔ (heading f ≡ refused n)
   -- the whole boxes before the first framing error, and that error; the whole file where there is none
-  pub fault : (f : List ℕ) (x : Fault) → (walk_of f).fault ≡ some x → FirstFault File f 0 (length f) box_limit (walk_of f).boxes x
-  pub no_fault : (f : List ℕ) → (walk_of f).fault ≡ none → boxes_in File f 0 (length f) ≡ given (walk_of f).boxes
+  pub fault : (f : List ℕ) (x : Fault) → (walk_of f).fault ≡ Some x → FirstFault File f 0 (length f) box_limit (walk_of f).boxes x
+  pub no_fault : (f : List ℕ) → (walk_of f).fault ≡ None → boxes_in File f 0 (length f) ≡ given (walk_of f).boxes
   -- what the first two say stands beside all of them
   pub opened : (f : List ℕ) (h : Heading) → opening f ≡ given h
       → (h.boxes ≡ (walk_of f).boxes)

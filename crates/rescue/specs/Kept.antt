@@ -1,6 +1,6 @@
 -- Document 02, [9], "Salvage after a pulled plug": which boxes of a spoiled file stay.
 use Rattle.std.specs.Prelude.{ℕ, ◌+◌, Bool, true, false, not, ◌&&◌, ◌||◌, List, [], ◌∷◌, ◌++◌, length, take, drop, leb, eqb}
-use Rattle.std.proofs.Math.Option.{none, some}
+use Rattle.std.specs.Prelude.{None, Some}
 use Rattle.boxes.specs.Answer.{Answer, refused, given, ◌>>=◌, hold}
 use Rattle.boxes.specs.Framing.{Box, Walked, walked_in}
 use Rattle.boxes.specs.Kinds.{ftyp, pfil, pseg, pdat, is, box_at}
@@ -18,7 +18,7 @@ walk_of f = walked_in File f 0 (length f)
 
 -- these boxes alone, as a file
 unfoldable pub framed : List ℕ → List ℕ
-framed f = elim (walk_of f).fault [ none ↦ f | some x ↦ take x.at f ]
+framed f = elim (walk_of f).fault [ None ↦ f | Some x ↦ take x.at f ]
 
 -- the first two of them alone, as a file; the whole file, its broken rest too, where it has fewer
 unfoldable pub first_two : List ℕ → List Box → List ℕ

@@ -1,6 +1,6 @@
 -- Document 02, [9]: the lines that a program prints of what was dropped.
 use Rattle.std.specs.Prelude.{ℕ, List, [], ◌++◌, length, leb}
-use Rattle.std.proofs.Math.Option.{Option, none, some}
+use Rattle.std.specs.Prelude.{Option, None, Some}
 use Rattle.boxes.specs.Answer.{refused, given, ◌>>=◌, hold}
 use Rattle.boxes.specs.Framing.{Fault}
 use Rattle.partial.specs.BoxList.{each, fault_line}
@@ -19,7 +19,7 @@ dropped_line x =
 
 -- a line for every dropped box, and for the first framing error
 unfoldable pub dropped_lines : List Fated → Option Fault → List ℕ
-dropped_lines xs fault = each dropped_line xs ++ elim fault [ none ↦ [] | some x ↦ fault_line x ]
+dropped_lines xs fault = each dropped_line xs ++ elim fault [ None ↦ [] | Some x ↦ fault_line x ]
 
 -- what a program prints that takes an input of at most so many bytes: the single line of a refusal, or these lines
 unfoldable pub salvage_text : ℕ → ℕ → List ℕ → List ℕ

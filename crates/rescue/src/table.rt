@@ -1,6 +1,12 @@
-// A table of the fates of a file's boxes: a dropped box has its number there.
+// A table of the fates of a file's boxes: what becomes of each, by its number.
+use refusals::Refusal;
 
-// What stands there for a box that stays.
-pub const STAYS: u64 = 255;
+// What becomes of a box: it stays; or it is dropped, by the refusal that is wrong with it, if anything is.
+#[derive(Clone, Copy, PartialEq, Eq)]
+pub enum Fate {
+    Stays,
+    Dropped(Option<Refusal>),
+}
+
 // As many fates as a file may have boxes.
 pub const ALL_FATES: usize = 512;

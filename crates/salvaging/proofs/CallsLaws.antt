@@ -2,27 +2,24 @@
 use Prim.Native.Nat.{ℕ, ◌≤◌, ◌<◌}
 use mathlib.Core.Bool.{Bool, true, false}
 use mathlib.Core.List.{List, map}
-use mathlib.Core.Logic.{⊎_elim}
-use mathlib.Core.Option.{Option, none, some}
+use Rattle.std.specs.Prelude.{Result, Ok, Err}
 use mathlib.Core.Path.{◌≡◌, refl, sym, ap, subst, ◌∙◌}
 use native.Mathlib.Omega.{arith}
-use borrow.Author.Tests.{le-leb, lt-leb, ne_eqb}
+use borrow.Author.Tests.{le-leb, lt-leb}
 use lib.Dec.{leb}
 use lib.ListN.{length, get_or, take}
-use lib.Seq.{take-length, length-take-le}
+use lib.Seq.{take-length}
 use Rattle.boxes.specs.Answer.{refused, given, ◌>>=◌, hold}
-use Rattle.boxes.specs.Framing.{Fault}
-use Rattle.boxes.specs.declared.kinds.Container.TheVariants.{File}
+use Rattle.refusals.specs.Refusals.{refusal_no}
+use Rattle.refusals.specs.declared.Refusal.{Refusal}
+use Rattle.refusals.specs.declared.Refusal.TheVariants.{InputTooLong, BufferTooShort}
+use Rattle.rescue.specs.declared.table.Fate.{Fate}
 use Rattle.boxes.proofs.AnswerLaws.{held}
-use Rattle.boxes.proofs.FaultLaws.{fault_stands}
-use Rattle.boxes.proofs.HeaderLaws.{header_numbers}
 use Rattle.partial.specs.Map.{refused_line}
 use Rattle.partial.specs.Heading.{Heading}
 use Rattle.partial.specs.Limits.{source_limit}
 use Rattle.partial.specs.Memory.{fits, after, text_written}
 use Rattle.partial.specs.Sequences.{sum}
-use Rattle.partial.specs.Answers.{written_answer}
-use Rattle.partial.specs.declared.answers.Written.{Written}
 use Rattle.puts.specs.Pieces.{PutsPieces}
 use Rattle.texts.specs.Writes.{Writes}
 use Rattle.texts.proofs.WritesLaws.{writes_short, writes_given}
@@ -35,12 +32,11 @@ use Rattle.rescue.proofs.FramedLaws.{framed_opens, framed_boxes, framed_shorter}
 use Rattle.rescue.proofs.HeadingLaws.{opened, said}
 use Rattle.rescue.proofs.WholeLaws.{fates_ready, copy_shorter}
 use Rattle.salvaging.specs.Fault.{fault_at}
-use Rattle.salvaging.specs.Opens.{fault_number, Told, Opens}
+use Rattle.salvaging.specs.Opens.{Told, Opens}
 use Rattle.salvaging.specs.Tables.{fates_in, start_of, new_in, FatesHeld, Sound}
 use Rattle.salvaging.specs.Told.{Tells}
 use Rattle.salvaging.specs.Wrote.{Salvages}
 use Rattle.salvaging.specs.declared.opening.OpenFile.{OpenFile}
-use Rattle.salvaging.specs.declared.opening.Opening.{Opening}
 use Rattle.salvaging.proofs.SoundLaws.{fates_long}
 use Rattle.salvaging.proofs.TableLaws.{box_stands}
 
@@ -56,11 +52,11 @@ module _ (f : List ℕ) (h : Heading) (sound : Sound f h) (bytes : (k : ℕ) →
       ∙ ap (λ (xs : List Fated). sum (map copy_size xs)) (take-length (fates_in f h))
       ∙ sym (pieces_long f (new_in f h) (fates_in f h) (fates_ready source_limit f h sound.opens bytes (new_in f h)))
 
-  pub copy_short : {buffer : List ℕ} → length buffer < size → Writes (copied f (fates_in f h)) buffer buffer (Written.Refused 33)
+  pub copy_short : {buffer : List ℕ} → length buffer < size → Writes (copied f (fates_in f h)) buffer buffer (Err BufferTooShort)
   copy_short short = writes_short _ _ (omega (arith, size_copied))
 
   pub copy_put : {buffer buffer' : List ℕ} {n : ℕ} → size ≤ length buffer → PutsPieces buffer 0 (copied f (fates_in f h)) buffer' n
-      → Writes (copied f (fates_in f h)) buffer buffer' (Written.Length size)
+      → Writes (copied f (fates_in f h)) buffer buffer' (Ok size)
   copy_put room pieces =
       let small = (opened f h sound.opens).small in
       writes_given _ _ size_copied (omega (arith, size_copied)) (pieces.puts (omega (arith, copy_shorter source_limit f h sound.opens bytes)))
@@ -68,11 +64,11 @@ module _ (f : List ℕ) (h : Heading) (sound : Sound f h) (bytes : (k : ℕ) →
 -- ---- the answer of an opened file
 
 -- what is found of it
-pub found : {f : List ℕ} {r : Opening} → Opens f r → {o : OpenFile} → r ≡ Opening.Found o → (h : Heading) × (opening f ≡ given h) × Told f h o
+pub found : {f : List ℕ} {r : Result OpenFile Refusal} → Opens f r → {o : OpenFile} → r ≡ Ok o → (h : Heading) × (opening f ≡ given h) × Told f h o
 unfolding Opens
 found {f} opens e = subst (Opens f) e opens
 
-pub not_opened : (f : List ℕ) {r : Opening} → Opens f r → {n : ℕ} → r ≡ Opening.Refused n → opening f ≡ refused n
+pub not_opened : (f : List ℕ) {r : Result OpenFile Refusal} → Opens f r → {n : Refusal} → r ≡ Err n → opening f ≡ refused (refusal_no n)
 unfolding Opens
 not_opened f opens e = subst (Opens f) e opens
 
@@ -122,11 +118,11 @@ module _ (copy buffer : List ℕ) where
   copy_left false = refl
 
 module _ (f : List ℕ) {buffer : List ℕ} where
-  pub salvages_refused : {n : ℕ} → opening f ≡ refused n → Salvages f buffer buffer (Written.Refused n)
-  unfolding salvaged salvage written_answer after
+  pub salvages_refused : {n : Refusal} → opening f ≡ refused (refusal_no n) → Salvages f buffer buffer (Err n)
+  unfolding salvaged salvage after
   salvages_refused e = record { answer = rw e; left = rw e }
 
-  pub salvages_given : {h : Heading} → opening f ≡ given h → {g : List ℕ} → g ≡ framed f → {buffer' : List ℕ} {r : Written}
+  pub salvages_given : {h : Heading} → opening f ≡ given h → {g : List ℕ} → g ≡ framed f → {buffer' : List ℕ} {r : Result ℕ Refusal}
       → Writes (copied g (fates_in g h)) buffer buffer' r → Salvages f buffer buffer' r
   unfolding salvaged salvage text_written
   salvages_given {h} opens {g} cut w =
@@ -138,51 +134,34 @@ module _ (f : List ℕ) {buffer : List ℕ} where
 
 -- ---- what is told of a file
 
-module _ (f t : List ℕ) {most : ℕ} where
-  pub tells_long : most < length f → Tells f most t (Opening.Refused 27)
+module _ (f : List ℕ) (t : List Fate) {most : ℕ} where
+  pub tells_long : most < length f → Tells f most t (Err InputTooLong)
   unfolding Tells
   tells_long long = rw (lt-leb (length f) most long)
 
   module _ (short : length f ≤ most) where
-    pub tells_refused : {n : ℕ} → opening f ≡ refused n → Tells f most t (Opening.Refused n)
+    pub tells_refused : (n : Refusal) → opening f ≡ refused (refusal_no n) → Tells f most t (Err n)
     unfolding Tells
-    tells_refused e = rw (le-leb (length f) most short) e
+    tells_refused n e = rw (le-leb (length f) most short) e
 
-    pub tells-found : {h : Heading} {o : OpenFile} → opening f ≡ given h → Told f h o → FatesHeld (take o.end.0 f) h t → Tells f most t (Opening.Found o)
+    pub tells-found : {h : Heading} {o : OpenFile} → opening f ≡ given h → Told f h o → FatesHeld (take o.end.0 f) h t → Tells f most t (Ok o)
     unfolding Tells
     tells-found {h} opens told held = (h, rw (le-leb (length f) most short) opens, told, rw told.whole.cut at held)
 
 -- ---- the text
 
-fault-at : (at number : ℕ) → 2 ≤ number → fault_at at number ≡ some (record { at = at; number = number })
-unfolding fault_at
-fault-at at number low = rw (fault_at, ne_eqb number 0 (λ z. omega arith))
-
--- the first framing error is where the whole boxes end, and its number is not 0
-fault_told : (f : List ℕ) → (walk_of f).fault ≡ fault_at (length (framed f)) (fault_number (walk_of f).fault)
-unfolding walk_of framed fault_at fault_number
-fault_told f = go (walk_of f).fault refl
-  where
-    go : (x : Option Fault) → (walk_of f).fault ≡ x → x ≡ fault_at (length (framed f)) (fault_number x)
-    go none e = refl
-    go (some x) e =
-        let first = fault_stands File f 0 (length f) x e in
-        let low : 2 ≤ x.number = ⊎_elim (λ w. (header_numbers f x.at (length f) File x.number w.1).0) (λ w. omega (arith, w.1)) first.wrong in
-        let same : length (framed f) ≡ x.at = rw (framed, e) (length-take-le x.at f (omega (arith, first.short))) in
-        sym (ap (λ (n : ℕ). fault_at n x.number) same ∙ fault-at x.at x.number low)
-
 -- the lines are those of the file cut behind its whole boxes
-pub record Lined (f : List ℕ) (most : ℕ) (t : List ℕ) (o : OpenFile) : Type 0 where
+pub record Lined (f : List ℕ) (most : ℕ) (t : List Fate) (o : OpenFile) : Type 0 where
   pub head : Heading
   pub inside : o.end.0 ≤ length f
   pub sound : Sound (take o.end.0 f) head
   pub fates : FatesHeld (take o.end.0 f) head t
   pub text : dropped_lines (fates_in (take o.end.0 f) head) (fault_at (length (take o.end.0 f)) o.fault) ≡ salvage_text source_limit most f
 
-cut_lined : (f : List ℕ) (most : ℕ) (t : List ℕ) (h : Heading) {o : OpenFile} → (hold 27 (leb (length f) most) >>= λ _. opening f) ≡ given h → Told f h o
+cut_lined : (f : List ℕ) (most : ℕ) (t : List Fate) (h : Heading) {o : OpenFile} → (hold 27 (leb (length f) most) >>= λ _. opening f) ≡ given h → Told f h o
     → FatesHeld (framed f) h t → Lined f most t o
 unfolding salvage_text
-cut_lined f most t h answer told table =
+cut_lined f most t h {o} answer told table =
     let opens = (held 27 (leb (length f) most) _ answer).1 in
     let lines : dropped_lines (fates_in (framed f) h) (walk_of f).fault ≡ salvage_text source_limit most f = rw (salvage_text, answer) in
     record {
@@ -190,16 +169,16 @@ cut_lined f most t h answer told table =
       inside = told_inside told;
       sound = cut_sound f opens told;
       fates = rw told.whole.cut table;
-      text = rw (told.whole.cut, told.whole.number) (ap (dropped_lines (fates_in (framed f) h)) (sym (fault_told f)) ∙ lines);
+      text = rw told.whole.cut (ap (dropped_lines (fates_in (framed f) h)) (ap (λ (n : ℕ). fault_at n o.fault) (sym told.whole.end) ∙ sym told.whole.error) ∙ lines);
     }
 
-module _ (f : List ℕ) (most : ℕ) (t : List ℕ) {r : Opening} (tells : Tells f most t r) where
-  pub text_refused : {n : ℕ} → r ≡ Opening.Refused n → refused_line n ≡ salvage_text source_limit most f
+module _ (f : List ℕ) (most : ℕ) (t : List Fate) {r : Result OpenFile Refusal} (tells : Tells f most t r) where
+  pub text_refused : {n : Refusal} → r ≡ Err n → refused_line (refusal_no n) ≡ salvage_text source_limit most f
   unfolding Tells salvage_text
   text_refused {n} e =
-      let answer : (hold 27 (leb (length f) most) >>= λ _. opening f) ≡ refused n = subst (Tells f most t) e tells in
+      let answer : (hold 27 (leb (length f) most) >>= λ _. opening f) ≡ refused (refusal_no n) = subst (Tells f most t) e tells in
       rw (salvage_text, answer)
 
-  pub lined : {o : OpenFile} → r ≡ Opening.Found o → Lined f most t o
+  pub lined : {o : OpenFile} → r ≡ Ok o → Lined f most t o
   unfolding Tells
   lined e = let (h, answer, told, table) = subst (Tells f most t) e tells in cut_lined f most t h answer told table

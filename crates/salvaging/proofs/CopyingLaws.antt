@@ -4,6 +4,7 @@ use mathlib.Core.Bool.{true, false, false≢true}
 use mathlib.Core.List.Memᴰ
 use mathlib.Core.List.{List, [], ◌∷◌, ◌++◌, append_assoc, Memᴰ}
 use mathlib.Core.Logic.{inl, inr, ⊎_elim}
+use Rattle.std.specs.Prelude.{Option, None, Some, Ok}
 use mathlib.Core.Path.{◌≡◌, refl, sym, ap, subst, ◌∙◌}
 use native.Mathlib.Omega.{arith}
 use borrow.Author.Tests.{leb-true, eqb-true}
@@ -19,9 +20,8 @@ use Rattle.boxes.proofs.AnswerLaws.{given_same}
 use Rattle.boxes.proofs.ContainerLaws.{boxes_filled, boxes_standing}
 use Rattle.boxes.proofs.KindLaws.{right_one, those_one, those_other, first_of-those}
 use Rattle.numerals.specs.Numbers.{bytes_of}
-use Rattle.fields.specs.Location.{ploc_of, location_answer}
+use Rattle.fields.specs.Location.{ploc_of}
 use Rattle.fields.specs.declared.location.Location.{Location}
-use Rattle.fields.specs.declared.location.LocationRead.TheVariants.{Given as Found}
 use Rattle.fields.proofs.LocationLaws.{location_given}
 use Rattle.partial.specs.BoxList.{each}
 use Rattle.partial.specs.Entries.{Ploc, ploc_head, chunks_from}
@@ -36,7 +36,7 @@ use Rattle.puts.specs.Pieces.{PutsPieces}
 use Rattle.puts.proofs.PieceLaws.{pieces_same, pieces_more, pieces_none}
 use Rattle.rescue.specs.Copy.{unindexed, size_of, box_bytes, inner_bytes, reheaded, copy_size, copy_of, copied}
 use Rattle.rescue.specs.Kept.{Fate, dropped, whole, of_pfil, of_pseg, Fated}
-use Rattle.rescue.specs.Table.{codes}
+use Rattle.rescue.specs.Table.{code_for}
 use Rattle.rescue.proofs.CopyLaws.{staying, Ready}
 use Rattle.rescue.proofs.FateLaws.{segments_of, kept_all}
 use Rattle.rescue.proofs.HeadingLaws.{opened, filled_size}
@@ -101,10 +101,9 @@ only_one (b ∷ a ∷ bs) c one there = absurd (omega arith)
 
 -- a head that was read is told so
 told_head : (f : List ℕ) (b : Box) {p : Ploc} → ploc_head f b ≡ given p → (l : Location) × (ploc_head f b ≡ given (ploc_of l))
-unfolding location_answer
 told_head f b {p} head =
     let l : Location = record { length_size = p.length_size; offset_size = p.offset_size; count = p.count; first = record { 0 = p.first }; end = record { 0 = p.end } } in
-    (l, location_given f b {r = Found l} (sym head) refl)
+    (l, location_given f b {r = Ok l} (sym head) refl)
 
 plocs_read : (f : List ℕ) (h : Heading) (before : List Segment) (b : Box) {s : Segment} → segment source_limit f h before b ≡ given s → PlocsRead f h b.at s s.inner
 plocs_read f h before b read =
@@ -190,12 +189,12 @@ module _ (f : List ℕ) (h : Heading) (sound : Sound f h) (bytes : (k : ℕ) →
     pub lie : Each (Lies new s.place copy) s.chunks
 
   -- by the code of the fate
-  module _ {code : ℕ} (coded : code ≡ get_or (codes f h) k 0) {b : Box} (is-box : b ≡ box_at k h.boxes) where
-    pub copied_none : (code ≡ 255 → ⊥) → [] ≡ text
+  module _ {code : Option ℕ} (coded : code ≡ code_for f h k) {b : Box} (is-box : b ≡ box_at k h.boxes) where
+    pub copied_none : {n : ℕ} → code ≡ Some n → [] ≡ text
     unfolding copy_of
     copied_none goes = sym (ap (copy_of f new) (fated_as ((told f h sound k there coded is-box).goes goes)))
 
-    module _ (stays : code ≡ 255) where
+    module _ (stays : code ≡ None) where
       pub copied_whole : (k ≡ 1 → ⊥) → is pseg b ≡ false → box_bytes f b ≡ text
       unfolding copy_of
       copied_whole other kind =

@@ -3,7 +3,7 @@ use Prim.Native.Nat.{ℕ, ◌+◌, ◌-◌, ◌^◌, ◌≤◌, ◌<◌, min}
 use mathlib.Core.Bool.{Bool, true, false}
 use mathlib.Core.List.{List, ◌∷◌, ◌++◌, Memᴰ}
 use mathlib.Core.Logic.{inl, inr}
-use mathlib.Core.Option.{none, some}
+use Rattle.std.specs.Prelude.{None, Some}
 use mathlib.Core.Path.{◌≡◌, refl, sym, ap, subst, ◌∙◌}
 use native.Mathlib.Omega.{arith}
 use borrow.Author.Tests.{eq-eqb, ne_eqb}
@@ -23,7 +23,6 @@ use Rattle.partial.proofs.Meaning.SequenceLaws.{which}
 use Rattle.puts.specs.Pieces.{PutsField, PutsPieces, large_front}
 use Rattle.puts.proofs.PieceLaws.{field_put, pieces_same, Partly, partly_start, partly_same, partly_end, partly_more}
 use Rattle.rescue.specs.Copy.{box_bytes, ploc_bytes, inner_bytes, unindexed}
-use Rattle.rescue.proofs.HeadingLaws.{other_kind}
 use Rattle.salvaging.specs.Inner.{inner_text, head_of}
 
 -- ---- the header
@@ -38,11 +37,11 @@ module _ (b : Box) (n : ℕ) where
   small_is e = rw (head_of, ne_eqb b.body (b.at + 16) e)
 
 module _ (b : Framed) {n asked : ℕ} (sums : asked ≡ min (b.at.0 + 16) (2 ^ 64 - 1)) (low : b.body.0 < 2 ^ 32) (small : n < 2 ^ 31) {s t : List ℕ} {at next : ℕ} where
-  pub head_large : b.body.0 ≡ asked → PutsField (holds 8 (16 + n)) s at (large_front b.kind n) t next → PutsPieces s at (head_of (box_of b) n) t next
+  pub head_large : b.body.0 ≡ asked → PutsField (holds 8 (16 + n)) s at (large_front b.kind.code n) t next → PutsPieces s at (head_of (box_of b) n) t next
   unfolding box_of
   head_large e p = pieces_same (large_is (box_of b) n (omega arith)) (field_put (below_holds 8 (16 + n) (omega arith)) p)
 
-  pub head_small : (b.body.0 ≡ asked → ⊥) → PutsField (holds 4 (front_size + n)) s at (front b.kind n) t next → PutsPieces s at (head_of (box_of b) n) t next
+  pub head_small : (b.body.0 ≡ asked → ⊥) → PutsField (holds 4 (front_size + n)) s at (front b.kind.code n) t next → PutsPieces s at (head_of (box_of b) n) t next
   unfolding box_of
   head_small e p = pieces_same (small_is (box_of b) n (λ same. e (omega arith))) (field_put (size_held n (omega arith)) p)
 
@@ -66,7 +65,7 @@ module _ (f : List ℕ) (new : ℕ → ℕ) (s : Segment) (anew : Bool) (b : Box
       ]
 
 -- a box that a walk meets lies before the walk's end, which stays
-pub step_inside : (f : List ℕ) (w : Walk) (b : Framed) {w' : Walk} {end : ℕ} → stepped f w ≡ given (some (box_of b, w')) → w.end.0 ≤ end
+pub step_inside : (f : List ℕ) (w : Walk) (b : Framed) {w' : Walk} {end : ℕ} → stepped f w ≡ given (Some (box_of b, w')) → w.end.0 ≤ end
     → (b.at.0 ≤ b.body.0) × (b.at.0 ≤ b.end.0) × (b.end.0 ≤ end) × (w'.end.0 ≤ end)
 unfolding box_of
 step_inside f w b step inside =
@@ -96,7 +95,7 @@ pub midway_none : (f : List ℕ) (text : Box → List ℕ) (bs : List Box) (buff
 midway_none f text bs buffer at w known = record { left = bs; known = known; among = λ b there. there; bytes = partly_start _ buffer at }
 
 module _ {f : List ℕ} {text : Box → List ℕ} {bs : List Box} {buffer₀ : List ℕ} {at : ℕ} {w : Walk} {buffer : List ℕ} {next : ℕ} (m : Midway f text bs buffer₀ at w buffer next) where
-  module _ {b : Box} {w' : Walk} (step : stepped f w ≡ given (some (b, w'))) where
+  module _ {b : Box} {w' : Walk} (step : stepped f w ≡ given (Some (b, w'))) where
     abbrev rest : List Box
     rest = (known_next f w m.known step).0
 
@@ -128,13 +127,9 @@ module _ {f : List ℕ} {text : Box → List ℕ} {bs : List Box} {buffer₀ : L
           bytes = partly_more _ _ _ _ _ (partly_same _ _ _ (ap (λ bs. each text (unindexed bs)) split ∙ text_other text b rest kind) m.bytes) puts;
         }
 
-  pub midway_end : stepped f w ≡ given none → PutsPieces buffer₀ at (each text (unindexed bs)) buffer next
+  pub midway_end : stepped f w ≡ given None → PutsPieces buffer₀ at (each text (unindexed bs)) buffer next
   unfolding unindexed each
   midway_end step = partly_end _ _ _ (partly_same _ _ _ (ap (λ bs. each text (unindexed bs)) (known_end f w m.known step)) m.bytes)
 
   pub midway_sound : {n : ℕ} → stepped f w ≡ refused n → ⊥
   midway_sound = known_sound f w m.known
-
--- a `ploc` is no index
-pub ploc_other : (b : Box) → is ploc b ≡ true → is fidx b ≡ false
-ploc_other b kind = other_kind ploc fidx b refl kind

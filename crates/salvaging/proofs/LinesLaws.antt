@@ -4,7 +4,9 @@ use mathlib.Core.Bool.{true, false≢true}
 use mathlib.Core.List.{List, [], ◌∷◌, ◌++◌, append-nil, append_assoc}
 use mathlib.Core.Path.{◌≡◌, refl, sym, ap, ◌∙◌}
 use native.Mathlib.Omega.{arith}
-use borrow.Author.Tests.{ne_eqb}
+use Rattle.std.specs.Prelude.{Option, None, Some}
+use Rattle.refusals.specs.Refusals.{refusal_no}
+use Rattle.refusals.specs.declared.Refusal.{Refusal}
 use lib.ListN.{length, get_or, take}
 use lib.Seq.{take-suc, take-length}
 use Rattle.filling.specs.Rows.{Puts}
@@ -16,8 +18,8 @@ use Rattle.rescue.proofs.CopyLaws.{staying}
 use Rattle.salvaging.specs.Fault.{fault_at}
 use Rattle.rescue.proofs.TableLaws.{Coded}
 
-module _ (x : Fated) {code : ℕ} (coded : Coded x.fate code) where
-  pub line_none : code ≡ 255 → [] ≡ dropped_line x
+module _ (x : Fated) {code : Option ℕ} (coded : Coded x.fate code) where
+  pub line_none : code ≡ None → [] ≡ dropped_line x
   unfolding dropped_line
   line_none e = go x.fate (coded.stays e)
     where
@@ -27,7 +29,7 @@ module _ (x : Fated) {code : ℕ} (coded : Coded x.fate code) where
       go (of_pfil inner) stays = refl
       go (of_pseg s) stays = refl
 
-  pub line_one : (place : ℕ) → x.box.at ≡ place → (code ≡ 255 → ⊥) → fault_line (record { at = place; number = code }) ≡ dropped_line x
+  pub line_one : (place : ℕ) → x.box.at ≡ place → {n : ℕ} → code ≡ Some n → fault_line (record { at = place; number = n }) ≡ dropped_line x
   unfolding dropped_line
   line_one place here e = rw (dropped_line, coded.goes e, here)
 
@@ -51,12 +53,12 @@ module _ {A : Type 0} (text : A → List ℕ) where
   unfolding each
   each_none xs s = record { put = put_none s 0; end = refl }
 
--- the line of a framing error, by its number
-module _ (xs : List Fated) (place number : ℕ) where
-  pub fault_none : number ≡ 0 → each dropped_line xs ≡ dropped_lines xs (fault_at place number)
-  unfolding dropped_lines fault_at
-  fault_none e = rw (dropped_lines, fault_at, e) (sym (append-nil (each dropped_line xs)))
+-- the line of a framing error, if there is one
+module _ (xs : List Fated) (place : ℕ) {fault : Option Refusal} where
+  pub fault_none : fault ≡ None → each dropped_line xs ≡ dropped_lines xs (fault_at place fault)
+  unfolding dropped_lines
+  fault_none e = rw (e, dropped_lines) (sym (append-nil (each dropped_line xs)))
 
-  pub fault_one : (number ≡ 0 → ⊥) → each dropped_line xs ++ fault_line (record { at = place; number = number }) ≡ dropped_lines xs (fault_at place number)
-  unfolding dropped_lines fault_at
-  fault_one e = rw (dropped_lines, fault_at, ne_eqb number 0 e)
+  pub fault_one : {e : Refusal} → fault ≡ Some e → each dropped_line xs ++ fault_line (record { at = place; number = refusal_no e }) ≡ dropped_lines xs (fault_at place fault)
+  unfolding dropped_lines
+  fault_one is = rw (is, dropped_lines)

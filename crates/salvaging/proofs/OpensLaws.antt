@@ -1,8 +1,11 @@
 -- Laws of what is told of a file before its segments: where its first two boxes end, and where its whole boxes do.
 use Prim.Native.Nat.{ℕ, ◌≤◌, ◌<◌}
 use mathlib.Core.List.{List, [], ◌∷◌}
-use mathlib.Core.Option.{none, some}
-use mathlib.Core.Path.{◌≡◌, refl, sym, ap, ◌∙◌}
+use mathlib.Core.Logic.{inl, inr}
+use Rattle.std.specs.Prelude.{Option, None, Some, Result, Ok, Err, IsErrAnd}
+use Rattle.std.specs.Result.{result_unwrap_or}
+use mathlib.Core.Path.{◌≡◌, sym, ap, subst, ◌∙◌}
+use Rattle.std.proofs.lemmas.Result.{err_from_is_err_and}
 use native.Mathlib.Decide.{dec_le}
 use native.Mathlib.Nat.{le_refl}
 use native.Mathlib.Omega.{arith}
@@ -15,22 +18,29 @@ use Rattle.boxes.specs.Kinds.{box_at}
 use Rattle.boxes.specs.Walk.{walk_over, stepped, step_answer}
 use Rattle.boxes.specs.declared.kinds.Container.TheVariants.{File, Pfil}
 use Rattle.boxes.specs.declared.walk.Walk.{Walk}
-use Rattle.boxes.specs.declared.walk.Step.{Step}
 use Rattle.boxes.specs.declared.framing.Framed.{Framed}
 use Rattle.boxes.proofs.AnswerLaws.{not_both, both_given, given_same}
 use Rattle.boxes.proofs.ContainerLaws.{filled_boxes, boxes_standing}
-use Rattle.boxes.proofs.WalkLaws.{onward, stepping, onward_steps, met, step_over, step_header}
+use Rattle.boxes.proofs.ToldLaws.{told-ok, told-err}
+use Rattle.boxes.proofs.WalkLaws.{onward, stepping, onward_steps, met, step_over, step_header, no_more, a_fault}
+use Rattle.refusals.specs.Refusals.{refusal_no}
+use Rattle.refusals.specs.declared.Refusal.{Refusal}
 use Rattle.numerals.specs.declared.place.Place.{Place}
 use Rattle.partial.specs.Limits.{file_limit}
 use Rattle.partial.specs.Heading.{Heading, heading}
 use Rattle.partial.proofs.Reading.HeadingAppendLaws.{headed}
-use Rattle.heading.specs.Facts.{facts_of, told, headed_answer}
+use Rattle.heading.specs.Facts.{facts_of, told, facts_by, headed_answer}
 use Rattle.heading.specs.declared.answers.Head.{Head}
-use Rattle.heading.specs.declared.answers.Headed.{Headed}
 use Rattle.rescue.specs.Kept.{walk_of, framed, first_two, opening}
 use Rattle.rescue.proofs.HeadingLaws.{opened, cut-filled}
-use Rattle.salvaging.specs.Opens.{Whole, fault_number, Opens}
-use Rattle.salvaging.specs.declared.opening.Opening.TheVariants as Opening
+use Rattle.salvaging.specs.Opens.{Whole, Opens}
+use Rattle.surls.proofs.WithinLaws.{was_last}
+
+-- what holds of a refusal holds of a result that hands it on
+pub handed : {T : Type 0} (P : Result T Refusal → Type 0) (r : Result T Refusal) {n : Refusal} → IsErrAnd r (λ e. e ≡ n) → P (Err n) → P r
+handed P r on holds =
+    let (e, is, same) = err_from_is_err_and r on in
+    subst P (sym (is ∙ ap Err same)) holds
 
 -- the walk over a file is what one from its start has before it
 walk-of : (f : List ℕ) {end : Place} {w : Walk} → w ≡ walk_over File (record { 0 = 0 }) end → end.0 ≡ length f → walk_of f ≡ onward f w
@@ -38,21 +48,22 @@ unfolding walk_of walked_in
 walk-of f new file = rw (new, file)
 
 -- a walk that meets no box next has none before it
-abbrev pub NoNext : Step → Type 0
-NoNext r = (b : Framed) (w : Walk) → r ≡ Step.Next b w → ⊥
+abbrev pub Stepped : Type 0
+Stepped = Result (Option (Framed × Walk)) Refusal
 
-no-box : (f : List ℕ) (w : Walk) (r : Step) → step_answer r ≡ stepped f w → NoNext r → (onward f w).boxes ≡ []
-unfolding step_answer
-no-box f w (Step.Next b w') answer other = absurd (other b w' refl)
-no-box f w Step.End answer other = rw (onward_steps f w, ← answer)
-no-box f w (Step.Refused n) answer other = rw (onward_steps f w, ← answer)
+no-box : (f : List ℕ) (w : Walk) (r : Stepped) {o : Option (Framed × Walk)} → step_answer r ≡ stepped f w → o ≡ result_unwrap_or r None → o ≡ None → (onward f w).boxes ≡ []
+no-box f w r answer left none =
+    elim (was_last left none) [
+      | inl last ↦ rw (onward_steps f w, no_more answer last)
+      | inr (n, fault) ↦ rw (onward_steps f w, a_fault answer fault)
+    ]
 
 -- a box that it meets is the first, and those behind it follow
-one_box : (f : List ℕ) (w : Walk) {b : Box} {w' : Walk} → stepped f w ≡ given (some (b, w')) → (onward f w).boxes ≡ b ∷ (onward f w').boxes
+one_box : (f : List ℕ) (w : Walk) {b : Box} {w' : Walk} → stepped f w ≡ given (Some (b, w')) → (onward f w).boxes ≡ b ∷ (onward f w').boxes
 one_box f w step = rw (onward_steps f w, step)
 
 -- it ends where its container does
-step_done : (f : List ℕ) (w : Walk) → stepped f w ≡ given none → w.end.0 ≤ w.at.0
+step_done : (f : List ℕ) (w : Walk) → stepped f w ≡ given None → w.end.0 ≤ w.at.0
 step_done f w step =
     elim (dec_le w.end.0 w.at.0) [
       | yes done ↦ done
@@ -86,14 +97,14 @@ module _ (f : List ℕ) {end : Place} {w : Walk} (new : w ≡ walk_over File (re
   cut_few : length (walk_of f).boxes < 2 → CutAt end.0
   cut_few few = rw file (le_refl (length f), two_few f (walk_of f).boxes few)
 
-  pub cut_none : (r : Step) → step_answer r ≡ stepped f w → NoNext r → CutAt end.0
-  cut_none r answer other = cut_few (omega (arith, ap length (boxes-of ∙ no-box f w r answer other)))
+  pub cut_none : (r : Stepped) {o : Option (Framed × Walk)} → step_answer r ≡ stepped f w → o ≡ result_unwrap_or r None → o ≡ None → CutAt end.0
+  cut_none r answer left none = cut_few (omega (arith, ap length (boxes-of ∙ no-box f w r answer left none)))
 
-  module _ {a : Box} {w' : Walk} (first : stepped f w ≡ given (some (a, w'))) where
-    pub cut_one : (r : Step) → step_answer r ≡ stepped f w' → NoNext r → CutAt end.0
-    cut_one r answer other = cut_few (omega (arith, ap length (boxes-of ∙ one_box f w first), ap length (no-box f w' r answer other)))
+  module _ {a : Box} {w' : Walk} (first : stepped f w ≡ given (Some (a, w'))) where
+    pub cut_one : (r : Stepped) {o : Option (Framed × Walk)} → step_answer r ≡ stepped f w' → o ≡ result_unwrap_or r None → o ≡ None → CutAt end.0
+    cut_one r answer left none = cut_few (omega (arith, ap length (boxes-of ∙ one_box f w first), ap length (no-box f w' r answer left none)))
 
-    pub cut_two : (b : Framed) {w'' : Walk} → stepped f w' ≡ given (some (box_of b, w'')) → CutAt b.end.0
+    pub cut_two : (b : Framed) {w'' : Walk} → stepped f w' ≡ given (Some (box_of b, w'')) → CutAt b.end.0
     unfolding box_of
     cut_two b second =
         let lies = (met f w' second).inside in (
@@ -116,7 +127,7 @@ module _ {f : List ℕ} {w : Walk} (a : Along f w) where
   goes_on : (walk_of f).fault ≡ (stepping f w (stepped f w)).fault
   goes_on = a.rest ∙ ap (λ x. x.fault) (onward_steps f w)
 
-  pub along_more : {b : Box} {w' : Walk} → stepped f w ≡ given (some (b, w')) → Along f w'
+  pub along_more : {b : Box} {w' : Walk} → stepped f w ≡ given (Some (b, w')) → Along f w'
   along_more {b} {w'} step =
       let on = met f w step in
       let lies = on.inside in
@@ -127,20 +138,20 @@ module _ {f : List ℕ} {w : Walk} (a : Along f w) where
       }
 
   -- at the end of the file there is none
-  pub along_end : stepped f w ≡ given none → Whole f w.at.0 0
-  unfolding framed fault_number
+  pub along_end : stepped f w ≡ given None → Whole f w.at.0 None
+  unfolding framed
   along_end step =
-      let no-fault : (walk_of f).fault ≡ none = goes_on ∙ rw step in
+      let no-fault : (walk_of f).fault ≡ None = goes_on ∙ rw step in
       let all : w.at.0 ≡ length f = omega (arith, a.file, a.inside, step_done f w step) in
       let same : framed f ≡ f = rw (no-fault, framed) in
-      record { cut = rw (same, all) (take-length f); end = rw same all; number = rw no-fault }
+      record { cut = rw (same, all) (take-length f); end = rw same all; error = no-fault }
 
-  pub along_fault : {n : ℕ} → stepped f w ≡ refused n → Whole f w.at.0 n
-  unfolding framed fault_number
-  along_fault {n} step =
-      let fault : (walk_of f).fault ≡ some (record { at = w.at.0; number = n }) = goes_on ∙ rw step in
+  pub along_fault : {e : Refusal} → stepped f w ≡ refused (refusal_no e) → Whole f w.at.0 (Some e)
+  unfolding framed
+  along_fault {e} step =
+      let fault : (walk_of f).fault ≡ Some (record { at = w.at.0; number = refusal_no e }) = goes_on ∙ rw step in
       let same : framed f ≡ take w.at.0 f = rw (fault, framed) in
-      record { cut = sym same; end = rw same (sym (length-take-le w.at.0 f a.inside)); number = rw fault }
+      record { cut = sym same; end = rw same (sym (length-take-le w.at.0 f a.inside)); error = fault }
 
 -- ---- the opening
 
@@ -163,7 +174,7 @@ module _ (f : List ℕ) where
   open_long long = rw (lt-leb (length f) file_limit long)
 
   -- what the file cut there says
-  module _ (small : length f ≤ file_limit) {g : List ℕ} (cut : g ≡ first_two f (walk_of f).boxes) (r : Headed) (answer : headed_answer r ≡ told g (heading g)) where
+  module _ (small : length f ≤ file_limit) {g : List ℕ} (cut : g ≡ first_two f (walk_of f).boxes) (r : Result Head Refusal) (answer : headed_answer r ≡ told g (heading g)) where
     abbrev with_all : Heading → Heading
     with_all k = record { boxes = (walk_of f).boxes; inner = k.inner; urls = k.urls; mixed = k.mixed }
 
@@ -171,19 +182,18 @@ module _ (f : List ℕ) where
     unfolding opening
     opening_of = rw (le-leb (length f) file_limit small, cut)
 
-    pub open_refused : {n : ℕ} → r ≡ Headed.Refused n → opening f ≡ refused n
-    unfolding headed_answer
-    open_refused {n} e = opening_of ∙ go (heading g) (sym answer ∙ ap headed_answer e)
+    pub open_refused : {n : Refusal} → r ≡ Err n → opening f ≡ refused (refusal_no n)
+    open_refused {n} e = opening_of ∙ go (heading g) (told-err facts_by answer e)
       where
-        go : (x : Answer Heading) → told g x ≡ refused n → (x >>= λ k. given (with_all k)) ≡ refused n
+        go : (x : Answer Heading) → told g x ≡ refused (refusal_no n) → (x >>= λ k. given (with_all k)) ≡ refused (refusal_no n)
         go (refused m) e = cc
         go (given k) e = absurd (not_both (sym e))
 
-    pub open_found : {head : Head} → r ≡ Headed.Found head → {end : Place} {fault : ℕ} → Whole f end.0 fault
-        → Opens f (Opening.Found (record { mixed = head.mixed; list = head.list; end = end; fault = fault }))
-    unfolding headed_answer Opens facts_of
+    pub open_found : {head : Head} → r ≡ Ok head → {end : Place} {fault : Option Refusal} → Whole f end.0 fault
+        → Opens f (Ok (record { mixed = head.mixed; list = head.list; end = end; fault = fault }))
+    unfolding Opens facts_of
     open_found {head} e whole =
-        let (k, known, same) = both_given (heading g) _ (sym answer ∙ ap headed_answer e) in
+        let (k, known, same) = both_given (heading g) _ (told-ok facts_by answer e) in
         let facts = given_same same in
         let opens : opening f ≡ given (with_all k) = opening_of ∙ ap (λ x. x >>= λ k. given (with_all k)) known in
         let second = two_boxes f (with_all k) opens k (ap heading (sym cut) ∙ known) in (

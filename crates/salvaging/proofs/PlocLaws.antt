@@ -3,27 +3,26 @@ use Prim.Native.Nat.{ℕ, suc, ◌+◌, ◌-◌, ◌/◌, ◌%◌, ◌^◌, ◌�
 use mathlib.Core.Bool.{true, false, ◌&&◌}
 use mathlib.Core.List.{List, ◌∷◌, ◌++◌, map}
 use mathlib.Core.Logic.{inl, inr, ◌⊎◌}
-use mathlib.Core.Option.{Option, none, some}
+use Rattle.std.specs.Prelude.{Option, None, Some, Result, Ok, Err}
 use mathlib.Core.Path.{◌≡◌, sym, ap, ap₂, subst, ◌∙◌}
 use native.Mathlib.Omega.{arith}
 use borrow.Author.Tests.{le-leb, lt-leb, leb-true, ltb-true}
 use lib.Dec.{leb, ltb, eqb}
 use lib.ListN.{length, get_or}
-use Rattle.boxes.specs.Answer.{Answer, refused, given, ◌>>=◌, hold}
+use Rattle.refusals.specs.declared.Refusal.{Refusal}
+use Rattle.boxes.specs.Answer.{Answer, refused, given, ◌>>=◌, hold, told_as}
 use Rattle.boxes.specs.Framing.{Box}
+use Rattle.boxes.proofs.ToldLaws.{told-ok, told-err}
 use Rattle.boxes.proofs.AnswerLaws.{not_both, given_same, both_given, held}
 use Rattle.numerals.specs.Numbers.{number}
 use Rattle.numerals.specs.declared.numbers.Offset.{Offset}
 use Rattle.numerals.specs.declared.numbers.Offset.TheVariants.{Ahead, Back}
 use Rattle.additions.specs.Append.{Placed, entry_bytes}
-use Rattle.fields.specs.Entry.{entry_of as said, entry_answer}
-use Rattle.fields.specs.Location.{head_of, ploc_of, location_answer}
+use Rattle.fields.specs.Entry.{entry_of as said}
+use Rattle.fields.specs.Location.{head_of, ploc_of}
+use Rattle.fields.specs.State.{state_no}
 use Rattle.fields.specs.declared.entry.Entry.{Entry as CodeEntry}
-use Rattle.fields.specs.declared.entry.EntryRead.{EntryRead}
-use Rattle.fields.specs.declared.entry.EntryRead.TheVariants.{Refused, Given}
 use Rattle.fields.specs.declared.location.Location.{Location}
-use Rattle.fields.specs.declared.location.LocationRead.{LocationRead}
-use Rattle.fields.specs.declared.location.LocationRead.TheVariants.{Given as Found}
 use Rattle.fields.proofs.LocationLaws.{location_given}
 use Rattle.partial.specs.Entries.{Ploc, Entry, Cursor, ploc_head, entry, may_lie, offset_place, place_of, chunk_step, chunks_from}
 use Rattle.partial.specs.Heading.{Heading, bytes_in}
@@ -86,18 +85,18 @@ module _ (f : List ℕ) (h : Heading) (sound : Sound f h) where
       go (inr w) = omega (arith, (box_stands f h sound (w.first + w.more) w.there).ends, w.ends)
 
   module _ (pseg : ℕ) (e : Entry) {place : ℕ} (there : place_of h pseg e ≡ given place) (has : has_place e.state e.size ≡ true) where
-    reached : (offset_place pseg e.offset ≡ some place) × (may_lie h e.state place e.size ≡ true)
+    reached : (offset_place pseg e.offset ≡ Some place) × (may_lie h e.state place e.size ≡ true)
     unfolding place_of
     reached = by_offset (offset_place pseg e.offset) (rw (place_of, has) at there)
       where
         by_offset : (o : Option ℕ)
-            → ◌≡◌ {A = Answer ℕ} (elim o [ none ↦ refused 24 | some place ↦ hold 24 (may_lie h e.state place e.size) >>= λ _. given place ]) (given place)
-            → (o ≡ some place) × (may_lie h e.state place e.size ≡ true)
-        by_offset none e = absurd (not_both e)
-        by_offset (some p) e1 =
+            → ◌≡◌ {A = Answer ℕ} (elim o [ None ↦ refused 24 | Some place ↦ hold 24 (may_lie h e.state place e.size) >>= λ _. given place ]) (given place)
+            → (o ≡ Some place) × (may_lie h e.state place e.size ≡ true)
+        by_offset None e = absurd (not_both e)
+        by_offset (Some p) e1 =
             let (may, e2) = held 24 (may_lie h e.state p e.size) _ e1 in
             let same : p ≡ place = given_same e2 in
-            (ap some same, rw same at may)
+            (ap Some same, rw same at may)
 
     -- it is in the file
     pub place_low : place < length f
@@ -110,7 +109,7 @@ module _ (f : List ℕ) (h : Heading) (sound : Sound f h) where
     unfolding offset_for offset_place
     offset_gives = go e.offset reached.0
       where
-        go : (z : Offset) → offset_place pseg z ≡ some place → offset_for pseg z ≡ place
+        go : (z : Offset) → offset_place pseg z ≡ Some place → offset_for pseg z ≡ place
         go (Ahead n) e =
             let here : pseg + n ≡ place = cc in
             let small = (opened f h sound.opens).small in
@@ -118,10 +117,10 @@ module _ (f : List ℕ) (h : Heading) (sound : Sound f h) where
         go (Back n) e =
             elim (which (leb n pseg)) [
               | inl fits ↦
-                  let here : some (pseg - n) ≡ some place = rw (offset_place, fits) at e in
+                  let here : Some (pseg - n) ≡ Some place = rw (offset_place, fits) at e in
                   cc
               | inr over ↦
-                  let nowhere : none ≡ some place = rw (offset_place, over) at e in
+                  let nowhere : None ≡ Some place = rw (offset_place, over) at e in
                   let z : ◌≡◌ {A = ℕ} 0 1 = cc in
                   absurd (omega arith)
             ]
@@ -137,14 +136,12 @@ module _ (f : List ℕ) (h : Heading) (sound : Sound f h) where
 -- ---- the entries, one after another
 
 -- what an answer about an entry says that reads so
-module _ (f : List ℕ) (l : Ploc) (at : ℕ) {r : EntryRead} (answer : entry_answer r ≡ entry f l at) {x : Entry} (read : entry f l at ≡ given x) where
-  pub entry_same : {e : CodeEntry} → r ≡ Given e → x ≡ said e
-  unfolding entry_answer
-  entry_same {e} is = given_same (sym read ∙ sym answer ∙ ap entry_answer is)
+module _ (f : List ℕ) (l : Ploc) (at : ℕ) {r : Result CodeEntry Refusal} (answer : told_as said r ≡ entry f l at) {x : Entry} (read : entry f l at ≡ given x) where
+  pub entry_same : {e : CodeEntry} → r ≡ Ok e → x ≡ said e
+  entry_same is = given_same (sym read ∙ told-ok said answer is)
 
-  pub entry_sound : {n : ℕ} → r ≡ Refused n → ⊥
-  unfolding entry_answer
-  entry_sound is = not_both (sym (ap entry_answer is) ∙ answer ∙ read)
+  pub entry_sound : {n : Refusal} → r ≡ Err n → ⊥
+  entry_sound is = not_both (sym (told-err said answer is) ∙ read)
 
 module _ (f : List ℕ) (h : Heading) (pseg : ℕ) (l : Location) (new : ℕ → ℕ) where
   abbrev from : ℕ → ℕ → ℕ → Answer (List Chunk)
@@ -208,11 +205,11 @@ module _ (f : List ℕ) (h : Heading) (pseg : ℕ) (l : Location) (new : ℕ →
             let one : l.count - i ≡ suc (l.count - (i + 1)) = omega arith in
             next (l.count - (i + 1)) at_entry_lem m.start m.left (ap (λ (n : ℕ). from n at_entry_lem m.start) (sym one) ∙ m.read)
 
-        module _ {r : EntryRead} (answer : entry_answer r ≡ entry f (ploc_of l) at_entry_lem) where
-          pub midway_sound : {n : ℕ} → r ≡ Refused n → ⊥
+        module _ {r : Result CodeEntry Refusal} (answer : told_as said r ≡ entry f (ploc_of l) at_entry_lem) where
+          pub midway_sound : {n : Refusal} → r ≡ Err n → ⊥
           midway_sound is = entry_sound f (ploc_of l) at_entry_lem answer met.read is
 
-          module _ {e : CodeEntry} (is : r ≡ Given e) where
+          module _ {e : CodeEntry} (is : r ≡ Ok e) where
             same_entry : met.x ≡ said e
             same_entry = entry_same f (ploc_of l) at_entry_lem answer met.read is
 
@@ -230,18 +227,18 @@ module _ (f : List ℕ) (h : Heading) (pseg : ℕ) (l : Location) (new : ℕ →
               held_here : Entries l.length_size l.offset_size (one ∷ anew met.rest)
               held_here = subst (λ (cs : List Chunk). Entries l.length_size l.offset_size (anew cs)) lefts m.held
 
-              pub midway_held : Held l.length_size l.offset_size e.size e.state z
+              pub midway_held : Held l.length_size l.offset_size e.size (state_no e.state) z
               unfolding placed_anew
               midway_held = rw far (entry-held _ _ one (anew met.rest) held_here)
 
-              bytes_here : put m.left ≡ entry_of l.length_size l.offset_size e.size e.state z ++ put met.rest
+              bytes_here : put m.left ≡ entry_of l.length_size l.offset_size e.size (state_no e.state) z ++ put met.rest
               unfolding placed_anew
               bytes_here =
                   ap put lefts
                   ∙ entry_more l.length_size l.offset_size one (anew met.rest)
-                  ∙ ap (λ (k : Offset). entry_of l.length_size l.offset_size e.size e.state k ++ put met.rest) (sym far)
+                  ∙ ap (λ (k : Offset). entry_of l.length_size l.offset_size e.size (state_no e.state) k ++ put met.rest) (sym far)
 
-              pub midway_more : {buffer' : List ℕ} {to' : ℕ} → PutsPieces buffer to (entry_of l.length_size l.offset_size e.size e.state z) buffer' to'
+              pub midway_more : {buffer' : List ℕ} {to' : ℕ} → PutsPieces buffer to (entry_of l.length_size l.offset_size e.size (state_no e.state) z) buffer' to'
                   → Midway cs buffer₀ at buffer' to' e.next.0 (i + 1)
               midway_more puts =
                   record {
@@ -262,10 +259,9 @@ module _ (f : List ℕ) (h : Heading) (pseg : ℕ) (l : Location) (new : ℕ →
 -- ---- the whole `ploc`
 
 -- a head that was read
-module _ (f : List ℕ) (b : Box) {r : LocationRead} (answer : location_answer r ≡ ploc_head f b) {l : Location} (is : r ≡ Found l) where
+module _ (f : List ℕ) (b : Box) {r : Result Location Refusal} (answer : told_as head_of r ≡ ploc_head f b) {l : Location} (is : r ≡ Ok l) where
   head : ploc_head f b ≡ given (head_of l)
-  unfolding location_answer
-  head = sym answer ∙ ap location_answer is
+  head = told-ok head_of answer is
 
   head_known : (b.body + 9 ≤ b.end) × (l.first.0 ≡ b.body + 9) × (l.length_size ≤ 8) × (l.offset_size ≤ 8)
   unfolding ploc_head

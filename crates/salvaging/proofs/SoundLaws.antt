@@ -2,10 +2,12 @@
 use Prim.Native.Nat.{ℕ, ◌<◌, ◌≤◌}
 use mathlib.Core.List.{List}
 use mathlib.Core.Path.{◌≡◌}
-use lib.ListN.{length, get_or}
+use lib.ListN.{length}
 use Rattle.boxes.specs.Kinds.{box_at}
 use Rattle.partial.specs.Heading.{Heading}
 use Rattle.rescue.proofs.HeadingLaws.{opened}
+use Rattle.rescue.specs.Table.{told_at}
+use Rattle.rescue.specs.declared.table.Fate.{Fate}
 use Rattle.rescue.proofs.TableLaws.{Coded, code_at, fates_many, fated_box}
 use Rattle.salvaging.specs.Tables.{fates_in, fate_at, FatesHeld, Sound}
 
@@ -20,5 +22,5 @@ module _ (f : List ℕ) (h : Heading) (sound : Sound f h) where
   box-held = fated_box f h two_boxes
 
   -- a table tells the fate of a box
-  pub code_held : {t : List ℕ} → FatesHeld f h t → (k : ℕ) → k < length h.boxes → Coded (fate_at f h k).fate (get_or t k 0)
-  code_held held k less = rw (held.each k less) (code_at f h k (rw fates_long less))
+  pub code_held : {t : List Fate} → FatesHeld f h t → (k : ℕ) → k < length h.boxes → Coded (fate_at f h k).fate (told_at t k)
+  code_held held k less = rw (held.each k less) (code_at f h k)

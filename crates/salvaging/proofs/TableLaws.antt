@@ -2,7 +2,7 @@
 use Prim.Native.Nat.{ℕ, zero, suc, ◌+◌, ◌-◌, ◌^◌, min, ◌≤◌, ◌<◌}
 use mathlib.Core.Bool.{true, false, false≢true}
 use mathlib.Core.List.{List, [], ◌∷◌}
-use mathlib.Core.Option.{none, some}
+use Rattle.std.specs.Prelude.{Option, None, Some}
 use mathlib.Core.Path.{◌≡◌, refl, sym, ap, subst, subst⁻¹, ◌∙◌}
 use native.Mathlib.Decide.{dec_le}
 use native.Mathlib.Nat.{add_assoc, add-zero, zero-add, le_refl}
@@ -33,13 +33,14 @@ use Rattle.segment.specs.Tops.{Before}
 use Rattle.segment.proofs.TopsLaws.{few}
 use Rattle.rescue.specs.Copy.{unindexed, size_of, copy_size, new_place}
 use Rattle.rescue.specs.Kept.{Fate, dropped, whole, of_pfil, of_pseg, Fated, kept_with, fate_of, fates_from, fates}
-use Rattle.rescue.specs.Table.{codes}
+use Rattle.rescue.specs.Table.{code_for}
 use Rattle.rescue.proofs.CopyLaws.{staying}
 use Rattle.rescue.proofs.FateLaws.{fate_pseg, fate_whole, fate_no_pfil, beside_given}
 use Rattle.rescue.proofs.HeadingLaws.{opened, said, other_kind, filled_size}
 use Rattle.rescue.proofs.PlaceLaws.{sizes}
 use Rattle.rescue.proofs.TableLaws.{no_fated, Coded, code_at}
 use Rattle.salvaging.specs.Tables.{fates_in, fate_at, start_of, PlacesHeld, Sound, Moving, new_in}
+use Rattle.salvaging.specs.declared.places.Moves.{Moves}
 use Rattle.salvaging.proofs.SoundLaws.{two_boxes, box-held, fates_long}
 
 -- ---- how many bytes the boxes of a container have without its index
@@ -63,7 +64,7 @@ pub record Summed (s : List ℕ) (w₀ w : Walk) (size : ℕ) : Type 0 where
 pub summed_none : (s : List ℕ) (w : Walk) → Summed s w w 0
 summed_none s w = record { low = omega arith; same_end = refl; asked = λ short. record { same = λ all known. (all, known, sym (zero-add _)) } }
 
-module _ {s : List ℕ} {w₀ w : Walk} {size : ℕ} (m : Summed s w₀ w size) {b : Box} {w' : Walk} (step : stepped s w ≡ given (some (b, w'))) where
+module _ {s : List ℕ} {w₀ w : Walk} {size : ℕ} (m : Summed s w₀ w size) {b : Box} {w' : Walk} (step : stepped s w ≡ given (Some (b, w'))) where
   pub summed_index : is fidx b ≡ true → Summed s w₀ w' size
   summed_index kind =
       let on = met s w step in
@@ -91,7 +92,7 @@ module _ {s : List ℕ} {c : Container} {start end : Place} {w₀ w : Walk} {siz
   begun : Asked s (λ bs. size_of (unindexed bs)) w₀ (λ bs. size + size_of (unindexed bs)) w
   begun = m.asked (omega (arith, ap (λ w. w.end.0) new))
 
-  pub summed_end : stepped s w ≡ given none → size ≡ size_of (unindexed bs)
+  pub summed_end : stepped s w ≡ given None → size ≡ size_of (unindexed bs)
   unfolding unindexed size_of
   summed_end step = sym (asked_end new begun known step ∙ add-zero size)
 
@@ -174,15 +175,15 @@ module _ (f : List ℕ) (h : Heading) (sound : Sound f h) where
         (λ _ known. omega (arith, inner_short Pfil h.inner known)) (λ _ _ s before read. omega (arith, inner_short Pseg s.inner (segment_inner f h before _ read))))
 
     -- as it is told of the box that was read
-    module _ {code : ℕ} (coded : code ≡ get_or (codes f h) k 0) {b : Box} (same : b ≡ box_at k h.boxes) where
+    module _ {code : Option ℕ} (coded : code ≡ code_for f h k) {b : Box} (same : b ≡ box_at k h.boxes) where
       pub told : Coded (fate_at f h k).fate code
-      told = rw coded (code_at f h k (rw (fates_long f h sound) there))
+      told = rw coded (code_at f h k)
 
-      pub size_none : (code ≡ 255 → ⊥) → 0 ≡ copy_size (fate_at f h k)
+      pub size_none : {n : ℕ} → code ≡ Some n → 0 ≡ copy_size (fate_at f h k)
       unfolding copy_size
       size_none goes = rw (← size-by, told.goes goes)
 
-      module _ (stays : code ≡ 255) where
+      module _ (stays : code ≡ None) where
         by_staying : {n : ℕ}
             → let b = box_at k h.boxes in
             ((k ≡ 1 → ⊥) → is pseg b ≡ false → n ≡ size_as whole)
@@ -324,13 +325,13 @@ new_start f h sound k there =
     (rw box (omega arith)) in
     omega (arith, new, ap (λ (b : Box). b.at) (box k))
 
-module _ (f : List ℕ) (h : Heading) {tops places : List ℕ} (moving : Moving f h tops places) {place : ℕ} (inside : place < length f) where
+module _ (f : List ℕ) (h : Heading) {moves : Moves} (moving : Moving f h moves) {place : ℕ} (inside : place < length f) where
   -- the box that it is in is the last one that does not start behind it
-  module _ {k asked : ℕ} (behind : asked ≡ min (place + 1) (2 ^ 64 - 1)) (found : Before tops asked k) where
-    last : Before tops (place + 1) k
+  module _ {k asked : ℕ} (behind : asked ≡ min (place + 1) (2 ^ 64 - 1)) (found : Before moves.tops asked k) where
+    last : Before moves.tops (place + 1) k
     last =
         let small = (opened f h moving.sound.opens).small in
-        subst (λ (n : ℕ). Before tops n k) (omega arith) found
+        subst (λ (n : ℕ). Before moves.tops n k) (omega arith) found
 
     there : k < length h.boxes
     there =
@@ -363,7 +364,7 @@ module _ (f : List ℕ) (h : Heading) {tops places : List ℕ} (moving : Moving 
               omega (arith, last.next (omega arith), moving.listed.listed (k + 1) more)
         ]
 
-    pub new_found : {at n r : ℕ} → at ≡ get_or tops k 0 → n ≡ place - at → r ≡ min (get_or places k 0 + n) (2 ^ 64 - 1) → r ≡ new_in f h place
+    pub new_found : {at n r : ℕ} → at ≡ get_or moves.tops k 0 → n ≡ place - at → r ≡ min (get_or moves.places k 0 + n) (2 ^ 64 - 1) → r ≡ new_in f h place
     new_found top far sums =
         let box = box-held f h moving.sound in
         let small = (opened f h moving.sound.opens).small in

@@ -1,8 +1,9 @@
--- Document 02, [9]: the first framing error of a file, as numbers.
-use Rattle.std.specs.Prelude.{ℕ, true, false, eqb}
-use Rattle.std.proofs.Math.Option.{Option, none, some}
+-- Document 02, [9]: the first framing error of a file.
+use Rattle.std.specs.Prelude.{ℕ, Option, option_map}
 use Rattle.boxes.specs.Framing.{Fault}
+use Rattle.refusals.specs.Refusals.{refusal_no}
+use Rattle.refusals.specs.declared.Refusal.{Refusal}
 
--- an error at a place, of a number, 0 for none
-unfoldable pub fault_at : ℕ → ℕ → Option Fault
-fault_at at number = elim (eqb number 0) [ true ↦ none | false ↦ some (record { at = at; number = number }) ]
+-- an error at a place, if there is one
+abbrev pub fault_at : ℕ → Option Refusal → Option Fault
+fault_at at fault = option_map (λ e. record { at = at; number = refusal_no e }) fault

@@ -16,17 +16,21 @@ ghost use Rattle.rescue.proofs.PlocLaws.{Lies};
 ghost use Rattle.salvaging.specs.Tables.{Moving, new_in};
 ghost use Rattle.salvaging.specs.Ploc.{offset_for, chunk_by, PlocRead};
 
-use crate::places::{ALL_PLACES, new_place};
+use crate::places::Moves;
 use boxes::framing::Framed;
-use fields::entry::{Entry, EntryRead, entry_at};
-use fields::location::{Location, LocationRead, location_of};
-use fields::state::present;
+use fields::entry::{Entry, entry_at};
+use fields::location::{Location, location_of};
 use numerals::numbers::Offset;
-use numerals::order::{between, sum_of};
 use numerals::place::Place;
 use puts::pieces::put_bytes;
 use puts::ploc::{Widths, put_entry};
-use segment::tops::TOPS;
+
+// Where a `pseg` is in the file, and where in the copy.
+#[derive(Clone, Copy)]
+pub(crate) struct Moved {
+    pub(crate) from: Place,
+    pub(crate) to: Place,
+}
 
 // The offset from one place to another.
 fn offset_to(from: Place, to: Place) -> Offset
@@ -44,31 +48,23 @@ fn place_by(pseg: Place, offset: Offset) -> Place
     ensures { result.0 ≡ offset_for pseg.0 offset }
 {
     match offset {
-        Offset::Ahead(n) => Place(sum_of(pseg.0, n)),
-        Offset::Back(n) => Place(between(n, pseg.0)),
+        Offset::Ahead(n) => Place(pseg.0.saturating_add(n)),
+        Offset::Back(n) => Place(pseg.0.saturating_sub(n)),
     }
 }
 
-// The offset of an entry's chunk in the copy, whose `pseg` is there: 0 where it has no data.
-fn offset_anew(
-    e: Entry,
-    pseg: Place,
-    anew: Place,
-    tops: &[u32; TOPS],
-    places: &[u64; ALL_PLACES],
-) -> Offset
-    ensures { (f : List ℕ) (h : Heading) (start place : ℕ) → Moving f h tops.now places.now → anew.0 ≡ new_in f h pseg.0
-        → place_of h pseg.0 (entry_of e) ≡ given place → result ≡ (placed_anew (new_in f h) pseg.0 (chunk_by start (entry_of e) place)).offset }
+// The offset of an entry's chunk in the copy: 0 where it has no data.
+fn offset_anew(e: Entry, pseg: Moved, moves: &Moves) -> Offset
+    ensures { (f : List ℕ) (h : Heading) (start place : ℕ) → Moving f h moves.now → pseg.to.0 ≡ new_in f h pseg.from.0
+        → place_of h pseg.from.0 (entry_of e) ≡ given place → result ≡ (placed_anew (new_in f h) pseg.from.0 (chunk_by start (entry_of e) place)).offset }
 {
-    let size = e.size;
-    let offset = e.offset;
-    if !present(e.state) {
+    if !e.state.is_present() {
         return Offset::Ahead(0);
     }
-    if size == 0 {
+    if e.size == 0 {
         return Offset::Ahead(0);
     }
-    offset_to(anew, new_place(tops, places, place_by(pseg, offset)))
+    offset_to(pseg.to, moves.new_place(place_by(pseg.from, e.offset)))
 }
 
 // Puts the entries of a `ploc`, each with its new offset.
@@ -77,16 +73,14 @@ fn put_entries(
     at: Place,
     file: &[u8],
     l: Location,
-    pseg: Place,
-    anew: Place,
-    tops: &[u32; TOPS],
-    places: &[u64; ALL_PLACES],
+    pseg: Moved,
+    moves: &Moves,
 ) -> Place
-    ensures { (h : Heading) (s : Segment) → Moving file.now h tops.now places.now
-        → PlocRead file.now h l pseg.0 s → anew.0 ≡ new_in file.now h pseg.0
-        → Entries l.length_size l.offset_size (map (placed_anew (new_in file.now h) pseg.0) s.chunks)
+    ensures { (h : Heading) (s : Segment) → Moving file.now h moves.now
+        → PlocRead file.now h l pseg.from.0 s → pseg.to.0 ≡ new_in file.now h pseg.from.0
+        → Entries l.length_size l.offset_size (map (placed_anew (new_in file.now h) pseg.from.0) s.chunks)
         → PutsPieces buffer.old at.0
-        (entry_bytes l.length_size l.offset_size (map (placed_anew (new_in file.now h) pseg.0) s.chunks)) buffer.new result.0 }
+        (entry_bytes l.length_size l.offset_size (map (placed_anew (new_in file.now h) pseg.from.0) s.chunks)) buffer.new result.0 }
 {
     let widths = Widths {
         size: l.length_size,
@@ -94,15 +88,13 @@ fn put_entries(
     };
     let mut next = at;
     let mut entry = l.first;
-    let mut i = 0;
-    while i < l.count {
-        let EntryRead::Given(e) = entry_at(file, l, entry) else {
+    for i in 0..l.count {
+        let Ok(e) = entry_at(file, l, entry) else {
             return next;
         };
-        let offset = offset_anew(e, pseg, anew, tops, places);
+        let offset = offset_anew(e, pseg, moves);
         next = put_entry(buffer, next, widths, e.size, e.state, offset);
         entry = e.next;
-        i += 1;
     }
     next
 }
@@ -113,21 +105,19 @@ pub(crate) fn put_ploc(
     at: Place,
     file: &[u8],
     b: Framed,
-    pseg: Place,
-    anew: Place,
-    tops: &[u32; TOPS],
-    places: &[u64; ALL_PLACES],
+    pseg: Moved,
+    moves: &Moves,
 ) -> Place
     requires { (b.at.0 ≤ b.body.0) × (b.end.0 ≤ length file.now) }
-    ensures { (h copy : Heading) (s : Segment) (l : Location) → Moving file.now h tops.now places.now
-        → ploc_head file.now (box_of b) ≡ given (ploc_of l) → PlocRead file.now h l pseg.0 s
-        → Each (Lies (new_in file.now h) s.place copy) s.chunks → anew.0 ≡ new_in file.now h pseg.0
+    ensures { (h copy : Heading) (s : Segment) (l : Location) → Moving file.now h moves.now
+        → ploc_head file.now (box_of b) ≡ given (ploc_of l) → PlocRead file.now h l pseg.from.0 s
+        → Each (Lies (new_in file.now h) s.place copy) s.chunks → pseg.to.0 ≡ new_in file.now h pseg.from.0
         → PutsPieces buffer.old at.0 (ploc_bytes file.now (new_in file.now h) s (box_of b)) buffer.new result.0 }
 {
-    let LocationRead::Given(l) = location_of(file, b) else {
+    let Ok(l) = location_of(file, b) else {
         return at;
     };
     let first = l.first;
     let entries = put_bytes(buffer, at, &file[b.at.0 as usize..first.0 as usize]);
-    put_entries(buffer, entries, file, l, pseg, anew, tops, places)
+    put_entries(buffer, entries, file, l, pseg, moves)
 }

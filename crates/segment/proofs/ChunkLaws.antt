@@ -3,21 +3,23 @@ use Prim.Native.Nat.{ℕ, ◌+◌}
 use mathlib.Core.Bool.{Bool, true, false}
 use mathlib.Core.List.{List}
 use mathlib.Core.Path.{◌≡◌, refl, sym, ap, ap₂, subst, ◌∙◌}
-use native.Mathlib.Omega.{arith}
 use lib.Dec.{leb}
-use Rattle.boxes.specs.Answer.{Answer, refused, given}
-use Rattle.boxes.specs.Framing.{Box, box_of}
-use Rattle.boxes.proofs.AnswerLaws.{given_same}
+use Rattle.boxes.specs.Answer.{refused, given}
+use Rattle.boxes.specs.Framing.{Box}
+use Rattle.boxes.proofs.AnswerLaws.{not_both, given_same, refused_same}
 use Rattle.partial.specs.Entries.{Ploc, Entry, entry, place_of, Cursor, chunk_step}
 use Rattle.partial.specs.Heading.{Heading}
 use Rattle.partial.specs.Limits.{source_limit}
 use Rattle.partial.specs.Segments.{Chunk, has_place}
+use Rattle.std.specs.Prelude.{Result, Ok, Err}
+use Rattle.refusals.specs.declared.Refusal.{Refusal}
+use Rattle.refusals.proofs.NumberLaws.{refusal_told}
+use Rattle.fields.specs.State.{state_no}
+use Rattle.fields.proofs.StateLaws.{state_told}
 use Rattle.segment.specs.Chunk.{chunk_of, cursor_of, chunk_answer, Steps}
-use Rattle.segment.specs.Data.{Searched, Onward}
-use Rattle.segment.specs.Tops.{Tops}
+use Rattle.segment.specs.Data.{Onward}
+use Rattle.segment.specs.Placed.{Ready}
 use Rattle.segment.specs.declared.chunk.Chunk.{Chunk as CodeChunk}
-use Rattle.segment.specs.declared.chunk.ChunkStep.{ChunkStep}
-use Rattle.segment.specs.declared.chunk.ChunkStep.TheVariants.{Refused, Given}
 use Rattle.segment.specs.declared.chunk.Cursor.{Cursor as CodeCursor}
 use Rattle.segment.proofs.DataLaws.{one_onward}
 
@@ -44,62 +46,44 @@ module _ (limit : ℕ) (f : List ℕ) (h : Heading) (pseg : ℕ) (l : Ploc) (c :
 
 -- what a chunk says determines it
 pub chunk_told : (c d : CodeChunk) → chunk_of c ≡ chunk_of d → c ≡ d
-chunk_told c d e = λ i. record { start = record { 0 = (e i).start }; size = (e i).size; state = (e i).state; place = record { 0 = (e i).place } }
+chunk_told c d e = λ i. record { start = record { 0 = (e i).start }; size = (e i).size; state = state_told c.state d.state (λ j. (e j).state) i; place = record { 0 = (e i).place } }
 
 -- the box to be looked at first after a chunk
 abbrev After : List ℕ → CodeCursor → List Box → CodeChunk → CodeCursor → Type 0
-After f c bs chunk next = Onward f (box_of c.last) bs (has_place chunk.state chunk.size) chunk.place.0 chunk.size (box_of next.last)
+After f c bs chunk next = Onward f c.last bs (has_place (state_no chunk.state) chunk.size) chunk.place.0 chunk.size next.last
 
 -- what a step tells
 module _ {f tops : List ℕ} {mixed : Bool} {pseg : ℕ} {l : Ploc} {c : CodeCursor} where
-  pub steps_refused : {n : ℕ} → ((h : Heading) → mixed ≡ h.mixed → Searched f (box_of c.last) h.boxes → Tops h.boxes tops → chunk_step source_limit f h pseg l (cursor_of c) ≡ refused n) → Steps f tops mixed pseg l c (Refused n)
-  unfolding chunk_answer
-  steps_refused fault =
+  pub steps_refused : {r : Result (CodeChunk × CodeCursor) Refusal} {n : ℕ} → chunk_answer r ≡ refused n
+      → ((h : Heading) → Ready f tops mixed c.last h → chunk_step source_limit f h pseg l (cursor_of c) ≡ refused n)
+      → Steps f tops mixed pseg l c r
+  steps_refused told fault =
       record {
-        answer = λ h mix p t. sym (fault h mix p t);
-        onward = λ h mix p t e.
-            let z : ◌≡◌ {A = ℕ} 0 1 = cc in
-            absurd (omega arith);
+        answer = λ h ready. told ∙ sym (fault h ready);
+        onward = λ h ready e. absurd (not_both (sym told ∙ ap chunk_answer e));
       }
 
   pub steps_given : {chunk : CodeChunk} {next : CodeCursor}
-      → ((h : Heading) → mixed ≡ h.mixed → Searched f (box_of c.last) h.boxes → Tops h.boxes tops → chunk_step source_limit f h pseg l (cursor_of c) ≡ given (chunk_of chunk, cursor_of next))
-      → ((h : Heading) → mixed ≡ h.mixed → Searched f (box_of c.last) h.boxes → Tops h.boxes tops → After f c h.boxes chunk next)
-      → Steps f tops mixed pseg l c (Given chunk next)
-  unfolding chunk_answer
+      → ((h : Heading) → Ready f tops mixed c.last h → chunk_step source_limit f h pseg l (cursor_of c) ≡ given (chunk_of chunk, cursor_of next))
+      → ((h : Heading) → Ready f tops mixed c.last h → After f c h.boxes chunk next)
+      → Steps f tops mixed pseg l c (Ok (chunk, next))
   steps_given {chunk} {next} steps onward =
       record {
-        answer = λ h mix p t. sym (steps h mix p t);
-        onward = λ h mix p t {chunk = chunk'} {next = next'} e.
-            let there : chunk ≡ chunk' = cc in
-            let same : next ≡ next' = cc in
-            subst (λ (k : CodeChunk). After f c h.boxes k next') there (subst (After f c h.boxes chunk) same (onward h mix p t));
+        answer = λ h ready. sym (steps h ready);
+        onward = λ h ready {chunk = chunk'} {next = next'} e.
+            let both : ◌≡◌ {A = CodeChunk × CodeCursor} (chunk, next) (chunk', next') = cc in
+            let there : chunk ≡ chunk' = ap (λ p. p.0) both in
+            let same : next ≡ next' = ap (λ p. p.1) both in
+            subst (λ (k : CodeChunk). After f c h.boxes k next') there (subst (After f c h.boxes chunk) same (onward h ready));
       }
 
   -- two answers about a step are the same
-  pub one_step : (h : Heading) → mixed ≡ h.mixed → Searched f (box_of c.last) h.boxes → Tops h.boxes tops → (x y : ChunkStep) → Steps f tops mixed pseg l c x → Steps f tops mixed pseg l c y → x ≡ y
-  unfolding chunk_answer
-  one_step h mix p t (Refused n) (Refused m) u v =
-      let same = u.answer h mix p t ∙ sym (v.answer h mix p t) in
-      cc
-  one_step h mix p t (Refused n) (Given k b) u v =
-      let same = u.answer h mix p t ∙ sym (v.answer h mix p t) in
-      cc
-  one_step h mix p t (Given j a) (Refused m) u v =
-      let same = u.answer h mix p t ∙ sym (v.answer h mix p t) in
-      cc
-  one_step h mix p t (Given j a) (Given k b) u v =
-      let same : ◌≡◌ {A = Chunk × Cursor} (chunk_of j, cursor_of a) (chunk_of k, cursor_of b) = given_same (u.answer h mix p t ∙ sym (v.answer h mix p t)) in
+  pub one_step : (h : Heading) → Ready f tops mixed c.last h → (x y : Result (CodeChunk × CodeCursor) Refusal) → Steps f tops mixed pseg l c x → Steps f tops mixed pseg l c y → x ≡ y
+  one_step h ready (Err n) (Err m) u v = ap Err (refusal_told n m (refused_same (u.answer h ready ∙ sym (v.answer h ready))))
+  one_step h ready (Err n) (Ok (k, b)) u v = absurd (not_both (u.answer h ready ∙ sym (v.answer h ready)))
+  one_step h ready (Ok (j, a)) (Err m) u v = absurd (not_both (v.answer h ready ∙ sym (u.answer h ready)))
+  one_step h ready (Ok (j, a)) (Ok (k, b)) u v =
+      let same : ◌≡◌ {A = Chunk × Cursor} (chunk_of j, cursor_of a) (chunk_of k, cursor_of b) = given_same (u.answer h ready ∙ sym (v.answer h ready)) in
       let chunk : j ≡ k = chunk_told j k (ap (λ (x : Chunk × Cursor). x.0) same) in
-      let last : a.last ≡ b.last = one_onward a.last b.last (u.onward h mix p t refl) (subst (λ (k : CodeChunk). After f c h.boxes k b) (sym chunk) (v.onward h mix p t refl)) in
-      ap₂ Given chunk (λ i. record { at = record { 0 = (same i).1.at }; start = record { 0 = (same i).1.start }; last = last i })
-
--- what each answer about a step says
-module _ {r : ChunkStep} {x : Answer (Chunk × Cursor)} (answer : chunk_answer r ≡ x) where
-  pub chunk_given : {chunk : CodeChunk} {next : CodeCursor} → r ≡ Given chunk next → x ≡ given (chunk_of chunk, cursor_of next)
-  unfolding chunk_answer
-  chunk_given e = sym answer ∙ ap chunk_answer e
-
-  pub chunk_refused : {n : ℕ} → r ≡ Refused n → x ≡ refused n
-  unfolding chunk_answer
-  chunk_refused e = sym answer ∙ ap chunk_answer e
+      let last : a.last ≡ b.last = one_onward a.last b.last (u.onward h ready refl) (subst (λ (k : CodeChunk). After f c h.boxes k b) (sym chunk) (v.onward h ready refl)) in
+      ap₂ (λ j a. Ok (j, a)) chunk (λ i. record { at = record { 0 = (same i).1.at }; start = record { 0 = (same i).1.start }; last = last i })

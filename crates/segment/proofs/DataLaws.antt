@@ -1,15 +1,16 @@
 -- Laws of the data box that holds a chunk: what the tests of a box decide, and what a search has found.
 use Prim.Native.Nat.{ℕ, ◌+◌, ◌≤◌, ◌<◌}
-use mathlib.Core.Bool.{Bool, true, false, ◌&&◌, false≢true}
+use mathlib.Core.Bool.{Bool, true, false, not, ◌&&◌, false≢true}
 use mathlib.Core.List.{List}
 use mathlib.Core.Logic.{inl, inr}
 use mathlib.Core.Path.{◌≡◌, refl, sym, ap, subst, ◌∙◌}
 use native.Mathlib.Decide.{dec_le}
 use native.Mathlib.Nat.{eq-or-lt_of_le}
 use native.Mathlib.Omega.{arith}
-use borrow.Author.Tests.{leb-true, le-leb, lt-leb, eq-eqb, ne_eqb}
-use lib.Dec.{leb}
+use borrow.Author.Tests.{leb-true, le-leb, lt-leb}
+use lib.Dec.{leb, eqb}
 use lib.ListN.{length}
+use Rattle.std.specs.Prelude.{Option, None, Some}
 use Rattle.boxes.specs.Answer.{given}
 use Rattle.boxes.specs.Framing.{Box, boxes_in, box_of}
 use Rattle.boxes.specs.Kinds.{pdat, is, box_at, no_box}
@@ -23,23 +24,32 @@ use Rattle.partial.specs.Sequences.{some_of}
 use Rattle.partial.proofs.Meaning.SequenceLaws.{which, both, some_at, some_by}
 use Rattle.segment.specs.Data.{holds_chunk, Among, Searched, found, Finds, Onward}
 use Rattle.segment.specs.Tops.{Tops}
-use Rattle.segment.specs.declared.data.Held.{Held}
-use Rattle.segment.specs.declared.data.Held.TheVariants.{In, Nowhere}
 
 -- what the tests of a box decide
 module _ (place size : ℕ) (b : Box) where
-  pub holds_other : (b.kind ≡ pdat.code → ⊥) → holds_chunk place size b ≡ false
+  pub holds_other : true ≡ not (eqb b.kind pdat.code) → holds_chunk place size b ≡ false
   unfolding holds_chunk
-  holds_other h = simp (holds_chunk, is-eqb, ne_eqb b.kind pdat.code h)
+  holds_other h = go (is pdat b) (is-eqb pdat b)
+    where
+      go : (t : Bool) → t ≡ eqb b.kind pdat.code → (t && leb b.body place && leb (place + size) b.end) ≡ false
+      go true e = absurd (false≢true (sym (rw (← e) at h)))
+      go false e = refl
 
-  module _ (kind : b.kind ≡ pdat.code) where
+  module _ (of_data : false ≡ not (eqb b.kind pdat.code)) where
+    kind : eqb b.kind pdat.code ≡ true
+    kind = go (eqb b.kind pdat.code) of_data
+      where
+        go : (t : Bool) → false ≡ not t → t ≡ true
+        go true e = refl
+        go false e = absurd (false≢true e)
+
     pub holds_before : place < b.body → holds_chunk place size b ≡ false
     unfolding holds_chunk
-    holds_before h = simp (holds_chunk, is-eqb, eq-eqb b.kind pdat.code kind, lt-leb b.body place h)
+    holds_before h = simp (holds_chunk, is-eqb, kind, lt-leb b.body place h)
 
     pub holds_end : b.body ≤ place → holds_chunk place size b ≡ leb (place + size) b.end
     unfolding holds_chunk
-    holds_end h = simp (holds_chunk, is-eqb, eq-eqb b.kind pdat.code kind, le-leb b.body place h)
+    holds_end h = simp (holds_chunk, is-eqb, kind, le-leb b.body place h)
 
   -- what holds a chunk is a `pdat`, whose body starts no later and ends no earlier
   module _ (holds : holds_chunk place size b ≡ true) where
@@ -97,8 +107,8 @@ module _ (f : List ℕ) {bs : List Box} (known : boxes_in File f 0 (length f) �
       ]
 
 -- what a search has found
-module _ {f tops : List ℕ} {last : Box} {place size : ℕ} where
-  pub finds_box : (b : Framed) → holds_chunk place size (box_of b) ≡ true → ((bs : List Box) → Searched f last bs → Tops bs tops → Among bs (box_of b)) → Finds f tops last place size (In b)
+module _ {f tops : List ℕ} {last : Option Framed} {place size : ℕ} where
+  pub finds_box : (b : Framed) → holds_chunk place size (box_of b) ≡ true → ((bs : List Box) → Searched f last bs → Tops bs tops → Among bs (box_of b)) → Finds f tops last place size (Some b)
   unfolding found
   finds_box b holds among =
       record {
@@ -108,42 +118,48 @@ module _ {f tops : List ℕ} {last : Box} {place size : ℕ} where
         holds = λ {b = b'} e.
             let same : b ≡ b' = cc in
             subst (λ (b : Framed). holds_chunk place size (box_of b) ≡ true) same holds;
-        onward = λ bs p t {b = b'} e.
-            let same : b ≡ b' = cc in
-            subst (λ b. Searched f (box_of b) bs) same (record { boxes = p.boxes; known = λ _. among bs p t });
+        onward = λ bs p t.
+            record {
+              boxes = p.boxes;
+              known = λ {b = b'} e.
+                  let same : b ≡ b' = cc in
+                  subst (λ b. Among bs (box_of b)) same (among bs p t);
+            };
       }
 
-  pub finds_none : ((bs : List Box) → Searched f last bs → Tops bs tops → some_of (holds_chunk place size) bs ≡ false) → Finds f tops last place size Nowhere
+  pub finds_none : ((bs : List Box) → Searched f last bs → Tops bs tops → some_of (holds_chunk place size) bs ≡ false) → Finds f tops last place size None
   unfolding found
   finds_none none =
       record {
         answer = λ bs p t. sym (data_some bs place size ∙ none bs p t);
         holds = λ e. cc;
-        onward = λ bs p t e.
-            let z : ◌≡◌ {A = ℕ} 0 1 = cc in
-            absurd (omega arith);
+        onward = λ bs p t.
+            record {
+              boxes = p.boxes;
+              known = λ e.
+                  let z : ◌≡◌ {A = ℕ} 0 1 = cc in
+                  absurd (omega arith);
+            };
       }
 
   -- two searches find the same box
-  pub one_found : (bs : List Box) → Searched f last bs → Tops bs tops → (x y : Held) → Finds f tops last place size x → Finds f tops last place size y → x ≡ y
+  pub one_found : (bs : List Box) → Searched f last bs → Tops bs tops → (x y : Option Framed) → Finds f tops last place size x → Finds f tops last place size y → x ≡ y
   unfolding found
-  one_found bs known t (In a) (In b) p q =
-      let first = p.holds refl in
-      let second = q.holds refl in
-      let among = (p.onward bs known t refl).known (holds_kind place size (box_of a) first) in
-      let among' = (q.onward bs known t refl).known (holds_kind place size (box_of b) second) in
-      ap In (box-told a b (one_holds f known.boxes place size among among' first second))
-  one_found bs known t (In a) Nowhere p q = absurd (false≢true (sym (p.answer bs known t ∙ sym (q.answer bs known t))))
-  one_found bs known t Nowhere (In b) p q = absurd (false≢true (p.answer bs known t ∙ sym (q.answer bs known t)))
-  one_found bs known t Nowhere Nowhere p q = refl
+  one_found bs known t (Some a) (Some b) p q =
+      let among = (p.onward bs known t).known refl in
+      let among' = (q.onward bs known t).known refl in
+      ap Some (box-told a b (one_holds f known.boxes place size among among' (p.holds refl) (q.holds refl)))
+  one_found bs known t (Some a) None p q = absurd (false≢true (sym (p.answer bs known t ∙ sym (q.answer bs known t))))
+  one_found bs known t None (Some b) p q = absurd (false≢true (p.answer bs known t ∙ sym (q.answer bs known t)))
+  one_found bs known t None None p q = refl
 
 -- after the same chunk the same box is to be looked at first
-pub one_onward : {f : List ℕ} {last : Box} {bs : List Box} {placed : Bool} {place size : ℕ} (a b : Framed) → Onward f last bs placed place size (box_of a) → Onward f last bs placed place size (box_of b) → a ≡ b
+pub one_onward : {f : List ℕ} {last : Option Framed} {bs : List Box} {placed : Bool} {place size : ℕ} (a b : Option Framed) → Onward f last bs placed place size a → Onward f last bs placed place size b → a ≡ b
 one_onward {f} {bs = bs} {placed} {place} {size} a b x y =
     elim (which (placed && in_data bs place size)) [
       | inl e ↦
-          let among = x.known.known (holds_kind place size (box_of a) (x.holds e)) in
-          let among' = y.known.known (holds_kind place size (box_of b) (y.holds e)) in
-          box-told a b (one_holds f x.known.boxes place size among among' (x.holds e) (y.holds e))
-      | inr e ↦ box-told a b (x.kept e ∙ sym (y.kept e))
+          let (c, of, holds) = x.holds e in
+          let (d, of', holds') = y.holds e in
+          of ∙ ap Some (box-told c d (one_holds f x.known.boxes place size (x.known.known of) (y.known.known of') holds holds')) ∙ sym of'
+      | inr e ↦ x.kept e ∙ sym (y.kept e)
     ]

@@ -2,14 +2,17 @@
 use Prim.Native.Nat.{ℕ, ◌+◌, ◌-◌, ◌^◌, ◌≤◌, ◌<◌}
 use mathlib.Core.Bool.{Bool, true, false, ◌&&◌, ◌||◌, and-false, false≢true}
 use mathlib.Core.List.{List}
-use mathlib.Core.Option.{Option, none, some}
+use Rattle.std.specs.Prelude.{Option, None, Some, Result, Ok, Err}
+use Rattle.refusals.specs.declared.Refusal.TheVariants.{OutsideData}
+use Rattle.refusals.specs.declared.Refusal.{Refusal}
+use Rattle.boxes.proofs.AnswerLaws.{not_both}
 use mathlib.Core.Path.{◌≡◌, refl, sym, ap, subst, ◌∙◌}
 use native.Mathlib.Omega.{arith}
-use borrow.Author.Tests.{ltb-true, lt-ltb, le-leb, lt-leb, eq-eqb, ne_eqb}
+use borrow.Author.Tests.{ltb-true, lt-ltb, le-leb, lt-leb}
 use lib.Dec.{ltb, eqb}
 use lib.ListN.{length}
 use Rattle.boxes.specs.Answer.{refused, given}
-use Rattle.boxes.specs.Framing.{Box, boxes_in, box_of}
+use Rattle.boxes.specs.Framing.{Box, boxes_in}
 use Rattle.boxes.specs.declared.framing.Framed.{Framed}
 use Rattle.boxes.specs.declared.kinds.Container.TheVariants.{File}
 use Rattle.numerals.specs.declared.numbers.Offset.{Offset}
@@ -21,36 +24,33 @@ use Rattle.partial.specs.Mixed.{whole_boxes}
 use Rattle.partial.specs.Segments.{good, present, has_place}
 use Rattle.partial.proofs.Meaning.SequenceLaws.{both}
 use Rattle.segment.specs.Data.{Searched, found, Finds, Onward}
-use Rattle.segment.specs.Placed.{Reaches, lies_whole, ToldWhole, place_answer, Places}
+use Rattle.segment.specs.Placed.{Ready, Reaches, lies_whole, ToldWhole, place_answer, Places}
 use Rattle.segment.specs.Tops.{Tops}
-use Rattle.segment.specs.declared.data.Held.{Held}
-use Rattle.segment.specs.declared.placed.Placed.TheVariants.{Refused, At}
-use Rattle.segment.specs.declared.placed.Reached.{Reached}
 use Rattle.segment.proofs.DataLaws.{none_past}
 use Rattle.segment.proofs.WholeLaws.{whole_past}
 
 -- what an offset reaches
 module _ (pseg : ℕ) {z : Offset} where
-  pub reaches_at : {place : Place} → offset_place pseg z ≡ some place.0 → Reaches pseg z (Reached.At place)
+  pub reaches_at : {place : Place} → offset_place pseg z ≡ Some place.0 → Reaches pseg z (Some place)
   reaches_at {place} at =
       record {
         at = λ {place = place'} e.
             let same : place ≡ place' = cc in
-            subst (λ (p : Place). offset_place pseg z ≡ some p.0) same at;
+            subst (λ (p : Place). offset_place pseg z ≡ Some p.0) same at;
         past = λ e n h.
             let z : ◌≡◌ {A = ℕ} 0 1 = cc in
             absurd (omega arith);
       }
 
-  reaches_none : ((n : ℕ) → offset_place pseg z ≡ some n → 2 ^ 64 ≤ n) → Reaches pseg z Reached.Nowhere
+  reaches_none : ((n : ℕ) → offset_place pseg z ≡ Some n → 2 ^ 64 ≤ n) → Reaches pseg z None
   reaches_none past = record { at = λ e. cc; past = λ e. past }
 
   module _ {n : ℕ} (ahead : z ≡ Ahead n) where
-    pub ahead_at : offset_place pseg z ≡ some (pseg + n)
+    pub ahead_at : offset_place pseg z ≡ Some (pseg + n)
     unfolding offset_place
     ahead_at = ap (offset_place pseg) ahead
 
-    pub ahead_past : 2 ^ 64 ≤ pseg + n → Reaches pseg z Reached.Nowhere
+    pub ahead_past : 2 ^ 64 ≤ pseg + n → Reaches pseg z None
     ahead_past far =
         reaches_none
         (λ m h.
@@ -58,15 +58,15 @@ module _ (pseg : ℕ) {z : Offset} where
         omega arith)
 
   module _ {n : ℕ} (back : z ≡ Back n) where
-    pub back_at : n ≤ pseg → offset_place pseg z ≡ some (pseg - n)
+    pub back_at : n ≤ pseg → offset_place pseg z ≡ Some (pseg - n)
     unfolding offset_place
     back_at low = ap (offset_place pseg) back ∙ rw (le-leb n pseg low, offset_place)
 
-    back_none : pseg < n → offset_place pseg z ≡ none
+    back_none : pseg < n → offset_place pseg z ≡ None
     unfolding offset_place
     back_none before = ap (offset_place pseg) back ∙ rw (lt-leb n pseg before, offset_place)
 
-    pub back_past : pseg < n → Reaches pseg z Reached.Nowhere
+    pub back_past : pseg < n → Reaches pseg z None
     back_past before =
         reaches_none
         (λ m h.
@@ -109,16 +109,16 @@ module _ (mixed : Bool) (bs : List Box) (state place size : ℕ) where
   whole_far f known far = rw (whole_past f known place (place + size) far) (and-false (mixed && eqb state good))
 
   module _ (mix : mixed ≡ true) where
-    pub whole_worse : (state ≡ good → ⊥) → lies_whole mixed bs state place size ≡ false
+    pub whole_worse : eqb state good ≡ false → lies_whole mixed bs state place size ≡ false
     unfolding lies_whole
-    whole_worse other = rw (mix, ne_eqb state good other)
+    whole_worse other = rw (mix, other)
 
-    pub whole_good : state ≡ good → lies_whole mixed bs state place size ≡ whole_boxes bs place (place + size)
+    pub whole_good : eqb state good ≡ true → lies_whole mixed bs state place size ≡ whole_boxes bs place (place + size)
     unfolding lies_whole
-    whole_good same = rw (mix, eq-eqb state good same)
+    whole_good same = rw (mix, same)
 
 -- what a search that found no data box leaves
-module _ (h : Heading) {f tops : List ℕ} {last : Box} {place size : ℕ} {r : Held} (finds : Finds f tops last place size r) (nowhere : r ≡ Held.Nowhere) (p : Searched f last h.boxes) (t : Tops h.boxes tops) where
+module _ (h : Heading) {f tops : List ℕ} {last : Option Framed} {place size : ℕ} {r : Option Framed} (finds : Finds f tops last place size r) (nowhere : r ≡ None) (p : Searched f last h.boxes) (t : Tops h.boxes tops) where
   outside : in_data h.boxes place size ≡ false
   unfolding found
   outside = sym (finds.answer h.boxes p t) ∙ ap found nowhere
@@ -129,93 +129,92 @@ module _ (h : Heading) {f tops : List ℕ} {last : Box} {place size : ℕ} {r : 
       ∙ rw outside (sym (whole h.boxes p.boxes t ∙ ap (λ (m : Bool). lies_whole m h.boxes state place size) mix))
 
 -- the place of an entry's chunk
-module _ {f tops : List ℕ} {mixed : Bool} {last : Box} {pseg : ℕ} {e : Entry} where
-  places_refused : {n : ℕ} → ((h : Heading) → mixed ≡ h.mixed → Searched f last h.boxes → Tops h.boxes tops → place_of h pseg e ≡ refused n) → Places f tops mixed last pseg e (Refused n)
-  unfolding place_answer
-  places_refused fault =
+module _ {f tops : List ℕ} {mixed : Bool} {last : Option Framed} {pseg : ℕ} {e : Entry} where
+  places_refused : {r : Result (Place × Option Framed) Refusal} {n : ℕ} → place_answer r ≡ refused n
+      → ((h : Heading) → Ready f tops mixed last h → place_of h pseg e ≡ refused n)
+      → Places f tops mixed last pseg e r
+  places_refused told fault =
       record {
-        answer = λ h mix p t. sym (fault h mix p t);
-        onward = λ h mix p t e.
-            let z : ◌≡◌ {A = ℕ} 0 1 = cc in
-            absurd (omega arith);
+        answer = λ h ready. told ∙ sym (fault h ready);
+        onward = λ h ready e. absurd (not_both (sym told ∙ ap place_answer e));
       }
 
-  places-box : {place : Place} {b : Framed} → ((h : Heading) → mixed ≡ h.mixed → Searched f last h.boxes → Tops h.boxes tops → place_of h pseg e ≡ given place.0)
-      → ((h : Heading) → mixed ≡ h.mixed → Searched f last h.boxes → Tops h.boxes tops → Onward f last h.boxes (has_place e.state e.size) place.0 e.size (box_of b))
-      → Places f tops mixed last pseg e (At place b)
-  unfolding place_answer
-  places-box {place} {b} at onward =
+  places-box : {place : Place} {next : Option Framed} → ((h : Heading) → Ready f tops mixed last h → place_of h pseg e ≡ given place.0)
+      → ((h : Heading) → Ready f tops mixed last h → Onward f last h.boxes (has_place e.state e.size) place.0 e.size next)
+      → Places f tops mixed last pseg e (Ok (place, next))
+  places-box {place} {next} at onward =
       record {
-        answer = λ h mix p t. sym (at h mix p t);
-        onward = λ h mix p t {place = place'} {b = b'} s.
-            let there : place ≡ place' = cc in
-            let same : b ≡ b' = cc in
-            subst (λ (q : Place). Onward f last h.boxes (has_place e.state e.size) q.0 e.size (box_of b')) there
-            (subst (λ (b : Framed). Onward f last h.boxes (has_place e.state e.size) place.0 e.size (box_of b)) same (onward h mix p t));
+        answer = λ h ready. sym (at h ready);
+        onward = λ h ready {place = place'} {next = next'} s.
+            let both : ◌≡◌ {A = Place × Option Framed} (place, next) (place', next') = cc in
+            let there : place ≡ place' = ap (λ p. p.0) both in
+            let same : next ≡ next' = ap (λ p. p.1) both in
+            subst (λ (q : Place). Onward f last h.boxes (has_place e.state e.size) q.0 e.size next') there
+            (subst (Onward f last h.boxes (has_place e.state e.size) place.0 e.size) same (onward h ready));
       }
 
   -- a chunk with no place
-  pub places_none : {b : Framed} → last ≡ box_of b → has_place e.state e.size ≡ false → Places f tops mixed last pseg e (At (record { 0 = 0 }) b)
+  pub places_none : has_place e.state e.size ≡ false → Places f tops mixed last pseg e (Ok (record { 0 = 0 }, last))
   unfolding place_of
-  places_none same placeless = places-box (λ h mix p t. simp (place_of, placeless))
-      (λ h mix p t. record {
-        known = subst (λ (b : Box). Searched f b h.boxes) same p;
+  places_none placeless = places-box (λ h ready. simp (place_of, placeless))
+      (λ h ready. record {
+        known = ready.known;
         holds = λ has. absurd (false≢true (sym (rw placeless) ∙ has));
-        kept = λ _. sym same;
+        kept = λ _. refl;
       })
 
   module _ (has : has_place e.state e.size ≡ true) where
     -- a chunk past every place
-    pub places_past : {r : Reached} → Reaches pseg e.offset r → r ≡ Reached.Nowhere → length f < 2 ^ 64 → Places f tops mixed last pseg e (Refused 24)
+    pub places_past : {r : Option Place} → Reaches pseg e.offset r → r ≡ None → length f < 2 ^ 64 → Places f tops mixed last pseg e (Err OutsideData)
     unfolding place_of
-    places_past reaches nowhere short = places_refused (λ h mix p t. go h p (offset_place pseg e.offset) refl)
+    places_past reaches nowhere short = places_refused refl (λ h ready. go h ready.known (offset_place pseg e.offset) refl)
       where
         go : (h : Heading) → Searched f last h.boxes → (x : Option ℕ) → offset_place pseg e.offset ≡ x → place_of h pseg e ≡ refused 24
-        go h p none q = simp (place_of, has, q)
-        go h p (some n) q =
+        go h p None q = simp (place_of, has, q)
+        go h p (Some n) q =
             let far : length f < n + e.size = omega (arith, reaches.past nowhere n q, some_bytes e.state e.size has) in
             let lies : may_lie h e.state n e.size ≡ false = may-lie h e.state n e.size ∙ rw (none_past f p.boxes n e.size far, whole_far h.mixed h.boxes e.state n e.size f p.boxes far) in
             simp (place_of, has, q, lies)
 
     -- a chunk at a place that was searched
-    module _ {n : ℕ} (at : offset_place pseg e.offset ≡ some n) {r : Held} (finds : Finds f tops last n e.size r) where
-      pub places-in : {place : Place} {b : Framed} → n ≡ place.0 → r ≡ Held.In b → Places f tops mixed last pseg e (At place b)
+    module _ {n : ℕ} (at : offset_place pseg e.offset ≡ Some n) {r : Option Framed} (finds : Finds f tops last n e.size r) where
+      pub places-in : {place : Place} {b : Framed} → n ≡ place.0 → r ≡ Some b → Places f tops mixed last pseg e (Ok (place, Some b))
       unfolding place_of found
       places-in same held =
           places-box
-          (λ h mix p t.
-          let inside : in_data h.boxes n e.size ≡ true = sym (finds.answer h.boxes p t) ∙ ap found held in
+          (λ h ready.
+          let inside : in_data h.boxes n e.size ≡ true = sym (finds.answer h.boxes ready.known ready.listed) ∙ ap found held in
           let lies : may_lie h e.state n e.size ≡ true = may-lie h e.state n e.size ∙ rw inside in
           let here : place_of h pseg e ≡ given n = simp (place_of, has, at, lies) in
           here ∙ ap given same)
-          (λ h mix p t.
-          let inside : in_data h.boxes n e.size ≡ true = sym (finds.answer h.boxes p t) ∙ ap found held in
+          (λ h ready.
+          let inside : in_data h.boxes n e.size ≡ true = sym (finds.answer h.boxes ready.known ready.listed) ∙ ap found held in
           record {
-            known = finds.onward h.boxes p t held;
-            holds = λ _. rw (← same) (finds.holds held);
+            known = subst (λ (r : Option Framed). Searched f r h.boxes) held (finds.onward h.boxes ready.known ready.listed);
+            holds = λ _. (_, refl, rw (← same) (finds.holds held));
             kept = λ out. absurd (false≢true (sym out ∙ rw (has, ← same, inside)));
           })
 
       -- outside `pdat` it lies as whole boxes, or nowhere
-      module _ (nowhere : r ≡ Held.Nowhere) {w : Bool} (whole : ToldWhole f tops mixed e.state n e.size w) where
-        pub places-nowhere : w ≡ false → Places f tops mixed last pseg e (Refused 24)
+      module _ (nowhere : r ≡ None) {w : Bool} (whole : ToldWhole f tops mixed e.state n e.size w) where
+        pub places-nowhere : w ≡ false → Places f tops mixed last pseg e (Err OutsideData)
         unfolding place_of
         places-nowhere out =
-            places_refused
-            (λ h mix p t.
-            let lies = lies_outside h finds nowhere p t e.state mix whole ∙ out in
+            places_refused refl
+            (λ h ready.
+            let lies = lies_outside h finds nowhere ready.known ready.listed e.state ready.mix whole ∙ out in
             simp (place_of, has, at, lies))
 
-        pub places_whole : {place : Place} {b : Framed} → n ≡ place.0 → last ≡ box_of b → w ≡ true → Places f tops mixed last pseg e (At place b)
+        pub places_whole : {place : Place} → n ≡ place.0 → w ≡ true → Places f tops mixed last pseg e (Ok (place, last))
         unfolding place_of
-        places_whole same first stands =
+        places_whole same stands =
             places-box
-            (λ h mix p t.
-            let lies = lies_outside h finds nowhere p t e.state mix whole ∙ stands in
+            (λ h ready.
+            let lies = lies_outside h finds nowhere ready.known ready.listed e.state ready.mix whole ∙ stands in
             let here : place_of h pseg e ≡ given n = simp (place_of, has, at, lies) in
             here ∙ ap given same)
-            (λ h mix p t. record {
-              known = subst (λ (b : Box). Searched f b h.boxes) first p;
-              holds = λ held. absurd (false≢true (sym (rw (has, ← same, outside h finds nowhere p t)) ∙ held));
-              kept = λ _. sym first;
+            (λ h ready. record {
+              known = ready.known;
+              holds = λ held. absurd (false≢true (sym (rw (has, ← same, outside h finds nowhere ready.known ready.listed)) ∙ held));
+              kept = λ _. refl;
             })

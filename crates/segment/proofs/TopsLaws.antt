@@ -2,9 +2,9 @@
 -- starts before it.
 use Prim.Native.Nat.{ℕ, zero, suc, ◌+◌, ◌^◌, ◌≤◌, ◌<◌}
 use mathlib.Core.Bool.{Bool, true, false, false≢true}
-use mathlib.Core.List.{List, [], ◌∷◌, ◌++◌}
+use mathlib.Core.List.{List, [], ◌∷◌, ◌++◌, append-nil}
 use mathlib.Core.Logic.{inl, inr}
-use mathlib.Core.Option.{some}
+use Rattle.std.specs.Prelude.{Some}
 use mathlib.Core.Path.{◌≡◌, sym, ap, subst, ◌∙◌}
 use native.Mathlib.Decide.{dec_le}
 use native.Mathlib.Nat.{add-zero, eq-or-lt_of_le, le_refl}
@@ -19,25 +19,36 @@ use Rattle.boxes.specs.declared.kinds.Container.{Container}
 use Rattle.boxes.specs.declared.kinds.Container.TheVariants.{File}
 use Rattle.boxes.specs.declared.walk.Walk.{Walk}
 use Rattle.numerals.specs.declared.place.Place.{Place}
-use Rattle.boxes.proofs.AnswerLaws.{given_same}
+use Rattle.boxes.proofs.AnswerLaws.{given_same, both_given}
 use Rattle.boxes.proofs.ContainerLaws.{Filled, full, next, box-limit, boxes_filled, boxes_few, boxes_standing, boxes_apart}
 use Rattle.boxes.proofs.HeaderLaws.{header_inside}
 use Rattle.boxes.proofs.KindLaws.{box_at_get_d, box_at_first, box_at_second}
-use Rattle.boxes.proofs.WalkLaws.{Passed, met, over_left}
+use Rattle.boxes.proofs.WalkLaws.{ahead, Passed, met, over_left, step_end, step_over, walk_boxes, known_end, known_sound}
 use Rattle.partial.specs.Sequences.{some_of}
 use Rattle.partial.proofs.Meaning.SequenceLaws.{which, some_at}
 use Rattle.segment.specs.Data.{holds_chunk, Among}
 use Rattle.segment.specs.Tops.{Tops, Before, Ascends, Listed}
 use Rattle.segment.proofs.DataLaws.{holds_low, holds_whole}
 
--- a walk that met one box more has room for it
-pub room_left : {s : List ℕ} {c : Container} {start end : Place} {w₀ w w' : Walk} {bs : List Box} {b : Box} → w₀ ≡ walk_over c start end → Passed s w₀ bs w
-    → stepped s w ≡ given (some (b, w')) → length bs < 512
-room_left {s} {w = w} new p h = omega (arith, (met s w h).allowed, p.counted, over_left new)
+-- a walk that is allowed no more boxes has none before it, where they are known
+pub none_left : (s : List ℕ) (w : Walk) {more : List Box} → w.left ≡ 0 → ahead s w ≡ given more → more ≡ []
+none_left s w none before =
+    elim (dec_le w.end.0 w.at.0) [
+      | yes end ↦ known_end s w before (step_end s w end)
+      | no short ↦ absurd (known_sound s w before (step_over s w (omega arith) none))
+    ]
 
--- and the box ends in the container
+-- a walk that has passed as many boxes as a container may have has passed all of them
+pub all_passed : {s : List ℕ} {c : Container} {start end : Place} {w₀ w : Walk} {bs : List Box} → w₀ ≡ walk_over c start end → Passed s w₀ bs w → 512 ≤ length bs
+    → {all : List Box} → boxes_in c s start.0 end.0 ≡ given all → all ≡ bs
+all_passed {s} {w = w} {bs} new p most {all} known =
+    let none : w.left ≡ 0 = omega (arith, p.counted, over_left new) in
+    let (more, before, split) = both_given (ahead s w) _ (sym p.rest ∙ sym (walk_boxes s new) ∙ known) in
+    sym (given_same split) ∙ ap (λ (more : List Box). bs ++ more) (none_left s w none before) ∙ append-nil bs
+
+-- a box that a walk met ends in the container
 pub ends_inside : {s : List ℕ} {c : Container} {start end : Place} {w₀ w w' : Walk} {bs : List Box} {b : Box} → w₀ ≡ walk_over c start end → Passed s w₀ bs w
-    → stepped s w ≡ given (some (b, w')) → (b.at ≤ b.end) × (b.end ≤ end.0)
+    → stepped s w ≡ given (Some (b, w')) → (b.at ≤ b.end) × (b.end ≤ end.0)
 ends_inside {s} {w = w} new p h =
     let inside = (met s w h).inside in
     (omega arith, omega (arith, ap (λ (e : Place). e.0) (p.same_end ∙ ap (λ (w : Walk). w.end) new)))
@@ -88,13 +99,13 @@ one_table {bs} {x} {y} p q =
 -- whether a place stands in a table
 module _ {tops : List ℕ} {place k : ℕ} where
   pub listed_at : k < 512 → {r : Bool} → get_or tops k 0 ≡ place → r ≡ true → Listed tops place r
-  listed_at inner at found = record { there = λ _. (k, inner, at); missing = λ none. absurd (false≢true (sym none ∙ found)) }
+  listed_at inner at found = record { there = λ _. (k, inner, at); missing = λ None. absurd (false≢true (sym None ∙ found)) }
 
   -- it does not where it is neither the last one before it nor the next
   pub listed_not : Before tops place k → (get_or tops k 0 ≡ place → ⊥) → (k + 1 < 512 → get_or tops (k + 1) 0 ≡ place → ⊥) → {r : Bool} → r ≡ false → Listed tops place r
-  listed_not last other follower none =
+  listed_not last other follower None =
       record {
-        there = λ found. absurd (false≢true (sym none ∙ found));
+        there = λ found. absurd (false≢true (sym None ∙ found));
         missing = λ _ ascends j inner at.
             elim (dec_le j k) [
               | yes most ↦
@@ -187,7 +198,7 @@ module _ (f : List ℕ) {bs : List Box} (known : boxes_in File f 0 (length f) �
 
     -- where it does not hold the chunk no box does
     pub last_other : (size : ℕ) → ((j : ℕ) → j < length bs → header File f top (length f) ≡ given (box_at j bs) → holds_chunk place size (box_at j bs) ≡ true → ⊥) → some_of (holds_chunk place size) bs ≡ false
-    last_other size none =
+    last_other size None =
         elim (which (some_of (holds_chunk place size) bs)) [
           | inr e ↦ e
           | inl e ↦
@@ -196,5 +207,5 @@ module _ (f : List ℕ) {bs : List Box} (known : boxes_in File f 0 (length f) �
               let here = only_last size j there holds in
               let stands = boxes_standing File f 0 (length f) known j there in
               let starts : (box_at j bs).at ≡ top = sym (t.listed j there) ∙ ap (λ (n : ℕ). get_or tops n 0) here ∙ sym stands_at in
-              absurd (none j there (subst (λ (n : ℕ). header File f n (length f) ≡ given (box_at j bs)) starts stands.read) holds)
+              absurd (None j there (subst (λ (n : ℕ). header File f n (length f) ≡ given (box_at j bs)) starts stands.read) holds)
         ]

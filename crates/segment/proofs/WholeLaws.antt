@@ -3,7 +3,7 @@ use Prim.Native.Nat.{ℕ, zero, suc, ◌≤◌, ◌<◌}
 use mathlib.Core.Bool.{Bool, true, false}
 use mathlib.Core.List.{List, [], ◌∷◌}
 use mathlib.Core.Logic.{inl, inr}
-use mathlib.Core.Option as Option
+use Rattle.std.specs.Prelude.{None, Some}
 use mathlib.Core.Path.{◌≡◌, refl, sym, ap, subst, ◌∙◌}
 use native.Mathlib.Decide.{dec_le, ℕ_discrete}
 use native.Mathlib.Omega.{arith}
@@ -50,14 +50,14 @@ pub record Filling (s : List ℕ) (end : ℕ) (w₀ w : Walk) : Type 0 where
 
 module _ {s : List ℕ} {end : ℕ} {w₀ w : Walk} (fills : Filling s end w₀ w) {bs : List Box} (known : ahead s w₀ ≡ given bs) where
   -- a box that it meets is the first of them
-  pub fill_met : {b : Box} {w' : Walk} → stepped s w ≡ given (Option.some (b, w')) → (cs : List Box) × (ahead s w' ≡ given cs) × (fill_up bs end ≡ fill_up (b ∷ cs) end)
+  pub fill_met : {b : Box} {w' : Walk} → stepped s w ≡ given (Some (b, w')) → (cs : List Box) × (ahead s w' ≡ given cs) × (fill_up bs end ≡ fill_up (b ∷ cs) end)
   fill_met met =
       let (cs, ahead_of_lem, same) = fills.rest bs known in
       let (rest, behind, all) = known_next s w ahead_of_lem met in
       (rest, behind, same ∙ ap (λ cs. fill_up cs end) all)
 
   -- at the file's end there are none, and it meets no fault
-  pub fill_over : stepped s w ≡ given Option.none → fill_up bs end ≡ false
+  pub fill_over : stepped s w ≡ given None → fill_up bs end ≡ false
   fill_over over =
       let (cs, ahead_of_lem, same) = fills.rest bs known in
       same ∙ ap (λ cs. fill_up cs end) (known_end s w ahead_of_lem over) ∙ fill_none end
@@ -68,7 +68,7 @@ module _ {s : List ℕ} {end : ℕ} {w₀ w : Walk} (fills : Filling s end w₀ 
       known_sound s w ahead_of_lem fault
 
 -- behind one that is allowed and ends before the end it goes on
-pub fill_more : {s : List ℕ} {end : ℕ} {w₀ w w' : Walk} {b : Box} → Filling s end w₀ w → stepped s w ≡ given (Option.some (b, w')) → allowed b ≡ true → b.end < end
+pub fill_more : {s : List ℕ} {end : ℕ} {w₀ w w' : Walk} {b : Box} → Filling s end w₀ w → stepped s w ≡ given (Some (b, w')) → allowed b ≡ true → b.end < end
     → Filling s end w₀ w'
 fill_more {b = b} fills met good less =
     record {

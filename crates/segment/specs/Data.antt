@@ -1,5 +1,5 @@
 -- Document 01, refusal 24: the data box of a file that holds a chunk.
-use Rattle.std.specs.Prelude.{ℕ, ◌+◌, ◌<◌, Bool, true, false, ◌&&◌, List, ◌≡◌, leb, length}
+use Rattle.std.specs.Prelude.{ℕ, ◌+◌, ◌<◌, Bool, true, false, ◌&&◌, List, Option, None, Some, ◌≡◌, leb, length}
 use Rattle.boxes.specs.Answer.{given}
 use Rattle.boxes.specs.Framing.{Box, boxes_in, box_of}
 use Rattle.boxes.specs.Kinds.{pdat, is, box_at}
@@ -7,8 +7,6 @@ use Rattle.boxes.specs.declared.framing.Framed.{Framed}
 use Rattle.boxes.specs.declared.kinds.Container.TheVariants.{File}
 use Rattle.partial.specs.Entries.{in_data}
 use Rattle.segment.specs.Tops.{Tops}
-use Rattle.segment.specs.declared.data.Held.{Held}
-use Rattle.segment.specs.declared.data.Held.TheVariants.{In, Nowhere}
 
 -- whether a box is a `pdat` whose body holds so many bytes at a place
 unfoldable pub holds_chunk : ℕ → ℕ → Box → Bool
@@ -20,27 +18,26 @@ pub record Among (bs : List Box) (b : Box) : Type 0 where
   pub there : number < length bs
   pub same : box_at number bs ≡ b
 
--- what a search of a file goes by: the file's boxes, and that the box to be looked at first is one of them, unless it
--- is no `pdat`
-pub record Searched (f : List ℕ) (last : Box) (bs : List Box) : Type 0 where
+-- what a search of a file goes by: the file's boxes, and that the box to be looked at first, if any, is one of them
+pub record Searched (f : List ℕ) (last : Option Framed) (bs : List Box) : Type 0 where
   pub boxes : boxes_in File f 0 (length f) ≡ given bs
-  pub known : is pdat last ≡ true → Among bs last
+  pub known : {b : Framed} → last ≡ Some b → Among bs (box_of b)
 
 -- whether a box was found
-unfoldable pub found : Held → Bool
-found (In b) = true
-found Nowhere = false
+unfoldable pub found : Option Framed → Bool
+found (Some b) = true
+found None = false
 
 -- what a search by the table of the file's boxes finds: a box exactly where one holds the chunk, and then the data box
 -- of the file that does
-pub record Finds (f tops : List ℕ) (last : Box) (place size : ℕ) (r : Held) : Type 0 where
+pub record Finds (f tops : List ℕ) (last : Option Framed) (place size : ℕ) (r : Option Framed) : Type 0 where
   pub answer : (bs : List Box) → Searched f last bs → Tops bs tops → found r ≡ in_data bs place size
-  pub holds : {b : Framed} → r ≡ In b → holds_chunk place size (box_of b) ≡ true
-  pub onward : (bs : List Box) → Searched f last bs → Tops bs tops → {b : Framed} → r ≡ In b → Searched f (box_of b) bs
+  pub holds : {b : Framed} → r ≡ Some b → holds_chunk place size (box_of b) ≡ true
+  pub onward : (bs : List Box) → Searched f last bs → Tops bs tops → Searched f r bs
 
 -- the box to be looked at first after a chunk: the one that holds it; where the chunk has no place, or lies outside,
 -- the one before
-pub record Onward (f : List ℕ) (last : Box) (bs : List Box) (placed : Bool) (place size : ℕ) (next : Box) : Type 0 where
+pub record Onward (f : List ℕ) (last : Option Framed) (bs : List Box) (placed : Bool) (place size : ℕ) (next : Option Framed) : Type 0 where
   pub known : Searched f next bs
-  pub holds : (placed && in_data bs place size) ≡ true → holds_chunk place size next ≡ true
+  pub holds : (placed && in_data bs place size) ≡ true → (b : Framed) × (next ≡ Some b) × (holds_chunk place size (box_of b) ≡ true)
   pub kept : (placed && in_data bs place size) ≡ false → next ≡ last

@@ -3,24 +3,25 @@ ghost use Rattle.std.specs.Prelude.{◌+◌, ◌-◌, ◌^◌, min, ◌≡◌};
 ghost use Rattle.fields.specs.Location.{ploc_of};
 ghost use Rattle.segment.specs.Chunk.{Steps};
 
-use crate::placed::{Placed, placed_at};
+use crate::placed::placed_at;
 use crate::tops::TOPS;
 use boxes::framing::Framed;
-use fields::entry::{EntryRead, entry_at};
+use fields::entry::entry_at;
 use fields::location::Location;
-use numerals::order::{between, ends_by, sum_of};
+use fields::state::State;
+use numerals::order::ends_by;
 use numerals::place::Place;
 use partial::limits::SOURCE_LIMIT;
 use partial::position::Position;
-use partial::refusals::SOURCE_TOO_LONG;
+use refusals::Refusal;
 
 // A cursor over entries: the place of the next one, where its chunk starts in the source, and the data box that held
-// the last chunk.
+// the last chunk, if one did.
 #[derive(Clone, Copy)]
 pub struct Cursor {
     pub at: Place,
     pub start: Position,
-    pub last: Framed,
+    pub last: Option<Framed>,
 }
 
 // Where a chunk starts in the source, its size, its state, and its place in the file: 0 if it is not present or empty.
@@ -28,15 +29,8 @@ pub struct Cursor {
 pub struct Chunk {
     pub start: Position,
     pub size: u64,
-    pub state: u64,
+    pub state: State,
     pub place: Place,
-}
-
-// What a cursor meets: a chunk with the cursor behind it, or the number of a refusal.
-#[derive(Clone, Copy)]
-pub enum ChunkStep {
-    Refused(u64),
-    Given(Chunk, Cursor),
 }
 
 impl Chunk {
@@ -45,15 +39,14 @@ impl Chunk {
     pub fn place_of(self, p: Position) -> Place
         ensures { result.0 ≡ min (self.place.0 + (p.0 - self.start.0)) (2 ^ 64 - 1) }
     {
-        let place = self.place;
-        let start = self.start;
-        Place(sum_of(place.0, between(start.0, p.0)))
+        let behind = p.0.saturating_sub(self.start.0);
+        Place(self.place.0.saturating_add(behind))
     }
 }
 
 impl Cursor {
-    // The chunk of the next entry of a `ploc` in the `pseg` at a place, by the table of the file's boxes. It starts
-    // where the one before it ends.
+    // The chunk of the next entry of a `ploc` in the `pseg` at a place, by the table of the file's boxes, with the cursor
+    // behind it. The chunk starts where the one before it ends.
     pub fn step(
         self,
         s: &[u8],
@@ -61,36 +54,28 @@ impl Cursor {
         mixed: bool,
         pseg: Place,
         l: Location,
-    ) -> ChunkStep
+    ) -> Result<(Chunk, Cursor), Refusal>
         ensures { Steps s.now tops.now mixed pseg.0 (ploc_of l) self result }
     {
         let start = self.start;
-        let last = self.last;
-        match entry_at(s, l, self.at) {
-            EntryRead::Refused(n) => ChunkStep::Refused(n),
-            EntryRead::Given(e) => {
-                let size = e.size;
-                let next = e.next;
-                if !ends_by(start.0, size, SOURCE_LIMIT) {
-                    return ChunkStep::Refused(SOURCE_TOO_LONG);
-                }
-                match placed_at(s, tops, mixed, last, pseg, e) {
-                    Placed::Refused(n) => ChunkStep::Refused(n),
-                    Placed::At(place, held) => ChunkStep::Given(
-                        Chunk {
-                            start,
-                            size,
-                            state: e.state,
-                            place,
-                        },
-                        Cursor {
-                            at: next,
-                            start: Position(start.0 + size),
-                            last: held,
-                        },
-                    ),
-                }
-            }
+        let e = entry_at(s, l, self.at)?;
+        let size = e.size;
+        let next = e.next;
+        if !ends_by(start.0, size, SOURCE_LIMIT) {
+            return Err(Refusal::SourceTooLong);
         }
+        let (place, last) = placed_at(s, tops, mixed, self.last, pseg, e)?;
+        let chunk = Chunk {
+            start,
+            size,
+            state: e.state,
+            place,
+        };
+        let after = Cursor {
+            at: next,
+            start: Position(start.0 + size),
+            last,
+        };
+        Ok((chunk, after))
     }
 }

@@ -4,17 +4,10 @@ ghost use Rattle.boxes.specs.Framing.{box_of};
 ghost use Rattle.segment.specs.Data.{holds_chunk, Finds};
 
 use crate::tops::{TOPS, top_at, top_before};
-use boxes::framing::{Framed, Header, header_at};
+use boxes::framing::{Framed, header_at};
 use boxes::kinds::{Container, PDAT};
 use numerals::order::ends_by;
 use numerals::place::Place;
-
-// The data box that holds a chunk, if there is one.
-#[derive(Clone, Copy)]
-pub enum Held {
-    In(Framed),
-    Nowhere,
-}
 
 // Whether a box is a `pdat` whose body holds so many bytes at a place.
 fn holds(b: Framed, place: Place, size: u64) -> bool
@@ -22,7 +15,7 @@ fn holds(b: Framed, place: Place, size: u64) -> bool
 {
     let body = b.body;
     let end = b.end;
-    if b.kind != PDAT.code {
+    if b.kind != PDAT {
         return false;
     }
     if place.0 < body.0 {
@@ -34,19 +27,24 @@ fn holds(b: Framed, place: Place, size: u64) -> bool
 // The data box of a file that holds so many bytes at a place, by the table of the file's boxes. Chunks often follow
 // each other in one box, so the box that held the last one is looked at first. Any other that holds the chunk is the
 // last one that starts before it.
-pub fn held_at(s: &[u8], tops: &[u32; TOPS], last: Framed, place: Place, size: u64) -> Held
-    ensures { Finds s.now tops.now (box_of last) place.0 size result }
+pub fn held_at(
+    s: &[u8],
+    tops: &[u32; TOPS],
+    last: Option<Framed>,
+    place: Place,
+    size: u64,
+) -> Option<Framed>
+    ensures { Finds s.now tops.now last place.0 size result }
 {
-    if holds(last, place, size) {
-        return Held::In(last);
+    if let Some(b) = last {
+        if holds(b, place, size) {
+            return Some(b);
+        }
     }
     let number = top_before(tops, place);
     let top = top_at(tops, number);
-    let Header::Found(b) = header_at(s, Container::File, Place(top), Place(s.len() as u64)) else {
-        return Held::Nowhere;
+    let Ok(b) = header_at(s, Container::File, Place(top), Place(s.len() as u64)) else {
+        return None;
     };
-    if holds(b, place, size) {
-        return Held::In(b);
-    }
-    Held::Nowhere
+    if holds(b, place, size) { Some(b) } else { None }
 }

@@ -1,54 +1,28 @@
 // The place in the file of an entry's chunk.
-ghost use Rattle.boxes.specs.Framing.{box_of};
 ghost use Rattle.fields.specs.Entry.{entry_of};
+ghost use Rattle.fields.specs.State.{state_no};
 ghost use Rattle.segment.specs.Placed.{Reaches, ToldWhole, Places};
 
-use crate::data::{Held, held_at};
+use crate::data::held_at;
 use crate::tops::TOPS;
 use crate::whole::whole_at;
 use boxes::framing::Framed;
 use fields::entry::Entry;
-use fields::state::{GOOD, present};
+use fields::state::State;
 use numerals::numbers::Offset;
 use numerals::order::ends_by;
 use numerals::place::Place;
-use partial::refusals::OUTSIDE_DATA;
+use refusals::Refusal;
 
-// The place of a chunk, 0 if it is not present or empty, with the data box that held the last chunk; or the number of a
-// refusal.
-#[derive(Clone, Copy)]
-pub enum Placed {
-    Refused(u64),
-    At(Place, Framed),
-}
-
-// The place that an offset gives, if it is not before the file's first byte or past every place.
-#[derive(Clone, Copy)]
-enum Reached {
-    At(Place),
-    Nowhere,
-}
-
-// The place that an offset gives, counted from the first byte of the `pseg` box.
-fn offset_place(pseg: Place, offset: Offset) -> Reached
+// The place that an offset gives, counted from the first byte of the `pseg` box, if it is not before the file's first
+// byte or past every place.
+fn offset_place(pseg: Place, offset: Offset) -> Option<Place>
     ensures { Reaches pseg.0 offset result }
 {
     match offset {
         // A place past 64 bits is past the end of any file.
-        Offset::Ahead(n) => {
-            if n <= 0xffff_ffff_ffff_ffff - pseg.0 {
-                Reached::At(Place(pseg.0 + n))
-            } else {
-                Reached::Nowhere
-            }
-        }
-        Offset::Back(n) => {
-            if n <= pseg.0 {
-                Reached::At(Place(pseg.0 - n))
-            } else {
-                Reached::Nowhere
-            }
-        }
+        Offset::Ahead(n) => Some(Place(pseg.0.checked_add(n)?)),
+        Offset::Back(n) => Some(Place(pseg.0.checked_sub(n)?)),
     }
 }
 
@@ -57,16 +31,16 @@ fn lies_whole(
     s: &[u8],
     tops: &[u32; TOPS],
     mixed: bool,
-    state: u64,
+    state: State,
     place: Place,
     size: u64,
 ) -> bool
-    ensures { ToldWhole s.now tops.now mixed state place.0 size result }
+    ensures { ToldWhole s.now tops.now mixed (state_no state) place.0 size result }
 {
     if !mixed {
         return false;
     }
-    if state != GOOD {
+    if !state.is_good() {
         return false;
     }
     // No box ends past the file.
@@ -76,36 +50,35 @@ fn lies_whole(
     whole_at(s, tops, place, Place(place.0 + size))
 }
 
-// Where the chunk of an entry lies. The place of an empty chunk is not checked.
+// Where the chunk of an entry lies, 0 if it is not present or empty, with the data box that held the last chunk. The
+// place of an empty chunk is not checked.
 pub(crate) fn placed_at(
     s: &[u8],
     tops: &[u32; TOPS],
     mixed: bool,
-    last: Framed,
+    last: Option<Framed>,
     pseg: Place,
     e: Entry,
-) -> Placed
-    ensures { Places s.now tops.now mixed (box_of last) pseg.0 (entry_of e) result }
+) -> Result<(Place, Option<Framed>), Refusal>
+    ensures { Places s.now tops.now mixed last pseg.0 (entry_of e) result }
 {
+    let state = e.state;
     let size = e.size;
-    let offset = e.offset;
-    if !present(e.state) {
-        return Placed::At(Place(0), last);
+    if !state.is_present() {
+        return Ok((Place(0), last));
     }
     if size == 0 {
-        return Placed::At(Place(0), last);
+        return Ok((Place(0), last));
     }
-    match offset_place(pseg, offset) {
-        Reached::Nowhere => Placed::Refused(OUTSIDE_DATA),
-        Reached::At(place) => match held_at(s, tops, last, place, size) {
-            Held::In(b) => Placed::At(place, b),
-            Held::Nowhere => {
-                if lies_whole(s, tops, mixed, e.state, place, size) {
-                    Placed::At(place, last)
-                } else {
-                    Placed::Refused(OUTSIDE_DATA)
-                }
-            }
-        },
+    let Some(place) = offset_place(pseg, e.offset) else {
+        return Err(Refusal::OutsideData);
+    };
+    if let Some(b) = held_at(s, tops, last, place, size) {
+        return Ok((place, Some(b)));
+    }
+    if lies_whole(s, tops, mixed, state, place, size) {
+        Ok((place, last))
+    } else {
+        Err(Refusal::OutsideData)
     }
 }

@@ -7,8 +7,9 @@ ghost use Rattle.partial.specs.Mixed.{fill_up, whole_boxes};
 ghost use Rattle.segment.specs.Tops.{Tops, Listed};
 
 use crate::tops::{TOPS, top_at, top_before};
+use boxes::body::Body;
 use boxes::kinds::Container;
-use boxes::walk::{Step, Walk};
+use boxes::walk::Walk;
 use fields::allowed::may_stand;
 use numerals::place::Place;
 
@@ -16,23 +17,22 @@ use numerals::place::Place;
 fn fill_up(s: &[u8], place: Place, end: Place) -> bool
     ensures { (bs : List Box) → boxes_in File s.now place.0 (length s.now) ≡ given bs → result ≡ fill_up bs end.0 }
 {
-    let mut walk = Walk::new(Container::File, place, Place(s.len() as u64));
-    loop {
-        match walk.step(s) {
-            Step::Next(b, next) => {
-                let at = b.end;
-                if !may_stand(b) {
-                    return false;
-                }
-                if end.0 <= at.0 {
-                    return at.0 == end.0;
-                }
-                walk = next;
-            }
-            Step::End => return false,
-            Step::Refused(_) => return false,
+    let mut walk = Walk::new(Body {
+        container: Container::File,
+        start: place,
+        end: Place(s.len() as u64),
+    });
+    while let Some((b, next)) = walk.step(s).unwrap_or(None) {
+        let at = b.end;
+        if !may_stand(b) {
+            return false;
         }
+        if end.0 <= at.0 {
+            return at.0 == end.0;
+        }
+        walk = next;
     }
+    false
 }
 
 // Whether a place stands in a table of places: it is the first, or follows the last one before it.

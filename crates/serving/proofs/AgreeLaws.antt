@@ -8,6 +8,8 @@ use mathlib.Core.Path.{◌≡◌, refl, sym, ap, ◌∙◌}
 use native.Mathlib.Decide.{dec_le}
 use native.Mathlib.Omega.{arith}
 use lib.ListN.{length}
+use Rattle.std.specs.Prelude.{Result}
+use Rattle.refusals.specs.declared.Refusal.{Refusal}
 use Rattle.boxes.specs.Answer.{Answer, refused, given}
 use Rattle.partial.specs.Answers.{asked_answer}
 use Rattle.partial.specs.Limits.{source_limit}
@@ -60,7 +62,7 @@ agrees f source a b p = go (tabled source_limit f a b) refl
         ]
 
 -- of the calls: what serving hands back is as long as asking says
-pub serve_ask : {f segments segments₁ segments₂ chunks chunks₁ chunks₂ bytes : List ℕ} {file there : ℕ × ℕ} {source p : ℕ} {r : Asked}
+pub serve_ask : {f segments segments₁ segments₂ chunks chunks₁ chunks₂ bytes : List ℕ} {file there : ℕ × ℕ} {source p : ℕ} {r : Result Asked Refusal}
     → Serves f file source segments segments₁ chunks chunks₁ p there bytes → Asks f source segments segments₂ chunks chunks₂ p r
     → length bytes ≡ served_count (asked_answer r)
 serve_ask {f} {segments = segments} {chunks = chunks} {source = source} {p = p} s a = ap length s.part.holds ∙ agrees f source segments chunks p ∙ sym (ap served_count a.answer)

@@ -2,34 +2,26 @@
 -- same arguments are equal. A part of the lent file is determined by where it lies and by its bytes.
 use Prim.Native.Nat.{ℕ}
 use mathlib.Core.List.{List}
-use mathlib.Core.Path.{sym, ◌∙◌}
+use mathlib.Core.Path.{refl, sym, ◌∙◌}
 use Rattle.numerals.proofs.Determined.{OneResult, OneLeft}
-use Rattle.boxes.proofs.ToldLaws.{Tells}
-use Rattle.partial.specs.Answers.{asked_answer}
+use Rattle.boxes.proofs.ToldLaws.{Tells, result-told}
+use Rattle.partial.specs.Answers.{reply_of}
 use Rattle.partial.specs.declared.answers.Asked.TheVariants as Asked
 use Rattle.reading.proofs.Determined.{OneOf, located_told, one_part}
 use Rattle.serving.proofs.calls.ask.Reads as ask
 use Rattle.serving.proofs.calls.part_at.Reads as part_at
 use Rattle.serving.proofs.calls.serve.Reads as serve
 
-asked-told : Tells asked_answer
-unfolding asked_answer
-asked-told (Asked.Refused n) (Asked.Refused m) e = cc
-asked-told (Asked.Refused n) (Asked.Served m) e = cc
-asked-told (Asked.Refused n) (Asked.Missing m) e = cc
-asked-told (Asked.Refused n) Asked.NotBelow e = cc
-asked-told (Asked.Served n) (Asked.Refused m) e = cc
-asked-told (Asked.Served n) (Asked.Served m) e = cc
-asked-told (Asked.Served n) (Asked.Missing m) e = cc
-asked-told (Asked.Served n) Asked.NotBelow e = cc
-asked-told (Asked.Missing n) (Asked.Refused m) e = cc
-asked-told (Asked.Missing n) (Asked.Served m) e = cc
-asked-told (Asked.Missing n) (Asked.Missing m) e = cc
-asked-told (Asked.Missing n) Asked.NotBelow e = cc
-asked-told Asked.NotBelow (Asked.Refused m) e = cc
-asked-told Asked.NotBelow (Asked.Served m) e = cc
-asked-told Asked.NotBelow (Asked.Missing m) e = cc
-asked-told Asked.NotBelow Asked.NotBelow e = cc
+reply-told : Tells reply_of
+reply-told (Asked.Served n) (Asked.Served m) e = cc
+reply-told (Asked.Served n) (Asked.Missing m) e = cc
+reply-told (Asked.Served n) Asked.NotBelow e = cc
+reply-told (Asked.Missing n) (Asked.Served m) e = cc
+reply-told (Asked.Missing n) (Asked.Missing m) e = cc
+reply-told (Asked.Missing n) Asked.NotBelow e = cc
+reply-told Asked.NotBelow (Asked.Served m) e = cc
+reply-told Asked.NotBelow (Asked.Missing m) e = cc
+reply-told Asked.NotBelow Asked.NotBelow e = refl
 
 part_at_result : OneResult part_at.Post
 part_at_result κs args x y after after' p q = located_told x y (p.answer ∙ sym q.answer)
@@ -50,7 +42,7 @@ serve_chunks : OneLeft serve.Post (λ κs after. after.1.1.1.0.now)
 serve_chunks κs args x y after after' p q = p.tables.chunk_table ∙ sym q.tables.chunk_table
 
 ask_result : OneResult ask.Post
-ask_result κs args x y after after' p q = asked-told x y (p.answer ∙ sym q.answer)
+ask_result κs args x y after after' p q = result-told reply-told x y (p.answer ∙ sym q.answer)
 
 ask_segments : OneLeft ask.Post (λ κs after. after.1.1.0.now)
 ask_segments κs args x y after after' p q = p.tables.segment_table ∙ sym q.tables.segment_table

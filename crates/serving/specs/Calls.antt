@@ -1,5 +1,5 @@
 -- Document 01, "Serving": what serving and asking of a source answer, and what they leave in the lent tables.
-use Rattle.std.specs.Prelude.{ℕ, List, ◌≡◌}
+use Rattle.std.specs.Prelude.{ℕ, List, Result, ◌≡◌}
 use Rattle.boxes.specs.Answer.{Answer, refused, given, ◌>>=◌}
 use Rattle.partial.specs.Answers.{asked_answer}
 use Rattle.partial.specs.Limits.{source_limit}
@@ -8,10 +8,11 @@ use Rattle.partial.specs.Tables.{tabled, served_part, asked}
 use Rattle.partial.specs.declared.answers.Asked.{Asked}
 use Rattle.reading.specs.Parts.{HandedBack, located_answer}
 use Rattle.reading.specs.Tables.{Filled}
-use Rattle.reading.specs.declared.parts.Located.{Located}
+use Rattle.refusals.specs.declared.Refusal.{Refusal}
+use Rattle.surls.specs.declared.part.Part.{Part}
 
 -- where the part lies that serves a position
-pub record Locates (f : List ℕ) (source : ℕ) (segments segments' chunks chunks' : List ℕ) (p : ℕ) (r : Located) : Type 0 where
+pub record Locates (f : List ℕ) (source : ℕ) (segments segments' chunks chunks' : List ℕ) (p : ℕ) (r : Result Part Refusal) : Type 0 where
   pub answer : located_answer r ≡ (tabled source_limit f segments chunks >>= λ ss. given (served_part (given ss) source p))
   pub tables : Filled (tabled source_limit f segments chunks) segments segments' chunks chunks'
 
@@ -21,7 +22,7 @@ pub record Serves (f : List ℕ) (file : ℕ × ℕ) (source : ℕ) (segments se
   pub tables : Filled (tabled source_limit f segments chunks) segments segments' chunks chunks'
 
 -- asking of a position answers whether it is served or missing, and for how many
-pub record Asks (f : List ℕ) (source : ℕ) (segments segments' chunks chunks' : List ℕ) (p : ℕ) (r : Asked) : Type 0 where
+pub record Asks (f : List ℕ) (source : ℕ) (segments segments' chunks chunks' : List ℕ) (p : ℕ) (r : Result Asked Refusal) : Type 0 where
   pub answer : asked_answer r ≡ asked (tabled source_limit f segments chunks) source p
   pub tables : Filled (tabled source_limit f segments chunks) segments segments' chunks chunks'
 

@@ -1,20 +1,14 @@
 // Serving and asking of a position of a source, each reading the file into the two lent tables first.
 ghost use Rattle.serving.specs.Calls.{Locates, Serves, Asks};
 
-use numerals::place::Place;
-use partial::answers::{Asked, Read};
+use gathering::tables::SourceTables;
+use partial::answers::Asked;
 use partial::position::Position;
-use reading::parts::{Located, part_of};
+use reading::parts::part_of;
 use reading::tables::read_source;
-use sources::numbers::ALL_SOURCES;
+use refusals::Refusal;
 use supplying::runs::run_at;
 use surls::part::Part;
-
-// An empty part.
-const NOWHERE: Part = Part {
-    place: Place(0),
-    size: 0,
-};
 
 // Where the part of the file lies that serves a position of a source and those after it, as long as the same chunk
 // supplies them; an empty part where none does.
@@ -24,30 +18,19 @@ pub fn part_at(
     segments: &mut [u64],
     chunks: &mut [u64],
     p: Position,
-) -> Located
+) -> Result<Part, Refusal>
     ensures { Locates file.now source segments.old segments.new chunks.old chunks.new p.0 result }
 {
-    let mut sources = [0; ALL_SOURCES];
-    match read_source(file, source, segments, chunks, &mut sources) {
-        Read::Refused(n) => Located::Refused(n),
-        Read::Tables {
-            segments: _,
-            chunks: count,
-            sources: _,
-            described,
-            closed: _,
-        } => {
-            let run = run_at(&sources, chunks, count, source, p, described);
-            if !run.supplied {
-                return Located::At(NOWHERE);
-            }
-            let c = run.chunk;
-            Located::At(Part {
-                place: c.place_of(p),
-                size: run.length,
-            })
-        }
-    }
+    let mut own = SourceTables::new();
+    let read = read_source(file, source, segments, chunks, &mut own)?;
+    let run = run_at(&own.sources, chunks, read.chunks, source, p, read.described);
+    let Some(c) = run.chunk else {
+        return Ok(Part::NOWHERE);
+    };
+    Ok(Part {
+        place: c.place_of(p),
+        size: run.length,
+    })
 }
 
 // The part of the file that serves a position of a source and those after it; empty where none does, or after a refusal.
@@ -65,28 +48,25 @@ pub fn serve<'a>(
 
 // Whether a position of a source is served or missing, with how many in a row from there on, or not below the described
 // length.
-pub fn ask(file: &[u8], source: u64, segments: &mut [u64], chunks: &mut [u64], p: Position) -> Asked
+pub fn ask(
+    file: &[u8],
+    source: u64,
+    segments: &mut [u64],
+    chunks: &mut [u64],
+    p: Position,
+) -> Result<Asked, Refusal>
     ensures { Asks file.now source segments.old segments.new chunks.old chunks.new p.0 result }
 {
-    let mut sources = [0; ALL_SOURCES];
-    match read_source(file, source, segments, chunks, &mut sources) {
-        Read::Refused(n) => Asked::Refused(n),
-        Read::Tables {
-            segments: _,
-            chunks: count,
-            sources: _,
-            described,
-            closed: _,
-        } => {
-            if described.0 <= p.0 {
-                return Asked::NotBelow;
-            }
-            let run = run_at(&sources, chunks, count, source, p, described);
-            if run.supplied {
-                Asked::Served(run.length)
-            } else {
-                Asked::Missing(run.length)
-            }
-        }
+    let mut own = SourceTables::new();
+    let read = read_source(file, source, segments, chunks, &mut own)?;
+    let described = read.described;
+    if described.0 <= p.0 {
+        return Ok(Asked::NotBelow);
+    }
+    let run = run_at(&own.sources, chunks, read.chunks, source, p, described);
+    if run.chunk.is_some() {
+        Ok(Asked::Served(run.length))
+    } else {
+        Ok(Asked::Missing(run.length))
     }
 }

@@ -12,7 +12,7 @@ use Rattle.partial.specs.Heading.{Heading}
 use Rattle.partial.specs.ReadingDemands.{Numbered}
 use Rattle.partial.specs.Segments.{Segment}
 use Rattle.partial.specs.Sources.{source_count}
-use Rattle.surls.specs.declared.body.Body.{Body}
+use Rattle.boxes.specs.declared.body.Body.{Body}
 use Rattle.sources.specs.Held.{Stands, ListsHeld, SourceOf, Joins}
 use Rattle.sources.specs.Lists.{all_lists, list_in, ListPut}
 use Rattle.sources.specs.Numbers.{source_put}

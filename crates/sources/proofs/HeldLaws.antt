@@ -1,12 +1,18 @@
 -- Laws of tables that hold the sources of segments: the source of a list by those that are held, and what is held with
 -- one segment more.
 use Prim.Native.Nat.{ℕ, suc, ◌+◌, ◌≤◌, ◌<◌, min}
-use mathlib.Core.Bool.{Bool, true, false, true≢false}
+use mathlib.Core.Bool.{Bool, true, false, ◌&&◌, true≢false}
 use mathlib.Core.List.Memᴰ
 use mathlib.Core.List.{List, [], ◌∷◌, ◌++◌, map, Memᴰ}
 use mathlib.Core.Path.{◌≡◌, refl, sym, ap, ap₂, subst, ◌∙◌}
 use native.Mathlib.Decide.{dec_le, ℕ_discrete}
 use native.Mathlib.Omega.{arith}
+use borrow.Author.Rules.{rules}
+use borrow.Author.Tests.{eqb-true}
+use denote.Enum.Bare.{sameb, same_true}
+use lib.Dec.{eqb}
+use Rattle.boxes.specs.contracts.kinds.Container.{the_type}
+use Rattle.partial.proofs.Meaning.SequenceLaws.{both}
 use lib.ListN.{length, take, set, length-append, length-set, length-replicate}
 use lib.Seq.{take-suc-set}
 use Rattle.boxes.specs.Framing.{Box}
@@ -23,17 +29,20 @@ use Rattle.partial.proofs.Meaning.SameLaws.{urls_equal, urls_same}
 use Rattle.partial.proofs.Meaning.SourceLaws.{of-append, member_of, of_one, of_none, source_count_more, beside_most, beside_there, of_urls_member, count_most}
 use Rattle.partial.specs.Texts.{list_boxes}
 use Rattle.partial.proofs.Reading.OneSourceLaws.{urls_own, urls_pfil}
-use Rattle.surls.specs.declared.body.Body.{Body}
+use Rattle.boxes.specs.declared.body.Body.{Body}
 use Rattle.sources.specs.Held.{Stands, PfilList, SourcesHeld, ListHeld, ListsHeld, Sourced, Joins}
-use Rattle.sources.specs.Lists.{container_number, container_of, kept_list, list_in, ListPut, Unlisted}
+use Rattle.sources.specs.Lists.{kept_list, list_in, ListPut, Unlisted}
 use Rattle.sources.specs.Numbers.{source_put, no_sources}
-use Rattle.sources.proofs.ListLaws.{container_back}
 use Rattle.sources.proofs.NumberLaws.{put_there}
 
--- two containers of the same numbers are one
-pub same_body : (a b : Body) → a.start.0 ≡ b.start.0 → a.end.0 ≡ b.end.0 → container_number a.container ≡ container_number b.container → a ≡ b
-same_body a b start end number =
-    let container : a.container ≡ b.container = sym (container_back a.container) ∙ ap container_of number ∙ container_back b.container in
+-- two containers that are held to be one are one
+pub same_body : (a b : Body) → (sameb the_type a.container b.container && (eqb a.start.0 b.start.0 && eqb a.end.0 b.end.0)) ≡ true → a ≡ b
+same_body a b same =
+    let (container, places) = both (sameb the_type a.container b.container) (eqb a.start.0 b.start.0 && eqb a.end.0 b.end.0) same in
+    let (start, end) = both (eqb a.start.0 b.start.0) (eqb a.end.0 b.end.0) places in
+    let container : a.container ≡ b.container = same_true the_type (search rules) a.container b.container container in
+    let start = eqb-true a.start.0 b.start.0 start in
+    let end = eqb-true a.end.0 b.end.0 end in
     λ i. record { container = container i; start = record { 0 = start i }; end = record { 0 = end i } }
 
 -- and have one list

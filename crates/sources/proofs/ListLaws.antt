@@ -12,9 +12,20 @@ use lib.ListN.{length, get_or, set, replicate, length-set, length-replicate, get
 use lib.Seq.{get_or-set_same, get_or-set_other}
 use Rattle.boxes.specs.declared.kinds.Container.{Container}
 use Rattle.boxes.specs.declared.kinds.Container.TheVariants.{File, Pfil, Pseg, Fidx, Bidx}
+use Rattle.boxes.specs.contracts.kinds.Container.{the_type}
+use denote.Enum.Declared.{tag_of}
 use Rattle.partial.specs.Limits.{file_limit, segment_limit}
-use Rattle.surls.specs.declared.body.Body.{Body}
+use Rattle.boxes.specs.declared.body.Body.{Body}
 use Rattle.sources.specs.Lists.{all_lists, container_number, container_of, containers, places, body_by, no_list, list_in, ListPut, Unlisted}
+
+-- the number of a container is that of its variant
+pub container_tag : (c : Container) → tag_of the_type c ≡ container_number c
+unfolding container_number
+container_tag File = refl
+container_tag Pfil = refl
+container_tag Pseg = refl
+container_tag Fidx = refl
+container_tag Bidx = refl
 
 -- a container is read back of its number
 pub container_back : (c : Container) → container_of (container_number c) ≡ c

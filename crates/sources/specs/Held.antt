@@ -9,7 +9,7 @@ use Rattle.partial.specs.Segments.{Segment}
 use Rattle.partial.specs.ReadingDemands.{Numbered}
 use Rattle.partial.specs.Sources.{source_count, source_beside, of_source}
 use Rattle.partial.specs.Texts.{list_boxes}
-use Rattle.surls.specs.declared.body.Body.{Body}
+use Rattle.boxes.specs.declared.body.Body.{Body}
 use Rattle.sources.specs.Lists.{all_lists, list_in, ListPut}
 use Rattle.sources.specs.Numbers.{source_put}
 

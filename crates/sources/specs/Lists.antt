@@ -3,7 +3,7 @@ use Rattle.std.specs.Prelude.{ℕ, ◌+◌, ◌/◌, ◌%◌, ◌<◌, min, true
 use Rattle.boxes.specs.declared.kinds.Container.{Container}
 use Rattle.boxes.specs.declared.kinds.Container.TheVariants.{File, Pfil, Pseg, Fidx, Bidx}
 use Rattle.partial.specs.Limits.{file_limit, segment_limit}
-use Rattle.surls.specs.declared.body.Body.{Body}
+use Rattle.boxes.specs.declared.body.Body.{Body}
 
 -- the numbers of the table, one for each source
 abbrev pub all_lists : ℕ

@@ -4,7 +4,7 @@ ghost use Rattle.sources.specs.Held.{Joins};
 use crate::find::source_of;
 use crate::lists::{ALL_LISTS, put_list};
 use crate::numbers::{ALL_SOURCES, put_source};
-use surls::body::Body;
+use boxes::body::Body;
 
 // The number of the source of the segment of that number, whose list stands in a container, beside segments of so many
 // sources. It is put into its table, and where the list of a new source stands into the other.

@@ -2,14 +2,15 @@
 ghost use Rattle.std.specs.Prelude.{◌≡◌};
 ghost use Rattle.sources.specs.Lists.{container_number, container_of, list_in, ListPut, Unlisted};
 
+use boxes::body::Body;
 use boxes::kinds::Container;
-use numerals::order::smaller;
 use numerals::place::Place;
 use partial::limits::FILE_LIMIT;
-use surls::body::Body;
 
 // The entries of as many sources as a file may have segments. An entry is one number: of the container, above that of
 // where its body starts, and above that of where it ends.
+// Not a table of bodies, since it stands on the stack of each call that reads: memory is fixed, and bodies take thrice as
+// much.
 pub const ALL_LISTS: usize = 64;
 // More than there are containers.
 const CONTAINERS: u64 = 8;
@@ -17,16 +18,10 @@ const CONTAINERS: u64 = 8;
 const PLACES: u64 = 1_073_741_825;
 
 // A container as a number, of which it is read back.
-pub(crate) fn number_of(container: Container) -> u64
+fn number_of(container: Container) -> u64
     ensures { result ≡ container_number container }
 {
-    match container {
-        Container::File => 0,
-        Container::Pfil => 1,
-        Container::Pseg => 2,
-        Container::Fidx => 3,
-        Container::Bidx => 4,
-    }
+    container as u64
 }
 
 // The container of a number.
@@ -53,11 +48,9 @@ pub fn list_at(lists: &[u64; ALL_LISTS], source: u64) -> Body
             end: Place(0),
         };
     }
-    let at = source as usize;
-    let list = lists[at];
-    let container = container_of(list % CONTAINERS);
+    let list = lists[source as usize];
     Body {
-        container,
+        container: container_of(list % CONTAINERS),
         start: Place(list / CONTAINERS % PLACES),
         end: Place(list / CONTAINERS / PLACES),
     }
@@ -67,13 +60,11 @@ pub fn list_at(lists: &[u64; ALL_LISTS], source: u64) -> Body
 pub fn put_list(lists: &mut [u64; ALL_LISTS], source: u64, list: Body)
     ensures { ListPut lists.old source list lists.new }
 {
-    if ALL_LISTS as u64 <= source {
-        return;
+    if source < ALL_LISTS as u64 {
+        let start = list.start.0.min(FILE_LIMIT);
+        let end = list.end.0.min(FILE_LIMIT);
+        lists[source as usize] = number_of(list.container) + CONTAINERS * (start + PLACES * end);
     }
-    let container = list.container;
-    let start = smaller(list.start.0, FILE_LIMIT);
-    let end = smaller(list.end.0, FILE_LIMIT);
-    lists[source as usize] = number_of(container) + CONTAINERS * (start + PLACES * end);
 }
 
 // Makes each entry one of no list.

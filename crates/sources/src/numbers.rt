@@ -9,21 +9,16 @@ pub const ALL_SOURCES: usize = 64;
 pub fn source_at(sources: &[u64; ALL_SOURCES], segment: u64) -> u64
     ensures { result ≡ source_in sources.now segment }
 {
-    if ALL_SOURCES as u64 <= segment {
-        return 0;
-    }
-    let at = segment as usize;
-    sources[at]
+    sources.get(segment as usize).copied().unwrap_or(0)
 }
 
 // Puts the number of the source of a segment, if the table has an entry for it.
 pub fn put_source(sources: &mut [u64; ALL_SOURCES], segment: u64, source: u64)
     ensures { sources.new ≡ source_put sources.old segment source }
 {
-    if ALL_SOURCES as u64 <= segment {
-        return;
+    if segment < ALL_SOURCES as u64 {
+        sources[segment as usize] = source;
     }
-    sources[segment as usize] = source;
 }
 
 // Makes each number 0.

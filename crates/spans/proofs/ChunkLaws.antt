@@ -1,5 +1,5 @@
 -- Laws of the spans of chunks: where the span of one ends, how many chunks are of a state, and what a chunk more adds.
-use Prim.Native.Nat.{ℕ, ◌+◌, ◌*◌, ◌<◌, ◌≤◌}
+use Prim.Native.Nat.{ℕ, ◌+◌, ◌-◌, ◌<◌, ◌≤◌, min}
 use mathlib.Core.Bool.{Bool, true, false, ◌||◌, or-false, or-true}
 use mathlib.Core.List.{List, [], ◌∷◌, ◌++◌, append-nil, append_assoc}
 use mathlib.Core.Logic.{◌⊎◌, inl, inr}
@@ -8,6 +8,7 @@ use native.Mathlib.Decide.{dec_le}
 use native.Mathlib.Omega.{arith}
 use borrow.Author.Tests.{eq-eqb, ne_eqb, eqb-true}
 use lib.Dec.{eqb}
+use lib.Seq.{get_or-take, get_or-drop}
 use lib.ListN.{length, get_or, take, drop, take-append-drop, length-append}
 use Rattle.partial.specs.Meaning.{covers_as}
 use Rattle.partial.specs.Segments.{Chunk, Segment, good, damaged, chunks_of}
@@ -19,6 +20,7 @@ use Rattle.partial.proofs.Meaning.SourceLaws.{of-append}
 use Rattle.partial.proofs.Meaning.SupplyLaws.{chunks_append}
 use Rattle.gathering.specs.Kept.{ChunksKept}
 use Rattle.gathering.proofs.KeptLaws.{next_chunk, next_taken, NextSegment}
+use Rattle.spans.specs.declared.span.Span.{Span}
 use Rattle.spans.specs.Spans.{first_at, end_at, covered_by, Spans, Joined}
 use Rattle.spans.specs.Chunks.{many_of, SpanEnd, Taken, SpansOf}
 use Rattle.spans.proofs.SpanLaws.{same_truth, covered_at, covered-by, no_spans}
@@ -49,6 +51,17 @@ module _ (state : ℕ) (c : Chunk) (end : ℕ) where
               | no short ↦ omega (arith, high (omega arith))
             ];
         most = λ some. most;
+      }
+
+  -- of one that ends where it starts, or where all does
+  pub span_empty : min (c.start + c.size) end ≤ c.start → SpanEnd state c end c.start
+  span_empty none =
+      record {
+        all = λ q from to. absurd (omega arith);
+        only = λ q below e.
+            let (_, from, under) = covers_true c q state e in
+            absurd (omega arith);
+        most = λ some. absurd (omega arith);
       }
 
   -- only a chunk in that state has a span that is not empty
@@ -114,6 +127,10 @@ source-few source (s ∷ ss) =
 
 -- ---- a chunk more
 
+-- the numbers of a part of a table
+pub part_at : (numbers : List ℕ) (at count i : ℕ) {n : ℕ} → i < count → n ≡ at + count - at → get_or (take n (drop at numbers)) i 0 ≡ get_or numbers (at + i) 0
+part_at numbers at count i {n} less many = get_or-take n (drop at numbers) i 0 (omega arith) ∙ get_or-drop at numbers i 0
+
 -- one of two tests passes
 or_left : (a b : Bool) → a ≡ true → (a || b) ≡ true
 or_left a b e = rw e
@@ -128,7 +145,7 @@ or_either a b e =
       | inr none ↦ inr (rw none at e)
     ]
 
-module _ (state end : ℕ) (c : Chunk) (t : List ℕ) (n : ℕ) {to : ℕ} (span : SpanEnd state c end to) where
+module _ (state end : ℕ) (c : Chunk) (t : List Span) (n : ℕ) {to : ℕ} (span : SpanEnd state c end to) where
   -- without a span
   pub taken_none : to ≤ c.start → Taken state end c t n t n
   taken_none none =
@@ -148,7 +165,7 @@ module _ (state end : ℕ) (c : Chunk) (t : List ℕ) (n : ℕ) {to : ℕ} (span
       }
 
   -- with one for which there is no room
-  pub taken_full : c.start < to → length t < 2 * n + 2 → Taken state end c t n t n
+  pub taken_full : c.start < to → length t < n + 1 → Taken state end c t n t n
   taken_full some full =
       record {
         long = refl;
@@ -158,9 +175,9 @@ module _ (state end : ℕ) (c : Chunk) (t : List ℕ) (n : ℕ) {to : ℕ} (span
       }
 
   -- with one, which is stored or makes the last longer
-  module _ {t' : List ℕ} {n' : ℕ} (some : c.start < to) (room : 2 * n + 2 ≤ length t) (j : Joined t n c.start to t' n') where
+  module _ {t' : List Span} {n' : ℕ} (some : c.start < to) (room : n + 1 ≤ length t) (j : Joined t n c.start to t' n') where
     kept : (i : ℕ) → i < j.at → (first_at t' i ≡ first_at t i) × (end_at t' i ≡ end_at t i)
-    kept i less = (j.stored.before (2 * i) (omega arith), j.stored.before (2 * i + 1) (omega arith))
+    kept i less = (ap (λ (s : Span). s.first.0) (j.stored.before i less), ap (λ (s : Span). s.end.0) (j.stored.before i less))
 
     last_first : (i : ℕ) → i ≡ j.at → first_at t' i ≡ j.from
     last_first i here = ap (λ (i : ℕ). first_at t' i) here ∙ j.stored.one
@@ -251,21 +268,21 @@ module _ (state end : ℕ) (c : Chunk) (t : List ℕ) (n : ℕ) {to : ℕ} (span
         }
 
 -- the same chunk
-pub taken_same : {state end : ℕ} {c d : Chunk} {t : List ℕ} {n : ℕ} {t' : List ℕ} {n' : ℕ} → c ≡ d → Taken state end c t n t' n' → Taken state end d t n t' n'
+pub taken_same : {state end : ℕ} {c d : Chunk} {t : List Span} {n : ℕ} {t' : List Span} {n' : ℕ} → c ≡ d → Taken state end c t n t' n' → Taken state end d t n t' n'
 taken_same {state} {end} {t = t} {n = n} {t' = t'} {n' = n'} e taken = subst (λ (x : Chunk). Taken state end x t n t' n') e taken
 
 -- ---- the chunks so far
 
 -- the same ones
-pub spans_same : {state : ℕ} {cs ds : List Chunk} {end : ℕ} {t : List ℕ} {n : ℕ} → cs ≡ ds → SpansOf state cs end t n → SpansOf state ds end t n
+pub spans_same : {state : ℕ} {cs ds : List Chunk} {end : ℕ} {t : List Span} {n : ℕ} → cs ≡ ds → SpansOf state cs end t n → SpansOf state ds end t n
 spans_same {state} {end = end} {t = t} {n = n} e s = subst (λ (l : List Chunk). SpansOf state l end t n) e s
 
 module _ (state end : ℕ) where
-  pub spans_none : (t : List ℕ) → SpansOf state [] end t 0
+  pub spans_none : (t : List Span) → SpansOf state [] end t 0
   unfolding covered_by some_of
   spans_none t = record { spans = no_spans t end; few = omega arith; covers = λ q below. refl }
 
-  pub spans_more : {cs : List Chunk} {t : List ℕ} {n : ℕ} → SpansOf state cs end t n → (c : Chunk) → 2 * many_of state (cs ++ (c ∷ [])) ≤ length t → {t' : List ℕ} {n' : ℕ}
+  pub spans_more : {cs : List Chunk} {t : List Span} {n : ℕ} → SpansOf state cs end t n → (c : Chunk) → many_of state (cs ++ (c ∷ [])) ≤ length t → {t' : List Span} {n' : ℕ}
       → Taken state end c t n t' n'
       → SpansOf state (cs ++ (c ∷ [])) end t' n'
   unfolding some_of
@@ -282,17 +299,17 @@ module _ (state end : ℕ) where
       }
 
 -- one chunk more of a segment's, behind some
-pub spans_next : (state end : ℕ) (done cs : List Chunk) (numbers : List ℕ) (at i start : ℕ) → i < length cs → ChunksKept numbers (at + i) start (drop i cs) → {t : List ℕ} {n : ℕ}
-    → 2 * many_of state (done ++ cs) ≤ length t
+pub spans_next : (state end : ℕ) (done cs : List Chunk) (numbers : List ℕ) (at i start : ℕ) → i < length cs → ChunksKept numbers (at + i) start (drop i cs) → {t : List Span} {n : ℕ}
+    → many_of state (done ++ cs) ≤ length t
     → SpansOf state (done ++ take i cs) end t n
-    → {t' : List ℕ} {n' : ℕ}
+    → {t' : List Span} {n' : ℕ}
     → Taken state end (next_chunk numbers at cs i start) t n t' n'
     → SpansOf state (done ++ take (i + 1) cs) end t' n'
 spans_next state end done cs numbers at i start some kept {t} room s taken =
     let c = next_chunk numbers at cs i start in
     let more : (done ++ take i cs) ++ (c ∷ []) ≡ done ++ take (i + 1) cs =
     append_assoc done (take i cs) (c ∷ []) ∙ ap (λ (l : List Chunk). done ++ l) (sym (next_taken numbers at cs i start some kept)) in
-    let fits : 2 * many_of state ((done ++ take i cs) ++ (c ∷ [])) ≤ length t =
+    let fits : many_of state ((done ++ take i cs) ++ (c ∷ [])) ≤ length t =
     omega (arith, room, ap (many_of state) more, many_both state done (take (i + 1) cs), many_both state done cs, many_taken state (i + 1) cs) in
     spans_same more (spans_more state end s c fits taken)
 
@@ -306,9 +323,9 @@ module _ (state end source : ℕ) (ss : List Segment) (k : ℕ) {rows sources nu
   with_next = ap (of_source source) next.taken ∙ of-append source (take k ss) (next.s ∷ [])
 
   -- of the source
-  pub spans_segment : get_or sources k 0 ≡ source → {t : List ℕ} {n : ℕ} → 2 * many_of state (chunks_of (of_source source ss)) ≤ length t → SpansOf state so_far end t n
-      → {t' : List ℕ} {n' : ℕ}
-      → (2 * many_of state (so_far ++ next.s.chunks) ≤ length t → SpansOf state so_far end t n → SpansOf state (so_far ++ next.s.chunks) end t' n')
+  pub spans_segment : get_or sources k 0 ≡ source → {t : List Span} {n : ℕ} → many_of state (chunks_of (of_source source ss)) ≤ length t → SpansOf state so_far end t n
+      → {t' : List Span} {n' : ℕ}
+      → (many_of state (so_far ++ next.s.chunks) ≤ length t → SpansOf state so_far end t n → SpansOf state (so_far ++ next.s.chunks) end t' n')
       → SpansOf state (chunks_of (of_source source (take (k + 1) ss))) end t' n'
   unfolding chunks_of of_source
   spans_segment is {t} room s more =
@@ -320,12 +337,12 @@ module _ (state end source : ℕ) (ss : List Segment) (k : ℕ) {rows sources nu
       let parts : chunks_of (of_source source ss) ≡ chunks_of (of_source source (take (k + 1) ss)) ++ chunks_of later =
       ap chunks_of (sym (ap (of_source source) (take-append-drop (k + 1) ss)) ∙ of-append source (take (k + 1) ss) (drop (k + 1) ss))
       ∙ chunks_append (of_source source (take (k + 1) ss)) later in
-      let fits : 2 * many_of state (so_far ++ next.s.chunks) ≤ length t =
+      let fits : many_of state (so_far ++ next.s.chunks) ≤ length t =
       omega (arith, room, ap (many_of state) all, ap (many_of state) parts, many_both state (chunks_of (of_source source (take (k + 1) ss))) (chunks_of later)) in
       spans_same (sym all) (more fits s)
 
   -- of another
-  pub spans_other : (get_or sources k 0 ≡ source → ⊥) → {t : List ℕ} {n : ℕ} → SpansOf state so_far end t n → SpansOf state (chunks_of (of_source source (take (k + 1) ss))) end t n
+  pub spans_other : (get_or sources k 0 ≡ source → ⊥) → {t : List Span} {n : ℕ} → SpansOf state so_far end t n → SpansOf state (chunks_of (of_source source (take (k + 1) ss))) end t n
   unfolding of_source
   spans_other other s =
       let this : of_source source (next.s ∷ []) ≡ [] = rw (of_source, ne_eqb next.s.source source (λ is. other (next.source ∙ is))) in

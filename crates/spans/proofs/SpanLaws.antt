@@ -1,5 +1,5 @@
 -- Laws of spans in a table: which positions they cover, and that tables with the same spans cover the same.
-use Prim.Native.Nat.{ℕ, zero, suc, ◌+◌, ◌*◌, ◌<◌, ◌≤◌}
+use Prim.Native.Nat.{ℕ, zero, suc, ◌+◌, ◌<◌, ◌≤◌}
 use mathlib.Core.Bool.{Bool, true, false, or-true, false≢true}
 use mathlib.Core.List.{List}
 use mathlib.Core.Logic.{inl, inr}
@@ -7,10 +7,12 @@ use mathlib.Core.Path.{◌≡◌, refl, sym, ap, ◌∙◌}
 use native.Mathlib.Decide.{dec_le}
 use native.Mathlib.Omega.{arith}
 use borrow.Author.Tests.{le-leb, lt-ltb, leb-true, ltb-true}
-use lib.ListN.{length, get_or, set, length-set}
-use lib.Seq.{get_or-set_same, get_or-set_other}
+use lib.ListN.{length, get_or, set, take, length-set}
+use lib.Seq.{get_or-set_same, get_or-set_other, get_or-take, length-take-le}
+use Rattle.partial.specs.Ranges.{missing, had}
 use Rattle.partial.proofs.Meaning.SequenceLaws.{which, both}
-use Rattle.spans.specs.Spans.{first_at, end_at, covered_by, Spans, Ascending, Ordered, Same, Stored, Joined}
+use Rattle.spans.specs.declared.span.Span.{Span}
+use Rattle.spans.specs.Spans.{no_span, first_at, end_at, covered_by, class_by, Spans, Ascending, Ordered, Same, Stored, Joined}
 
 -- two tests that pass together are equal
 pub same_truth : (a b : Bool) → (a ≡ true → b ≡ true) → (b ≡ true → a ≡ true) → a ≡ b
@@ -25,7 +27,7 @@ same_truth a b to from =
     ]
 
 -- a position that is covered lies in a span
-pub covered_at : (t : List ℕ) (n q : ℕ) → covered_by t n q ≡ true → (k : ℕ) × (k < n) × (first_at t k ≤ q) × (q < end_at t k)
+pub covered_at : (t : List Span) (n q : ℕ) → covered_by t n q ≡ true → (k : ℕ) × (k < n) × (first_at t k ≤ q) × (q < end_at t k)
 unfolding covered_by
 covered_at t zero q e = absurd (false≢true e)
 covered_at t (suc n) q e =
@@ -39,7 +41,7 @@ covered_at t (suc n) q e =
     ]
 
 -- and the other way round
-pub covered-by : (t : List ℕ) (n q k : ℕ) → k < n → first_at t k ≤ q → q < end_at t k → covered_by t n q ≡ true
+pub covered-by : (t : List Span) (n q k : ℕ) → k < n → first_at t k ≤ q → q < end_at t k → covered_by t n q ≡ true
 unfolding covered_by
 covered-by t zero q k less from to = absurd (omega arith)
 covered-by t (suc n) q k less from to =
@@ -53,7 +55,7 @@ covered-by t (suc n) q k less from to =
     ]
 
 -- a position that is in no span is not covered
-pub uncovered : (t : List ℕ) (n q : ℕ) → ((k : ℕ) → k < n → first_at t k ≤ q → q < end_at t k → ⊥) → covered_by t n q ≡ false
+pub uncovered : (t : List Span) (n q : ℕ) → ((k : ℕ) → k < n → first_at t k ≤ q → q < end_at t k → ⊥) → covered_by t n q ≡ false
 uncovered t n q none =
     elim (which (covered_by t n q)) [
       | inl e ↦
@@ -63,27 +65,27 @@ uncovered t n q none =
     ]
 
 -- a table has no span at all
-pub no_spans : (t : List ℕ) (end : ℕ) → Spans t 0 end
+pub no_spans : (t : List Span) (end : ℕ) → Spans t 0 end
 no_spans t end = record { room = omega arith; some = λ k less. absurd (omega arith); most = λ k less. absurd (omega arith) }
 
 -- a table without spans is ordered
-pub ordered_none : (t : List ℕ) (end : ℕ) → Ordered t 0 end
+pub ordered_none : (t : List Span) (end : ℕ) → Ordered t 0 end
 ordered_none t end = record { spans = no_spans t end; order = record { up = λ j k low less. absurd (omega arith) } }
 
--- a span whose two numbers are set is stored
-pub span_stored : (t : List ℕ) (n first end : ℕ) → 2 * n + 2 ≤ length t → Stored t n first end (set (set t (2 * n) first) (2 * n + 1) end)
-span_stored t n first end room =
-    let half = set t (2 * n) first in
+-- a span that is set is stored
+pub span_stored : (t : List Span) (n : ℕ) (s : Span) → n + 1 ≤ length t → Stored t n s.first.0 s.end.0 (set t n s)
+span_stored t n s room =
+    let here = get_or-set_same t n s no_span (omega arith) in
     record {
-      long = length-set half (2 * n + 1) end ∙ length-set t (2 * n) first;
-      one = get_or-set_other half (2 * n + 1) (2 * n) end 0 (λ e. omega arith) ∙ get_or-set_same t (2 * n) first 0 (omega arith);
-      two = get_or-set_same half (2 * n + 1) end 0 (omega (arith, length-set t (2 * n) first));
-      before = λ i less. get_or-set_other half (2 * n + 1) i end 0 (λ e. omega arith) ∙ get_or-set_other t (2 * n) i first 0 (λ e. omega arith);
-      behind = λ i more. get_or-set_other half (2 * n + 1) i end 0 (λ e. omega arith) ∙ get_or-set_other t (2 * n) i first 0 (λ e. omega arith);
+      long = length-set t n s;
+      one = ap (λ (x : Span). x.first.0) here;
+      two = ap (λ (x : Span). x.end.0) here;
+      before = λ i less. get_or-set_other t n i s no_span (λ e. omega arith);
+      behind = λ i more. get_or-set_other t n i s no_span (λ e. omega arith);
     }
 
 -- a span behind n others, and one that makes the last of them longer
-module _ {t t' : List ℕ} (n first end : ℕ) where
+module _ {t t' : List Span} (n first end : ℕ) where
   pub joined-behind : Stored t n first end t' → Joined t n first end t' (n + 1)
   joined-behind s =
       record {
@@ -114,10 +116,10 @@ module _ {t t' : List ℕ} (n first end : ℕ) where
 
 -- ---- the same spans
 
-pub same_self : (n : ℕ) (t : List ℕ) → Same n t t
+pub same_self : (n : ℕ) (t : List Span) → Same n t t
 same_self n t = record { long = refl; kept = λ k less. (k, less, refl, refl); old = λ k less. (k, less, refl, refl) }
 
-pub same_on : {n : ℕ} {a b c : List ℕ} → Same n a b → Same n b c → Same n a c
+pub same_on : {n : ℕ} {a b c : List Span} → Same n a b → Same n b c → Same n a c
 same_on s t =
     record {
       long = t.long ∙ s.long;
@@ -131,7 +133,7 @@ same_on s t =
           (i, under, first ∙ first', end ∙ end');
     }
 
-module _ {n : ℕ} {t t' : List ℕ} (s : Same n t t') where
+module _ {n : ℕ} {t t' : List Span} (s : Same n t t') where
   pub same_covered : (q : ℕ) → covered_by t' n q ≡ covered_by t n q
   same_covered q =
       same_truth _ _
@@ -162,16 +164,55 @@ module _ {n : ℕ} {t t' : List ℕ} (s : Same n t t') where
 
 -- ---- a table that changes behind its first spans
 
-module _ {t t' : List ℕ} {n : ℕ} (long : length t' ≡ length t) (front : (i : ℕ) → i < 2 * n → get_or t' i 0 ≡ get_or t i 0) where
+module _ {t t' : List Span} {n : ℕ} (long : length t' ≡ length t) (front : (i : ℕ) → i < n → get_or t' i no_span ≡ get_or t i no_span) where
   pub front_same : Same n t t'
   front_same =
       record {
         long = long;
-        kept = λ k less. (k, less, sym (front (2 * k) (omega arith)), sym (front (2 * k + 1) (omega arith)));
-        old = λ k less. (k, less, front (2 * k) (omega arith), front (2 * k + 1) (omega arith));
+        kept = λ k less. (k, less, ap (λ (s : Span). s.first.0) (sym (front k less)), ap (λ (s : Span). s.end.0) (sym (front k less)));
+        old = λ k less. (k, less, ap (λ (s : Span). s.first.0) (front k less), ap (λ (s : Span). s.end.0) (front k less));
       }
 
   pub front_ordered : {end : ℕ} → Ordered t n end → Ordered t' n end
   front_ordered ordered =
       same_ordered front_same ordered.spans
-      (record { up = λ j k low less. omega (arith, ordered.order.up j k low less, front (2 * j) (omega arith), front (2 * k) (omega arith)) })
+      (record { up = λ j k low less. omega (arith, ordered.order.up j k low less, ap (λ (s : Span). s.first.0) (front j (omega arith)), ap (λ (s : Span). s.first.0) (front k (omega arith))) })
+
+-- ---- the first spans of a table, alone
+
+module _ (t : List Span) (n : ℕ) (room : n ≤ length t) where
+  pub front_long : length (take n t) ≡ n
+  front_long = length-take-le n t room
+
+  front_at : (k : ℕ) → k < n → get_or (take n t) k no_span ≡ get_or t k no_span
+  front_at k less = get_or-take n t k no_span less
+
+  pub front_covered : (q : ℕ) → covered_by (take n t) (length (take n t)) q ≡ covered_by t n q
+  front_covered q =
+      ap (λ (m : ℕ). covered_by (take n t) m q) front_long
+      ∙ same_truth _ _
+      (λ e.
+      let (k, less, from, to) = covered_at (take n t) n q e in
+      covered-by t n q k less (omega (arith, from, ap (λ (s : Span). s.first.0) (front_at k less))) (omega (arith, to, ap (λ (s : Span). s.end.0) (front_at k less))))
+      (λ e.
+      let (k, less, from, to) = covered_at t n q e in
+      covered-by (take n t) n q k less (omega (arith, from, ap (λ (s : Span). s.first.0) (front_at k less))) (omega (arith, to, ap (λ (s : Span). s.end.0) (front_at k less))))
+
+  pub front_class : (q : ℕ) → class_by (take n t) (length (take n t)) q ≡ class_by t n q
+  unfolding class_by
+  front_class q = λ i. elim (front_covered q i) [ true ↦ had | false ↦ missing ]
+
+pub front_alone : {t : List Span} {n end : ℕ} → Ordered t n end → Ordered (take n t) (length (take n t)) end
+front_alone {t} {n} o =
+    let long = front_long t n o.spans.room in
+    let at : (k : ℕ) → k < n → get_or (take n t) k no_span ≡ get_or t k no_span = front_at t n o.spans.room in
+    record {
+      spans = record {
+        room = omega arith;
+        some = λ k less. omega (arith, long, o.spans.some k (omega arith), ap (λ (s : Span). s.first.0) (at k (omega arith)), ap (λ (s : Span). s.end.0) (at k (omega arith)));
+        most = λ k less. omega (arith, long, o.spans.most k (omega arith), ap (λ (s : Span). s.end.0) (at k (omega arith)));
+      };
+      order = record {
+        up = λ j k low less. omega (arith, o.order.up j k low (omega arith), ap (λ (s : Span). s.first.0) (at j (omega arith)), ap (λ (s : Span). s.first.0) (at k (omega arith)));
+      };
+    }

@@ -4,8 +4,9 @@ use Rattle.partial.specs.Meaning.{described_length}
 use Rattle.partial.specs.Ranges.{class_of}
 use Rattle.partial.specs.Segments.{Segment}
 use Rattle.spans.specs.Spans.{class_by}
+use Rattle.spans.specs.declared.span.Span.{Span}
 
 -- below the described length, spans cover what the good chunks of a file do
-pub record Spanned (ss : List Segment) (t : List ℕ) (n described : ℕ) : Type 0 where
+pub record Spanned (ss : List Segment) (t : List Span) (n described : ℕ) : Type 0 where
   pub long : described ≡ described_length ss
   pub class : (q : ℕ) → q < described → class_by t n q ≡ class_of ss q

@@ -1,4 +1,4 @@
 pub mod Spans
 pub mod Chunks
-pub mod Order
 pub mod Files
+pub mod KeptOf

@@ -1,54 +1,59 @@
 // The spans of the chunks of one state of a source, made of what is kept of a file.
-ghost use Rattle.std.specs.Prelude.{◌+◌, ◌*◌, ◌≤◌, List, length};
+ghost use Rattle.std.specs.Prelude.{◌+◌, ◌≤◌, ◌<◌, List, ◌≡◌, length, MatchOption};
+ghost use Rattle.fields.specs.State.{state_no};
 ghost use Rattle.partial.specs.Limits.{chunk_limit};
 ghost use Rattle.partial.specs.Segments.{Segment, chunks_of};
 ghost use Rattle.partial.specs.Sources.{of_source};
 ghost use Rattle.segment.specs.Chunk.{chunk_of};
-ghost use Rattle.gathering.specs.Kept.{Kept};
 ghost use Rattle.spans.specs.Chunks.{many_of, SpanEnd, Taken, SpansOf, Extends};
+ghost use Rattle.spans.specs.KeptOf.{KeptOf};
 ghost use Rattle.spans.specs.Spans.{Spans};
 
+use crate::kept::Kept;
 use crate::put::join_span;
+use crate::span::Span;
+use fields::state::State;
 use gathering::numbers::chunk_by;
-use numerals::order::{smaller, sum_of};
 use partial::limits::{CHUNK_LIMIT, SEGMENT_LIMIT};
 use partial::position::Position;
 use partial::rows::{ALL_NUMBERS, ALL_SEGMENT_ROWS, SEGMENT_ROW};
 use segment::chunk::Chunk;
 use sources::numbers::ALL_SOURCES;
 
-// The numbers of the spans of as many chunks as a file may have.
-pub const ALL_SPANS: usize = 2_048;
+// As many spans as a file may have chunks.
+pub const ALL_SPANS: usize = 1_024;
 
-// Where the span of a chunk ends that starts where the chunk does and holds what a chunk of a state covers below an
-// end; at its start where that is nothing.
-fn span_end(c: Chunk, state: u64, end: Position) -> u64
-    ensures { SpanEnd state (chunk_of c) end.0 result }
+// The span of what a chunk of a state covers below an end, if it covers anything there.
+fn span_of(c: Chunk, state: State, end: Position) -> Option<Span>
+    ensures { MatchOption result (SpanEnd (state_no state) (chunk_of c) end.0 c.start.0) (λ s. (s.first.0 ≡ c.start.0) × (c.start.0 < s.end.0) × SpanEnd (state_no state) (chunk_of c) end.0 s.end.0) }
 {
-    let start = c.start;
     if c.state != state {
-        return start.0;
+        return None;
     }
-    if end.0 <= start.0 {
-        return start.0;
+    let first = c.start;
+    let to = first.0.saturating_add(c.size).min(end.0);
+    if to <= first.0 {
+        return None;
     }
-    start.0 + smaller(end.0 - start.0, c.size)
+    Some(Span {
+        first,
+        end: Position(to),
+    })
 }
 
 // Takes a chunk into a table of so many spans, and answers how many there are then: no more where it is of another
-// state, or covers nothing below an end, or has no room.
-fn take_chunk(table: &mut [u64], n: usize, c: Chunk, state: u64, end: Position) -> usize
-    ensures { Taken state end.0 (chunk_of c) table.old n table.new result }
+// state, or covers nothing below an end, or has no room. The table is fixed memory, so that how many spans it has stands
+// beside it.
+fn take_chunk(table: &mut [Span], n: usize, c: Chunk, state: State, end: Position) -> usize
+    ensures { Taken (state_no state) end.0 (chunk_of c) table.old n table.new result }
 {
-    let start = c.start;
-    let to = span_end(c, state, end);
-    if to <= start.0 {
+    let Some(span) = span_of(c, state, end) else {
+        return n;
+    };
+    if table.len() <= n {
         return n;
     }
-    if table.len() / 2 <= n {
-        return n;
-    }
-    join_span(table, n, start.0, to)
+    join_span(table, n, span)
 }
 
 // Takes so many chunks of a segment into a table of so many spans, by the numbers from one on, of which the first
@@ -58,23 +63,21 @@ fn take_segment(
     at: u64,
     count: u64,
     first: Position,
-    state: u64,
+    state: State,
     end: Position,
-    table: &mut [u64],
+    table: &mut [Span],
     before: usize,
 ) -> usize
     requires { at + count ≤ chunk_limit }
     ensures { (Spans table.old before end.0 → Spans table.new result end.0)
-        × Extends state numbers.now at count first.0 end.0 table.old before table.new result }
+        × Extends (state_no state) numbers.now at count first.0 end.0 table.old before table.new result }
 {
     let mut n = before;
     let mut start = first;
-    let mut i = 0;
-    while i < count {
-        let c = chunk_by(numbers[(at + i) as usize], start);
+    for number in &numbers[at as usize..(at + count) as usize] {
+        let c = chunk_by(*number, start);
         n = take_chunk(table, n, c, state, end);
-        start = Position(sum_of(start.0, c.size));
-        i += 1;
+        start = Position(start.0.saturating_add(c.size));
     }
     n
 }
@@ -83,38 +86,42 @@ fn take_segment(
 // are, by what is kept of so many segments, whatever their sources; of all of them where the table has room for a span
 // of each.
 pub fn spans_of(
-    state: u64,
+    kept: Kept<'_>,
+    state: State,
     source: u64,
-    sources: &[u64; ALL_SOURCES],
-    segments: &[u64; ALL_SEGMENT_ROWS],
-    many: u64,
-    numbers: &[u64; ALL_NUMBERS],
     end: Position,
-    table: &mut [u64],
+    table: &mut [Span],
 ) -> usize
     ensures { Spans table.new result end.0
-        × ((ss : List Segment) → Kept segments.now many sources.now numbers.now ss
-        → 2 * many_of state (chunks_of (of_source source ss)) ≤ length table.old
-        → SpansOf state (chunks_of (of_source source ss)) end.0 table.new result) }
+        × ((ss : List Segment) → KeptOf kept.entry ss
+        → many_of (state_no state) (chunks_of (of_source source ss)) ≤ length table.old
+        → SpansOf (state_no state) (chunks_of (of_source source ss)) end.0 table.new result) }
 {
-    if SEGMENT_LIMIT < many {
+    if SEGMENT_LIMIT < kept.many {
         return 0;
     }
     let mut n = 0;
     let mut at = 0;
-    let mut k = 0;
-    while k < many {
+    for k in 0..kept.many {
         let row = (SEGMENT_ROW * k) as usize;
-        let first = segments[row + 1];
-        let count = segments[row + 4];
+        let first = kept.segments[row + 1];
+        let count = kept.segments[row + 4];
         if CHUNK_LIMIT - at < count {
             return n;
         }
-        if sources[k as usize] == source {
-            n = take_segment(numbers, at, count, Position(first), state, end, table, n);
+        if kept.sources[k as usize] == source {
+            n = take_segment(
+                kept.numbers,
+                at,
+                count,
+                Position(first),
+                state,
+                end,
+                table,
+                n,
+            );
         }
         at += count;
-        k += 1;
     }
     n
 }

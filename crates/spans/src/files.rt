@@ -1,34 +1,35 @@
 // The spans of the chunks of one state of a source, in order.
-ghost use Rattle.std.specs.Prelude.{◌*◌, ◌≤◌, List, length};
+ghost use Rattle.std.specs.Prelude.{◌≤◌, List, length};
+ghost use Rattle.fields.specs.State.{state_no};
 ghost use Rattle.partial.specs.Segments.{Segment, chunks_of};
 ghost use Rattle.partial.specs.Sources.{of_source};
-ghost use Rattle.gathering.specs.Kept.{Kept};
 ghost use Rattle.spans.specs.Chunks.{many_of, SpansOf};
+ghost use Rattle.spans.specs.KeptOf.{KeptOf};
 ghost use Rattle.spans.specs.Spans.{Ordered};
 
 use crate::chunks::spans_of;
+use crate::kept::Kept;
 use crate::ordering::order;
+use crate::span::Span;
+use fields::state::State;
 use partial::position::Position;
 use partial::rows::{ALL_NUMBERS, ALL_SEGMENT_ROWS};
 use sources::numbers::ALL_SOURCES;
 
 // Puts them into a table, and answers how many they are, by what is kept of so many segments.
 pub fn file_spans(
-    state: u64,
+    kept: Kept<'_>,
+    state: State,
     source: u64,
-    sources: &[u64; ALL_SOURCES],
-    segments: &[u64; ALL_SEGMENT_ROWS],
-    many: u64,
-    numbers: &[u64; ALL_NUMBERS],
     end: Position,
-    table: &mut [u64],
+    table: &mut [Span],
 ) -> usize
     ensures { Ordered table.new result end.0
-        × ((ss : List Segment) → Kept segments.now many sources.now numbers.now ss
-        → 2 * many_of state (chunks_of (of_source source ss)) ≤ length table.old
-        → SpansOf state (chunks_of (of_source source ss)) end.0 table.new result) }
+        × ((ss : List Segment) → KeptOf kept.entry ss
+        → many_of (state_no state) (chunks_of (of_source source ss)) ≤ length table.old
+        → SpansOf (state_no state) (chunks_of (of_source source ss)) end.0 table.new result) }
 {
-    let n = spans_of(state, source, sources, segments, many, numbers, end, table);
+    let n = spans_of(kept, state, source, end, table);
     order(table, n);
     n
 }

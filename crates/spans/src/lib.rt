@@ -3,5 +3,7 @@
 
 pub mod chunks;
 pub mod files;
+pub mod kept;
 pub mod ordering;
 mod put;
+pub mod span;

@@ -18,31 +18,33 @@ use Rattle.partial.proofs.Meaning.RunLaws.{comes, supplies_true, run_end, run}
 use Rattle.partial.proofs.Meaning.SupplyLaws.{supplier_here, supplier_on}
 use Rattle.segment.specs.Chunk.{chunk_of}
 use Rattle.supplying.specs.Rows.{chunk_in, row_of, chunks_from, chunks_in}
-use Rattle.supplying.specs.Runs.{is_supplied, supplied_by, same_run, RunIn, clip}
+use Rattle.supplying.specs.Runs.{is_supplied, supplied_by, same_run, run_chunk, RunIn, clip}
+use Rattle.std.specs.Prelude.{None, Some, is_some}
+use Rattle.segment.specs.declared.chunk.Chunk.{Chunk as CodeChunk}
 use Rattle.supplying.specs.declared.runs.Run.{Run}
 use Rattle.supplying.proofs.RowsLaws.{rows_next}
 
 module _ (c : Chunk) (p : ℕ) where
-  pub supplies_other : (c.state ≡ good → ⊥) → false ≡ supplies p c
-  supplies_other other = rw (ne_eqb c.state good other)
+  pub supplies_other : eqb c.state good ≡ false → false ≡ supplies p c
+  supplies_other other = rw other
 
   pub supplies_before : p < c.start → false ≡ supplies p c
   unfolding covers within
   supplies_before before = rw (lt-leb c.start p before, and-false)
 
-  pub supplies_by : c.state ≡ good → c.start ≤ p → ltb (p - c.start) c.size ≡ supplies p c
+  pub supplies_by : eqb c.state good ≡ true → c.start ≤ p → ltb (p - c.start) c.size ≡ supplies p c
   unfolding covers within
   supplies_by state from =
-      rw (eq-eqb c.state good state, le-leb c.start p from)
+      rw (state, le-leb c.start p from)
       (elim (dec_le (c.start + c.size) p) [
         | yes past ↦ le-ltb (p - c.start) c.size (omega arith) ∙ sym (le-ltb p (c.start + c.size) past)
         | no to ↦ lt-ltb (p - c.start) c.size (omega arith) ∙ sym (lt-ltb p (c.start + c.size) (omega arith))
       ])
 
   module _ (end : ℕ) where
-    pub clip_other : (c.state ≡ good → ⊥) → end ≡ clip p end c
+    pub clip_other : eqb c.state good ≡ false → end ≡ clip p end c
     unfolding clip
-    clip_other other = rw (clip, ne_eqb c.state good other)
+    clip_other other = rw (clip, other)
 
     pub clip-begun : c.start ≤ p → end ≡ clip p end c
     unfolding clip
@@ -52,9 +54,9 @@ module _ (c : Chunk) (p : ℕ) where
     unfolding clip
     clip-empty empty = rw (clip, le-ltb 0 c.size (omega arith), and-false (ltb p c.start), and-false (eqb c.state good))
 
-    pub clip_begins : c.state ≡ good → p < c.start → (c.size ≡ 0 → ⊥) → min end c.start ≡ clip p end c
+    pub clip_begins : eqb c.state good ≡ true → p < c.start → (c.size ≡ 0 → ⊥) → min end c.start ≡ clip p end c
     unfolding clip
-    clip_begins state after some = rw (clip, eq-eqb c.state good state, lt-ltb p c.start after, lt-ltb 0 c.size (omega arith))
+    clip_begins state after some = rw (clip, state, lt-ltb p c.start after, lt-ltb 0 c.size (omega arith))
 
     -- the end of a run behind a chunk that does not supply the position
     run_on : (cs : List Chunk) → supplies p c ≡ false → run_end (c ∷ cs) p end ≡ run_end cs p (clip p end c)
@@ -145,22 +147,22 @@ module _ (all : List Chunk) (p end : ℕ) where
           ends = m.ends ∙ run_on c p stop others lacks;
         }
 
-    run_found : supplies p c ≡ true → {r : Run} → r.supplied ≡ true → chunk_of r.chunk ≡ c → r.length ≡ min (stop - p) (c.size - (p - c.start)) → RunIn all p end r
+    run_found : supplies p c ≡ true → {r : Run} {x : CodeChunk} → r.chunk ≡ Some x → chunk_of x ≡ c → r.length ≡ min (stop - p) (c.size - (p - c.start)) → RunIn all p end r
     run_found here is by long =
         let (_, from, to) = supplies_true c p here in
         let stops = m.ends ∙ run_here c p others stop here in
         record {
-          supplied = is ∙ sym (m.supplied ∙ supplied_here c others p here);
-          chunk = by ∙ sym (m.by ∙ by_here c others p here);
+          supplied = ap is_some is ∙ sym (m.supplied ∙ supplied_here c others p here);
+          chunk = ap run_chunk is ∙ by ∙ sym (m.by ∙ by_here c others p here);
           long = long ∙ sym (run_long all p end ∙ omega (arith, stops));
         }
 
-  run_none : {stop : ℕ} → Midway all [] p end stop → {r : Run} → r.supplied ≡ false → chunk_of r.chunk ≡ no_chunk → r.length ≡ stop - p → RunIn all p end r
+  run_none : {stop : ℕ} → Midway all [] p end stop → {r : Run} → r.chunk ≡ None → r.length ≡ stop - p → RunIn all p end r
   unfolding run_end supplier
-  run_none m is none long =
+  run_none m is long =
       record {
-        supplied = is ∙ sym m.supplied;
-        chunk = none ∙ sym m.by;
+        supplied = ap is_some is ∙ sym m.supplied;
+        chunk = ap run_chunk is ∙ sym m.by;
         long = long ∙ sym (run_long all p end ∙ ap (λ (n : ℕ). n - p) m.ends);
       }
 
@@ -187,8 +189,12 @@ module _ (sources : List ℕ) (source : ℕ) (table : List ℕ) (count p end : �
           ∙ ap (λ (n : ℕ). elim is [ true ↦ chunk_in table k ∷ chunks_from sources source table (count - (k + 1)) n | false ↦ chunks_from sources source table (count - (k + 1)) n ]) next
 
       -- a row of another source
-      pub passed_other : row_of sources source table k ≡ false → PassedTo (k + 1) stop
-      passed_other other = midway_same (next_row false other) m
+      pub passed_other : (row_of sources source table k ≡ true → ⊥) → PassedTo (k + 1) stop
+      passed_other other =
+          elim (which (row_of sources source table k)) [
+            | inl e ↦ absurd (other e)
+            | inr e ↦ midway_same (next_row false e) m
+          ]
 
       module _ {c : Chunk} (row : c ≡ chunk_in table k) (this : row_of sources source table k ≡ true) where
         ahead : left k ≡ c ∷ left (k + 1)
@@ -197,10 +203,10 @@ module _ (sources : List ℕ) (source : ℕ) (table : List ℕ) (count p end : �
         pub passed_more : supplies p c ≡ false → PassedTo (k + 1) (clip p stop c)
         passed_more lacks = midway_on _ p end (midway_same ahead m) lacks
 
-        pub passed_here : supplies p c ≡ true → {r : Run} → r.supplied ≡ true → chunk_of r.chunk ≡ c → r.length ≡ min (stop - p) (c.size - (p - c.start))
+        pub passed_here : supplies p c ≡ true → {r : Run} {x : CodeChunk} → r.chunk ≡ Some x → chunk_of x ≡ c → r.length ≡ min (stop - p) (c.size - (p - c.start))
             → RunIn (chunks_in sources source table count) p end r
         passed_here here = run_found _ p end (midway_same ahead m) here
 
-    pub passed_all : count ≤ k → {r : Run} → r.supplied ≡ false → chunk_of r.chunk ≡ no_chunk → r.length ≡ stop - p → RunIn (chunks_in sources source table count) p end r
+    pub passed_all : count ≤ k → {r : Run} → r.chunk ≡ None → r.length ≡ stop - p → RunIn (chunks_in sources source table count) p end r
     unfolding chunks_from
     passed_all most = run_none _ p end (midway_same (ap (λ (m : ℕ). chunks_from sources source table m k) {x = count - k} {y = 0} (omega arith)) m)

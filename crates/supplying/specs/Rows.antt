@@ -3,6 +3,11 @@ use Rattle.std.specs.Prelude.{ℕ, zero, suc, ◌+◌, ◌*◌, ◌/◌, Bool, t
 use Rattle.partial.specs.Segments.{Chunk, no_chunk}
 use Rattle.partial.specs.Tables.{chunk_row_length}
 use Rattle.sources.specs.Numbers.{source_in}
+use Rattle.supplying.specs.declared.rows.Told.{Told}
+
+-- what a chunk as its row tells it says
+abbrev pub told_of : Told → Chunk
+told_of c = record { start = c.start.0; size = c.size; state = c.state; place = c.place.0 }
 
 -- the chunk of a row: its start, size, state and place are the row's last four numbers; of a row that is not there, no
 -- chunk

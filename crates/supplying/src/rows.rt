@@ -1,46 +1,73 @@
 // The chunks of a table that reading filled, row by row, and which of them are a source's.
-ghost use Rattle.std.specs.Prelude.{◌≡◌};
+ghost use Rattle.std.specs.Prelude.{true, ◌≡◌, ◌<◌, ◌/◌, SomeIff, eqb, length, option_map};
+ghost use Rattle.partial.specs.Segments.{good};
+ghost use Rattle.partial.specs.Tables.{chunk_row_length};
 ghost use Rattle.segment.specs.Chunk.{chunk_of};
-ghost use Rattle.supplying.specs.Rows.{chunk_in, row_of};
+ghost use Rattle.supplying.specs.Rows.{told_of, chunk_in, row_of};
 
+use fields::state::State;
 use numerals::place::Place;
 use partial::position::Position;
 use partial::rows::CHUNK_ROW;
 use segment::chunk::Chunk;
 use sources::numbers::{ALL_SOURCES, source_at};
 
-// What stands for the chunk of a row that is not there: a lost one of no size.
-pub(crate) const NO_CHUNK: Chunk = Chunk {
-    start: Position(0),
-    size: 0,
-    state: 0,
-    place: Place(0),
-};
+// A chunk as its row tells it. Its state is the number in the row: a lent table may hold one that no state has.
+#[derive(Clone, Copy)]
+pub struct Told {
+    pub start: Position,
+    pub size: u64,
+    pub state: u64,
+    pub place: Place,
+}
 
-// The chunk of the row of that number, counted from 0.
-pub fn chunk_at(table: &[u64], n: u64) -> Chunk
-    ensures { chunk_of result ≡ chunk_in table.now n }
+impl Told {
+    // Whether it is good.
+    pub(crate) fn is_good(self) -> bool
+        ensures { result ≡ eqb self.state good }
+    {
+        self.state == State::Good.number()
+    }
+
+    // The chunk, which is good.
+    pub(crate) fn good(self) -> Chunk
+        requires { self.state ≡ good }
+        ensures { chunk_of result ≡ told_of self }
+    {
+        Chunk {
+            start: self.start,
+            size: self.size,
+            state: State::Good,
+            place: self.place,
+        }
+    }
+}
+
+// The chunk of the row of that number, counted from 0, if the row is there.
+pub fn chunk_at(table: &[u64], n: u64) -> Option<Told>
+    ensures { SomeIff (option_map told_of result) (n < length table.now / chunk_row_length) (chunk_in table.now n) }
 {
     if table.len() as u64 / CHUNK_ROW <= n {
-        return NO_CHUNK;
+        return None;
     }
     let at = (CHUNK_ROW * n) as usize;
-    Chunk {
+    Some(Told {
         start: Position(table[at + 2]),
         size: table[at + 3],
         state: table[at + 4],
         place: Place(table[at + 5]),
-    }
+    })
 }
 
-// Whether the row of that number is there and its chunk is of a source, by the sources of the segments.
-pub fn row_of(sources: &[u64; ALL_SOURCES], source: u64, table: &[u64], n: u64) -> bool
-    ensures { result ≡ row_of sources.now source table.now n }
+// The chunk of the row of that number, if the row is there and the chunk is of a source, by the sources of the segments.
+pub fn of_source(sources: &[u64; ALL_SOURCES], source: u64, table: &[u64], n: u64) -> Option<Told>
+    ensures { SomeIff (option_map told_of result) (row_of sources.now source table.now n ≡ true) (chunk_in table.now n) }
 {
-    let rows = table.len() as u64 / CHUNK_ROW;
-    if rows <= n {
-        return false;
-    }
+    let told = chunk_at(table, n)?;
     let segment = table[(CHUNK_ROW * n) as usize];
-    source_at(sources, segment) == source
+    if source_at(sources, segment) == source {
+        Some(told)
+    } else {
+        None
+    }
 }

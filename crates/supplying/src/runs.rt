@@ -2,31 +2,27 @@
 // one pass over the rows.
 ghost use Rattle.std.specs.Prelude.{◌≡◌};
 ghost use Rattle.partial.specs.Meaning.{supplies};
-ghost use Rattle.segment.specs.Chunk.{chunk_of};
-ghost use Rattle.supplying.specs.Rows.{chunks_in};
+ghost use Rattle.supplying.specs.Rows.{told_of, chunks_in};
 ghost use Rattle.supplying.specs.Runs.{RunIn, clip};
 
-use crate::rows::{NO_CHUNK, chunk_at, row_of};
-use fields::state::GOOD;
-use numerals::order::{between, smaller};
+use crate::rows::{Told, of_source};
 use partial::position::Position;
 use segment::chunk::Chunk;
 use sources::numbers::ALL_SOURCES;
 
-// Whether a chunk supplies a position, which one, and how many positions from there on are alike.
+// Which chunk supplies a position, if any does, and how many positions from there on are alike.
 #[derive(Clone, Copy)]
 pub struct Run {
-    pub supplied: bool,
-    pub chunk: Chunk,
+    pub chunk: Option<Chunk>,
     pub length: u64,
 }
 
 // Whether a chunk is good and covers a position.
-fn supplies(c: Chunk, p: Position) -> bool
-    ensures { result ≡ supplies p.0 (chunk_of c) }
+fn supplies(c: Told, p: Position) -> bool
+    ensures { result ≡ supplies p.0 (told_of c) }
 {
     let start = c.start;
-    if c.state != GOOD {
+    if !c.is_good() {
         return false;
     }
     if p.0 < start.0 {
@@ -37,11 +33,11 @@ fn supplies(c: Chunk, p: Position) -> bool
 
 // An end, or where a good chunk begins that comes before it and after a position: from there on it supplies what it
 // covers.
-fn clip(c: Chunk, p: Position, end: u64) -> u64
-    ensures { result ≡ clip p.0 end (chunk_of c) }
+fn clip(c: Told, p: Position, end: u64) -> u64
+    ensures { result ≡ clip p.0 end (told_of c) }
 {
     let start = c.start;
-    if c.state != GOOD {
+    if !c.is_good() {
         return end;
     }
     if start.0 <= p.0 {
@@ -50,7 +46,7 @@ fn clip(c: Chunk, p: Position, end: u64) -> u64
     if c.size == 0 {
         return end;
     }
-    smaller(end, start.0)
+    end.min(start.0)
 }
 
 // The run of a position of a source, below an end, in a table of so many rows, by the sources of the segments.
@@ -65,25 +61,20 @@ pub fn run_at(
     ensures { RunIn (chunks_in sources.now source table.now count) p.0 end.0 result }
 {
     let mut stop = end.0;
-    let mut k = 0;
-    while k < count {
-        if row_of(sources, source, table, k) {
-            let c = chunk_at(table, k);
+    for k in 0..count {
+        if let Some(c) = of_source(sources, source, table, k) {
             if supplies(c, p) {
                 let left = c.size - (p.0 - c.start.0);
                 return Run {
-                    supplied: true,
-                    chunk: c,
-                    length: smaller(between(p.0, stop), left),
+                    chunk: Some(c.good()),
+                    length: stop.saturating_sub(p.0).min(left),
                 };
             }
             stop = clip(c, p, stop);
         }
-        k += 1;
     }
     Run {
-        supplied: false,
-        chunk: NO_CHUNK,
-        length: between(p.0, stop),
+        chunk: None,
+        length: stop.saturating_sub(p.0),
     }
 }

@@ -13,7 +13,7 @@ use Rattle.boxes.proofs.WalkLaws.{walk_boxes}
 use Rattle.numerals.specs.declared.place.Place.{Place}
 use Rattle.partial.specs.Heading.{url}
 use Rattle.partial.specs.Heading.{bytes_in}
-use Rattle.surls.specs.Next.{Meets, Spent, Broken, Decides, Leaves, Follows, Compares}
+use Rattle.surls.specs.Next.{Meets, Spent, Decides, Leaves, Follows, Compares}
 use Rattle.partial.specs.Heading.{urls_in}
 use Rattle.partial.specs.Sources.{same_text, same_urls}
 use Rattle.surls.specs.declared.urls.Both.{Both}
@@ -63,13 +63,6 @@ module _ {f : List ℕ} {v w : Walk} where
 
   pub both_spent : Spent f v → Spent f w → Decides f v w true
   both_spent one other = record { says = λ bs cs known known'. both_none f bs cs (one.none bs known) (other.none cs known') }
-
--- with a fault before one of them nothing is asked
-pub first_broken : {f : List ℕ} {v : Walk} (w : Walk) (equal : Bool) → Broken f v → Decides f v w equal
-first_broken w equal broken = record { says = λ bs cs known known'. absurd (broken.unknown bs known) }
-
-pub second_broken : {f : List ℕ} {w : Walk} (v : Walk) (equal : Bool) → Broken f w → Decides f v w equal
-second_broken v equal broken = record { says = λ bs cs known known'. absurd (broken.unknown cs known') }
 
 -- ---- two walks that began as v₀ and w₀ and stand at v and w, each in its container
 pub record InStep (f : List ℕ) (v₀ w₀ v w : Walk) : Type 0 where

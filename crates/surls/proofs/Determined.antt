@@ -7,10 +7,11 @@ use mathlib.Core.Path.{◌≡◌, sym, ◌∙◌}
 use lib.ListN.{length}
 use Rattle.numerals.proofs.Determined.{OneKnown}
 use Rattle.boxes.specs.Answer.{given}
-use Rattle.boxes.specs.Framing.{Box, boxes_in}
+use Rattle.boxes.specs.Bodies.{boxes_of}
+use Rattle.boxes.specs.Framing.{Box}
 use Rattle.boxes.proofs.ToldLaws.{Tells}
 use Rattle.surls.specs.Parts.{part_of, Within}
-use Rattle.surls.specs.declared.body.Body.{Body}
+use Rattle.boxes.specs.declared.body.Body.{Body}
 use Rattle.surls.proofs.first.first_text.Reads as first-text
 use Rattle.surls.proofs.first.has_surl.Reads as has-surl
 use Rattle.surls.proofs.formed.surls_formed.Reads as surls-formed
@@ -28,14 +29,12 @@ url-of-result κs args _ within x y after after' p q = part_told x y (p within �
 mime-of-result : OneKnown mime-of.Post (λ κs args (_ : Unit {0}). Within (length args.0.now) args.1.0)
 mime-of-result κs args _ within x y after after' p q = part_told x y (p within ∙ sym (q within))
 
-surls_formed_result : OneKnown surls-formed.Post
-    (λ κs args (bs : List Box).
-    (args.1.1.1.0.0 ≤ length args.0.now) × (boxes_in args.1.0 args.0.now args.1.1.0.0 args.1.1.1.0.0 ≡ given bs))
-surls_formed_result κs args bs (inside, known) x y after after' p q = p inside bs known ∙ sym (q inside bs known)
-
 -- the container of a body lies in the file and has these boxes
 abbrev Stands : List ℕ → Body → List Box → Type 0
-Stands f body bs = (boxes_in body.container f body.start.0 body.end.0 ≡ given bs) × (body.end.0 ≤ length f)
+Stands f body bs = (boxes_of f body ≡ given bs) × (body.end.0 ≤ length f)
+
+surls_formed_result : OneKnown surls-formed.Post (λ κs args (bs : List Box). Stands args.0.now args.1.0 bs)
+surls_formed_result κs args bs (known, inside) x y after after' p q = p inside bs known ∙ sym (q inside bs known)
 
 has_surl-result : OneKnown has-surl.Post (λ κs args (bs : List Box). Stands args.0.now args.1.0 bs)
 has_surl-result κs args bs (known, inside) x y after after' p q = p bs known ∙ sym (q bs known)

@@ -2,7 +2,7 @@
 use Prim.Native.Nat.{ℕ, ◌+◌, ◌≤◌}
 use mathlib.Core.Bool.{Bool, true, false, ◌&&◌}
 use mathlib.Core.List.{List, [], ◌∷◌}
-use mathlib.Core.Path.{◌≡◌}
+use mathlib.Core.Path.{◌≡◌, ap}
 use native.Mathlib.Omega.{arith}
 use lib.Dec.{leb, eqb}
 use Rattle.numerals.specs.Numbers.{number}
@@ -13,6 +13,8 @@ use Rattle.boxes.proofs.KindLaws.{those-nil, those_one, those_other}
 use Rattle.boxes.proofs.ToldLaws.{box_fields}
 use Rattle.partial.specs.Heading.{text, url, mime, surl_formed}
 use Rattle.partial.specs.Sequences.{all_of}
+use Rattle.surls.specs.Parts.{part_of}
+use Rattle.surls.specs.declared.part.Part as Stated
 use Rattle.surls.proofs.TextLaws.{text_most}
 
 module _ (f : List ℕ) (b : Framed) where
@@ -38,6 +40,10 @@ module _ (f : List ℕ) (b : Framed) where
     pub mime_ends : (mime f (box_of b)).place + (mime f (box_of b)).size ≤ b.end.0 + 5
     unfolding text
     mime_ends = rw mime-text (omega (arith, url_ends, text_most f ((url f (box_of b)).place + (url f (box_of b)).size + 1) b.end.0))
+
+-- the same of a part that was found to be its MIME text
+pub mime_part_ends : (f : List ℕ) (b : Framed) (p : Stated.Part) → b.body.0 ≤ b.end.0 → part_of p ≡ mime f (box_of b) → p.place.0 + p.size ≤ b.end.0 + 5
+mime_part_ends f b p whole same = omega (arith, mime_ends f b whole, ap (λ p. p.place) same, ap (λ p. p.size) same)
 
 -- whether each `surl` among the boxes is well-formed
 abbrev pub all_formed : List ℕ → List Box → Bool

@@ -3,6 +3,7 @@ pub mod Determined
 pub mod FirstLaws
 pub mod FormLaws
 pub mod NextLaws
+pub mod PartLaws
 pub mod TextLaws
 pub mod UrlLaws
 pub mod WithinLaws

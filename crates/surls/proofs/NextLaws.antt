@@ -2,7 +2,9 @@
 use Prim.Native.Nat.{ℕ, ◌≤◌}
 use mathlib.Core.Bool.{true, false}
 use mathlib.Core.List.{List}
-use mathlib.Core.Option.{none, some}
+use Rattle.std.specs.Prelude.{Option, None, Some, Result, Ok, IsErrAnd}
+use Rattle.std.proofs.lemmas.Result.{err_from_is_err_and}
+use Rattle.refusals.specs.declared.Refusal.{Refusal}
 use mathlib.Core.Path.{◌≡◌, refl, ap, subst, ◌∙◌}
 use native.Mathlib.Omega.{arith}
 use Rattle.boxes.specs.Answer.{refused, given}
@@ -10,7 +12,6 @@ use Rattle.boxes.specs.Framing.{box_of}
 use Rattle.boxes.specs.Kinds.{surl, is, those}
 use Rattle.boxes.specs.Walk.{stepped}
 use Rattle.boxes.specs.declared.framing.Framed.{Framed}
-use Rattle.boxes.specs.declared.walk.Step.{Step}
 use Rattle.boxes.specs.declared.walk.Walk.{Walk}
 use Rattle.boxes.proofs.KindLaws.{those-nil, those_one, those_other}
 use Rattle.boxes.proofs.WalkLaws.{fewer, known_next, known_end, known_sound}
@@ -28,7 +29,7 @@ pub since_none : (f : List ℕ) (w : Walk) → Since f w w
 since_none f w = record { asked = asked_none f (those surl) w; ends = refl; few = omega arith }
 
 module _ {f : List ℕ} {w₀ w : Walk} (s : Since f w₀ w) where
-  module _ (b : Framed) {next : Walk} (step : stepped f w ≡ given (some (box_of b, next))) where
+  module _ (b : Framed) {next : Walk} (step : stepped f w ≡ given (Some (box_of b, next))) where
     pub since_more : is surl (box_of b) ≡ false → Since f w₀ next
     since_more other =
         record {
@@ -48,7 +49,7 @@ module _ {f : List ℕ} {w₀ w : Walk} (s : Since f w₀ w) where
               (more, after, same ∙ ap (those surl) split ∙ those_one surl (box_of b) more one);
         }
 
-  pub since_end : stepped f w ≡ given none → Spent f w₀
+  pub since_end : stepped f w ≡ given None → Spent f w₀
   since_end step =
       record {
         none = λ bs known.
@@ -65,12 +66,15 @@ module _ {f : List ℕ} {w₀ w : Walk} (s : Since f w₀ w) where
       }
 
 -- what each answer about the next `surl` says
-module _ (f : List ℕ) (w : Walk) (r : Step) (goes : Goes f w r) where
-  pub surl_met : {b : Framed} {next : Walk} → r ≡ Step.Next b next → Meets f w b next
+module _ (f : List ℕ) (w : Walk) (r : Result (Option (Framed × Walk)) Refusal) (goes : Goes f w r) where
+  pub surl_met : {b : Framed} {next : Walk} → r ≡ Ok (Some (b, next)) → Meets f w b next
   surl_met e = subst (Goes f w) e goes
 
-  pub surl_none : r ≡ Step.End → Spent f w
+  pub surl_none : r ≡ Ok None → Spent f w
   surl_none e = subst (Goes f w) e goes
 
-  pub surl-broken : {n : ℕ} → r ≡ Step.Refused n → Broken f w
-  surl-broken e = subst (Goes f w) e goes
+-- a fault that is handed on
+pub goes_broken : (f : List ℕ) (w : Walk) (r : Result (Option (Framed × Walk)) Refusal) (P : Refusal → Type 0) → IsErrAnd r P → Broken f w → Goes f w r
+goes_broken f w r P handed broken =
+    let (e, is, same) = err_from_is_err_and r handed in
+    rw is broken

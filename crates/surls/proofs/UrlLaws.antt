@@ -1,72 +1,48 @@
 -- Laws of the URLs of containers, as two walks meet them.
-use Prim.Native.Nat.{ℕ, ◌+◌, ◌-◌, ◌≤◌, ◌<◌}
-use mathlib.Core.Bool.{Bool, true, false}
+use Prim.Native.Nat.{ℕ, ◌≤◌}
+use mathlib.Core.Bool.{Bool, true, false, ◌&&◌}
 use mathlib.Core.List.{List, [], ◌∷◌}
-use mathlib.Core.Path.{◌≡◌, sym, ap, ap₂, ◌∙◌}
-use native.Mathlib.Omega.{arith}
-use lib.ListN.{length, get_or, length-take, length-drop}
-use lib.Seq.{get_or-take, get_or-drop, ext_get_or}
+use mathlib.Core.Path.{◌≡◌, refl, ap, ap₂, ◌∙◌}
+use lib.Dec.{eqb}
+use lib.ListN.{length}
+use lib.Pointwise.{pointwise}
 use Rattle.boxes.specs.Framing.{Box, box_of}
 use Rattle.boxes.specs.Kinds.{surl, those}
 use Rattle.boxes.specs.declared.framing.Framed.{Framed}
-use Rattle.partial.specs.Heading.{Part, url, text}
+use Rattle.partial.specs.Heading.{url}
 use Rattle.partial.specs.Heading.{bytes_in}
+use Rattle.boxes.specs.declared.walk.Walk.{Walk}
+use Rattle.surls.specs.Next.{Meets}
 use Rattle.surls.specs.Parts.{part_of, Within}
+use Rattle.surls.proofs.WithinLaws.{further_within}
 use Rattle.partial.specs.Heading.{urls_in}
 use Rattle.partial.specs.Sources.{same_list, same_text, same_urls}
 use Rattle.surls.specs.declared.part.Part as Stated
-use Rattle.surls.proofs.FormLaws.{url-text}
-use Rattle.partial.proofs.Meaning.SameLaws.{text_exact, unequal}
-use Rattle.surls.proofs.TextLaws.{text_most}
 
--- ---- the bytes of a part that lies in the file
+-- ---- texts held against each other byte by byte
 
-module _ (f : List ℕ) (p : Part) (inside : p.size ≤ length f - p.place) where
-  part_length : length (bytes_in f p) ≡ p.size
-  unfolding bytes_in
-  part_length = simp (length-take, length-drop) (omega arith)
+pub text_compared : (xs ys : List ℕ) → pointwise eqb xs ys ≡ same_text xs ys
+unfolding same_text same_list
+text_compared [] [] = refl
+text_compared [] (y ∷ ys) = refl
+text_compared (x ∷ xs) [] = refl
+text_compared (x ∷ xs) (y ∷ ys) = ap (λ (rest : Bool). eqb x y && rest) (text_compared xs ys)
 
-  part_byte : (k : ℕ) → k < p.size → get_or (bytes_in f p) k 0 ≡ get_or f (p.place + k) 0
-  unfolding bytes_in
-  part_byte k h = rw (get_or-take, get_or-drop)
+-- ---- the URLs of two boxes
 
-module _ (f : List ℕ) (p q : Part) (first : p.size ≤ length f - p.place) (second : q.size ≤ length f - q.place) where
-  -- other sizes
-  pub size_differs : (p.size ≡ q.size → ⊥) → same_text (bytes_in f p) (bytes_in f q) ≡ false
-  size_differs other =
-      unequal text_exact _ _ (λ e. other (sym (part_length f p first) ∙ ap length e ∙ part_length f q second))
-
-  module _ (sizes : p.size ≡ q.size) where
-    -- another byte
-    pub byte_differs : (k : ℕ) → k < p.size → (get_or f (p.place + k) 0 ≡ get_or f (q.place + k) 0 → ⊥) → same_text (bytes_in f p) (bytes_in f q) ≡ false
-    byte_differs k h other =
-        unequal text_exact _ _
-        (λ e. other (sym (part_byte f p first k h) ∙ ap (λ (l : List ℕ). get_or l k 0) e ∙ part_byte f q second k (omega arith)))
-
-    -- no other byte
-    pub bytes_same : ((k : ℕ) → k < p.size → get_or f (p.place + k) 0 ≡ get_or f (q.place + k) 0) → same_text (bytes_in f p) (bytes_in f q) ≡ true
-    bytes_same all =
-        let lengths = part_length f p first in
-        let e = ext_get_or 0 (bytes_in f p) (bytes_in f q) (lengths ∙ sizes ∙ sym (part_length f q second))
-        (λ k h. part_byte f p first k (omega arith) ∙ all k (omega arith) ∙ sym (part_byte f q second k (omega arith))) in
-        ap (same_text (bytes_in f p)) (sym e) ∙ text_exact.alike (bytes_in f p)
-
--- ---- the URL of a box, as a part that was found
-
-pub record Url (f : List ℕ) (b : Framed) (p : Stated.Part) : Type 0 where
-  pub same : part_of p ≡ url f (box_of b)
-  pub inside : p.size ≤ length f - p.place.0
-
-pub url-told : (f : List ℕ) (b : Framed) (p : Stated.Part) → Within (length f) b → (Within (length f) b → part_of p ≡ url f (box_of b)) → Url f b p
-unfolding text
-url-told f b p within told =
-    let same = told within ∙ url-text f b in
-    record { same = told within; inside = omega (arith, text_most f (b.body.0 + 4) b.end.0, ap (λ p. p.place) same, ap (λ p. p.size) same) }
-
--- two of them held against each other
-pub urls_told : {f : List ℕ} {a b : Framed} {p q : Stated.Part} {r : Bool} → Url f a p → Url f b q → r ≡ same_text (bytes_in f (part_of p)) (bytes_in f (part_of q))
-    → r ≡ same_text (bytes_in f (url f (box_of a))) (bytes_in f (url f (box_of b)))
-urls_told {f} one other told = told ∙ ap₂ (λ (p q : Part). same_text (bytes_in f p) (bytes_in f q)) one.same other.same
+-- those of the boxes that two walks met, each in its container, held against each other by their bytes
+pub urls_told : {f : List ℕ} {v w v' w' : Walk} {a b : Framed} {p q : Stated.Part} {xs ys : List ℕ} {same : Bool} → (v.end.0 ≤ length f) × (w.end.0 ≤ length f) → Meets f v a v'
+    → Meets f w b w'
+    → (Within (length f) a → part_of p ≡ url f (box_of a))
+    → (Within (length f) b → part_of q ≡ url f (box_of b))
+    → xs ≡ bytes_in f (part_of p)
+    → ys ≡ bytes_in f (part_of q)
+    → same ≡ pointwise eqb xs ys
+    → same ≡ same_text (bytes_in f (url f (box_of a))) (bytes_in f (url f (box_of b)))
+urls_told {f} {xs = xs} {ys = ys} (inside, inside') a b url-a url-b first second told =
+    told
+    ∙ text_compared xs ys
+    ∙ ap₂ same_text (first ∙ ap (bytes_in f) (url-a (further_within inside a.within))) (second ∙ ap (bytes_in f) (url-b (further_within inside' b.within)))
 
 -- ---- the lists of two containers, by their first `surl` boxes
 

@@ -2,8 +2,10 @@
 use Prim.Native.Nat.{ℕ, ◌≤◌, zero-le}
 use mathlib.Core.Bool.{true}
 use mathlib.Core.List.{List}
-use mathlib.Core.Option.{some}
-use mathlib.Core.Path.{◌≡◌, ap}
+use Rattle.std.specs.Prelude.{Option, None, Some, Result, Ok, Err}
+use Rattle.std.specs.Result.{result_unwrap_or}
+use mathlib.Core.Logic.{◌⊎◌, inl, inr}
+use mathlib.Core.Path.{◌≡◌, refl, sym, ap, ◌∙◌}
 use native.Mathlib.Decide.{dec_le}
 use native.Mathlib.Omega.{arith}
 use borrow.Author.Tests.{le-leb, leb-true}
@@ -30,7 +32,7 @@ pub further_within : {end end' : ℕ} {b : Framed} → end ≤ end' → Within e
 further_within on within = record { whole = within.whole; ends = omega arith }
 
 -- a box that was met lies in the container, which ends where it did
-module _ (s : List ℕ) (w : Walk) (b : Framed) {w' : Walk} (step : stepped s w ≡ given (some (box_of b, w'))) where
+module _ (s : List ℕ) (w : Walk) (b : Framed) {w' : Walk} (step : stepped s w ≡ given (Some (box_of b, w'))) where
   pub met_within : Within w.end.0 b
   met_within =
       let inside = rw (box_fields b) at (met s w step).inside in
@@ -59,3 +61,19 @@ module _ (c : Container) (s : List ℕ) (start end : ℕ) {bs : List Box} (known
   pub first_within : (k : Kind) → box_of b ≡ first_of k bs → Within end b
   first_within k same =
       lies_within end b (rw (same, first_of-those) (number_lies end 0 (those k bs) (those_all k (lies end) bs (boxes_lie c s start end bs known))))
+
+-- a step's answer, by what is left of it where a fault is none
+module _ {A E : Type 0} {r : Result (Option A) E} {o : Option A} (left : o ≡ result_unwrap_or r None) where
+  pub was_next : {x : A} → o ≡ Some x → r ≡ Ok (Some x)
+  was_next {x} there = go r (sym left ∙ there)
+    where
+      go : (r : Result (Option A) E) → result_unwrap_or r None ≡ Some x → r ≡ Ok (Some x)
+      go (Ok y) e = ap Ok e
+      go (Err n) e = cc
+
+  pub was_last : o ≡ None → (r ≡ Ok None) ⊎ ((n : E) × (r ≡ Err n))
+  was_last none = go r (sym left ∙ none)
+    where
+      go : (r : Result (Option A) E) → result_unwrap_or r None ≡ None → (r ≡ Ok None) ⊎ ((n : E) × (r ≡ Err n))
+      go (Ok y) e = inl (ap Ok e)
+      go (Err n) e = inr (n, refl)

@@ -1,10 +1,10 @@
 -- What a step over the `surl` boxes of one walk, or of two, says of the boxes that the walks have before them.
-use Rattle.std.specs.Prelude.{ℕ, ◌<◌, Bool, true, false, List, [], ◌∷◌, ◌≡◌}
+use Rattle.std.specs.Prelude.{ℕ, ◌<◌, Bool, true, false, List, [], ◌∷◌, ◌≡◌, Option, None, Some, Result, Ok, Err}
+use Rattle.refusals.specs.declared.Refusal.{Refusal}
 use Rattle.boxes.specs.Answer.{given}
 use Rattle.boxes.specs.Framing.{Box, boxes_from, box_of}
 use Rattle.boxes.specs.Kinds.{surl, those}
 use Rattle.boxes.specs.declared.framing.Framed.{Framed}
-use Rattle.boxes.specs.declared.walk.Step.{Step}
 use Rattle.boxes.specs.declared.walk.Walk.{Walk}
 use Rattle.surls.specs.Parts.{Within}
 use Rattle.partial.specs.Heading.{urls_in}
@@ -36,10 +36,10 @@ pub record Broken (f : List ℕ) (w : Walk) : Type 0 where
   pub unknown : (bs : List Box) → Ahead f w bs → ⊥
 
 -- the next `surl` of a walk, none, or a fault
-abbrev pub Goes : List ℕ → Walk → Step → Type 0
-Goes f w (Step.Next b next) = Meets f w b next
-Goes f w Step.End = Spent f w
-Goes f w (Step.Refused n) = Broken f w
+abbrev pub Goes : List ℕ → Walk → Result (Option (Framed × Walk)) Refusal → Type 0
+Goes f w (Ok (Some (b, next))) = Meets f w b next
+Goes f w (Ok None) = Spent f w
+Goes f w (Err e) = Broken f w
 
 -- what two walks have before them decides whether the lists of URLs are equal
 pub record Decides (f : List ℕ) (v w : Walk) (equal : Bool) : Type 0 where

@@ -1,18 +1,19 @@
 // The form of `surl` boxes.
 ghost use Rattle.std.specs.Prelude.{◌≤◌, List, ◌≡◌, length};
 ghost use Rattle.boxes.specs.Answer.{given};
-ghost use Rattle.boxes.specs.Framing.{Box, boxes_in, box_of};
+ghost use Rattle.boxes.specs.Bodies.{boxes_of};
+ghost use Rattle.boxes.specs.Framing.{Box, box_of};
 ghost use Rattle.boxes.specs.Kinds.{surl, those};
 ghost use Rattle.partial.specs.Heading.{surl_formed};
 ghost use Rattle.partial.specs.Sequences.{all_of};
 ghost use Rattle.surls.specs.Parts.{Within};
 
 use crate::texts::mime_of;
+use boxes::body::Body;
 use boxes::framing::Framed;
-use boxes::kinds::{Container, SURL};
-use boxes::walk::{Step, Walk};
+use boxes::kinds::SURL;
+use boxes::walk::Walk;
 use numerals::numbers::unsigned;
-use numerals::place::Place;
 
 // Whether a `surl` has version 0, flags 0, and two texts, each closed by a zero byte, with nothing after.
 fn surl_formed(file: &[u8], b: Framed) -> bool
@@ -30,27 +31,20 @@ fn surl_formed(file: &[u8], b: Framed) -> bool
     mime.place.0 + mime.size + 1 == b.end.0
 }
 
-// Whether each `surl` of a container whose body starts and ends at these places is well-formed.
-pub fn surls_formed(file: &[u8], container: Container, start: Place, end: Place) -> bool
-    ensures { end.0 ≤ length file.now → (bs : List Box) → boxes_in container file.now start.0 end.0 ≡ given bs
+// Whether each `surl` of a container is well-formed.
+pub fn surls_formed(file: &[u8], body: Body) -> bool
+    ensures { body.end.0 ≤ length file.now → (bs : List Box) → boxes_of file.now body ≡ given bs
         → result ≡ all_of (surl_formed file.now) (those surl bs) }
 {
-    if (file.len() as u64) < end.0 {
+    if (file.len() as u64) < body.end.0 {
         return false;
     }
-    let mut walk = Walk::new(container, start, end);
-    loop {
-        match walk.step(file) {
-            Step::Next(b, next) => {
-                walk = next;
-                if b.kind == SURL.code {
-                    if !surl_formed(file, b) {
-                        return false;
-                    }
-                }
-            }
-            Step::End => return true,
-            Step::Refused(_) => return false,
+    let mut walk = Walk::new(body);
+    while let Some((b, next)) = walk.step(file).unwrap_or(None) {
+        if b.kind == SURL && !surl_formed(file, b) {
+            return false;
         }
+        walk = next;
     }
+    true
 }

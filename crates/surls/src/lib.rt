@@ -1,8 +1,6 @@
 // The `surl` boxes of a container: their form, their texts, and whether two containers have the same URLs.
 #![tactic(auto)]
 
-pub mod body;
-mod bytes;
 pub mod first;
 pub mod formed;
 mod next;

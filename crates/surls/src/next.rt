@@ -1,24 +1,21 @@
 // The `surl` boxes of a walk, one after the other.
 ghost use Rattle.surls.specs.Next.{Goes};
 
+use boxes::framing::Framed;
 use boxes::kinds::SURL;
-use boxes::walk::{Step, Walk};
+use boxes::walk::Walk;
+use refusals::Refusal;
 
-// The next `surl` of a walk with the walk after it, the container's end, or the number of a fault.
-pub(crate) fn next_surl(file: &[u8], from: Walk) -> Step
+// The next `surl` of a walk with the walk after it, none at the container's end, or a fault.
+pub(crate) fn next_surl(file: &[u8], from: Walk) -> Result<Option<(Framed, Walk)>, Refusal>
     ensures { Goes file.now from result }
 {
     let mut walk = from;
-    loop {
-        match walk.step(file) {
-            Step::Next(b, next) => {
-                if b.kind == SURL.code {
-                    return Step::Next(b, next);
-                }
-                walk = next;
-            }
-            Step::End => return Step::End,
-            Step::Refused(n) => return Step::Refused(n),
+    while let Some((b, next)) = walk.step(file)? {
+        if b.kind == SURL {
+            return Ok(Some((b, next)));
         }
+        walk = next;
     }
+    Ok(None)
 }

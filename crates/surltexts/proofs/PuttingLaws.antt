@@ -2,13 +2,11 @@
 use Prim.Native.Nat.{ℕ, ◌+◌, ◌-◌, ◌^◌, ◌≤◌, ◌<◌, min}
 use mathlib.Core.Bool.{true, false}
 use mathlib.Core.List.{List, [], ◌∷◌, ◌++◌, append_assoc, append-nil}
-use mathlib.Core.Option.{none, some}
+use Rattle.std.specs.Prelude.{None, Some}
 use mathlib.Core.Path.{◌≡◌, refl, sym, ap, subst, ◌∙◌}
-use native.Mathlib.Decide.{dec_le}
 use native.Mathlib.Omega.{arith}
-use lib.ListN.{length, take, drop, length-take, length-drop}
+use lib.ListN.{length, length-take, length-drop}
 use Rattle.numerals.specs.Stored.{stored}
-use Rattle.numerals.proofs.StoredLaws.{stored_none}
 use Rattle.boxes.specs.Answer.{given}
 use Rattle.boxes.specs.Framing.{Box, boxes_in, box_of}
 use Rattle.boxes.specs.Kinds.{surl, is}
@@ -20,7 +18,7 @@ use Rattle.boxes.specs.declared.walk.Walk.{Walk}
 use Rattle.boxes.proofs.KindLaws.{those-nil, those_one, those_other}
 use Rattle.boxes.proofs.ToldLaws.{box_fields}
 use Rattle.boxes.proofs.WalkLaws.{met}
-use Rattle.filling.proofs.RowLaws.{row_none, put_none}
+use Rattle.filling.proofs.RowLaws.{put_none}
 use Rattle.filling.proofs.PutsLaws.{puts_stored, puts_same, puts_more}
 use Rattle.partial.specs.Heading.{Part, bytes_in, text, url, mime}
 use Rattle.partial.specs.Texts.{Surl, surls_in, texts_for, lengths_for}
@@ -31,9 +29,9 @@ use Rattle.surls.proofs.FormLaws.{url-text, mime-text}
 use Rattle.surls.proofs.TextLaws.{text_most}
 use Rattle.surls.proofs.WithinLaws.{met_within, further_within, end_kept}
 use Rattle.texts.specs.Pieces.{PutsPiece}
-use Rattle.texts.proofs.TextLaws.{piece_same, piece_puts}
+use Rattle.texts.proofs.TextLaws.{piece_puts}
 use Rattle.surltexts.specs.Putting.{surl_of, PutsSurls, Behind, nothing}
-use Rattle.surltexts.specs.declared.putting.Amount.{Amount}
+use Rattle.surltexts.specs.declared.answers.Texts.{Texts}
 
 -- ---- a part of the file
 
@@ -41,24 +39,6 @@ module _ (f : List ℕ) (p : Part) where
   part_long : p.size ≤ length f - p.place → length (bytes_in f p) ≡ p.size
   unfolding bytes_in
   part_long inside = simp (length-take, length-drop) (omega arith)
-
-  -- one that is told to lie in the file and ends past it is empty, and so nothing is put
-  part-empty : p.size ≤ length f - p.place → length f < p.place + p.size → bytes_in f p ≡ []
-  unfolding bytes_in
-  part-empty inside past =
-      let none : p.size ≡ 0 = omega arith in
-      ap (λ (n : ℕ). take n (drop p.place f)) none
-
-  pub part_none : (s : List ℕ) (at : ℕ) → at < 2 ^ 64 → p.size ≤ length f - p.place → length f < p.place + p.size → PutsPiece s at (bytes_in f p) s at
-  part_none s at small inside past =
-      piece_same (sym (part-empty inside past))
-      (record {
-        left = elim (dec_le at (length s)) [
-          | yes room ↦ sym (row_none s at room)
-          | no short ↦ sym (stored_none s at [] (omega arith))
-        ];
-        end = omega arith;
-      })
 
 -- ---- the two texts of a box that was read
 
@@ -75,17 +55,17 @@ module _ (f : List ℕ) (b : Framed) {p q : Stated.Part} (within : Within (lengt
       let same = two ∙ mime-text f b ∙ ap (λ (u : Part). text f (u.place + u.size + 1) b.end.0) (sym one) in
       (ap (λ p. p.place) same, omega (arith, ap (λ p. p.size) same, text_most f (p.place.0 + p.size + 1) b.end.0))
 
-  pub url_inside : p.size ≤ length f - p.place.0
+  url_inside : p.size ≤ length f - p.place.0
   url_inside = omega (arith, url-found.0, url-found.1, within.ends)
 
-  pub mime_inside : q.size ≤ length f - q.place.0
+  mime_inside : q.size ≤ length f - q.place.0
   mime_inside = omega (arith, mime-found.0, mime-found.1, within.ends)
 
   both_fit : p.size + q.size ≤ b.end.0 - b.body.0
   both_fit = omega (arith, url-found.0, url-found.1, mime-found.1)
 
   -- both are put, and their lengths
-  pub surl_put : {before after : Amount} {t t₁ t₂ l l₁ : List ℕ} {middle : ℕ} → length f < 2 ^ 64 → Behind b.body.0 before
+  pub surl_put : {before after : Texts} {t t₁ t₂ l l₁ : List ℕ} {middle : ℕ} → length f < 2 ^ 64 → Behind b.body.0 before
       → PutsPiece t before.bytes (bytes_in f (part_of p)) t₁ middle
       → PutsPiece t₁ middle (bytes_in f (part_of q)) t₂ after.bytes
       → l₁ ≡ stored l before.lengths (p.size ∷ q.size ∷ [])
@@ -127,7 +107,7 @@ puts_none : (t l : List ℕ) → PutsSurls [] nothing t t l l nothing
 unfolding texts_for lengths_for
 puts_none t l = record { bytes = record { put = put_none t 0; end = omega arith }; sizes = record { put = put_none l 0; end = omega arith } }
 
-puts_behind : {a b : List Surl} {x y z : Amount} {t t₁ t₂ l l₁ l₂ : List ℕ} → PutsSurls a x t t₁ l l₁ y → PutsSurls b y t₁ t₂ l₁ l₂ z → PutsSurls (a ++ b) x t t₂ l l₂ z
+puts_behind : {a b : List Surl} {x y z : Texts} {t t₁ t₂ l l₁ l₂ : List ℕ} → PutsSurls a x t t₁ l l₁ y → PutsSurls b y t₁ t₂ l₁ l₂ z → PutsSurls (a ++ b) x t t₂ l l₂ z
 puts_behind {a} {b} p q =
     record {
       bytes = puts_same (sym (texts_append a b)) (puts_more p.bytes q.bytes);
@@ -151,7 +131,7 @@ module _ (f : List ℕ) where
     surls_one one = rw (those_one surl b rest one)
 
 -- a walk that began as w₀ and stands at w has put the texts of the `surl` boxes that it passed, no more than it passed
-pub record Putting (f : List ℕ) (w₀ w : Walk) (t₀ t l₀ l : List ℕ) (amount : Amount) : Type 0 where
+pub record Putting (f : List ℕ) (w₀ w : Walk) (t₀ t l₀ l : List ℕ) (amount : Texts) : Type 0 where
   pub told : List Surl
   pub put : PutsSurls told nothing t₀ t l₀ l amount
   pub asked : Asked f (surls_in f) w₀ (λ bs. told ++ surls_in f bs) w
@@ -159,12 +139,13 @@ pub record Putting (f : List ℕ) (w₀ w : Walk) (t₀ t l₀ l : List ℕ) (am
   pub bytes : amount.bytes ≤ w.at.0
   pub lengths : amount.lengths ≤ w.at.0
 
-pub putting_none : (f : List ℕ) (w : Walk) (t l : List ℕ) → Putting f w w t t l l nothing
-putting_none f w t l =
-    record { told = []; put = puts_none t l; asked = asked_none f (surls_in f) w; ends = refl; bytes = omega arith; lengths = omega arith }
+pub putting_none : (f : List ℕ) (w : Walk) (t l : List ℕ) {none : Texts} → (none.bytes ≡ 0) × (none.lengths ≡ 0) → Putting f w w t t l l none
+putting_none f w t l {none} (bytes, lengths) =
+    let same : nothing ≡ none = λ i. record { bytes = sym bytes i; lengths = sym lengths i } in
+    record { told = []; put = subst (PutsSurls [] nothing t t l l) same (puts_none t l); asked = asked_none f (surls_in f) w; ends = refl; bytes = omega arith; lengths = omega arith }
 
-module _ {f : List ℕ} {w₀ w : Walk} {t₀ t l₀ l : List ℕ} {amount : Amount} (p : Putting f w₀ w t₀ t l₀ l amount) where
-  module _ (b : Framed) {next : Walk} (step : stepped f w ≡ given (some (box_of b, next))) where
+module _ {f : List ℕ} {w₀ w : Walk} {t₀ t l₀ l : List ℕ} {amount : Texts} (p : Putting f w₀ w t₀ t l₀ l amount) where
+  module _ (b : Framed) {next : Walk} (step : stepped f w ≡ given (Some (box_of b, next))) where
     abbrev place : next.at.0 ≡ b.end.0
     place = ap (λ w. w.at.0) (met f w step).onward ∙ ap (λ b. b.end) (box_fields b)
 
@@ -191,7 +172,7 @@ module _ {f : List ℕ} {w₀ w : Walk} {t₀ t l₀ l : List ℕ} {amount : Amo
           lengths = omega (arith, place, starts, p.lengths);
         }
 
-    pub putting_more : {t' l' : List ℕ} {more : Amount} → is surl (box_of b) ≡ true
+    pub putting_more : {t' l' : List ℕ} {more : Texts} → is surl (box_of b) ≡ true
         → PutsSurls (surl_of f (box_of b) ∷ []) amount t t' l l' more × (more.bytes ≤ b.end.0) × (more.lengths ≤ b.end.0)
         → Putting f w₀ next t₀ t' l₀ l' more
     putting_more one (put, bytes, lengths) =
@@ -205,7 +186,7 @@ module _ {f : List ℕ} {w₀ w : Walk} {t₀ t l₀ l : List ℕ} {amount : Amo
           lengths = omega (arith, place);
         }
 
-  pub putting_end : {c : Container} {start end : Place} → w₀ ≡ walk_over c start end → {bs : List Box} → boxes_in c f start.0 end.0 ≡ given bs → stepped f w ≡ given none
+  pub putting_end : {c : Container} {start end : Place} → w₀ ≡ walk_over c start end → {bs : List Box} → boxes_in c f start.0 end.0 ≡ given bs → stepped f w ≡ given None
       → PutsSurls (surls_in f bs) nothing t₀ t l₀ l amount
   putting_end new known step =
       let all = asked_end new p.asked known step ∙ ap (λ (ss : List Surl). p.told ++ ss) (surls-nil f) ∙ append-nil p.told in

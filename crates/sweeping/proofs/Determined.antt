@@ -5,6 +5,8 @@ use mathlib.Core.Path.{sym, ◌∙◌}
 use Rattle.numerals.proofs.Determined.{OneResult}
 use Rattle.spans.specs.Spans.{Ordered}
 use Rattle.spans.proofs.Determined.{OneMade}
+use lib.ListN.{length}
+use Rattle.sweeping.specs.Classes.{run_of}
 use Rattle.sweeping.specs.Naming.{BothReady}
 use Rattle.sweeping.specs.Ranges.{Passed}
 use Rattle.sweeping.proofs.naming.Sweeps.start.Reads as sweeps-start
@@ -13,8 +15,8 @@ use Rattle.sweeping.proofs.ranges.range_at.Reads as range_at
 
 range_at_range :
     OneMade range_at.Post
-    (λ κs args (_ : Unit {0}). Ordered args.0.now args.1.0 args.1.1.1.1.0.0 × Passed args.0.now args.1.0 args.1.1.0 args.1.1.1.0.0 × (args.1.1.1.0.0 < args.1.1.1.1.0.0))
-    (λ κs args r after _. r.range)
+    (λ κs args (_ : Unit {0}). Ordered args.0.now (length args.0.now) args.1.1.1.0.0 × Passed args.0.now (length args.0.now) args.1.0 args.1.1.0.0 × (args.1.1.0.0 < args.1.1.1.0.0))
+    (λ κs args r after _. run_of r.range)
 range_at_range κs args _ (o, before, below) x y after after' a b = (a.1 o before below).range ∙ sym (b.1 o before below).range
 
 sweeps_start_result : OneResult sweeps-start.Post
@@ -23,9 +25,9 @@ sweeps_start_result κs args x y after after' a b = a ∙ sym b
 named_at_range :
     OneMade named-at.Post
     (λ κs args (_ : Unit {0}).
-    Ordered args.0.now args.1.1.0.good.n args.1.1.1.1.0.0
-    × Ordered args.1.0.now args.1.1.0.damaged.n args.1.1.1.1.0.0
+    Ordered args.0.now (length args.0.now) args.1.1.1.1.0.0
+    × Ordered args.1.0.now (length args.1.0.now) args.1.1.1.1.0.0
     × BothReady args.0.now args.1.0.now args.1.1.1.1.0.0 args.1.1.1.0.0 args.1.1.0
     × (args.1.1.1.0.0 < args.1.1.1.1.0.0))
-    (λ κs args r after _. r.range)
-named_at_range κs args _ (o, u, ready, below) x y after after' a b = (a.2 o u ready below).range ∙ sym (b.2 o u ready below).range
+    (λ κs args r after _. run_of r.range)
+named_at_range κs args _ (o, u, ready, below) x y after after' a b = (a.1 o u ready below).range ∙ sym (b.1 o u ready below).range

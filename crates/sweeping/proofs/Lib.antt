@@ -1,3 +1,4 @@
+pub mod ClassLaws
 pub mod RangeLaws
 pub mod SweepLaws
 pub mod NameLaws

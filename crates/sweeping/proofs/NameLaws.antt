@@ -9,18 +9,21 @@ use native.Mathlib.Omega.{arith}
 use Rattle.partial.specs.Naming.{held, lost}
 use Rattle.partial.specs.Ranges.{missing, had}
 use Rattle.partial.proofs.Meaning.SequenceLaws.{which}
+use lib.ListN.{length}
+use Rattle.spans.specs.declared.span.Span.{Span}
+use Rattle.sweeping.specs.Classes.{class_no}
+use Rattle.sweeping.specs.declared.ranges.Class.TheVariants.{Had}
 use Rattle.sweeping.specs.Naming.{name_by, both_at_start, BothReady, Names}
-use Rattle.sweeping.specs.Ranges.{range_in, OneClass}
+use Rattle.sweeping.specs.Ranges.{OneClass}
 use Rattle.spans.specs.Spans.{covered_by, class_by}
 use Rattle.sweeping.specs.Sweeps.{Ready}
-use Rattle.sweeping.specs.declared.naming.Sweeps.{Sweeps}
 use Rattle.sweeping.specs.declared.ranges.Range.{Range}
 use Rattle.sweeping.specs.declared.sweep.Sweep.{Sweep}
 use Rattle.sweeping.proofs.RangeLaws.{class_had, class_missing, range_of}
 use Rattle.sweeping.proofs.SweepLaws.{ready_start, ready_on}
 
-pub both_ready : (good damaged : List ℕ) (end p n m : ℕ) → BothReady good damaged end p (both_at_start n m)
-both_ready good damaged end p n m = record { of_good = ready_start good end p n; of_damaged = ready_start damaged end p m }
+pub both_ready : (good damaged : List Span) (end p : ℕ) → BothReady good damaged end p both_at_start
+both_ready good damaged end p = record { of_good = ready_start good end p; of_damaged = ready_start damaged end p }
 
 -- ---- what a class tells of the spans
 
@@ -30,7 +33,7 @@ record Stays (test : ℕ → Bool) (p end : ℕ) (value : Bool) (to : ℕ) : Typ
   same : (q : ℕ) → p ≤ q → q < to → test q ≡ value
   other : to < end → test to ≡ not value
 
-module _ (t : List ℕ) (n : ℕ) {p end class to : ℕ} (one : OneClass (class_by t n) p end class to) where
+module _ (t : List Span) (n : ℕ) {p end class to : ℕ} (one : OneClass (class_by t n) p end class to) where
   stays_had : class ≡ had → Stays (covered_by t n) p end true to
   stays_had is =
       record {
@@ -80,7 +83,7 @@ missed_other : (value : Bool) → missed_by (not value) ≡ missed_by value → 
 missed_other true e = omega arith
 missed_other false e = omega arith
 
-module _ (good : List ℕ) (n : ℕ) (damaged : List ℕ) (m : ℕ) where
+module _ (good : List Span) (n : ℕ) (damaged : List Span) (m : ℕ) where
   name_had : (q : ℕ) → covered_by good n q ≡ true → name_by good n damaged m q ≡ had
   unfolding name_by
   name_had q e = λ i. elim (e i) [ true ↦ had | false ↦ missed_by (covered_by damaged m q) ]
@@ -117,33 +120,34 @@ module _ (good : List ℕ) (n : ℕ) (damaged : List ℕ) (m : ℕ) where
 
 -- ---- what is found
 
-module _ (good damaged : List ℕ) (s : Sweeps) (p end : ℕ) {g : Sweep} (many : g.n ≡ s.good.n) (of_good : Ready good end p g) (some : p < g.to.0) where
-  pub names_had : g.class ≡ had → Ready damaged end p s.damaged
-      → Names good damaged s p end (record { range = record { class = had; length = g.to.0 - p }; sweeps = record { good = g; damaged = s.damaged } })
-  names_had is waiting =
-      let one = had_named good g.n damaged s.damaged.n (stays_had good g.n (of_good.stands some) is) in
+module _ (good damaged : List Span) (p end : ℕ) {g : Sweep} (of_good : Ready good end p g) (some : p < g.to.0) where
+  pub names_had : {waiting : Sweep} → class_no g.class ≡ had → Ready damaged end p waiting
+      → Names good damaged p end (record { range = record { class = Had; length = g.to.0 - p }; sweeps = record { good = g; damaged = waiting } })
+  names_had is waits =
       record {
-        range = range_of _ p end had g.to.0 some one ∙ ap (λ (n : ℕ). range_in (name_by good n damaged s.damaged.n) p end) many;
-        ready = record { of_good = ready_on of_good (omega arith); of_damaged = ready_on waiting (omega arith) };
+        range = range_of _ p end had g.to.0 some (had_named good (length good) damaged (length damaged) (stays_had good (length good) (of_good.stands some) is));
+        ready = record { of_good = ready_on of_good (omega arith); of_damaged = ready_on waits (omega arith) };
       }
 
-  module _ {d : Sweep} (many' : d.n ≡ s.damaged.n) (of_damaged : Ready damaged end p d) (some' : p < d.to.0) (not-had : g.class ≡ had → ⊥) where
-    missed : {value : Bool} {r : Range} → Stays (covered_by damaged d.n) p end value d.to.0 → r.class ≡ missed_by value → r.length ≡ min g.to.0 d.to.0 - p
-        → Names good damaged s p end (record { range = r; sweeps = record { good = g; damaged = d } })
+  module _ {d : Sweep} (of_damaged : Ready damaged end p d) (some' : p < d.to.0) (not-had : class_no g.class ≡ had → ⊥) where
+    missed : {value : Bool} {r : Range} → Stays (covered_by damaged (length damaged)) p end value d.to.0 → class_no r.class ≡ missed_by value
+        → r.length ≡ min g.to.0 d.to.0 - p
+        → Names good damaged p end (record { range = r; sweeps = record { good = g; damaged = d } })
     missed {value} stays is long =
-        let one = missed_named good g.n damaged d.n (omega arith) (stays_missing good g.n (of_good.stands some) some not-had) stays in
+        let one =
+        missed_named good (length good) damaged (length damaged) (omega arith)
+        (stays_missing good (length good) (of_good.stands some) some not-had) stays in
         record {
           range =
               (λ i. record { class = is i; length = long i })
-              ∙ range_of _ p end (missed_by value) (min g.to.0 d.to.0) (omega arith) one
-              ∙ (λ i. range_in (name_by good (many i) damaged (many' i)) p end);
+              ∙ range_of _ p end (missed_by value) (min g.to.0 d.to.0) (omega arith) one;
           ready = record { of_good = ready_on of_good (omega arith); of_damaged = ready_on of_damaged (omega arith) };
         }
 
-    pub names_held : {r : Range} → d.class ≡ had → r.class ≡ held → r.length ≡ min g.to.0 d.to.0 - p
-        → Names good damaged s p end (record { range = r; sweeps = record { good = g; damaged = d } })
-    names_held kept = missed (stays_had damaged d.n (of_damaged.stands some') kept)
+    pub names_held : {r : Range} → class_no d.class ≡ had → class_no r.class ≡ held → r.length ≡ min g.to.0 d.to.0 - p
+        → Names good damaged p end (record { range = r; sweeps = record { good = g; damaged = d } })
+    names_held kept = missed (stays_had damaged (length damaged) (of_damaged.stands some') kept)
 
-    pub names_lost : {r : Range} → (d.class ≡ had → ⊥) → r.class ≡ lost → r.length ≡ min g.to.0 d.to.0 - p
-        → Names good damaged s p end (record { range = r; sweeps = record { good = g; damaged = d } })
-    names_lost none = missed (stays_missing damaged d.n (of_damaged.stands some') some' none)
+    pub names_lost : {r : Range} → (class_no d.class ≡ had → ⊥) → class_no r.class ≡ lost → r.length ≡ min g.to.0 d.to.0 - p
+        → Names good damaged p end (record { range = r; sweeps = record { good = g; damaged = d } })
+    names_lost none = missed (stays_missing damaged (length damaged) (of_damaged.stands some') some' none)

@@ -13,8 +13,9 @@ use Rattle.partial.specs.Sequences.{stretch}
 use Rattle.partial.proofs.Meaning.RangeLaws.{first_range}
 use Rattle.partial.proofs.Meaning.StretchLaws.{first_one, stretch_first}
 use Rattle.spans.specs.Spans.{first_at, end_at, covered_by, class_by, Within, Ordered}
-use Rattle.sweeping.specs.Ranges.{range_in, OneClass, Passed, Reaches, GoesOn, Finds}
-use Rattle.sweeping.specs.declared.ranges.Range.{Range}
+use Rattle.spans.specs.declared.span.Span.{Span}
+use Rattle.sweeping.specs.Classes.{class_no, Run, run_of}
+use Rattle.sweeping.specs.Ranges.{nothing, range_in, OneClass, Passed, Reaches, GoesOn, Finds}
 use Rattle.sweeping.specs.declared.ranges.Found.{Found}
 use Rattle.sweeping.specs.declared.ranges.Reach.{Reach}
 use Rattle.spans.proofs.SpanLaws.{covered-by, uncovered}
@@ -22,13 +23,13 @@ use Rattle.spans.proofs.SpanLaws.{covered-by, uncovered}
 -- ---- how far the positions are had
 
 -- the positions up to a reach are had, and so many spans are passed there where the first k₀ were passed before
-pub record Reached (t : List ℕ) (n k₀ p to k : ℕ) : Type 0 where
+pub record Reached (t : List Span) (n k₀ p to k : ℕ) : Type 0 where
   pub on : p ≤ to
   pub most : (end : ℕ) → p ≤ end → Within t n end → to ≤ end
   pub had : (q : ℕ) → p ≤ q → q < to → covered_by t n q ≡ true
   pub passed : Passed t n k₀ p → Passed t n k to
 
-module _ (t : List ℕ) (n k₀ p : ℕ) where
+module _ (t : List Span) (n k₀ p : ℕ) where
   pub reached_none : Reached t n k₀ p p k₀
   reached_none = record { on = omega arith; most = λ end low ends. low; had = λ q from to. absurd (omega arith); passed = λ before. before }
 
@@ -57,13 +58,25 @@ module _ (t : List ℕ) (n k₀ p : ℕ) where
               };
         }
 
+    -- at the end all spans are passed, and more where more were
+    pub reached_all : {all : ℕ} → n ≤ k → all ≡ max k₀ n → (k₀ ≤ n → k ≤ n) → Reaches t n k₀ p (record { to = record { 0 = to }; passed = all })
+    reached_all {all} full many whole =
+        record {
+          on = r.on;
+          most = r.most;
+          had = r.had;
+          passed = λ before.
+              record { most = omega (arith, before.most); ended = λ j less. (r.passed before).ended j (omega (arith, before.most)) };
+          next = λ less. absurd (omega arith);
+        }
+
     pub reached_end : (k < n → to < first_at t k) → Reaches t n k₀ p (record { to = record { 0 = to }; passed = k })
     reached_end next = record { on = r.on; most = r.most; had = r.had; passed = r.passed; next = next }
 
 -- ---- the range that is found
 
 -- no span holds a position behind those that are passed and before the next
-free : (t : List ℕ) (n end k p q : ℕ) → Ordered t n end → Passed t n k p → p ≤ q → (k < n → q < first_at t k) → covered_by t n q ≡ false
+free : (t : List Span) (n end k p q : ℕ) → Ordered t n end → Passed t n k p → p ≤ q → (k < n → q < first_at t k) → covered_by t n q ≡ false
 free t n end k p q o passed on next =
     uncovered t n q
     (λ j less from to.
@@ -72,7 +85,7 @@ free t n end k p q o passed on next =
       | no before ↦ omega (arith, passed.ended j (omega arith))
     ])
 
-module _ (t : List ℕ) (n q : ℕ) where
+module _ (t : List Span) (n q : ℕ) where
   pub class_had : covered_by t n q ≡ true → class_by t n q ≡ had
   unfolding class_by
   class_had e = rw (class_by, e)
@@ -98,7 +111,7 @@ range_of of p end class to some one =
     λ i. record { class = sym here i; length = sym long i }
 
 -- where nothing is had, the next range begins behind the position
-pub next_high : (t : List ℕ) (n k p end : ℕ) {r : Reach} → Reaches t n k p r → r.to.0 ≤ p → p < end → {next : ℕ} → (r.passed < n → next ≡ first_at t r.passed)
+pub next_high : (t : List Span) (n k p end : ℕ) {r : Reach} → Reaches t n k p r → r.to.0 ≤ p → p < end → {next : ℕ} → (r.passed < n → next ≡ first_at t r.passed)
     → (n ≤ r.passed → next ≡ end)
     → p < next
 next_high t n k p end {r} s stays below first last =
@@ -107,7 +120,7 @@ next_high t n k p end {r} s stays below first last =
       | no one ↦ omega (arith, first (omega arith), s.next (omega arith), s.on)
     ]
 
-module _ (t : List ℕ) (n k p end : ℕ) {r : Reach} (o : Ordered t n end) (before : Passed t n k p) (s : Reaches t n k p r) where
+module _ (t : List Span) (n k p end : ℕ) {r : Reach} (o : Ordered t n end) (before : Passed t n k p) (s : Reaches t n k p r) where
   pub range_had : p ≤ end → p < r.to.0 → record { class = had; length = r.to.0 - p } ≡ range_in (class_by t n) p end
   range_had below some =
       range_of (class_by t n) p end had r.to.0 some
@@ -149,36 +162,36 @@ module _ (t : List ℕ) (n k p end : ℕ) {r : Reach} (o : Ordered t n end) (bef
 
 -- ---- so many positions that are missing
 
-module _ {length passed : ℕ} {r : Found} (nothing : r ≡ record { range = record { class = missing; length = length }; passed = passed }) where
-  long_nothing : r.range.length ≡ length
-  long_nothing = ap (λ (x : Found). x.range.length) nothing
+module _ {long passed : ℕ} {r : Found} (none : r ≡ nothing passed long) where
+  long_nothing : r.range.length ≡ long
+  long_nothing = ap (λ (x : Found). x.range.length) none
 
-  pub nothing-goes : {p end : ℕ} → (p < end → 0 < length) → p + length < 2 ^ 64 → GoesOn had p end r.range
+  pub nothing-goes : {p end : ℕ} → (p < end → 0 < long) → p + long < 2 ^ 64 → GoesOn had p end r.range
   nothing-goes some ends =
       record {
-        class = omega (arith, ap (λ (x : Found). x.range.class) nothing);
+        class = omega (arith, ap (λ (x : Found). class_no x.range.class) none);
         some = λ below. omega (arith, some below, long_nothing);
         ends = omega (arith, long_nothing);
       }
 
-  pub nothing-found : {t : List ℕ} {n p end : ℕ} → record { class = missing; length = length } ≡ range_in (class_by t n) p end → Passed t n passed (p + length) → Finds t n p end r
+  pub nothing-found : {t : List Span} {n p end : ℕ} → record { class = missing; length = long } ≡ range_in (class_by t n) p end → Passed t n passed (p + long) → Finds t n p end r
   nothing-found {t} {n} {p} found on =
       record {
-        range = ap (λ (x : Found). x.range) nothing ∙ found;
-        passed = subst (λ (x : Found). Passed t n x.passed (p + x.range.length)) (sym nothing) on;
+        range = ap (λ (x : Found). run_of x.range) none ∙ found;
+        passed = subst (λ (x : Found). Passed t n x.passed (p + x.range.length)) (sym none) on;
       }
 
 -- ---- ranges one after another
 
 -- a range that was found
-module _ (of : ℕ → ℕ) (p end : ℕ) (some : p < end) {r : Range} (found : r ≡ range_in of p end) where
+module _ (of : ℕ → ℕ) (p end : ℕ) (some : p < end) {r : Run} (found : r ≡ range_in of p end) where
   long : r.length ≡ stretch (λ q. eqb (of q) (of p)) (end - p) p
   unfolding range_in
-  long = ap (λ (x : Range). x.length) found
+  long = ap (λ (x : Run). x.length) found
 
   found_class : r.class ≡ of p
   unfolding range_in
-  found_class = ap (λ (x : Range). x.class) found
+  found_class = ap (λ (x : Run). x.class) found
 
   pub found_some : 0 < r.length
   found_some =
@@ -203,7 +216,7 @@ module _ (of : ℕ → ℕ) (p end : ℕ) (some : p < end) {r : Range} (found : 
       (λ short same. eqb-false _ _ (f.there (omega (arith, long))) (ap (λ (n : ℕ). of (p + n)) (sym long) ∙ same))
       ∙ (λ i. record { class = sym found_class i; first = p; length = r.length } ∷ ranges of (left i) (p + r.length))
 
-  pub found_one : OneClass of p end r.class (p + r.length)
+  pub found_one : OneClass of p end (r.class) (p + r.length)
   found_one =
       let f = stretch_first (λ q. eqb (of q) (of p)) (end - p) p in
       record {

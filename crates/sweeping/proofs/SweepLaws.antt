@@ -3,6 +3,8 @@
 use Prim.Native.Nat.{ℕ, ◌+◌, ◌<◌, ◌≤◌}
 use mathlib.Core.List.{List}
 use native.Mathlib.Omega.{arith}
+use lib.ListN.{length}
+use Rattle.spans.specs.declared.span.Span.{Span}
 use Rattle.sweeping.specs.Ranges.{Passed, Finds}
 use Rattle.spans.specs.Spans.{class_by}
 use Rattle.sweeping.specs.Sweeps.{at_start, Ready}
@@ -10,14 +12,14 @@ use Rattle.sweeping.specs.declared.ranges.Found.{Found}
 use Rattle.sweeping.specs.declared.sweep.Sweep.{Sweep}
 use Rattle.sweeping.proofs.RangeLaws.{found_one}
 
-pub ready_start : (t : List ℕ) (end p n : ℕ) → Ready t end p (at_start n)
-ready_start t end p n =
+pub ready_start : (t : List Span) (end p : ℕ) → Ready t end p at_start
+ready_start t end p =
     record {
       passed = record { most = omega arith; ended = λ j less. absurd (omega arith) };
       stands = λ less. absurd (omega arith);
     }
 
-module _ {t : List ℕ} {end p : ℕ} {s : Sweep} (r : Ready t end p s) where
+module _ {t : List Span} {end p : ℕ} {s : Sweep} (r : Ready t end p s) where
   pub ready_on : {q : ℕ} → p ≤ q → Ready t end q s
   ready_on on =
       record {
@@ -28,9 +30,9 @@ module _ {t : List ℕ} {end p : ℕ} {s : Sweep} (r : Ready t end p s) where
       }
 
   -- the spans that were passed are passed further on
-  pub ready_passed : s.to.0 ≤ p → Passed t s.n s.passed p
+  pub ready_passed : s.to.0 ≤ p → Passed t (length t) s.passed p
   ready_passed behind = record { most = r.passed.most; ended = λ j less. omega (arith, r.passed.ended j less) }
 
-pub ready_moved : (t : List ℕ) (n p end : ℕ) → p < end → {f : Found} → Finds t n p end f
-    → Ready t end p (record { n = n; class = f.range.class; to = record { 0 = p + f.range.length }; passed = f.passed })
-ready_moved t n p end below {f} finds = record { passed = finds.passed; stands = λ less. found_one (class_by t n) p end below finds.range }
+pub ready_moved : (t : List Span) (p end : ℕ) → p < end → {f : Found} → Finds t (length t) p end f
+    → Ready t end p (record { class = f.range.class; to = record { 0 = p + f.range.length }; passed = f.passed })
+ready_moved t p end below {f} finds = record { passed = finds.passed; stands = λ less. found_one (class_by t (length t)) p end below finds.range }

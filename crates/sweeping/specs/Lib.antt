@@ -1,3 +1,4 @@
+pub mod Classes
 pub mod Ranges
 pub mod Sweeps
 pub mod Naming

@@ -1,21 +1,26 @@
 -- Laws of boxes looked for along a walk over a container whose boxes are known.
-use Prim.Native.Nat.{ℕ}
-use mathlib.Core.Bool.{true, false}
+use Prim.Native.Nat.{ℕ, suc, ◌-◌}
+use mathlib.Core.Bool.{Bool, true, false, not}
 use mathlib.Core.List.{List, [], ◌∷◌}
-use mathlib.Core.Option.{none, some}
+use Rattle.std.specs.Prelude.{None, Some, slice_get}
 use mathlib.Core.Path.{◌≡◌, refl, sym, ap, ◌∙◌}
-use borrow.Author.Tests.{eq-eqb, ne_eqb}
+use native.Mathlib.Omega.{arith}
+use native.Mathlib.Decide.{dec_le}
+use lib.Dec.{eqb}
+use lib.ListN.{length, get_or, get_or-eq_default}
+use Rattle.std.proofs.lemmas.Option.{get_or_from_slice_get, slice_get-get_or, none-some}
 use Rattle.boxes.specs.Answer.{refused, given}
 use Rattle.boxes.specs.Framing.{Box, boxes_in, box_of}
-use Rattle.boxes.specs.Kinds.{is, no_box, box_at, first_of}
+use Rattle.boxes.specs.Kinds.{is, those, no_box, box_at, first_of}
 use Rattle.boxes.specs.Walk.{walk_over, stepped}
 use Rattle.boxes.specs.declared.framing.Framed.{Framed}
 use Rattle.boxes.specs.declared.kinds.Container.{Container}
 use Rattle.boxes.specs.declared.kinds.Kind.{Kind}
 use Rattle.numerals.specs.declared.place.Place.{Place}
 use Rattle.boxes.specs.declared.walk.Walk.{Walk}
-use Rattle.boxes.proofs.KindLaws.{box_at_get_d, is-eqb, those-nil, first_of-those}
+use Rattle.boxes.proofs.KindLaws.{is-eqb, box_at_get_d, first_of-those}
 use Rattle.boxes.proofs.ToldLaws.{box_fields}
+use Rattle.tallying.specs.Found.{first_in}
 use Rattle.boxes.proofs.WalkLaws.{ahead, walk_boxes, known_next, known_end, known_sound}
 
 -- what was asked of the boxes before a walk as it began is what is asked of those before it now
@@ -26,7 +31,7 @@ pub asked_none : {A : Type 0} (s : List ℕ) (of : List Box → A) (w : Walk) �
 asked_none s of w = record { same = λ all known. (all, known, refl) }
 
 -- a box that does not answer is passed
-pub asked_more : {A : Type 0} {s : List ℕ} {of₀ of : List Box → A} (of' : List Box → A) {w₀ w w' : Walk} {b : Box} → Asked s of₀ w₀ of w → stepped s w ≡ given (some (b, w'))
+pub asked_more : {A : Type 0} {s : List ℕ} {of₀ of : List Box → A} (of' : List Box → A) {w₀ w w' : Walk} {b : Box} → Asked s of₀ w₀ of w → stepped s w ≡ given (Some (b, w'))
     → ((rest : List Box) → of (b ∷ rest) ≡ of' rest)
     → Asked s of₀ w₀ of' w'
 asked_more {s = s} {of = of} of' {w = w} a step passed =
@@ -43,14 +48,14 @@ module _ {A : Type 0} {s : List ℕ} {of₀ of : List Box → A} {c : Container}
   left = a.same all (sym (walk_boxes s new) ∙ known)
 
   -- a box that answers
-  pub asked_next : {b : Box} {w' : Walk} {x : A} → stepped s w ≡ given (some (b, w')) → ((rest : List Box) → of (b ∷ rest) ≡ x) → of₀ all ≡ x
+  pub asked_next : {b : Box} {w' : Walk} {x : A} → stepped s w ≡ given (Some (b, w')) → ((rest : List Box) → of (b ∷ rest) ≡ x) → of₀ all ≡ x
   asked_next step answers =
       let (rest, before, e) = left in
       let (more, after, split) = known_next s w before step in
       e ∙ ap of split ∙ answers more
 
   -- no box answers
-  pub asked_end : stepped s w ≡ given none → of₀ all ≡ of []
+  pub asked_end : stepped s w ≡ given None → of₀ all ≡ of []
   asked_end step =
       let (rest, before, e) = left in
       e ∙ ap of (known_end s w before step)
@@ -61,15 +66,65 @@ module _ {A : Type 0} {s : List ℕ} {of₀ of : List Box → A} {c : Container}
       let (rest, before, e) = left in
       known_sound s w before step
 
--- ---- the first of a kind
+-- ---- whether a box is of a kind, as a call compares them
 
-module _ (k : Kind) where
-  pub first_none : first_of k [] ≡ no_box
-  first_none = first_of-those k [] ∙ ap (box_at 0) (those-nil k) ∙ box_at_get_d 0 []
+module _ (k : Kind) (b : Framed) {same : Bool} (compared : same ≡ eqb b.kind.code k.code) where
+  pub is_kind : same ≡ true → is k (box_of b) ≡ true
+  is_kind e = is-eqb k (box_of b) ∙ ap (λ x. eqb x.kind k.code) (box_fields b) ∙ sym compared ∙ e
 
-  module _ (b : Framed) where
-    pub is_kind : b.kind ≡ k.code → is k (box_of b) ≡ true
-    is_kind e = is-eqb k (box_of b) ∙ eq-eqb _ _ (ap (λ x. x.kind) (box_fields b) ∙ e)
+  pub is_other : same ≡ false → is k (box_of b) ≡ false
+  is_other e = is-eqb k (box_of b) ∙ ap (λ x. eqb x.kind k.code) (box_fields b) ∙ sym compared ∙ e
 
-    pub is_other : (b.kind ≡ k.code → ⊥) → is k (box_of b) ≡ false
-    is_other e = is-eqb k (box_of b) ∙ ne_eqb _ _ (λ h. e (sym (ap (λ x. x.kind) (box_fields b)) ∙ h))
+denied : (a : Bool) → not a ≡ true → a ≡ false
+denied true e = sym e
+denied false e = refl
+
+kept : (a : Bool) → not a ≡ false → a ≡ true
+kept true e = refl
+kept false e = sym e
+
+-- the same where a call asks whether it is another
+module _ (k : Kind) (b : Framed) {other : Bool} (compared : other ≡ not (eqb b.kind.code k.code)) where
+  pub is_not : other ≡ true → is k (box_of b) ≡ false
+  is_not e = is_other k b refl (denied _ (sym compared ∙ e))
+
+  pub is_still : other ≡ false → is k (box_of b) ≡ true
+  is_still e = is_kind k b refl (kept _ (sym compared ∙ e))
+
+-- the first box of a kind that was found is that of the definitions
+pub found_there : (k : Kind) (bs : List Box) {b : Box} → Some b ≡ first_in (those k bs) → b ≡ first_of k bs
+found_there k bs {b} there = go (those k bs) refl there
+  where
+    go : (cs : List Box) → those k bs ≡ cs → Some b ≡ first_in cs → b ≡ first_of k bs
+    go [] e none = let z : ◌≡◌ {A = ℕ} 0 1 = cc in absurd (omega arith)
+    go (c ∷ cs) e one =
+        let same : b ≡ c = cc in
+        same ∙ sym (first_of-those k bs ∙ ap (box_at 0) e ∙ box_at_get_d 0 (c ∷ cs))
+
+-- where none was found it is a box of nothing
+pub found_none : (k : Kind) (bs : List Box) → None ≡ first_in (those k bs) → no_box ≡ first_of k bs
+found_none k bs none = go (those k bs) refl none
+  where
+    go : (cs : List Box) → those k bs ≡ cs → None ≡ first_in cs → no_box ≡ first_of k bs
+    go [] e none = sym (first_of-those k bs ∙ ap (box_at 0) e ∙ box_at_get_d 0 [])
+    go (c ∷ cs) e one = let z : ◌≡◌ {A = ℕ} 0 1 = cc in absurd (omega arith)
+
+-- ---- a box looked for by its number
+
+-- the box of a number, as a call finds it
+module _ (n : ℕ) (bs : List Box) where
+  pub number_found : {b : Box} → Some b ≡ slice_get bs n → b ≡ box_at n bs
+  number_found {b} there = sym (get_or_from_slice_get bs n b no_box (sym there)) ∙ sym (box_at_get_d n bs)
+
+  pub number_none : None ≡ slice_get bs n → no_box ≡ box_at n bs
+  number_none none =
+      elim (dec_le (length bs) n) [
+        | yes past ↦ sym (get_or-eq_default bs no_box past) ∙ sym (box_at_get_d n bs)
+        | no there ↦ absurd (none-some (get_or bs n no_box) (none ∙ slice_get-get_or bs n no_box (omega arith)))
+      ]
+
+-- it is as many further on as are left to pass
+pub number_later : (n : ℕ) → (n ≡ 0 → ⊥) → (b : Box) (bs : List Box) → slice_get (b ∷ bs) n ≡ slice_get bs (n - 1)
+number_later n later b bs =
+    let split : n ≡ suc (n - 1) = omega arith in
+    ap (λ n. slice_get (b ∷ bs) n) split

@@ -13,17 +13,21 @@ use borrow.Author.Tests.{eq-eqb, ne_eqb, eqb-true, eqb-false}
 use lib.Dec.{eqb}
 use lib.ListN.{length, get_or, drop, set, length-set}
 use lib.Seq.{drop-cons, drop-drop, get_or-drop, get_or-set_same, get_or-set_other, ext_get_or}
-use Rattle.boxes.specs.Answer.{Answer, refused, given}
-use Rattle.boxes.specs.Framing.{Box, boxes_in}
+use Rattle.std.specs.Prelude.{Result, Ok, Err}
+use Rattle.refusals.specs.Refusals.{refusal_no}
+use Rattle.refusals.specs.declared.Refusal.{Refusal}
+use Rattle.boxes.specs.Answer.{Answer, refused, given, told_as}
+use Rattle.boxes.proofs.AnswerLaws.{not_both, refused_same, given_same}
+use Rattle.boxes.proofs.ToldLaws.{told-ok, told-err}
+use Rattle.boxes.specs.Framing.{Box}
 use Rattle.boxes.specs.Kinds.{ftyp, rule, rules, those, is_row, rule_in, right_count, right}
 use Rattle.boxes.specs.declared.kinds.Container.{Container}
 use Rattle.boxes.specs.declared.kinds.Container.TheVariants.{File}
 use Rattle.boxes.specs.declared.kinds.Count.TheVariants.{Any}
 use Rattle.boxes.specs.declared.kinds.Kind.{Kind}
 use Rattle.boxes.specs.declared.kinds.Rule.{Rule}
-use Rattle.boxes.proofs.ContainerLaws.{boxes_numbers}
 use Rattle.boxes.proofs.KindLaws.{those_few, one_found, one_passed, right-count}
-use Rattle.tallying.specs.Rules.{counts_of, row_after, CountedBy, tally_of, count_in, tally_for}
+use Rattle.tallying.specs.Rules.{counts_of, row_after, CountedBy, tally_of, tallied, count_in, tally_for}
 use Rattle.tallying.specs.declared.tally.Tally.{Tally}
 
 -- ---- one box more
@@ -178,54 +182,38 @@ module _ (rs : List Rule) (c : Container) (k : Kind) (i : ℕ) {row : Rule} (her
 
 -- ---- what a tally says
 
--- of a container without a fault: its boxes, and how many of them are of each kind
+-- of the boxes of a container: how many there are, and how many of each kind
 pub record Tallied (t : Tally) (bs : List Box) : Type 0 where
-  pub sound : t.fault ≡ 0
   pub number : t.boxes ≡ length bs
   pub of : (k : Kind) → has rules k ≡ true → tally_for k t.counts ≡ length (those k bs)
 
-module _ {t : Tally} {x : Answer (List Box)} (answer : t ≡ tally_of x) where
-  pub tally_given : {bs : List Box} → x ≡ given bs → Tallied t bs
-  unfolding tally_of
-  tally_given {bs} e =
-      subst (λ t. Tallied t bs) (sym (answer ∙ ap tally_of e)) (record { sound = refl; number = refl; of = λ k h. tally-for k h bs })
+pub tally_given : {t : Tally} {bs : List Box} → t ≡ tally_of bs → Tallied t bs
+unfolding tally_of
+tally_given {bs = bs} answer = subst (λ t. Tallied t bs) (sym answer) (record { number = refl; of = λ k h. tally-for k h bs })
 
-  pub tally_refused : {n : ℕ} → x ≡ refused n → t.fault ≡ n
-  unfolding tally_of
-  tally_refused e = ap (λ t. t.fault) (answer ∙ ap tally_of e)
-
--- and back: no fault is told of a container that has its boxes, and else the first
-module _ (c : Container) (s : List ℕ) (start end : ℕ) {t : Tally} (answer : t ≡ tally_of (boxes_in c s start end)) where
-  pub tally_sound : t.fault ≡ 0 → (bs : List Box) × (boxes_in c s start end ≡ given bs) × Tallied t bs
-  tally_sound h = go (boxes_in c s start end) refl
+-- what is told of a container: its boxes are counted, or it has a fault of that number
+module _ {r : Result Tally Refusal} {x : Answer (List Box)} (answer : told_as (λ t. t) r ≡ tallied x) where
+  pub tally_sound : {t : Tally} → r ≡ Ok t → (bs : List Box) × (x ≡ given bs) × (t ≡ tally_of bs)
+  tally_sound {t} ok = go x (sym (told-ok (λ t. t) answer ok))
     where
-      go : (x : Answer (List Box)) → boxes_in c s start end ≡ x → (bs : List Box) × (boxes_in c s start end ≡ given bs) × Tallied t bs
-      go (refused n) e =
-          let (low, high) = boxes_numbers c s start end n e in
-          absurd (omega (arith, tally_refused answer e))
-      go (given bs) e = (bs, e, tally_given answer e)
+      go : (x : Answer (List Box)) → given t ≡ tallied x → (bs : List Box) × (x ≡ given bs) × (t ≡ tally_of bs)
+      go (refused n) e = absurd (not_both (sym e))
+      go (given bs) e = (bs, refl, given_same e)
 
-  pub tally_fault : (t.fault ≡ 0 → ⊥) → boxes_in c s start end ≡ refused t.fault
-  tally_fault h = go (boxes_in c s start end) refl
+  pub tally_fault : {n : Refusal} → r ≡ Err n → x ≡ refused (refusal_no n)
+  tally_fault {n} err = go x (sym (told-err (λ t. t) answer err))
     where
-      go : (x : Answer (List Box)) → boxes_in c s start end ≡ x → boxes_in c s start end ≡ refused t.fault
-      go (refused n) e = e ∙ ap refused (sym (tally_refused answer e))
-      go (given bs) e = absurd (h (tally_given answer e).sound)
+      go : (x : Answer (List Box)) → refused (refusal_no n) ≡ tallied x → x ≡ refused (refusal_no n)
+      go (refused m) e = ap refused (sym (refused_same e))
+      go (given bs) e = absurd (not_both e)
 
 -- a rule held against a tally is held against the boxes
 pub tally_right : (c : Container) (k : Kind) → has rules k ≡ true → {t : Tally} {bs : List Box} → Tallied t bs → right_count c k (tally_for k t.counts) ≡ right c k bs
 tally_right c k h {bs = bs} tallied = ap (right_count c k) (tallied.of k h) ∙ sym (right-count c k bs)
 
--- a tally that tells no fault counts the boxes of its container
-pub tally_known : (c : Container) (s : List ℕ) (start end : ℕ) {t : Tally} → t ≡ tally_of (boxes_in c s start end) → t.fault ≡ 0
-    → (bs : List Box) × (boxes_in c s start end ≡ given bs) × (t ≡ tally_of (given bs))
-tally_known c s start end answer sound =
-    let (bs, known, tallied) = tally_sound c s start end answer sound in
-    (bs, known, answer ∙ ap tally_of known)
-
 -- a count rule that was held against a tally is held against the boxes
-pub rule_kept : {t : Tally} (bs : List Box) → t ≡ tally_of (given bs) → (c : Container) (k : Kind) → has rules k ≡ true → {n : ℕ} {r : Bool}
+pub rule_kept : {t : Tally} (bs : List Box) → t ≡ tally_of bs → (c : Container) (k : Kind) → has rules k ≡ true → {n : ℕ} {r : Bool}
     → n ≡ tally_for k t.counts
     → r ≡ right_count c k n
     → r ≡ right c k bs
-rule_kept bs tallied c k known counted kept = kept ∙ ap (right_count c k) counted ∙ tally_right c k known (tally_given tallied refl)
+rule_kept bs tallied c k known counted kept = kept ∙ ap (right_count c k) counted ∙ tally_right c k known (tally_given tallied)

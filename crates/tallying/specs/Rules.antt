@@ -1,6 +1,6 @@
 -- Document 01, "Framing": how many boxes of each kind of the table a container holds, counted in one walk.
 use Rattle.std.specs.Prelude.{ℕ, ◌+◌, ◌≤◌, ◌<◌, true, false, List, [], ◌∷◌, map, ◌≡◌, length, get_or, drop, eqb}
-use Rattle.boxes.specs.Answer.{Answer, refused, given}
+use Rattle.boxes.specs.Answer.{Answer, given, ◌>>=◌}
 use Rattle.boxes.specs.Framing.{Box}
 use Rattle.boxes.specs.Kinds.{rules, those}
 use Rattle.boxes.specs.declared.kinds.Kind.{Kind}
@@ -21,10 +21,13 @@ pub record CountedBy (rs : List Rule) (code from to : ℕ) (before after : List 
   pub passed : (k : ℕ) → k < to → from ≤ k → (d : Rule) → get_or after k 0 ≡ row_after code (get_or rs k d) (get_or before k 0)
   pub left : (k : ℕ) → (from ≤ k → to ≤ k) → get_or after k 0 ≡ get_or before k 0
 
--- what is told of a container: the number of its first fault and no box, or the numbers of its boxes
-unfoldable pub tally_of : Answer (List Box) → Tally
-tally_of (refused n) = record { fault = n; boxes = 0; counts = counts_of [] }
-tally_of (given bs) = record { fault = 0; boxes = length bs; counts = counts_of bs }
+-- the numbers of the boxes of a container
+unfoldable pub tally_of : List Box → Tally
+tally_of bs = record { boxes = length bs; counts = counts_of bs }
+
+-- what is told of a container: the numbers of its boxes, or that of its first fault
+abbrev pub tallied : Answer (List Box) → Answer Tally
+tallied read = read >>= λ bs. given (tally_of bs)
 
 -- of counts in the order of a table, the one at the first row of a kind; 0 for a kind that the table has not
 unfoldable pub count_in : List Rule → Kind → List ℕ → ℕ

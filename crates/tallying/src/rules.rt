@@ -1,6 +1,6 @@
 // The count rules of the table of kinds, by kind and container.
 ghost use Rattle.std.specs.Prelude.{◌<◌, ◌≡◌, length, get_or};
-ghost use Rattle.boxes.specs.Kinds.{rules, keeps, container_no, is_row, rule_in, right_count};
+ghost use Rattle.boxes.specs.Kinds.{rules, keeps, is_row, rule_in, right_count};
 
 use boxes::kinds::{Container, Count, Kind, RULE_COUNT, RULES, Rule};
 
@@ -25,38 +25,22 @@ fn keeps_rule(count: Count, n: u64) -> bool
     }
 }
 
-// The containers by number.
-fn container_no(c: Container) -> u64
-    ensures { result ≡ container_no c }
-{
-    match c {
-        Container::File => 0,
-        Container::Pfil => 1,
-        Container::Pseg => 2,
-        Container::Fidx => 3,
-        Container::Bidx => 4,
-    }
-}
-
 // Whether a row of the table is that of a kind in a container.
 fn is_row(container: Container, kind: Kind, row: Rule) -> bool
     ensures { result ≡ is_row container kind row }
 {
-    let home = row.container;
-    row.kind.code == kind.code && container_no(home) == container_no(container)
+    row.kind == kind && row.container == container
 }
 
 // The count rule of a kind in a container: that of its row, and none where the table has no such row.
 fn rule_of(container: Container, kind: Kind) -> Count
     ensures { result ≡ rule_in rules container kind }
 {
-    let mut i = 0;
-    while i < RULE_COUNT {
+    for i in 0..RULE_COUNT {
         let row = row_at(i);
         if is_row(container, kind, row) {
             return row.count;
         }
-        i += 1;
     }
     Count::Any
 }

@@ -5,11 +5,9 @@ ghost use Rattle.tallying.specs.Rules.{tally_for};
 use crate::rules::row_at;
 use boxes::kinds::{Kind, RULE_COUNT};
 
-// The number of the first fault, 0 for none; how many boxes there are, and how many of the kind of each row of the
-// table, none where there is a fault.
+// How many boxes there are, and how many of the kind of each row of the table.
 #[derive(Clone, Copy)]
 pub struct Tally {
-    pub fault: u64,
     pub boxes: u64,
     pub counts: [u64; RULE_COUNT],
 }
@@ -20,13 +18,11 @@ impl Tally {
         ensures { result ≡ tally_for kind self.counts }
     {
         let counts = self.counts;
-        let mut i = 0;
-        while i < RULE_COUNT {
+        for i in 0..RULE_COUNT {
             let row = row_at(i);
-            if row.kind.code == kind.code {
+            if row.kind == kind {
                 return counts[i];
             }
-            i += 1;
         }
         0
     }

@@ -15,10 +15,10 @@ use Rattle.partial.specs.Map.{ascii, decimal, line, refused_line}
 use Rattle.texts.specs.Pieces.{PutsPiece}
 
 -- a copy into a part of the buffer that is as long
-pub copied : (s : List ℕ) (at : ℕ) (bytes part : List ℕ) → at + length bytes ≤ length s → part ≡ bytes
-    → take at s ++ (part ++ drop (at + length bytes - at) (drop at s)) ≡ stored s at bytes
-copied s at bytes part room whole =
-    let many : at + length bytes - at ≡ length bytes = omega arith in
+pub copied : (s : List ℕ) (at : ℕ) (bytes part : List ℕ) {next : ℕ} → next ≡ at + length bytes → at + length bytes ≤ length s → part ≡ bytes
+    → take at s ++ (part ++ drop (next - at) (drop at s)) ≡ stored s at bytes
+copied s at bytes part {next} end room whole =
+    let many : next - at ≡ length bytes = omega (arith, end) in
     (λ i. take at s ++ (whole i ++ drop (many i) (drop at s)))
     ∙ ap (λ (rest : List ℕ). take at s ++ (bytes ++ rest)) (drop-drop (length bytes) at s)
     ∙ sym (stored-room s at bytes room)

@@ -11,11 +11,7 @@ use io::decimal;
 pub fn put_text(buffer: &mut [u8], at: u64, text: &[u8]) -> u64
     ensures { PutsPiece buffer.old at text.now buffer.new result }
 {
-    let more = text.len() as u64;
-    if u64::MAX - more < at {
-        return u64::MAX;
-    }
-    let next = at + more;
+    let next = at.saturating_add(text.len() as u64);
     if (buffer.len() as u64) < next {
         return next;
     }

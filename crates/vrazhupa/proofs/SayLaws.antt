@@ -3,9 +3,10 @@ use Prim.Native.Nat.{ℕ}
 use mathlib.Core.Bool.{Bool}
 use mathlib.Core.List.{List}
 use mathlib.Core.Path.{◌≡◌, subst}
-use Rattle.boxes.specs.Answer.{Answer, refused, given, ◌>>=◌}
+use Rattle.std.specs.Prelude.{Result, Ok, Err}
+use Rattle.boxes.specs.Answer.{Answer, refused, given, ◌>>=◌, told_as}
+use Rattle.refusals.specs.declared.Refusal.{Refusal}
 use Rattle.additions.specs.Addition.{asks}
-use Rattle.partial.specs.declared.answers.Written.{Written}
 use Rattle.additions.specs.declared.header.SegmentHeader.{SegmentHeader}
 use Rattle.writing.specs.Append.{Appends}
 use Rattle.vrazhupa.specs.Says.{Says, number_of, numbers_after}
@@ -19,8 +20,16 @@ module _ {A : Type 0} (numbers : A → List ℕ) {answer : Answer A} {told : Lis
   unfolding number_of numbers_after
   says_given e same = record { number = rw e; values = rw e same }
 
-  pub says_same : {answer' : Answer A} {told' : List ℕ} {r : ℕ} → answer ≡ answer' → Says numbers answer told told' r → Says numbers answer' told told' r
-  says_same {told' = told'} {r = r} e s = subst (λ (x : Answer A). Says numbers x told told' r) e s
+-- what an answer's own numbers say is what is said of an equal answer, told by the numbers of what that one means
+pub says_as : {T A : Type 0} (of : T → A) (numbers : A → List ℕ) (r : Result T Refusal) {answer : Answer A} {told told' : List ℕ} {n : ℕ} → told_as of r ≡ answer
+    → Says (λ t. numbers (of t)) (told_as (λ t. t) r) told told' n
+    → Says numbers answer told told' n
+unfolding number_of numbers_after
+says_as of numbers r {told = told} {told'} {n} e s = subst (λ (x : Answer _). Says numbers x told told' n) e (go r s)
+  where
+    go : (r : Result _ Refusal) → Says (λ t. numbers (of t)) (told_as (λ t. t) r) told told' n → Says numbers (told_as of r) told told' n
+    go (Ok t) s = record { number = s.number; values = s.values }
+    go (Err e) s = record { number = s.number; values = s.values }
 
 -- the numbers of what follows an answer, told as that answer's
 pub says_then : {A B : Type 0} (numbers : B → List ℕ) (of : A → B) (answer : Answer A) {told told' : List ℕ} {r : ℕ} → Says numbers (answer >>= λ a. given (of a)) told told' r
@@ -30,7 +39,7 @@ says_then numbers of (refused n) s = record { number = s.number; values = s.valu
 says_then numbers of (given a) s = record { number = s.number; values = s.values }
 
 -- what is appended by a header is what is appended by an equal one
-pub appends_by : {buffer buffer' : List ℕ} {n : ℕ} {header header' : SegmentHeader} {r : Written} (outside : Bool) (list bytes texts lengths : List ℕ) → header ≡ header'
+pub appends_by : {buffer buffer' : List ℕ} {n : ℕ} {header header' : SegmentHeader} {r : Result ℕ Refusal} (outside : Bool) (list bytes texts lengths : List ℕ) → header ≡ header'
     → Appends buffer buffer' n (asks header outside list bytes texts lengths) r
     → Appends buffer buffer' n (asks header' outside list bytes texts lengths) r
 appends_by {buffer} {buffer'} {n} {r = r} outside list bytes texts lengths e a =

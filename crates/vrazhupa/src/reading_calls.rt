@@ -6,9 +6,7 @@ ghost use Rattle.partial.specs.Limits.{source_limit};
 ghost use Rattle.partial.specs.Map.{map_text, missmap_text};
 ghost use Rattle.vrazhupa.specs.Calls.{SaysHeaded, SaysRead, SaysText, SaysSourceText, SaysTexts, SaysServed, SaysAsked, SaysListed, SaysIndexed, SaysPrinted};
 
-use crate::answers::{
-    say_asked, say_counted, say_headed, say_listed, say_part, say_read, say_texts, say_written,
-};
+use crate::answers::say;
 use boxlisting::call::boxes;
 use heading::stages::heading_of;
 use indexrows::calls::index;
@@ -26,7 +24,7 @@ use surltexts::calls::segment_texts;
 pub extern "C" fn vrazhupa_heading(file: &[u8], told: &mut [u64; 7]) -> u64
     ensures { SaysHeaded file.now told.old told.new result }
 {
-    say_headed(heading_of(file), told)
+    say(heading_of(file), told)
 }
 
 // Reads a file into both tables, and tells of a source.
@@ -40,7 +38,7 @@ pub extern "C" fn vrazhupa_read(
 ) -> u64
     ensures { SaysRead file.now source segments.old segments.new chunks.old chunks.new told.old told.new result }
 {
-    say_read(read(file, source, segments, chunks), told)
+    say(read(file, source, segments, chunks), told)
 }
 
 // Where the URL of the first `surl` in `pfil` stands.
@@ -48,7 +46,7 @@ pub extern "C" fn vrazhupa_read(
 pub extern "C" fn vrazhupa_url(file: &[u8], told: &mut [u64; 2]) -> u64
     ensures { SaysText url file.now told.old told.new result }
 {
-    say_part(text_at(file, Text::Url), told)
+    say(text_at(file, Text::Url), told)
 }
 
 // Where the MIME text of the first `surl` in `pfil` stands.
@@ -56,7 +54,7 @@ pub extern "C" fn vrazhupa_url(file: &[u8], told: &mut [u64; 2]) -> u64
 pub extern "C" fn vrazhupa_mime(file: &[u8], told: &mut [u64; 2]) -> u64
     ensures { SaysText mime file.now told.old told.new result }
 {
-    say_part(text_at(file, Text::Mime), told)
+    say(text_at(file, Text::Mime), told)
 }
 
 // Where the first URL of a source stands.
@@ -64,7 +62,7 @@ pub extern "C" fn vrazhupa_mime(file: &[u8], told: &mut [u64; 2]) -> u64
 pub extern "C" fn vrazhupa_source_url(file: &[u8], source: u64, told: &mut [u64; 2]) -> u64
     ensures { SaysSourceText url file.now source told.old told.new result }
 {
-    say_part(source_text_at(file, source, Text::Url), told)
+    say(source_text_at(file, source, Text::Url), told)
 }
 
 // Where the first MIME text of a source stands.
@@ -72,7 +70,7 @@ pub extern "C" fn vrazhupa_source_url(file: &[u8], source: u64, told: &mut [u64;
 pub extern "C" fn vrazhupa_source_mime(file: &[u8], source: u64, told: &mut [u64; 2]) -> u64
     ensures { SaysSourceText mime file.now source told.old told.new result }
 {
-    say_part(source_text_at(file, source, Text::Mime), told)
+    say(source_text_at(file, source, Text::Mime), told)
 }
 
 // The texts of the `surl` boxes of a segment, as an addition takes them.
@@ -86,7 +84,7 @@ pub extern "C" fn vrazhupa_texts(
 ) -> u64
     ensures { SaysTexts file.now segment texts.old texts.new lengths.old lengths.new told.old told.new result }
 {
-    say_texts(segment_texts(file, segment, texts, lengths), told)
+    say(segment_texts(file, segment, texts, lengths), told)
 }
 
 // Where in the file the bytes stand that serve a position of a source and those after it; a part of no bytes where it is
@@ -102,7 +100,7 @@ pub extern "C" fn vrazhupa_serve(
 ) -> u64
     ensures { SaysServed file.now source segments.old segments.new chunks.old chunks.new p told.old told.new result }
 {
-    say_part(part_at(file, source, segments, chunks, Position(p)), told)
+    say(part_at(file, source, segments, chunks, Position(p)), told)
 }
 
 // Whether a position of a source is served or missing, with how many in a row, or not below the described length.
@@ -117,7 +115,7 @@ pub extern "C" fn vrazhupa_ask(
 ) -> u64
     ensures { SaysAsked file.now source segments.old segments.new chunks.old chunks.new p told.old told.new result }
 {
-    say_asked(ask(file, source, segments, chunks, Position(p)), told)
+    say(ask(file, source, segments, chunks, Position(p)), told)
 }
 
 // Lists the ranges that a file has of a source and those that are missing.
@@ -135,7 +133,7 @@ pub extern "C" fn vrazhupa_list(
         chunks.old chunks.new had.old had.new missing.old
         missing.new told.old told.new result }
 {
-    say_listed(list(file, source, segments, chunks, had, missing), told)
+    say(list(file, source, segments, chunks, had, missing), told)
 }
 
 // Tells the boxes of a file's index in rows.
@@ -143,7 +141,7 @@ pub extern "C" fn vrazhupa_list(
 pub extern "C" fn vrazhupa_index(file: &[u8], table: &mut [u64], told: &mut [u64; 1]) -> u64
     ensures { SaysIndexed file.now table.old table.new told.old told.new result }
 {
-    say_counted(index(file, table), told)
+    say(index(file, table), told)
 }
 
 // Writes the map's text, 27 for a file of more bytes than the caller takes.
@@ -156,7 +154,7 @@ pub extern "C" fn vrazhupa_map(
 ) -> u64
     ensures { SaysPrinted (map_text source_limit most file.now) buffer.old buffer.new told.old told.new result }
 {
-    say_written(map(file, most, buffer), told)
+    say(map(file, most, buffer), told)
 }
 
 // Writes the text of the map that does not name what is missing, 27 for a file of more bytes than the caller takes.
@@ -169,7 +167,7 @@ pub extern "C" fn vrazhupa_missmap(
 ) -> u64
     ensures { SaysPrinted (missmap_text source_limit most file.now) buffer.old buffer.new told.old told.new result }
 {
-    say_written(missmap(file, most, buffer), told)
+    say(missmap(file, most, buffer), told)
 }
 
 // Writes a line for each top-level box, 27 for a file of more bytes than the caller takes.
@@ -182,5 +180,5 @@ pub extern "C" fn vrazhupa_boxes(
 ) -> u64
     ensures { SaysPrinted (boxes_text most file.now) buffer.old buffer.new told.old told.new result }
 {
-    say_written(boxes(file, most, buffer), told)
+    say(boxes(file, most, buffer), told)
 }

@@ -4,7 +4,7 @@ ghost use Rattle.additions.specs.Addition.{asks, writable};
 ghost use Rattle.additions.specs.Begin.{brand_for};
 ghost use Rattle.vrazhupa.specs.Calls.{SaysBegun, SaysAppended};
 
-use crate::answers::say_written;
+use crate::answers::say;
 use additions::header::SegmentHeader;
 use partial::brand::Brand;
 use partial::position::Position;
@@ -29,7 +29,7 @@ pub extern "C" fn vrazhupa_begin(
 ) -> u64
     ensures { SaysBegun (brand_for mixed) url.now mime.now buffer.old buffer.new told.old told.new result }
 {
-    say_written(begin(buffer, brand_for(mixed), url, mime), told)
+    say(begin(buffer, brand_for(mixed), url, mime), told)
 }
 
 // Appends a segment at a source offset, the last of its source or not, with its good chunks outside `pdat` or not, and
@@ -53,7 +53,7 @@ pub extern "C" fn vrazhupa_append(
         told.old told.new result }
 {
     let header = SegmentHeader::writable(Position(offset), repair, last);
-    say_written(
+    say(
         append(buffer, length, header, outside, list, bytes, texts, lengths),
         told,
     )

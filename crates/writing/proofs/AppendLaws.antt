@@ -1,21 +1,25 @@
 -- Laws of appending a segment: what each test decides, and what the call leaves.
 use Prim.Native.Nat.{ℕ, ◌+◌, ◌%◌, ◌^◌, ◌≤◌, ◌<◌}
-use mathlib.Core.Bool.{Bool, true, false, not, ◌&&◌, and-false}
+use mathlib.Core.Bool.{Bool, true, false, and-false}
 use mathlib.Core.List.{List, [], ◌++◌, append_assoc}
 use mathlib.Core.Logic.{inl, inr}
 use mathlib.Core.Path.{◌≡◌, refl, sym, ap, subst, ◌∙◌}
 use native.Mathlib.Omega.{arith}
 use borrow.Author.Tests.{leb-true, le-leb, lt-leb, eq-eqb, ne_eqb}
-use lib.Dec.{leb, ltb, eqb}
+use lib.Dec.{leb, ltb}
 use lib.ListN.{length, take, drop, length-append}
 use lib.Seq.{length-take-le}
+use Rattle.std.specs.Prelude.{Result, Ok, Err, IsErrAnd}
+use Rattle.refusals.specs.Refusals.{refusal_no}
+use Rattle.refusals.specs.declared.Refusal.{Refusal}
+use Rattle.boxes.proofs.ToldLaws.{handed_on}
 use Rattle.boxes.specs.Answer.{Answer, refused, given, ◌>>=◌, hold}
 use Rattle.boxes.specs.Kinds.{pseg, right}
 use Rattle.boxes.specs.declared.kinds.Container.TheVariants.{File}
 use Rattle.boxes.proofs.AnswerLaws.{not_both, refused_same, given_same, both_given}
 use Rattle.numerals.proofs.StoredLaws.{stored-room}
 use Rattle.additions.specs.Addition.{Addition, asks, items, list_right, lengths_right, lists_right, data_size, data_right, texts_right, bytes_right, surls, outside_right}
-use Rattle.partial.specs.Answers.{written_answer}
+use Rattle.partial.specs.Answers.{number_answer}
 use Rattle.additions.specs.Append.{added, new_urls, admission, appended, result}
 use Rattle.partial.specs.Heading.{Heading, heading}
 use Rattle.partial.specs.Index.{SourceBox, indexed}
@@ -23,11 +27,9 @@ use Rattle.partial.specs.Limits.{file_limit, source_limit}
 use Rattle.partial.specs.Memory.{after, filled}
 use Rattle.partial.specs.Reading.{earlier_segments}
 use Rattle.partial.specs.Segments.{Segment}
-use Rattle.additions.specs.Addition.{is_state}
 use Rattle.additions.specs.Begin.{is_text}
 use Rattle.partial.specs.Sequences.{all_of}
 use Rattle.partial.specs.Sources.{urls_for, same_urls, source_count, source_beside}
-use Rattle.partial.specs.declared.answers.Written.{Written}
 use Rattle.additions.specs.declared.header.SegmentHeader.{SegmentHeader}
 use Rattle.partial.proofs.Meaning.SequenceLaws.{which}
 use Rattle.partial.proofs.Reading.HeadingAppendLaws.{headed}
@@ -51,7 +53,7 @@ use Rattle.going.specs.Source.{SourceFor, GoesTo, HasList}
 use Rattle.going.specs.Texts.{urls_of}
 use Rattle.gathering.specs.declared.gathered.Gathered.{Gathered}
 use Rattle.adding.specs.Admission.{Beside, Goes, AskedBy, admitted_length}
-use Rattle.adding.specs.Counts.{counts_of, Counted}
+use Rattle.adding.specs.Counts.{counts_of, right_item, counted, Counted}
 use Rattle.adding.specs.Texts.{texts_of}
 use Rattle.adding.specs.declared.admission.Asked.{Asked}
 use Rattle.adding.specs.declared.admission.Target.{Target}
@@ -66,14 +68,19 @@ use Rattle.writing.specs.Append.{Going, Appends}
 
 module _ (buffer : List ℕ) (n : ℕ) (a : Addition) where
   -- after a refusal the buffer is as it was
-  pub appends_refused : {k : ℕ} → appended source_limit buffer n a ≡ refused k → Appends buffer buffer n a (Written.Refused k)
-  unfolding written_answer after
+  pub appends_refused : {k : Refusal} → appended source_limit buffer n a ≡ refused (refusal_no k) → Appends buffer buffer n a (Err k)
+  unfolding after
   appends_refused e = record { answer = rw e; left = rw e }
+
+  -- so after one that is handed on
+  pub appends_handed : (k : Refusal) (r : Result ℕ Refusal) → IsErrAnd r (λ e. e ≡ k) → appended source_limit buffer n a ≡ refused (refusal_no k) → Appends buffer buffer n a r
+  unfolding after
+  appends_handed k r handed e = record { answer = handed_on (λ n. n) k r handed ∙ sym e; left = rw e }
 
   -- a file with the addition fills it
   pub appends_given : {buffer' : List ℕ} {m : ℕ} → appended source_limit buffer n a ≡ given m → buffer' ≡ filled (result buffer n a) buffer
-      → Appends buffer buffer' n a (Written.Length m)
-  unfolding written_answer after
+      → Appends buffer buffer' n a (Ok m)
+  unfolding after
   appends_given e full = record { answer = rw e; left = rw e full }
 
   -- what is put behind the file is put with it
@@ -94,18 +101,26 @@ module _ (list : List ℕ) where
   unfolding list_right
   list_odd odd = rw (ne_eqb (length list % 2) 0 odd)
 
-  module _ {c : Counts} (counts : c ≡ counts_of (items list)) where
-    right_of : c.right ≡ all_of (λ i. not (eqb i.size 0) && is_state i.state) (items list)
-    unfolding counts_of
-    right_of = ap (λ (c : Counts). c.right) counts
+  -- what is counted of its items
+  pub list_unright : {k : ℕ} → counted (items list) ≡ refused k → (list_right list ≡ false) × (k ≡ 31)
+  unfolding list_right counted
+  list_unright e =
+      elim (which (all_of right_item (items list))) [
+        | inl good ↦ absurd (not_both (sym (rw (counted, good) at e)))
+        | inr wrong ↦ (rw (wrong, and-false), sym (refused_same (rw (counted, wrong) at e)))
+      ]
 
-    pub list_unright : c.right ≡ false → list_right list ≡ false
-    unfolding list_right
-    list_unright wrong = rw (sym right_of ∙ wrong, and-false)
+  pub list_given : {c : Counts} → counted (items list) ≡ given c → (all_of right_item (items list) ≡ true) × (c ≡ counts_of (items list))
+  unfolding counted
+  list_given e =
+      elim (which (all_of right_item (items list))) [
+        | inl good ↦ (good, sym (given_same (rw (counted, good) at e)))
+        | inr wrong ↦ absurd (not_both (rw (counted, wrong) at e))
+      ]
 
-    pub list_right_lem : length list % 2 ≡ 0 → c.right ≡ true → list_right list ≡ true
-    unfolding list_right
-    list_right_lem even right = rw (eq-eqb (length list % 2) 0 even, sym right_of ∙ right)
+  pub list_right_lem : {c : Counts} → length list % 2 ≡ 0 → counted (items list) ≡ given c → list_right list ≡ true
+  unfolding list_right
+  list_right_lem even e = rw (eq-eqb (length list % 2) 0 even, (list_given e).0)
 
 module _ (header : SegmentHeader) (o : Bool) (list bytes texts lengths : List ℕ) {c : Counts} where
   module _ (counts : c ≡ counts_of (items list)) (few : length bytes < 2 ^ 63) where
@@ -297,27 +312,27 @@ module _ (buffer : List ℕ) (n : ℕ) (a : Addition) (fits : n ≤ length buffe
         >>= λ ts. indexed source_limit (take n buffer) file.h ts >>= λ _. hold 33 (leb (n + length (added a)) (length buffer)) >>= λ _. given (n + length (added a)))
     by_admission = appended_offered source_limit buffer n a file.h file.ss fits offered
 
-    module _ (r : Written)
+    module _ (r : Result ℕ Refusal)
         (answer : (h : Heading) (ss : List Segment) (a : Addition) → Beside (take n buffer) h ss j → Goes h ss (new_urls h a) target → AskedBy a x
-        → written_answer r ≡ admitted_length (take n buffer) h ss n a) where
-      told : written_answer r ≡ admitted_length (take n buffer) file.h file.ss n a
+        → number_answer r ≡ admitted_length (take n buffer) h ss n a) where
+      told : number_answer r ≡ admitted_length (take n buffer) file.h file.ss n a
       told = answer file.h file.ss a file.beside (going file.h file.ss file.head file.read) asked
 
-      pub not_admitted : {k : ℕ} → r ≡ Written.Refused k → appended source_limit buffer n a ≡ refused k
-      unfolding written_answer admitted_length
+      pub not_admitted : {k : Refusal} → r ≡ Err k → appended source_limit buffer n a ≡ refused (refusal_no k)
+      unfolding admitted_length
       not_admitted e =
           by_admission
-          ∙ stops (admission source_limit file.h file.ss n a) (indexed source_limit (take n buffer) file.h) _ _ (sym told ∙ ap written_answer e)
+          ∙ stops (admission source_limit file.h file.ss n a) (indexed source_limit (take n buffer) file.h) _ _ (sym told ∙ ap number_answer e)
 
-      module _ {m : ℕ} (e : r ≡ Written.Length m) where
+      module _ {m : ℕ} (e : r ≡ Ok m) where
         taken : (ts : List Segment)
             × (admission source_limit file.h file.ss n a ≡ given ts)
             × (is : List SourceBox)
             × (indexed source_limit (take n buffer) file.h ts ≡ given is)
             × (given (n + length (added a)) ≡ given m)
-        unfolding written_answer admitted_length
+        unfolding admitted_length
         taken =
-            let (ts, admits, rest) = both_given (admission source_limit file.h file.ss n a) _ (sym told ∙ ap written_answer e) in
+            let (ts, admits, rest) = both_given (admission source_limit file.h file.ss n a) _ (sym told ∙ ap number_answer e) in
             let (is, index, same) = both_given (indexed source_limit (take n buffer) file.h ts) _ rest in
             (ts, admits, is, index, same)
 

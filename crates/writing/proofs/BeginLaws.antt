@@ -6,12 +6,13 @@ use mathlib.Core.Path.{◌≡◌, refl, ap, ◌∙◌}
 use native.Mathlib.Omega.{arith}
 use borrow.Author.Tests.{le-leb, lt-leb}
 use lib.ListN.{length, length-append}
+use Rattle.std.specs.Prelude.{Ok, Err}
+use Rattle.refusals.specs.Refusals.{refusal_no}
+use Rattle.refusals.specs.declared.Refusal.{Refusal}
 use Rattle.boxes.specs.Answer.{refused, given}
-use Rattle.partial.specs.Answers.{written_answer}
 use Rattle.additions.specs.Begin.{beginning, is_text, begun}
 use Rattle.partial.specs.Limits.{file_limit}
 use Rattle.partial.specs.Memory.{after, filled}
-use Rattle.partial.specs.declared.answers.Written.TheVariants as Written
 use Rattle.partial.specs.declared.brand.Brand.{Brand}
 use Rattle.puts.specs.Boxes.{ftyp_box, pfil_box}
 use Rattle.puts.proofs.BoxLaws.{ftyp_long, pfil_long}
@@ -62,12 +63,12 @@ module _ (brand : Brand) (url mime buffer : List ℕ) where
           )
 
   -- after a refusal the buffer is as it was
-  pub begins_refused : {n : ℕ} → begun buffer brand url mime ≡ refused n → Begins brand url mime buffer buffer (Written.Refused n)
-  unfolding written_answer after
+  pub begins_refused : {n : Refusal} → begun buffer brand url mime ≡ refused (refusal_no n) → Begins brand url mime buffer buffer (Err n)
+  unfolding after
   begins_refused e = record { answer = rw e; left = rw e }
 
   -- a file that was begun fills it
   pub begins_given : {buffer' : List ℕ} {n : ℕ} → begun buffer brand url mime ≡ given n → buffer' ≡ filled (beginning brand url mime) buffer
-      → Begins brand url mime buffer buffer' (Written.Length n)
-  unfolding written_answer after
+      → Begins brand url mime buffer buffer' (Ok n)
+  unfolding after
   begins_given e full = record { answer = rw e; left = rw e full }

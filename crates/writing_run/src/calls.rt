@@ -6,12 +6,12 @@
 // lengths and the text bytes.
 use crate::{list, report};
 use additions::header::SegmentHeader;
-use partial::answers::Written;
 use partial::brand::Brand;
 use partial::position::Position;
-use printing::input::read_full;
-use printing::records::{eight, pair};
+use printing::input::fill;
+use printing::records::{eight, numbers};
 use std::io;
+use std::io::Read;
 use writing::append::append;
 use writing::begin::begin;
 
@@ -21,8 +21,9 @@ const MOST_LENGTHS: usize = 1_300;
 const MOST_TEXTS: usize = 65_536;
 
 // Makes so many calls on the buffer, in which a file of some length stands. The length of the file that they leave.
-pub fn all(
-    rt: &(impl Input + Print),
+pub fn all<R: Read>(
+    rt: &impl Print,
+    input: &mut R,
     buffer: &mut [u8],
     list: &mut [u64],
     bytes: &mut [u8],
@@ -30,37 +31,47 @@ pub fn all(
     file: u64,
 ) -> io::Result<u64> {
     let mut length = file;
-    let mut left = count;
-    while left > 0 {
-        length = call(rt, buffer, list, bytes, length)?;
-        left -= 1;
+    for _ in 0..count {
+        length = call(rt, input, buffer, list, bytes, length)?;
     }
     Ok(length)
 }
 
 // Makes the next call, and prints its answer. The length of the file after it.
-fn call(
-    rt: &(impl Input + Print),
+fn call<R: Read>(
+    rt: &impl Print,
+    input: &mut R,
     buffer: &mut [u8],
     list: &mut [u64],
     bytes: &mut [u8],
     length: u64,
 ) -> io::Result<u64> {
-    let mut front = [0u8; 8];
-    read_full(rt, &mut front)?;
-    let mixed = pair(front[2], front[3]) != 0;
-    let first = pair(front[4], front[5]);
-    let second = pair(front[6], front[7]);
-    if pair(front[0], front[1]) == 0 {
-        begins(rt, buffer, bytes, mixed, first, second, length)
+    let front: Option<[usize; 4]> = numbers(input)?;
+    let Some(front) = front else {
+        return Ok(length);
+    };
+    let [kind, choice, first, second] = front;
+    if kind == 0 {
+        begins(rt, input, buffer, bytes, choice != 0, first, second, length)
     } else {
-        appends(rt, buffer, list, bytes, mixed, first, second, length)
+        appends(
+            rt,
+            input,
+            buffer,
+            list,
+            bytes,
+            choice != 0,
+            first,
+            second,
+            length,
+        )
     }
 }
 
 // A call for which there is no room, here and below, is not made.
-fn begins(
-    rt: &(impl Input + Print),
+fn begins<R: Read>(
+    rt: &impl Print,
+    input: &mut R,
     buffer: &mut [u8],
     bytes: &mut [u8],
     mixed: bool,
@@ -68,22 +79,22 @@ fn begins(
     mime: usize,
     length: u64,
 ) -> io::Result<u64> {
-    if url > bytes.len() {
-        return Ok(length);
-    }
-    if mime > bytes.len() - url {
+    if url > bytes.len() || mime > bytes.len() - url {
         return Ok(length);
     }
     let end = url + mime;
-    read_full(rt, &mut bytes[0..end])?;
+    fill(input, &mut bytes[..end])?;
     let brand = if mixed { Brand::Pmff } else { Brand::Paff };
-    let answer = begin(buffer, brand, &bytes[0..url], &bytes[url..end]);
-    report::written(rt, b"begin", buffer, 0, answer)?;
-    Ok(after(answer, length))
+    let texts = &bytes[..end];
+    let (url, mime) = texts.split_at(url);
+    let answer = begin(buffer, brand, url, mime);
+    report::written(rt, "begin", buffer, 0, answer)?;
+    Ok(answer.unwrap_or(length))
 }
 
-fn appends(
-    rt: &(impl Input + Print),
+fn appends<R: Read>(
+    rt: &impl Print,
+    input: &mut R,
     buffer: &mut [u8],
     list: &mut [u64],
     bytes: &mut [u8],
@@ -92,49 +103,42 @@ fn appends(
     size: usize,
     length: u64,
 ) -> io::Result<u64> {
-    let stated = eight(rt)?;
-    let header = header(rt)?;
-    let count = eight(rt)? as usize;
-    let lengths_given = eight(rt)? as usize;
-    let length_count = eight(rt)? as usize;
-    let text_size = eight(rt)? as usize;
-    let mut lengths = [0u64; MOST_LENGTHS];
-    let mut texts = [0u8; MOST_TEXTS];
-    if count > list.len() || size > bytes.len() {
+    let stated = eight(input)?;
+    let header = header(input)?;
+    let count = eight(input)? as usize;
+    let lengths_given = eight(input)? as usize;
+    let length_count = eight(input)? as usize;
+    let text_size = eight(input)? as usize;
+    let mut lengths = [0; MOST_LENGTHS];
+    let mut texts = [0; MOST_TEXTS];
+    if count > list.len()
+        || size > bytes.len()
+        || length_count > lengths.len()
+        || text_size > texts.len()
+    {
         return Ok(length);
     }
-    if length_count > lengths.len() || text_size > texts.len() {
-        return Ok(length);
-    }
-    let list = &mut list[0..count];
-    let data = &mut bytes[0..size];
-    let lengths = &mut lengths[0..length_count];
-    let texts = &mut texts[0..text_size];
-    list::fill(rt, list, given)?;
-    read_full(rt, data)?;
-    list::fill(rt, lengths, lengths_given)?;
-    read_full(rt, texts)?;
+    let list = &mut list[..count];
+    let data = &mut bytes[..size];
+    let lengths = &mut lengths[..length_count];
+    let texts = &mut texts[..text_size];
+    list::fill(input, list, given)?;
+    fill(input, data)?;
+    list::fill(input, lengths, lengths_given)?;
+    fill(input, texts)?;
     let answer = append(buffer, stated, header, outside, list, data, texts, lengths);
-    report::written(rt, b"append", buffer, stated, answer)?;
-    Ok(after(answer, length))
+    report::written(rt, "append", buffer, stated, answer)?;
+    Ok(answer.unwrap_or(length))
 }
 
 // A header as it is given: flags that the writer does not set are left in it.
-fn header(rt: &impl Input) -> io::Result<SegmentHeader> {
-    let offset = Position(eight(rt)?);
-    let repair = eight(rt)?;
-    let flags = (eight(rt)? % 4294967296) as u32;
+fn header<R: Read>(input: &mut R) -> io::Result<SegmentHeader> {
+    let offset = Position(eight(input)?);
+    let repair = eight(input)?;
+    let flags = (eight(input)? % 4294967296) as u32;
     Ok(SegmentHeader {
         offset,
         repair,
         flags,
     })
-}
-
-// The length of the file after a call on one of that length.
-fn after(r: Written, length: u64) -> u64 {
-    match r {
-        Written::Refused(_) => length,
-        Written::Length(n) => n,
-    }
 }

@@ -1,80 +1,52 @@
-// The records of standard input, a run each. Four numbers of two bytes, most significant first: the length of the name,
-// the bytes lent as the buffer, the length of the file that stands in it at first, and how many calls are made. Then
-// the name, the file and the calls.
+// The records of an input, a run each. Four numbers of two bytes, most significant first: the length of the name, the
+// bytes lent as the buffer, the length of the file that stands in it at first, and how many calls are made. Then the
+// name, the file and the calls.
 use crate::{calls, report};
-use printing::input::read_full;
-use printing::marks::mark_bytes;
+use printing::input::fill;
+use printing::marks::mark;
 use printing::records;
-use printing::records::pair;
 use reading::tables::read;
 use std::io;
-
-// The numbers of the next record.
-#[derive(Clone, Copy)]
-enum Head {
-    End,
-    Given {
-        name: usize,
-        lent: usize,
-        file: usize,
-        calls: usize,
-    },
-}
+use std::io::Read;
 
 // Takes the next record, and prints its name and the answers. Whether there was one.
-pub fn record(
-    rt: &(impl Input + Print),
+pub fn record<R: Read>(
+    rt: &impl Print,
+    input: &mut R,
     buffer: &mut [u8],
     list: &mut [u64],
     bytes: &mut [u8],
 ) -> io::Result<bool> {
-    match next(rt)? {
-        Head::End => Ok(false),
-        Head::Given {
-            name,
-            lent,
-            file,
-            calls,
-        } => {
-            records::name(rt, name)?;
-            if lent <= buffer.len() {
-                run(rt, &mut buffer[0..lent], list, bytes, file, calls)?;
-            }
-            Ok(true)
-        }
+    let numbers: Option<[usize; 4]> = records::numbers(input)?;
+    let Some(numbers) = numbers else {
+        return Ok(false);
+    };
+    let [name, lent, file, calls] = numbers;
+    records::name(rt, input, name)?;
+    if lent <= buffer.len() {
+        run(rt, input, &mut buffer[..lent], list, bytes, file, calls)?;
     }
-}
-
-fn next(rt: &impl Input) -> io::Result<Head> {
-    let mut bytes = [0u8; 8];
-    if read_full(rt, &mut bytes)? < 8 {
-        return Ok(Head::End);
-    }
-    Ok(Head::Given {
-        name: pair(bytes[0], bytes[1]),
-        lent: pair(bytes[2], bytes[3]),
-        file: pair(bytes[4], bytes[5]),
-        calls: pair(bytes[6], bytes[7]),
-    })
+    Ok(true)
 }
 
 // Marks the buffer, puts the file into it, makes the calls, and reads the file that they leave, with the first source
 // and with the second.
-fn run(
-    rt: &(impl Input + Print),
+fn run<R: Read>(
+    rt: &impl Print,
+    input: &mut R,
     buffer: &mut [u8],
     list: &mut [u64],
     bytes: &mut [u8],
     file: usize,
     count: usize,
 ) -> io::Result<()> {
-    mark_bytes(buffer);
+    mark(buffer);
     if file <= buffer.len() {
-        read_full(rt, &mut buffer[0..file])?;
-        let length = calls::all(rt, buffer, list, bytes, count, file as u64)?;
+        fill(input, &mut buffer[..file])?;
+        let length = calls::all(rt, input, buffer, list, bytes, count, file as u64)?;
         if length <= buffer.len() as u64 {
-            read_back(rt, &buffer[0..length as usize], 0)?;
-            read_back(rt, &buffer[0..length as usize], 1)?;
+            read_back(rt, &buffer[..length as usize], 0)?;
+            read_back(rt, &buffer[..length as usize], 1)?;
         }
     }
     Ok(())

@@ -2,29 +2,21 @@
 // that a list of many pairs is a short record.
 use printing::records::eight;
 use std::io;
+use std::io::Read;
 
-pub fn fill(rt: &impl Input, list: &mut [u64], given: usize) -> io::Result<()> {
+pub fn fill<R: Read>(input: &mut R, list: &mut [u64], given: usize) -> io::Result<()> {
     if given <= list.len() {
-        take(rt, &mut list[0..given])?;
+        for n in &mut list[..given] {
+            *n = eight(input)?;
+        }
         repeat(list, given);
-    }
-    Ok(())
-}
-
-fn take(rt: &impl Input, list: &mut [u64]) -> io::Result<()> {
-    let mut i = 0;
-    while i < list.len() {
-        list[i] = eight(rt)?;
-        i += 1;
     }
     Ok(())
 }
 
 // Fills the list from a number on with those before it.
 fn repeat(list: &mut [u64], given: usize) {
-    let mut i = given;
-    while i < list.len() {
+    for i in given..list.len() {
         list[i] = list[i - given];
-        i += 1;
     }
 }

@@ -8,6 +8,10 @@ mod list;
 mod report;
 
 use std::io;
+use std::io::Read;
+
+// More records than there are: a proved loop has to end, and nothing says that the input does.
+const MOST_RECORDS: u64 = 65536;
 
 // What the runs are lent is made once: the buffer, the chunk list and the bytes that a call is given. The list has room
 // for more pairs than a number of two bytes can count.
@@ -15,19 +19,20 @@ fn main(rt: HostRuntime) -> io::Result<()> {
     let mut buffer = [0u8; 65536];
     let mut bytes = [0u8; 65536];
     let mut list = [0u64; 131074];
-    runs(&rt, &mut buffer, &mut list, &mut bytes)
+    runs(&rt, &mut rt.reader(), &mut buffer, &mut list, &mut bytes)
 }
 
-// A proved loop has to end, and nothing says that the input does: so it counts down, from more records than there are.
-fn runs(
-    rt: &(impl Input + Print),
+fn runs<R: Read>(
+    rt: &impl Print,
+    input: &mut R,
     buffer: &mut [u8],
     list: &mut [u64],
     bytes: &mut [u8],
 ) -> io::Result<()> {
-    let mut left: u64 = 65536;
-    while left > 0 && input::record(rt, buffer, list, bytes)? {
-        left -= 1;
+    for _ in 0..MOST_RECORDS {
+        if !input::record(rt, input, buffer, list, bytes)? {
+            break;
+        }
     }
     Ok(())
 }

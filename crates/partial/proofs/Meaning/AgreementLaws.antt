@@ -4,7 +4,7 @@ use mathlib.Core.Bool.{true, false, not, ◌&&◌, ◌||◌, true≢false}
 use mathlib.Core.List.Memᴰ
 use mathlib.Core.List.{List, [], ◌∷◌, Memᴰ}
 use mathlib.Core.Logic.{inl, inr, ⊎_elim}
-use mathlib.Core.Option.{Option, none, some}
+use Rattle.std.specs.Prelude.{Option, None, Some}
 use mathlib.Core.Path.{◌≡◌, refl, sym, ◌∙◌}
 use native.Mathlib.Omega.{arith}
 use borrow.Author.Tests.{le-leb, eq-eqb, leb-true, eqb-true}
@@ -14,13 +14,13 @@ use Rattle.partial.specs.Meaning.{gives_size, known_size, agree}
 use Rattle.partial.proofs.Meaning.SequenceLaws.{which, both, passes, member_passes, all_members}
 
 -- a known size is the end of a segment that makes it known
-known_there : (ss : List Segment) {n : ℕ} → known_size ss ≡ some n → (s : Segment) × Memᴰ s ss × (gives_size s ≡ true) × (end_of s ≡ n)
+known_there : (ss : List Segment) {n : ℕ} → known_size ss ≡ Some n → (s : Segment) × Memᴰ s ss × (gives_size s ≡ true) × (end_of s ≡ n)
 unfolding known_size
 known_there [] e = absurd (let z : ◌≡◌ {A = ℕ} 0 1 = cc in omega arith)
 known_there (s ∷ ss) {n} e =
     elim (which (gives_size s)) [
       | inl gives ↦
-          let same : some (end_of s) ≡ some n = rw (known_size, gives) at e in
+          let same : Some (end_of s) ≡ Some n = rw (known_size, gives) at e in
           (s, Memᴰ.head refl, gives, cc)
       | inr lacks ↦
           let (t, there, gives, end) = known_there ss (rw (known_size, lacks) at e) in
@@ -28,7 +28,7 @@ known_there (s ∷ ss) {n} e =
     ]
 
 -- where no size is known, no segment makes it known
-none_known : (ss : List Segment) → known_size ss ≡ none → (s : Segment) → Memᴰ s ss → gives_size s ≡ false
+none_known : (ss : List Segment) → known_size ss ≡ None → (s : Segment) → Memᴰ s ss → gives_size s ≡ false
 unfolding known_size
 none_known [] e s there = absurd (Memᴰ.not-nil there)
 none_known (t ∷ ss) e s there =
@@ -59,8 +59,8 @@ module _ (ss : List Segment) (one : OneSize ss) where
   one_agrees = go (known_size ss) refl
     where
       go : (known : Option ℕ) → known_size ss ≡ known → agree ss ≡ true
-      go none e = rw (agree, e)
-      go (some n) e =
+      go None e = rw (agree, e)
+      go (Some n) e =
           let (s, here, gives, end) = known_there ss e in
           rw (agree, e) (all_members _ ss (λ t there. passes_beside s t n here there gives end))
 
@@ -69,8 +69,8 @@ unfolding agree
 agrees_one ss passed s t here there gives = go (known_size ss) refl
   where
     go : (known : Option ℕ) → known_size ss ≡ known → end_of t ≤ end_of s
-    go none e = absurd (true≢false (sym (passes _ gives) ∙ none_known ss e s here))
-    go (some n) e =
+    go None e = absurd (true≢false (sym (passes _ gives) ∙ none_known ss e s here))
+    go (Some n) e =
         let all = rw (agree, e) at passed in
         let (_, ends) = both (leb (end_of s) n) (not (gives_size s) || eqb (end_of s) n) (member_passes _ ss all s here) in
         let (under, _) = both (leb (end_of t) n) (not (gives_size t) || eqb (end_of t) n) (member_passes _ ss all t there) in

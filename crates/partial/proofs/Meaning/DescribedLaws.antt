@@ -4,7 +4,7 @@ use Prim.Native.Nat.{ℕ, ◌+◌, ◌≤◌}
 use mathlib.Core.Bool.{true, false, not, ◌&&◌, ◌||◌, and-false}
 use mathlib.Core.List.{List, [], ◌∷◌, ◌++◌, map}
 use mathlib.Core.Logic.{inl, inr}
-use mathlib.Core.Option.{Option, none, some}
+use Rattle.std.specs.Prelude.{Option, None, Some}
 use mathlib.Core.Path.{◌≡◌, refl, ◌∙◌}
 use native.Mathlib.Nat.{le_refl, le_trans}
 use native.Mathlib.Omega.{arith}
@@ -36,10 +36,10 @@ unfolding agree described_length
 ends_most ss = go (known_size ss)
   where
     go : (known : Option ℕ)
-        → (elim known [ some n ↦ all_of (λ s. leb (end_of s) n && (not (gives_size s) || eqb (end_of s) n)) ss | none ↦ true ]) ≡ true
-        → largest (map end_of ss) ≤ (elim known [ some n ↦ n | none ↦ largest (map end_of ss) ])
-    go none h = le_refl (largest (map end_of ss))
-    go (some n) h = largest_most end_of _ n (λ s e. leb-true _ _ (both _ _ e).0) ss h
+        → (elim known [ Some n ↦ all_of (λ s. leb (end_of s) n && (not (gives_size s) || eqb (end_of s) n)) ss | None ↦ true ]) ≡ true
+        → largest (map end_of ss) ≤ (elim known [ Some n ↦ n | None ↦ largest (map end_of ss) ])
+    go None h = le_refl (largest (map end_of ss))
+    go (Some n) h = largest_most end_of _ n (λ s e. leb-true _ _ (both _ _ e).0) ss h
 
 -- the known size of segments and then others
 pub known_append : (ss ts : List Segment) → known_size (ss ++ ts) ≡ or_else (known_size ss) (known_size ts)
@@ -57,8 +57,8 @@ unfolding described_length or_else
 never_shorter ss ts h = go (known_size ss) refl
   where
     go : (known : Option ℕ) → known_size ss ≡ known → described_length ss ≤ described_length (ss ++ ts)
-    go none e = rw (described_length, e) (le_trans (largest-append end_of ss ts) (ends_most (ss ++ ts) h))
-    go (some n) e = rw (described_length, known_append, e) (le_refl n)
+    go None e = rw (described_length, e) (le_trans (largest-append end_of ss ts) (ends_most (ss ++ ts) h))
+    go (Some n) e = rw (described_length, known_append, e) (le_refl n)
 
 -- nothing is supplied at or above every end
 none_follow : (start p : ℕ) (cs : List Chunk) → Follow start cs → start + sum (map (λ c. c.size) cs) ≤ p → some_of (supplies p) cs ≡ false

@@ -4,7 +4,7 @@ use Prim.Native.Nat.{ℕ, max}
 use mathlib.Core.Bool.{Bool, true, false, not, ◌&&◌, ◌||◌, and-false, true≢false, false≢true}
 use mathlib.Core.List.{List, [], ◌∷◌, ◌++◌, map}
 use mathlib.Core.Logic.{inl, inr}
-use mathlib.Core.Option.{Option, none, some, get_or}
+use Rattle.std.specs.Prelude.{Option, None, Some, unwrap_or}
 use mathlib.Core.Path.{◌≡◌, refl, ◌∙◌}
 use native.Mathlib.Decide.{dec_le}
 use native.Mathlib.Omega.{arith}
@@ -40,21 +40,21 @@ all_at_most of test n (x ∷ xs) =
     ])
 
 module _ (ss : List Segment) where
-  pub known_open : is_closed ss ≡ false → known_size ss ≡ none
+  pub known_open : is_closed ss ≡ false → known_size ss ≡ None
   unfolding is_closed
   known_open = go (known_size ss)
     where
-      go : (known : Option ℕ) → (elim known [ some n ↦ true | none ↦ false ]) ≡ false → known ≡ none
-      go none e = refl
-      go (some n) e = absurd (true≢false e)
+      go : (known : Option ℕ) → (elim known [ Some n ↦ true | None ↦ false ]) ≡ false → known ≡ None
+      go None e = refl
+      go (Some n) e = absurd (true≢false e)
 
-  pub known_closed : is_closed ss ≡ true → known_size ss ≡ some (get_or (known_size ss) 0)
+  pub known_closed : is_closed ss ≡ true → known_size ss ≡ Some (unwrap_or (known_size ss) 0)
   unfolding is_closed
   known_closed = go (known_size ss)
     where
-      go : (known : Option ℕ) → (elim known [ some n ↦ true | none ↦ false ]) ≡ true → known ≡ some (get_or known 0)
-      go none e = absurd (false≢true e)
-      go (some n) e = refl
+      go : (known : Option ℕ) → (elim known [ Some n ↦ true | None ↦ false ]) ≡ true → known ≡ Some (unwrap_or known 0)
+      go None e = absurd (false≢true e)
+      go (Some n) e = refl
 
   -- 25 and the described length, by whether the size is known
   pub agree_open : is_closed ss ≡ false → agree ss ≡ true
@@ -67,24 +67,24 @@ module _ (ss : List Segment) where
 
   module _ (closed : is_closed ss ≡ true) where
     pub agree_closed : agree ss
-        ≡ (leb (largest (map end_of ss)) (get_or (known_size ss) 0)
-        && all_of (λ s. not (gives_size s) || eqb (end_of s) (get_or (known_size ss) 0)) ss)
+        ≡ (leb (largest (map end_of ss)) (unwrap_or (known_size ss) 0)
+        && all_of (λ s. not (gives_size s) || eqb (end_of s) (unwrap_or (known_size ss) 0)) ss)
     unfolding agree
     agree_closed = go (known_size ss) (known_closed closed)
       where
-        go : (known : Option ℕ) → known ≡ some (get_or known 0)
-            → (elim known [ some n ↦ all_of (λ s. leb (end_of s) n && (not (gives_size s) || eqb (end_of s) n)) ss | none ↦ true ])
-            ≡ (leb (largest (map end_of ss)) (get_or known 0) && all_of (λ s. not (gives_size s) || eqb (end_of s) (get_or known 0)) ss)
-        go none e = absurd (let z : ◌≡◌ {A = ℕ} 0 1 = cc in omega arith)
-        go (some n) e = all_at_most end_of (λ s. not (gives_size s) || eqb (end_of s) n) n ss
+        go : (known : Option ℕ) → known ≡ Some (unwrap_or known 0)
+            → (elim known [ Some n ↦ all_of (λ s. leb (end_of s) n && (not (gives_size s) || eqb (end_of s) n)) ss | None ↦ true ])
+            ≡ (leb (largest (map end_of ss)) (unwrap_or known 0) && all_of (λ s. not (gives_size s) || eqb (end_of s) (unwrap_or known 0)) ss)
+        go None e = absurd (let z : ◌≡◌ {A = ℕ} 0 1 = cc in omega arith)
+        go (Some n) e = all_at_most end_of (λ s. not (gives_size s) || eqb (end_of s) n) n ss
 
-    pub described_closed : described_length ss ≡ get_or (known_size ss) 0
+    pub described_closed : described_length ss ≡ unwrap_or (known_size ss) 0
     unfolding described_length
     described_closed = go (known_size ss) (known_closed closed)
       where
-        go : (known : Option ℕ) → known ≡ some (get_or known 0) → (elim known [ some n ↦ n | none ↦ largest (map end_of ss) ]) ≡ get_or known 0
-        go none e = absurd (let z : ◌≡◌ {A = ℕ} 0 1 = cc in omega arith)
-        go (some n) e = refl
+        go : (known : Option ℕ) → known ≡ Some (unwrap_or known 0) → (elim known [ Some n ↦ n | None ↦ largest (map end_of ss) ]) ≡ unwrap_or known 0
+        go None e = absurd (let z : ◌≡◌ {A = ℕ} 0 1 = cc in omega arith)
+        go (Some n) e = refl
 
 -- one segment more
 module _ (ss : List Segment) (s : Segment) where
@@ -93,15 +93,15 @@ module _ (ss : List Segment) (s : Segment) where
   unfolding known_size or_else
   known_stays lacks = known_append ss (s ∷ []) ∙ rw (known_size, lacks) (or_none (known_size ss))
     where
-      or_none : (known : Option ℕ) → or_else known none ≡ known
-      or_none none = refl
-      or_none (some n) = refl
+      or_none : (known : Option ℕ) → or_else known None ≡ known
+      or_none None = refl
+      or_none (Some n) = refl
 
   pub known_first : is_closed ss ≡ true → known_size (ss ++ (s ∷ [])) ≡ known_size ss
   unfolding or_else
   known_first closed = known_append ss (s ∷ []) ∙ rw (known_closed ss closed)
 
-  pub known_new : is_closed ss ≡ false → gives_size s ≡ true → known_size (ss ++ (s ∷ [])) ≡ some (end_of s)
+  pub known_new : is_closed ss ≡ false → gives_size s ≡ true → known_size (ss ++ (s ∷ [])) ≡ Some (end_of s)
   unfolding known_size or_else
   known_new lacks gives = known_append ss (s ∷ []) ∙ rw (known_open ss lacks, known_size, gives)
 
@@ -110,18 +110,18 @@ pub closed_same : (ss ts : List Segment) → known_size ss ≡ known_size ts →
 unfolding is_closed
 closed_same ss ts e = rw (is_closed, e)
 
-pub closed_some : (ss : List Segment) (n : ℕ) → known_size ss ≡ some n → is_closed ss ≡ true
+pub closed_some : (ss : List Segment) (n : ℕ) → known_size ss ≡ Some n → is_closed ss ≡ true
 unfolding is_closed
 closed_some ss n e = rw (is_closed, e)
 
 -- where it is not known no segment makes it so
-pub none_gives : (test : Segment → Bool) (ss : List Segment) → known_size ss ≡ none → all_of (λ s. not (gives_size s) || test s) ss ≡ true
+pub none_gives : (test : Segment → Bool) (ss : List Segment) → known_size ss ≡ None → all_of (λ s. not (gives_size s) || test s) ss ≡ true
 unfolding known_size all_of
 none_gives test [] e = refl
 none_gives test (s ∷ ss) e =
     elim (which (gives_size s)) [
       | inl gives ↦
-          let known : some (end_of s) ≡ none = rw (known_size, gives) at e in
+          let known : Some (end_of s) ≡ None = rw (known_size, gives) at e in
           absurd (let z : ◌≡◌ {A = ℕ} 0 1 = cc in omega arith)
       | inr lacks ↦ rw lacks (none_gives test ss (rw (known_size, lacks) at e))
     ]

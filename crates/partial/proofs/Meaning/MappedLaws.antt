@@ -5,7 +5,7 @@ use mathlib.Core.Bool.{Bool, true, false, not, ◌&&◌, ◌||◌, true≢false}
 use mathlib.Core.List.{List, [], ◌∷◌}
 use mathlib.Core.Logic.{◌⊎◌, inl, inr}
 use mathlib.Core.Path.{◌≡◌, sym}
-use mathlib.Core.Option.{some}
+use Rattle.std.specs.Prelude.{Some}
 use native.Mathlib.Nat.{zero-add, suc-add}
 use native.Mathlib.Omega.{arith}
 use borrow.Author.Tests.{lt-ltb, ltb-true, leb-true, eqb-true}
@@ -110,7 +110,7 @@ may_be h c may =
 
 -- the byte that is served stands as far behind the chunk's place as the position behind its start
 served_byte : (f : List ℕ) (ss : List Segment) (p : ℕ) → supplied ss p ≡ true
-    → served f ss p ≡ some (get_or f ((chunk_for ss p).place + (p - (chunk_for ss p).start)) 0)
+    → served f ss p ≡ Some (get_or f ((chunk_for ss p).place + (p - (chunk_for ss p).start)) 0)
 unfolding served place_of_byte
 served_byte f ss p e = rw (served, e)
 

@@ -4,7 +4,7 @@ use Prim.Native.Nat.{ℕ, ◌+◌, ◌-◌, ◌<◌, ◌≤◌}
 use mathlib.Core.Bool.{Bool, true, false, not, true≢false}
 use mathlib.Core.List.{List}
 use mathlib.Core.Logic.{inl, inr, ⊎_elim}
-use mathlib.Core.Option.{some}
+use Rattle.std.specs.Prelude.{Some}
 use mathlib.Core.Path.{◌≡◌, refl, sym, ap, ◌∙◌}
 use native.Mathlib.Decide.{dec_le}
 use native.Mathlib.Nat.{eq-or-lt_of_le, eq-zero-or-pos}
@@ -84,7 +84,7 @@ module _ (ss : List Segment) (p : ℕ) (supply : supplied ss p ≡ true) where
       let first = in-chunk 0 (omega arith) in
       rw (place_of_byte, same-chunk i h) (omega arith)
 
-  pub served-part : (f : List ℕ) (i : ℕ) → i < served_run ss p → served f ss (p + i) ≡ some (get_or (bytes_in f (part_of ss p)) i 0)
+  pub served-part : (f : List ℕ) (i : ℕ) → i < served_run ss p → served f ss (p + i) ≡ Some (get_or (bytes_in f (part_of ss p)) i 0)
   unfolding served part_of bytes_in
   served-part f i h =
       rw (served, same_supplied (p + i) (same-chunk i h), part_of, supply) (rw (place_on i h, get_or-take, get_or-drop))

@@ -3,7 +3,7 @@ use Prim.Native.Nat.{ℕ, suc, zero, ◌+◌, ◌-◌, ◌≤◌, ◌<◌}
 use mathlib.Core.Bool.{true, false, ◌||◌, false≢true}
 use mathlib.Core.List.{List, [], ◌∷◌, ◌++◌, append_assoc}
 use mathlib.Core.Logic.{◌⊎◌, inl, inr}
-use mathlib.Core.Option.{Option, none, some}
+use Rattle.std.specs.Prelude.{Option, None, Some}
 use mathlib.Core.Path.{◌≡◌, refl, sym, ap, ◌∙◌}
 use native.Mathlib.Decide.{dec_le}
 use native.Mathlib.Nat.{add-sub_of_le}
@@ -20,8 +20,8 @@ use Rattle.partial.proofs.Meaning.StretchLaws.{First, first_one}
 
 -- the byte of the first chunk that supplies a position
 unfoldable pub byte_from : List ℕ → List Chunk → ℕ → Option ℕ
-byte_from f [] p = none
-byte_from f (c ∷ cs) p = elim (supplies p c) [ true ↦ some (get_or f (c.place + (p - c.start)) 0) | false ↦ byte_from f cs p ]
+byte_from f [] p = None
+byte_from f (c ∷ cs) p = elim (supplies p c) [ true ↦ Some (get_or f (c.place + (p - c.start)) 0) | false ↦ byte_from f cs p ]
 
 module _ (c : Chunk) (cs : List Chunk) (p : ℕ) where
   pub supplier_here : supplies p c ≡ true → supplier (c ∷ cs) p ≡ 0
@@ -121,7 +121,7 @@ module _ (ss : List Segment) where
 byte_of : List ℕ → List Chunk → ℕ → ℕ → Option ℕ
 byte_of f cs p n =
     let c = get_or cs n no_chunk in
-    elim (ltb n (length cs)) [ true ↦ some (get_or f (c.place + (p - c.start)) 0) | false ↦ none ]
+    elim (ltb n (length cs)) [ true ↦ Some (get_or f (c.place + (p - c.start)) 0) | false ↦ None ]
 
 byte-from : (f : List ℕ) (cs : List Chunk) (p : ℕ) → byte_of f cs p (supplier cs p) ≡ byte_from f cs p
 unfolding byte_from byte_of

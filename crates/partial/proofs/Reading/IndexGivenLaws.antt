@@ -3,7 +3,7 @@
 use Prim.Native.Nat.{ℕ, zero, suc, ◌+◌, ◌≤◌}
 use mathlib.Core.Bool.{Bool, true, not, ◌&&◌, true≢false}
 use mathlib.Core.List.{List, [], ◌∷◌, cons≢nil}
-use mathlib.Core.Option.{Option, none, some}
+use Rattle.std.specs.Prelude.{Option, None, Some}
 use mathlib.Core.Path.{◌≡◌, refl, sym, ap, subst, ◌∙◌}
 use native.Mathlib.Omega.{arith}
 use borrow.Author.Tests.{leb-true, le-leb}
@@ -36,7 +36,7 @@ module _ (P : ℕ → Type 0) (p : P 36) where
   row_only one each [] place = only_given P _
   row_only one each (b ∷ bs) place =
       only_then P (one (none_follows bs) place b) _ (each (none_follows bs) place b)
-      (λ told. only_then P (in_aRow one (elim told.end [ some end ↦ end | none ↦ place ]) bs) _ (row_only one each bs (elim told.end [ some end ↦ end | none ↦ place ])) (λ rest. only_given P _))
+      (λ told. only_then P (in_aRow one (elim told.end [ Some end ↦ end | None ↦ place ]) bs) _ (row_only one each bs (elim told.end [ Some end ↦ end | None ↦ place ])) (λ rest. only_given P _))
 
   module _ (limit : ℕ) (f : List ℕ) where
     fields_only : (b : Box) → Only P (index_fields f b)
@@ -121,7 +121,7 @@ module _ (test : Indexed → Bool) (one two : Bool → ℕ → Box → Answer To
   row_given [] place told e all = e
   row_given (b ∷ bs) place told e all =
       let (t, here, e1) = both_given (one (none_follows bs) place b) _ e in
-      let at : ℕ = elim t.end [ some end ↦ end | none ↦ place ] in
+      let at : ℕ = elim t.end [ Some end ↦ end | None ↦ place ] in
       let (rest, there, e2) = both_given (in_aRow one at bs) _ e1 in
       let (first, later) = both_pass t rest bs (rw (ap (λ (x : Told). x.boxes) (given_same e2)) all) (no_more bs at rest there) in
       rw (each (none_follows bs) place b t here first, row_given bs at rest there later) e2
@@ -175,26 +175,26 @@ module _ (limit : ℕ) (f : List ℕ) (calls level : ℕ) (enclosing : Option �
 -- ---- where every end is known, the size of the source says nothing more
 
 -- an end that is known where nothing encloses it is by the size that is stated
-end_stated : (place : ℕ) (x : IndexFields) (size : Option ℕ) → is_known (end_from none place x) ≡ true → end_from size place x ≡ end_from none place x
+end_stated : (place : ℕ) (x : IndexFields) (size : Option ℕ) → is_known (end_from None place x) ≡ true → end_from size place x ≡ end_from None place x
 unfolding end_from is_known
 end_stated place x size e = go x.size e
   where
-    go : (s : Option ℕ) → is_known (elim s [ some n ↦ some (place + n) | none ↦ none ]) ≡ true
-        → ◌≡◌ {A = Option ℕ} (elim s [ some n ↦ some (place + n) | none ↦ size ]) (elim s [ some n ↦ some (place + n) | none ↦ none ])
-    go (some n) e = refl
-    go none e = absurd (true≢false (sym e))
+    go : (s : Option ℕ) → is_known (elim s [ Some n ↦ Some (place + n) | None ↦ None ]) ≡ true
+        → ◌≡◌ {A = Option ℕ} (elim s [ Some n ↦ Some (place + n) | None ↦ size ]) (elim s [ Some n ↦ Some (place + n) | None ↦ None ])
+    go (Some n) e = refl
+    go None e = absurd (true≢false (sym e))
 
 abbrev pub known : Indexed → Bool
 known i = is_known i.end
 
 module _ (limit : ℕ) (f : List ℕ) where
-  box-sized : (calls level : ℕ) (size : Option ℕ) (last : Bool) (place : ℕ) (b : Box) (told : Told) → indexed_box limit f calls level none last place b ≡ given told
+  box-sized : (calls level : ℕ) (size : Option ℕ) (last : Bool) (place : ℕ) (b : Box) (told : Told) → indexed_box limit f calls level None last place b ≡ given told
       → all_of known told.boxes ≡ true
       → indexed_box limit f calls level size last place b ≡ given told
   unfolding indexed_box all_of
   box-sized zero level size last place b told e all = e
   box-sized (suc calls) level size last place b told e all =
-      let (x, end, inner, more, t, same) = told-boxed limit f calls level none last place b e in
+      let (x, end, inner, more, t, same) = told-boxed limit f calls level None last place b e in
       let pass : (is_known end && all_of known more.boxes) ≡ true = subst (λ (u : Told). all_of known u.boxes ≡ true) (sym same) all in
       let stated = end_stated place x size (rw t.ended (both (is_known end) (all_of known more.boxes) pass).0) in
       boxed-told limit f calls level size last place b (record {
@@ -210,7 +210,7 @@ module _ (limit : ℕ) (f : List ℕ) where
       ∙ ap given same
 
   -- the same of a list
-  pub list_sized : (calls level : ℕ) (size : Option ℕ) (place : ℕ) (bs : List Box) (told : Told) → index_list limit f calls level none place bs ≡ given told
+  pub list_sized : (calls level : ℕ) (size : Option ℕ) (place : ℕ) (bs : List Box) (told : Told) → index_list limit f calls level None place bs ≡ given told
       → all_of known told.boxes ≡ true
       → index_list limit f calls level size place bs ≡ given told
   unfolding index_list
@@ -223,8 +223,8 @@ module _ (limit : ℕ) (f : List ℕ) where
 module _ (low high : ℕ) (raised : low ≤ high) (f : List ℕ) where
   end_raised : (place : ℕ) (x : IndexFields) (end : Option ℕ) → end_right low place x end ≡ true → end_right high place x end ≡ true
   unfolding end_right wherever
-  end_raised place x none e = refl
-  end_raised place x (some end) e =
+  end_raised place x None e = refl
+  end_raised place x (Some end) e =
       let (over, under) = both (leb (place + x.front) end) (leb end low) e in
       rw (over, le-leb end high (omega (arith, leb-true end low under, raised)))
 

@@ -3,7 +3,7 @@ use Prim.Native.Nat.{ℕ, zero, suc, ◌+◌, ◌≤◌}
 use mathlib.Core.Bool.{Bool, true, false}
 use mathlib.Core.List.{List, [], ◌∷◌, ◌++◌}
 use mathlib.Core.Logic.{inl, inr}
-use mathlib.Core.Option.{Option, none, some}
+use Rattle.std.specs.Prelude.{Option, None, Some}
 use mathlib.Core.Path.{◌≡◌, refl, sym, ap, ◌∙◌}
 use native.Mathlib.Omega.{arith}
 use borrow.Author.Tests.{leb-true}
@@ -45,7 +45,7 @@ row_same test one two each (b ∷ bs) all place =
     let (here, there) = both (test b) (all_of test bs) all in
     rw (each (none_follows bs) place b here)
     (then-known (two (none_follows bs) place b) _ _
-    (λ told _. ap (λ (x : Answer Told). x >>= λ rest. given (with_rest told bs rest)) (row_same test one two each bs there (elim told.end [ some end ↦ end | none ↦ place ]))))
+    (λ told _. ap (λ (x : Answer Told). x >>= λ rest. given (with_rest told bs rest)) (row_same test one two each bs there (elim told.end [ Some end ↦ end | None ↦ place ]))))
 
 module _ (f g : List ℕ) where
   -- eight bytes more are looked at only where the header has them
@@ -58,8 +58,8 @@ module _ (f g : List ℕ) where
           let wide : front_by size kind ≡ 16 + user_size kind = ap (λ (t : Bool). (elim t as (λ _. ℕ) [ true ↦ 16 | false ↦ 8 ]) + user_size kind) e in
           rw (number_append f g (at + 8) 8 (omega (arith, room, wide)))
       go false e =
-          let same : (large : ℕ) → size_by size large ≡ elim (eqb size 0) [ true ↦ none | false ↦ some size ] =
-          λ large. ap (λ (t : Bool). elim (eqb size 0) as (λ _. Option ℕ) [ true ↦ none | false ↦ some (elim t [ true ↦ large | false ↦ size ]) ]) e in
+          let same : (large : ℕ) → size_by size large ≡ elim (eqb size 0) [ true ↦ None | false ↦ Some size ] =
+          λ large. ap (λ (t : Bool). elim (eqb size 0) as (λ _. Option ℕ) [ true ↦ None | false ↦ Some (elim t [ true ↦ large | false ↦ size ]) ]) e in
           same (number (f ++ g) (at + 8) 8) ∙ sym (same (number f (at + 8) 8))
 
   fields_kept : (b : Box) → b.end ≤ length f → index_fields (f ++ g) b ≡ index_fields f b

@@ -2,7 +2,7 @@
 use Prim.Native.Nat.{ℕ, zero, suc, ◌+◌, ◌≤◌, ◌<◌}
 use mathlib.Core.Bool.{Bool, true, false, ◌&&◌, true≢false}
 use mathlib.Core.List.{List, [], ◌∷◌, ◌++◌, map, cons≢nil}
-use mathlib.Core.Option.{Option, none, some}
+use Rattle.std.specs.Prelude.{Option, None, Some}
 use mathlib.Core.Path.{◌≡◌, refl, sym, ap, subst, ◌∙◌}
 use native.Mathlib.Omega.{arith}
 use borrow.Author.Tests.{leb-true, eqb-true}
@@ -62,7 +62,7 @@ stepwise_append level before (x ∷ xs) ys (some_level, next, one) (here, low) n
 
 -- a box ends where another place is, or before
 abbrev EndsBy : ℕ → Indexed → Type 0
-EndsBy end i = (d : ℕ) → i.end ≡ some d → d ≤ end
+EndsBy end i = (d : ℕ) → i.end ≡ Some d → d ≤ end
 
 -- a box has some bytes
 abbrev Filled : Indexed → Type 0
@@ -75,16 +75,16 @@ pub record Shaped (level place : ℕ) (told : Told) : Type 0 where
   pub low : Each (λ i. level ≤ i.level) told.boxes
   pub from : Each (λ i. place ≤ i.place) told.boxes
   pub sized : Each Filled told.boxes
-  pub to : (end : ℕ) → told.end ≡ some end → Each (EndsBy end) told.boxes × (place ≤ end)
-  pub ended : (told.boxes ≡ [] → ⊥) → (end : ℕ) × (told.end ≡ some end)
+  pub to : (end : ℕ) → told.end ≡ Some end → Each (EndsBy end) told.boxes × (place ≤ end)
+  pub ended : (told.boxes ≡ [] → ⊥) → (end : ℕ) × (told.end ≡ Some end)
 
 -- an end that is known is one
-some_end : (end : Option ℕ) → is_known end ≡ true → (e : ℕ) × (end ≡ some e)
+some_end : (end : Option ℕ) → is_known end ≡ true → (e : ℕ) × (end ≡ Some e)
 unfolding is_known
-some_end none h = absurd (true≢false (sym h))
-some_end (some e) h = (e, refl)
+some_end None h = absurd (true≢false (sym h))
+some_end (Some e) h = (e, refl)
 
-some_same : {a b : ℕ} → ◌≡◌ {A = Option ℕ} (some a) (some b) → a ≡ b
+some_same : {a b : ℕ} → ◌≡◌ {A = Option ℕ} (Some a) (Some b) → a ≡ b
 some_same e = cc
 
 under_each : (i : Indexed) (is : List Indexed) → Each (Inside i) is → Under i is
@@ -112,11 +112,11 @@ front_some f b e =
 -- a box around a list that it is filled by
 module _ (limit level place : ℕ) (some_level : 1 ≤ level) (x : IndexFields) (some-front : 0 < x.front) (inner : List Box) (more : Told)
     (shape : Shaped (level + 1) (place + x.front + front_part inner) more) where
-  filled_by : (e : ℕ) → wherever (λ filled. wherever (eqb filled) (some e)) more.end ≡ true → (f : ℕ) → more.end ≡ some f → f ≡ e
+  filled_by : (e : ℕ) → wherever (λ filled. wherever (eqb filled) (Some e)) more.end ≡ true → (f : ℕ) → more.end ≡ Some f → f ≡ e
   unfolding wherever
-  filled_by e fills f same = eqb-true f e (subst (λ (end : Option ℕ). wherever (λ filled. wherever (eqb filled) (some e)) end ≡ true) same fills)
+  filled_by e fills f same = eqb-true f e (subst (λ (end : Option ℕ). wherever (λ filled. wherever (eqb filled) (Some e)) end ≡ true) same fills)
 
-  inner_ends : (e : ℕ) → wherever (λ filled. wherever (eqb filled) (some e)) more.end ≡ true → Each (EndsBy e) more.boxes
+  inner_ends : (e : ℕ) → wherever (λ filled. wherever (eqb filled) (Some e)) more.end ≡ true → Each (EndsBy e) more.boxes
   inner_ends e fills = go more.boxes refl
     where
       go : (is : List Indexed) → more.boxes ≡ is → Each (EndsBy e) more.boxes
@@ -125,13 +125,13 @@ module _ (limit level place : ℕ) (some_level : 1 ≤ level) (x : IndexFields) 
           let (f, ends) = shape.ended (λ empty. cons≢nil (sym same ∙ empty)) in
           subst (λ (n : ℕ). Each (EndsBy n) more.boxes) (filled_by e fills f ends) (shape.to f ends).0
 
-  boxed_shape : (e : ℕ) → end_right limit place x (some e) ≡ true → wherever (λ filled. wherever (eqb filled) (some e)) more.end ≡ true
-      → Shaped level place (box_told level place x (some e) more)
+  boxed_shape : (e : ℕ) → end_right limit place x (Some e) ≡ true → wherever (λ filled. wherever (eqb filled) (Some e)) more.end ≡ true
+      → Shaped level place (box_told level place x (Some e) more)
   unfolding end_right wherever indexed_size
   boxed_shape e right_end fills =
       let (over, _) = both (leb (place + x.front) e) (leb e limit) right_end in
       let room : place + x.front ≤ e = leb-true (place + x.front) e over in
-      let own : Indexed = record { level = level; place = place; end = some e; kind = x.kind } in
+      let own : Indexed = record { level = level; place = place; end = Some e; kind = x.kind } in
       let ends = inner_ends e fills in
       let inside = each_both (λ i. place + x.front + front_part inner ≤ i.place) (EndsBy e) (Inside own) (λ i low by. record { from = omega (arith, low); to = λ a b own-end end. omega (arith, some_same own-end, by b end) }) more.boxes shape.from ends in
       record {
@@ -148,7 +148,7 @@ module _ (limit level place : ℕ) (some_level : 1 ≤ level) (x : IndexFields) 
       }
 
 -- a box before the others of its list, which start where it ends
-module _ (level place e : ℕ) (t rest : Told) (one : Shaped level place t) (ends : t.end ≡ some e) (two : Shaped level e rest) (some-rest : rest.boxes ≡ [] → ⊥) where
+module _ (level place e : ℕ) (t rest : Told) (one : Shaped level place t) (ends : t.end ≡ Some e) (two : Shaped level e rest) (some-rest : rest.boxes ≡ [] → ⊥) where
   joined : Shaped level place (record { boxes = t.boxes ++ rest.boxes; end = rest.end })
   joined =
       let (by, over) = one.to e ends in
@@ -169,7 +169,7 @@ module _ (level place e : ℕ) (t rest : Told) (one : Shaped level place t) (end
       first [] starts = two.starts
       first (x ∷ xs) starts = starts
 
-nothing_shaped : (level place : ℕ) → Shaped level place (record { boxes = []; end = none })
+nothing_shaped : (level place : ℕ) → Shaped level place (record { boxes = []; end = None })
 nothing_shaped level place =
     record {
       nested = tt;
@@ -182,7 +182,7 @@ nothing_shaped level place =
       ended = λ some-box. absurd (some-box refl);
     }
   where
-    none_some : {n : ℕ} → ◌≡◌ {A = Option ℕ} none (some n) → ⊥
+    none_some : {n : ℕ} → ◌≡◌ {A = Option ℕ} None (Some n) → ⊥
     none_some e = let z : ◌≡◌ {A = ℕ} 0 1 = cc in omega arith
 
 -- boxes in a row
@@ -200,14 +200,14 @@ module _ (level : ℕ) (one : Bool → ℕ → Box → Answer Told)
       (subst (Shaped level place) same shape, λ _. subst (λ (u : Told). u.boxes ≡ [] → ⊥) same there)
   row_shaped (b ∷ c ∷ bs) place told e all =
       let (t, here, e1) = both_given (one (none_follows (c ∷ bs)) place b) _ e in
-      let (rest, there, e2) = both_given (in_aRow one (elim t.end [ some end ↦ end | none ↦ place ]) (c ∷ bs)) _ e1 in
+      let (rest, there, e2) = both_given (in_aRow one (elim t.end [ Some end ↦ end | None ↦ place ]) (c ∷ bs)) _ e1 in
       let whole : Told = record { boxes = t.boxes ++ rest.boxes; end = rest.end } in
       let same : whole ≡ told = given_same e2 in
       let pass = subst (λ (u : Told). all_of known u.boxes ≡ true) (sym same) all in
       let (first, later) = both (all_of known t.boxes) (all_of known rest.boxes) (rw all_append at pass) in
       let (shape, some-box) = each (none_follows (c ∷ bs)) place b t here first in
       let (end, ends) = shape.ended some-box in
-      let next : in_aRow one end (c ∷ bs) ≡ given rest = subst (λ (o : Option ℕ). in_aRow one (elim o as (λ _. ℕ) [ some end ↦ end | none ↦ place ]) (c ∷ bs) ≡ given rest) ends there in
+      let next : in_aRow one end (c ∷ bs) ≡ given rest = subst (λ (o : Option ℕ). in_aRow one (elim o as (λ _. ℕ) [ Some end ↦ end | None ↦ place ]) (c ∷ bs) ≡ given rest) ends there in
       let (others, some-rest) = row_shaped (c ∷ bs) end rest next later in
       (subst (Shaped level place) same (joined level place end t rest shape ends others (some-rest cons≢nil)), λ _. subst (λ (u : Told). u.boxes ≡ [] → ⊥) same (some_first t rest some-box))
     where
@@ -246,7 +246,7 @@ module _ (limit : ℕ) (f : List ℕ) where
       (subst (Shaped level place) (ap (λ (o : Option ℕ). box_told level place x o more) (sym is) ∙ same) box, subst (λ (u : Told). u.boxes ≡ [] → ⊥) same cons≢nil)
 
   -- boxes of a ninth level have no end that is known
-  unopened : (level place : ℕ) (bs : List Box) (told : Told) → given (record { boxes = map (untold level) bs; end = none }) ≡ given told → all_of known told.boxes ≡ true → Shaped level place told
+  unopened : (level place : ℕ) (bs : List Box) (told : Told) → given (record { boxes = map (untold level) bs; end = None }) ≡ given told → all_of known told.boxes ≡ true → Shaped level place told
   unfolding all_of untold is_known
   unopened level place [] told e all = subst (Shaped level place) (given_same e) (nothing_shaped level place)
   unopened level place (b ∷ bs) told e all = absurd (true≢false (sym (subst (λ (u : Told). all_of known u.boxes ≡ true) (sym (given_same e)) all)))

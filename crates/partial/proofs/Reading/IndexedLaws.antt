@@ -3,7 +3,7 @@ use Prim.Native.Nat.{ℕ}
 use mathlib.Core.Bool.{Bool, true, false, not, ◌&&◌, ◌||◌, and-false, true≢false}
 use mathlib.Core.Logic.{◌⊎◌, inl, inr, ⊎_elim}
 use mathlib.Core.List.{List, [], ◌∷◌, ◌++◌}
-use mathlib.Core.Option.{Option, none, some}
+use Rattle.std.specs.Prelude.{Option, None, Some}
 use mathlib.Core.Path.{◌≡◌, refl, sym, ap, subst, ◌∙◌}
 use native.Mathlib.Decide.{dec_le}
 use native.Mathlib.Omega.{arith}
@@ -73,25 +73,25 @@ all_alone test xs ys all = both (all_of test (boxes_alone xs)) (all_of test (box
 
 -- with one more segment, numbered beside the others, a known size is as it was
 pub size_later : (ss : List Segment) → Numbered ss → (s : Segment) → s.source ≡ source_beside ss s.urls → (us : List (List ℕ))
-    → (size_for ss us ≡ none) ⊎ (size_for (ss ++ (s ∷ [])) us ≡ size_for ss us)
+    → (size_for ss us ≡ None) ⊎ (size_for (ss ++ (s ∷ [])) us ≡ size_for ss us)
 unfolding size_for or_else
 size_later ss numbered s next us =
     elim (which (same_urls s.urls us)) [
-      | inl e ↦ subst (λ (vs : List (List ℕ)). (known_size (of_urls vs ss) ≡ none) ⊎ (known_size (of_urls vs (ss ++ (s ∷ []))) ≡ known_size (of_urls vs ss))) (urls_equal s.urls us e) own
+      | inl e ↦ subst (λ (vs : List (List ℕ)). (known_size (of_urls vs ss) ≡ None) ⊎ (known_size (of_urls vs (ss ++ (s ∷ []))) ≡ known_size (of_urls vs ss))) (urls_equal s.urls us e) own
       | inr e ↦ inr (ap known_size (of_urls_other ss numbered s next us (λ same. true≢false (sym (urls_same s.urls us same) ∙ e))))
     ]
   where
-    first : (known : Option ℕ) → known_size (of_urls s.urls ss) ≡ known → (known ≡ none) ⊎ (or_else known (known_size (s ∷ [])) ≡ known)
-    first none e = inl refl
-    first (some n) e = inr refl
+    first : (known : Option ℕ) → known_size (of_urls s.urls ss) ≡ known → (known ≡ None) ⊎ (or_else known (known_size (s ∷ [])) ≡ known)
+    first None e = inl refl
+    first (Some n) e = inr refl
 
-    own : (known_size (of_urls s.urls ss) ≡ none) ⊎ (known_size (of_urls s.urls (ss ++ (s ∷ []))) ≡ known_size (of_urls s.urls ss))
+    own : (known_size (of_urls s.urls ss) ≡ None) ⊎ (known_size (of_urls s.urls (ss ++ (s ∷ []))) ≡ known_size (of_urls s.urls ss))
     own =
         ⊎_elim (λ unknown. inl unknown) (λ same. inr (ap known_size (of_urls_own ss numbered s next) ∙ known_append (of_urls s.urls ss) (s ∷ []) ∙ same))
         (first (known_size (of_urls s.urls ss)) refl)
 
 module _ (limit : ℕ) (f : List ℕ) where
-  in-sized : (c : Container) (bs : List Box) (size : Option ℕ) (start : ℕ) (boxes : List Indexed) → index_in limit f c bs none start ≡ given boxes
+  in-sized : (c : Container) (bs : List Box) (size : Option ℕ) (start : ℕ) (boxes : List Indexed) → index_in limit f c bs None start ≡ given boxes
       → all_of known boxes ≡ true
       → index_in limit f c bs size start ≡ given boxes
   unfolding index_in
@@ -100,18 +100,18 @@ module _ (limit : ℕ) (f : List ℕ) where
       rw single (go (those fidx bs) e1)
     where
       go : (cs : List Box)
-          → ◌≡◌ {A = Answer (List Indexed)} (elim cs [ [] ↦ given [] | b ∷ _ ↦ list_framed (boxes_in Fidx f b.body b.end) >>= λ inner. index_list limit f call_limit 1 none start (those bidx inner) >>= λ told. given told.boxes ]) (given boxes)
+          → ◌≡◌ {A = Answer (List Indexed)} (elim cs [ [] ↦ given [] | b ∷ _ ↦ list_framed (boxes_in Fidx f b.body b.end) >>= λ inner. index_list limit f call_limit 1 None start (those bidx inner) >>= λ told. given told.boxes ]) (given boxes)
           → ◌≡◌ {A = Answer (List Indexed)} (elim cs [ [] ↦ given [] | b ∷ _ ↦ list_framed (boxes_in Fidx f b.body b.end) >>= λ inner. index_list limit f call_limit 1 size start (those bidx inner) >>= λ told. given told.boxes ]) (given boxes)
       go [] e = e
       go (b ∷ cs) e =
           let (inner, framed, e1) = both_given (list_framed (boxes_in Fidx f b.body b.end)) _ e in
-          let (told, list, e2) = both_given (index_list limit f call_limit 1 none start (those bidx inner)) _ e1 in
+          let (told, list, e2) = both_given (index_list limit f call_limit 1 None start (those bidx inner)) _ e1 in
           let same : told.boxes ≡ boxes = given_same e2 in
           rw (framed, list_sized limit f call_limit 1 size start (those bidx inner) told list (rw same all)) e2
 
 -- where each source ends, by more segments: what was known is as it was
 abbrev pub KnownLater : (List (List ℕ) → Option ℕ) → (List (List ℕ) → Option ℕ) → Type 0
-KnownLater size later = (us : List (List ℕ)) → (size us ≡ none) ⊎ (later us ≡ size us)
+KnownLater size later = (us : List (List ℕ)) → (size us ≡ None) ⊎ (later us ≡ size us)
 
 module _ (limit : ℕ) (f : List ℕ) (size later-size : List (List ℕ) → Option ℕ) (kept : KnownLater size later-size) where
   for_sized : (us : List (List ℕ)) (c : Container) (bs : List Box) (start : ℕ) (boxes : List SourceBox) → index_for limit f size us c bs start ≡ given boxes

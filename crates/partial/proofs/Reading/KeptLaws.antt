@@ -3,7 +3,7 @@
 use Prim.Native.Nat.{ℕ, zero, suc, ◌+◌, ◌-◌, ◌/◌, ◌%◌, ◌≤◌}
 use mathlib.Core.Bool.{Bool, true, false, ◌&&◌}
 use mathlib.Core.List.{List, [], ◌∷◌, ◌++◌}
-use mathlib.Core.Option.{Option, none, some}
+use Rattle.std.specs.Prelude.{Option, None, Some}
 use mathlib.Core.Path.{◌≡◌, refl, sym, ap, subst, ◌∙◌}
 use native.Mathlib.Omega.{arith}
 use borrow.Author.Tests.{leb-true, ltb-true, eqb-true}
@@ -160,20 +160,20 @@ module _ (f g : List ℕ) where
     place_kept pseg x p = by_test (has_place x.state x.size)
       where
         by_offset : (o : Option ℕ)
-            → ◌≡◌ {A = Answer ℕ} (elim o [ none ↦ refused 24 | some place ↦ hold 24 (may_lie h x.state place x.size) >>= λ _. given place ]) (given p)
-            → ◌≡◌ {A = Answer ℕ} (elim o [ none ↦ refused 24 | some place ↦ hold 24 (may_lie k x.state place x.size) >>= λ _. given place ]) (given p)
-        by_offset none e = e
-        by_offset (some place) e =
+            → ◌≡◌ {A = Answer ℕ} (elim o [ None ↦ refused 24 | Some place ↦ hold 24 (may_lie h x.state place x.size) >>= λ _. given place ]) (given p)
+            → ◌≡◌ {A = Answer ℕ} (elim o [ None ↦ refused 24 | Some place ↦ hold 24 (may_lie k x.state place x.size) >>= λ _. given place ]) (given p)
+        by_offset None e = e
+        by_offset (Some place) e =
             let (lies-there, e1) = held 24 (may_lie h x.state place x.size) _ e in
             rw (grows x.state place x.size lies-there) e1
 
         by_test : (t : Bool)
             → ◌≡◌ {A = Answer ℕ} (elim t [
-              | true ↦ elim (offset_place pseg x.offset) [ none ↦ refused 24 | some place ↦ hold 24 (may_lie h x.state place x.size) >>= λ _. given place ]
+              | true ↦ elim (offset_place pseg x.offset) [ None ↦ refused 24 | Some place ↦ hold 24 (may_lie h x.state place x.size) >>= λ _. given place ]
               | false ↦ given 0
             ]) (given p)
             → ◌≡◌ {A = Answer ℕ} (elim t [
-              | true ↦ elim (offset_place pseg x.offset) [ none ↦ refused 24 | some place ↦ hold 24 (may_lie k x.state place x.size) >>= λ _. given place ]
+              | true ↦ elim (offset_place pseg x.offset) [ None ↦ refused 24 | Some place ↦ hold 24 (may_lie k x.state place x.size) >>= λ _. given place ]
               | false ↦ given 0
             ]) (given p)
         by_test true e = by_offset (offset_place pseg x.offset) e

@@ -4,7 +4,7 @@ use Prim.Native.Nat.{ℕ, zero, suc, ◌+◌, ◌≤◌}
 use mathlib.Core.Bool.{Bool, true, false}
 use mathlib.Core.List.{List, [], ◌∷◌, ◌++◌, map}
 use mathlib.Core.Logic.{inl, inr, ⊎_elim}
-use mathlib.Core.Option.{some, get_or}
+use Rattle.std.specs.Prelude.{Some, unwrap_or}
 use mathlib.Core.Path.{◌≡◌, sym, ap, ◌∙◌}
 use native.Mathlib.Nat.{add-zero}
 use native.Mathlib.Omega.{arith}
@@ -124,12 +124,12 @@ segments_low limit f h before (b ∷ bs) low e =
     segments_low limit f h (before ++ (s ∷ [])) bs (omega arith) e
 
 -- a known size is the end of some segment
-known_most : (ss : List Segment) → get_or (known_size ss) 0 ≤ largest (map end_of ss)
+known_most : (ss : List Segment) → unwrap_or (known_size ss) 0 ≤ largest (map end_of ss)
 unfolding known_size largest
 known_most [] = omega arith
 known_most (s ∷ ss) = go (gives_size s) (known_most ss)
   where
-    go : (gives : Bool) → get_or (known_size ss) 0 ≤ largest (map end_of ss) → get_or {A = ℕ} (elim gives [ true ↦ some (end_of s) | false ↦ known_size ss ]) 0 ≤ largest (map end_of (s ∷ ss))
+    go : (gives : Bool) → unwrap_or (known_size ss) 0 ≤ largest (map end_of ss) → unwrap_or {T = ℕ} (elim gives [ true ↦ Some (end_of s) | false ↦ known_size ss ]) 0 ≤ largest (map end_of (s ∷ ss))
     go true low = omega arith
     go false low = omega arith
 

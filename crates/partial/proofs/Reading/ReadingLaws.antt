@@ -4,7 +4,7 @@ use Prim.Native.Nat.{ℕ, zero, suc, ◌+◌, ◌≤◌, ◌<◌}
 use mathlib.Core.Bool.{true, false, not, ◌||◌}
 use mathlib.Core.List.{List, [], ◌∷◌, ◌++◌, append-nil}
 use mathlib.Core.Logic.{inl, inr}
-use mathlib.Core.Option.{Option, none, some}
+use Rattle.std.specs.Prelude.{Option, None, Some}
 use mathlib.Core.Path.{◌≡◌, refl, sym, subst, ◌∙◌}
 use lib.Dec.{leb, eqb}
 use lib.ListN.{length}
@@ -36,10 +36,10 @@ heading_inside f {h} head k less = (boxes_standing File f 0 (length f) (headed f
 
 -- the place of an entry's chunk
 module _ (h : Heading) (from : ℕ) (e : Entry) {place : ℕ} where
-  in-data : (to : Option ℕ) → (elim to [ none ↦ refused 24 | some at ↦ hold 24 (may_lie h e.state at e.size) >>= λ _. given at ]) ≡ given place
+  in-data : (to : Option ℕ) → (elim to [ None ↦ refused 24 | Some at ↦ hold 24 (may_lie h e.state at e.size) >>= λ _. given at ]) ≡ given place
       → may_lie h e.state place e.size ≡ true
-  in-data none g = absurd (not_both g)
-  in-data (some at) g =
+  in-data None g = absurd (not_both g)
+  in-data (Some at) g =
       let (lie, same) = held 24 (may_lie h e.state at e.size) _ g in
       rw (given_same same) at lie
 

@@ -4,7 +4,7 @@ use Prim.Native.Nat.{ℕ, zero, suc, ◌+◌, ◌/◌, ◌%◌, ◌<◌}
 use mathlib.Core.Bool.{Bool, true, false, ◌&&◌, ◌||◌, true≢false}
 use mathlib.Core.List.{List, [], ◌∷◌, ◌++◌}
 use mathlib.Core.Logic.{◌⊎◌, inl, inr, ⊎_elim}
-use mathlib.Core.Option.{Option, none, some}
+use Rattle.std.specs.Prelude.{Option, None, Some}
 use mathlib.Core.Path.{◌≡◌, refl, sym, ap, subst, ◌∙◌}
 use native.Mathlib.Omega.{arith}
 use native.Mathlib.Decide.{dec_le}
@@ -76,10 +76,10 @@ module _ (P : ℕ → Type 0) (known : (n : ℕ) → T (up_to24 n) → P n) wher
       only_held P 17 (leb (at + 1 + l.length_size + width) l.end) _ (known 17 tt) (only_given P _)))
 
   lying_only : (h : Heading) (e : Entry) (to : Option ℕ)
-      → Only P {A = ℕ} (elim to [ none ↦ refused 24 | some place ↦ hold 24 (may_lie h e.state place e.size) >>= λ _. given place ])
+      → Only P {A = ℕ} (elim to [ None ↦ refused 24 | Some place ↦ hold 24 (may_lie h e.state place e.size) >>= λ _. given place ])
   unfolding within
-  lying_only h e none = only_refused P 24 (known 24 tt)
-  lying_only h e (some place) = only_held P 24 (may_lie h e.state place e.size) _ (known 24 tt) (only_given P place)
+  lying_only h e None = only_refused P 24 (known 24 tt)
+  lying_only h e (Some place) = only_held P 24 (may_lie h e.state place e.size) _ (known 24 tt) (only_given P place)
 
   place_only : (h : Heading) (from : ℕ) (e : Entry) → Only P (place_of h from e)
   unfolding place_of

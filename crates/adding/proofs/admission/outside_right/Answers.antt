@@ -18,4 +18,4 @@ pub returns-else-mixed : goal.returns-else-mixed
 returns-else-mixed c =
     λ h a mixed sorted.
     let o = c.args.outside in
-    sym (ap (λ (m : Bool). m && o.right) (sym mixed ∙ c.if-mixed.false)) ∙ right_some h a sorted c.if-outside-eq0.false
+    rw c.if-mixed.false (sym (ap (λ (m : Bool). m && o.right) (sym mixed ∙ c.if-mixed.false)) ∙ right_some h a sorted c.if-outside-eq0.false)

@@ -8,24 +8,8 @@ use Rattle.additions.specs.Append.{version_for, pseg_body}
 use Rattle.partial.specs.Limits.{file_limit}
 use Rattle.partial.specs.Reading.{offset_width_of}
 use Rattle.additions.proofs.AddedBoxesLaws.{length-added}
-use Rattle.adding.proofs.WidthLaws.{offset_short}
 use Rattle.adding.proofs.LengthLaws.{pseg_long}
 use Rattle.adding.proofs.layout.layout_of.Goals as goal
-
-pub overflow_add-pshd : goal.overflow_add-pshd
-overflow_add-pshd c = record { fits = omega (arith, offset_short _ _ c.offset_width-width.ensures) }
-
-pub overflow_add-pshd-2 : goal.overflow_add-pshd-2
-overflow_add-pshd-2 c = record { fits = omega (arith, offset_short _ _ c.offset_width-width.ensures) }
-
-pub overflow_add-pshd-3 : goal.overflow_add-pshd-3
-overflow_add-pshd-3 c = record { fits = omega (arith, offset_short _ _ c.offset_width-width.ensures) }
-
-pub overflow_add-pshd-4 : goal.overflow_add-pshd-4
-overflow_add-pshd-4 c = record { fits = omega (arith, offset_short _ _ c.offset_width-width.ensures) }
-
-pub overflow_add-pshd-5 : goal.overflow_add-pshd-5
-overflow_add-pshd-5 c = record { fits = omega (arith, offset_short _ _ c.offset_width-width.ensures) }
 
 pub returns : goal.returns
 returns c =
@@ -35,10 +19,10 @@ returns c =
     let sizes = c.length_size-sizes.ensures.1 a.outside _ counted.items in
     let at_width = ap (λ n. offset_width_of (version_for n)) at in
     let located = c.ploc_size-ploc.ensures.1 a.outside _ counted.items sizes offsets in
-    let held : c.within-pseg.result ≡ min (length (pseg_body a)) (file_limit + 1) = omega (arith, located, c.surls_size.ensures.1 a texted, c.offset_width-width.ensures, at_width, pseg_long a) in
+    let held : c.within-pseg.result ≡ min (length (pseg_body a)) (file_limit + 1) = omega (arith, located, c.surls_size.ensures.1 a texted, c.offset_width-width.ensures.1, at_width, pseg_long a) in
     record {
       pseg = record {
-        pshd = record { width = c.offset_width-width.ensures ∙ at_width; body = omega (arith, c.offset_width-width.ensures, at_width) };
+        pshd = record { width = c.offset_width-width.ensures.1 ∙ at_width; body = omega (arith, c.offset_width-width.ensures.1, at_width) };
         ploc = record { sizes = sizes; offsets = offsets; body = located };
         body = held;
       };

@@ -15,7 +15,7 @@ unfolding texts_of lengths_right
 returns c =
     let texts = c.args.texts.now in
     let lengths = c.args.lengths.now in
-    let whole = ap (eqb (length texts)) c.sum_in-sum.ensures ∙ whole_cut (length texts) (sum lengths) (omega arith) in
-    let plain = c.is_text-plain.ensures in
+    let whole = ap (eqb (length texts)) c.sum_in.ensures ∙ whole_cut (length texts) (sum lengths) (omega arith) in
+    let plain = c.is_text.ensures in
     let many = sym (surls_half texts lengths) in
     λ k. record { even = eqb (length lengths % 2) 0; whole = whole k; plain = plain k; surls = many k; bytes = length texts }

@@ -1,6 +1,6 @@
 -- `boxes::framing::put_header` meets its contract: the size and the type are the two halves of the number that is
 -- written.
-use Prim.Native.Nat.{◌+◌, ◌*◌}
+use Prim.Native.Nat.{◌+◌, ◌*◌, ◌^◌, ◌<◌}
 use mathlib.Core.Path.{sym, ◌∙◌}
 use native.Mathlib.Omega.{arith}
 use Rattle.boxes.proofs.BoxedLaws.{front_bytes, size_held, size_unheld}
@@ -13,8 +13,8 @@ returns-then-n-gt-LARGEST_BODY c = stores_unheld _ _ _ _ (size_unheld _ c.if-n-g
 
 pub returns : goal.returns
 returns c =
-    let kind = c.ranges.kind.fits in
+    let kind : c.args.kind.code < 2 ^ 32 = omega arith in
     let small = size_held c.args.n c.if-n-gt-LARGEST_BODY.false in
     stores_same _ _ _ _ c.put_number.ensures
-    (below_holds 8 ((8 + c.args.n) * 0x1_0000_0000 + c.args.kind) (omega arith) ∙ sym small)
-    (front_bytes c.args.kind c.args.n kind)
+    (below_holds 8 ((8 + c.args.n) * 0x1_0000_0000 + c.args.kind.code) (omega arith) ∙ sym small)
+    (front_bytes c.args.kind.code c.args.n kind)

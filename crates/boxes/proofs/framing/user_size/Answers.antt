@@ -1,10 +1,11 @@
 -- `boxes::framing::user_size` meets its contract: the one test is the definition's.
-use mathlib.Core.Path.{sym}
+use mathlib.Core.Path.{sym, ◌∙◌}
+use borrow.Author.Tests.{eqb-true, eqb-false}
 use Rattle.boxes.proofs.HeaderLaws.{user-vendor, user_none}
 use Rattle.boxes.proofs.framing.user_size.Goals as goal
 
-pub returns-then-kind-eq-UUID : goal.returns-then-kind-eq-UUID
-returns-then-kind-eq-UUID c = sym (user-vendor _ c.if-kind-eq-UUID.true)
+pub returns-then-eq : goal.returns-then-eq
+returns-then-eq c = sym (user-vendor _ (eqb-true _ _ (sym c.eq.ensures ∙ c.if-eq.true)))
 
-pub returns-else-kind-eq-UUID : goal.returns-else-kind-eq-UUID
-returns-else-kind-eq-UUID c = sym (user_none _ c.if-kind-eq-UUID.false)
+pub returns-else-eq : goal.returns-else-eq
+returns-else-eq c = sym (user_none _ (eqb-false _ _ (sym c.eq.ensures ∙ c.if-eq.false)))

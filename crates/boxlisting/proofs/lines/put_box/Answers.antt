@@ -4,8 +4,8 @@ use Rattle.filling.proofs.PutsLaws.{puts_same}
 use Rattle.boxlisting.proofs.LineLaws.{lies, start_end, type_file, type_text, line_fields, fields_put}
 use Rattle.boxlisting.proofs.lines.put_box.Goals as goal
 
-pub overflow_sub-end : goal.overflow_sub-end
-overflow_sub-end c = start_end _ _ (lies _ _ c.requires.1)
+pub overflow_sub-b : goal.overflow_sub-b
+overflow_sub-b c = start_end _ _ (lies _ _ c.requires.1)
 
 pub overflow_add-start : goal.overflow_add-start
 overflow_add-start c = omega (arith, type_file _ _ (lies _ _ c.requires.1))

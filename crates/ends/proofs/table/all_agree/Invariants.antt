@@ -1,5 +1,5 @@
 -- `ends::table::all_agree` meets its contract. The loop's invariant: the sources so far agree.
-use Prim.Native.Nat.{ℕ, ◌-◌, ◌<◌, ◌≤◌}
+use Prim.Native.Nat.{ℕ, ◌<◌}
 use mathlib.Core.Bool.{true}
 use mathlib.Core.List.{List}
 use mathlib.Core.Path.{◌≡◌}
@@ -10,7 +10,4 @@ use Rattle.ends.specs.Table.{Holds}
 use Rattle.ends.proofs.table.all_agree.Given as goal
 
 abbrev pub invariant-loop-n : goal.invariant-loop-n
-invariant-loop-n l = (l.n ≤ l.many) × ((ss : List Segment) → Holds l.table ss → (k : ℕ) → k < l.n → agree (of_source k ss) ≡ true)
-
-abbrev pub decreases-loop-n : goal.decreases-loop-n
-decreases-loop-n l = l.many - l.n
+invariant-loop-n l = (ss : List Segment) → Holds l.table ss → (k : ℕ) → k < l.n → agree (of_source k ss) ≡ true

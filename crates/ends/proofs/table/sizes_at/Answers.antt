@@ -8,4 +8,4 @@ pub returns-then-source : goal.returns-then-source
 returns-then-source c = c.none.ensures ∙ sym (sizes_past _ _ c.if-source.true)
 
 pub returns : goal.returns
-returns c = sym (sizes_there _ _ (omega arith))
+returns c = rw c.then_some.ensures (sym (sizes_there _ _ (omega arith)))

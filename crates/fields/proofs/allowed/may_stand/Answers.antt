@@ -1,21 +1,16 @@
 -- `fields::allowed::may_stand` meets its contract: each test is one of the definition's.
-use mathlib.Core.Path.{sym}
-use borrow.Author.Tests.{eq-eqb, ne_eqb}
-use Rattle.boxes.proofs.ToldLaws.{box_fields}
+use Rattle.std.proofs.Common.{sym}
 use Rattle.fields.proofs.AllowedLaws.{allowed_tests}
 use Rattle.fields.proofs.allowed.may_stand.Goals as goal
+use Rattle.fields.proofs.allowed.may_stand.Goals.{then-eq-via-then-eq, then-eq-via-else-eq+then-eq-2, then-eq-via-else-eq+else-eq-2+then-eq-3}
 
-pub returns-then-kind : goal.returns-then-kind
-returns-then-kind c = rw box_fields (sym (simp (allowed_tests, eq-eqb _ _ c.if-kind.true)))
-
-pub returns-then-kind-2 : goal.returns-then-kind-2
-returns-then-kind-2 c =
-    rw box_fields (sym (simp (allowed_tests, ne_eqb _ _ c.if-kind.false, eq-eqb _ _ c.if-kind-2.true)))
-
-pub returns-then-kind-3 : goal.returns-then-kind-3
-returns-then-kind-3 c =
-    rw box_fields (sym (simp (allowed_tests, ne_eqb _ _ c.if-kind.false, ne_eqb _ _ c.if-kind-2.false, eq-eqb _ _ c.if-kind-3.true)))
+pub returns-then-eq : goal.returns-then-eq
+returns-then-eq c =
+    elim c.then-eq.branch [
+      | then-eq-via-then-eq w ↦ sym (simp (allowed_tests, ← w.if-eq.ensures))
+      | then-eq-via-else-eq+then-eq-2 w ↦ sym (simp (allowed_tests, ← w.if-eq.ensures, ← w.if-eq-2.ensures))
+      | then-eq-via-else-eq+else-eq-2+then-eq-3 w ↦ sym (simp (allowed_tests, ← w.if-eq.ensures, ← w.if-eq-2.ensures, ← w.if-eq-3.ensures))
+    ]
 
 pub returns : goal.returns
-returns c =
-    rw box_fields (sym (simp (allowed_tests, ne_eqb _ _ c.if-kind.false, ne_eqb _ _ c.if-kind-2.false, ne_eqb _ _ c.if-kind-3.false)))
+returns c = sym (simp (allowed_tests, ← c.if-eq.ensures, ← c.if-eq-2.ensures, ← c.if-eq-3.ensures, c.ne.ensures))

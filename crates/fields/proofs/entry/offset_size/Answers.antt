@@ -3,8 +3,8 @@ use mathlib.Core.Path.{sym, ◌∙◌}
 use Rattle.fields.proofs.EntryLaws.{bytes_present, bytes_absent}
 use Rattle.fields.proofs.entry.offset_size.Goals as goal
 
-pub returns-then-present : goal.returns-then-present
-returns-then-present c = c.within.ensures ∙ sym (bytes_present _ _ (sym c.present.ensures ∙ c.if-present.true))
+pub returns-then-is_present : goal.returns-then-is_present
+returns-then-is_present c = c.within.ensures ∙ sym (bytes_present _ _ (sym c.is_present.ensures ∙ c.if-is_present.true))
 
-pub returns-else-present : goal.returns-else-present
-returns-else-present c = sym (bytes_absent _ _ (sym c.present.ensures ∙ c.if-present.false))
+pub returns-else-is_present : goal.returns-else-is_present
+returns-else-is_present c = sym (bytes_absent _ _ (sym c.is_present.ensures ∙ c.if-is_present.false))

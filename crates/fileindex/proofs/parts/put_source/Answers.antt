@@ -11,11 +11,10 @@ use Rattle.fileindex.proofs.parts.put_source.Goals as goal
 pub loop-i-init : goal.loop-i-init
 loop-i-init c = (
   refl,
-  omega arith,
-  omega (arith, c.smaller-end.ensures),
-  omega (arith, c.smaller-end.ensures),
-  λ room. omega (arith, c.smaller-end.ensures),
-  λ small. omega (arith, c.sum_of-mark.ensures),
+  omega (arith, c.min-end.ensures),
+  omega (arith, c.min-end.ensures),
+  λ room. omega (arith, c.min-end.ensures),
+  λ small. omega (arith, c.saturating_add-mark.ensures),
   λ t₀ is many room put small. partway_none _ _ t₀ is room _ (omega arith) put,
 )
 
@@ -23,13 +22,12 @@ pub loop-i-preserved : goal.loop-i-preserved
 loop-i-preserved c =
     let inv = c.loop-i.invariant in (
       search rules,
-      omega arith,
-      omega arith,
-      omega arith,
+      inv.1,
+      inv.2,
+      inv.3,
       inv.4,
-      inv.5,
       λ t₀ is many room put small.
-          partway_more _ _ t₀ is room (inv.6 t₀ is many room put small) (omega arith) (inv.5 small) _ _ (omega arith) (omega arith),
+          partway_more _ _ t₀ is room (inv.5 t₀ is many room put small) (omega arith) (inv.4 small) _ _ (omega arith) (omega arith),
     )
 
 pub returns : goal.returns
@@ -43,7 +41,7 @@ returns c =
             held = λ room.
                 let long = source_long c.args.source is in
                 let fits : index_row_length * c.args.from + index_row_length * length is ≤ length t₀ = omega (arith, long) in
-                let end = inv.4 (omega (arith, put.long, many)) in
-                partway_end _ _ t₀ is fits (inv.6 t₀ is many fits put small) (omega (arith, many, end));
+                let end = inv.3 (omega (arith, put.long, many)) in
+                partway_end _ _ t₀ is fits (inv.5 t₀ is many fits put small) (omega (arith, many, end));
           };
     }

@@ -12,7 +12,6 @@ use Rattle.fileindex.proofs.parts.put_source.Given as goal
 
 abbrev pub invariant-loop-i : goal.invariant-loop-i
 invariant-loop-i l = (length l.table ≡ length l.initial.table)
-    × (l.from ≤ l.i)
     × (index_row_length * l.end ≤ length l.initial.table)
     × (l.end ≤ l.to)
     × (index_row_length * l.to ≤ length l.initial.table → l.end ≡ l.to)
@@ -21,6 +20,3 @@ invariant-loop-i l = (length l.table ≡ length l.initial.table)
     → Put t₀ (index_row_length * l.from) (plain_rows is) l.initial.table
     → l.source ≤ segment_limit
     → Partway l.source (take (index_row_length * l.from) t₀) (drop (index_row_length * l.from + length (plain_rows is)) t₀) is l.table (l.i - l.from))
-
-abbrev pub decreases-loop-i : goal.decreases-loop-i
-decreases-loop-i l = l.end - l.i

@@ -7,12 +7,12 @@ use Rattle.tallying.proofs.FoundLaws.{is_kind, is_other}
 use Rattle.fileindex.proofs.PartLaws.{with_segment, with_other}
 use Rattle.fileindex.proofs.parts.segments_with.Goals as goal
 
-pub returns-then-b : goal.returns-then-b
-returns-then-b c =
+pub returns-then-eq : goal.returns-then-eq
+returns-then-eq c =
     λ few.
     let n = c.args.segments in
     let sum : min (n + 1) (2 ^ 64 - 1) ≡ suc n = omega arith in
-    c.sum_of.ensures ∙ sum ∙ sym (with_segment _ _ (is_kind pseg _ c.if-b.true))
+    c.saturating_add.ensures ∙ sum ∙ sym (with_segment _ _ (is_kind pseg _ c.eq.ensures c.if-eq.true))
 
 pub returns : goal.returns
-returns c = λ few. sym (with_other _ _ (is_other pseg _ c.if-b.false))
+returns c = λ few. sym (with_other _ _ (is_other pseg _ c.eq.ensures c.if-eq.false))

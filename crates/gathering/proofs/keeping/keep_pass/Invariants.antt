@@ -9,13 +9,10 @@ use Rattle.gathering.specs.Keeping.{Boxed}
 use Rattle.gathering.proofs.KeepingPassLaws.{Midway}
 use Rattle.gathering.proofs.keeping.keep_pass.Given as goal
 
-abbrev pub invariant-loop-b : goal.invariant-loop-b
-invariant-loop-b l = (l.k + l.walk.left ≤ 512)
-    × (l.gathered.segments ≤ l.k)
+abbrev pub invariant-loop-at : goal.invariant-loop-at
+invariant-loop-at l = (l.at + l.walk.left ≤ 512)
+    × (l.gathered.segments ≤ l.at)
     × (l.gathered.chunks ≤ chunk_limit)
     × (length l.fates ≡ 512)
-    × ((h : Heading) → Boxed l.file l.mixed l.list h → Midway l.file h l.fates l.numbers l.sizes l.sources l.lists l.walk l.gathered l.last l.k)
+    × ((h : Heading) → Boxed l.file l.mixed l.fn.list h → Midway l.file h l.fates l.numbers l.tables l.walk l.gathered l.last l.at)
     × (l.walk.end.0 ≡ length l.file)
-
-abbrev pub decreases-loop-b : goal.decreases-loop-b
-decreases-loop-b l = l.walk.left

@@ -1,6 +1,6 @@
 -- `gathering::kept::fill_rows` meets its contract. The loop's invariant: the segments so far have the rows of their
 -- chunks, and the others are kept ahead.
-use Prim.Native.Nat.{ℕ, ◌-◌, ◌≤◌}
+use Prim.Native.Nat.{ℕ, ◌≤◌}
 use mathlib.Core.List.{List}
 use mathlib.Core.Path.{◌≡◌}
 use lib.ListN.{length, take, drop}
@@ -17,6 +17,3 @@ invariant-loop-k l = (l.k ≤ l.many)
     × (length l.table ≡ length l.initial.table)
     × ((sources : List ℕ) (ss : List Segment) → Kept l.segments l.many sources l.numbers ss
     → (l.at ≡ length (chunks_of (take l.k ss))) × SegmentsKept l.segments sources l.numbers l.k l.at (drop l.k ss) × Put l.initial.table 0 (chunk_rows (take l.k ss)) l.table)
-
-abbrev pub decreases-loop-k : goal.decreases-loop-k
-decreases-loop-k l = l.many - l.k

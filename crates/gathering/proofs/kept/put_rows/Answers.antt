@@ -28,7 +28,7 @@ loop-i-preserved c =
       λ cs many kept.
           let (ahead, rows) = inv.2 cs many kept in
           let less : c.loop-i.i < length cs = omega arith in (
-            next_kept _ _ cs _ _ less ahead _ (c.sum_of.ensures ∙ ap (λ (x : Chunk). min (c.loop-i.start.0 + x.size) (2 ^ 64 - 1)) same),
+            next_kept _ _ cs _ _ less ahead _ (c.saturating_add.ensures ∙ ap (λ (x : Chunk). min (c.loop-i.start.0 + x.size) (2 ^ 64 - 1)) same),
             row_more _ _ cs _ _ less ahead _ rows (put_same refl (ap (put_of false _ _) same) put),
           ),
     )

@@ -1,6 +1,6 @@
 -- `gathering::kept::put_rows` meets its contract. The loop's invariant: the chunks so far have their rows, and the
 -- others are kept ahead.
-use Prim.Native.Nat.{◌+◌, ◌-◌, ◌*◌, ◌≤◌}
+use Prim.Native.Nat.{◌+◌, ◌*◌, ◌≤◌}
 use mathlib.Core.List.{List}
 use mathlib.Core.Path.{◌≡◌}
 use lib.ListN.{length, take, drop}
@@ -15,6 +15,3 @@ invariant-loop-i l = (l.i ≤ l.count)
     × (length l.table ≡ length l.initial.table)
     × ((cs : List Chunk) → l.count ≡ length cs → ChunksKept l.numbers l.at l.initial.start.0 cs
     → ChunksKept l.numbers (l.at + l.i) l.start.0 (drop l.i cs) × Put l.initial.table (chunk_row_length * l.at) (chunk_rows_of l.segment 0 (take l.i cs)) l.table)
-
-abbrev pub decreases-loop-i : goal.decreases-loop-i
-decreases-loop-i l = l.count - l.i

@@ -14,7 +14,7 @@ invariant-loop-b l = (l.gathered.segments + l.walk.left ≤ 512)
     × (l.gathered.chunks ≤ chunk_limit)
     × (length l.segments ≡ length l.initial.segments)
     × (length l.chunks ≡ length l.initial.chunks)
-    × ((h : Heading) → Opened l.file l.mixed l.list h → Midway l.file h l.numbered l.initial.segments l.initial.chunks l.segments l.chunks l.sizes l.sources l.lists l.walk l.gathered l.last)
+    × ((h : Heading) → Opened l.file l.mixed l.fn.list h → Midway l.file h l.numbered l.initial.segments l.initial.chunks l.segments l.chunks l.tables l.walk l.gathered l.last)
     × (l.walk.end.0 ≡ length l.file)
 
 abbrev pub decreases-loop-b : goal.decreases-loop-b

@@ -10,4 +10,4 @@ returns-then-numbered c =
 
 pub returns : goal.returns
 unfolding chunk_row
-returns c = put-row _ _ _ _ c.if-numbered.false (put_stored _ _ _ c.put_row-2.ensures)
+returns c = put-row _ _ _ _ c.if-numbered.false (rw c.number.ensures at (put_stored _ _ _ c.put_row-2.ensures))

@@ -2,7 +2,7 @@
 use Rattle.gathering.proofs.step.list_of.Goals as goal
 
 pub returns-then-own : goal.returns-then-own
-returns-then-own c = rw c.if-own.true
+returns-then-own c = rw c.if-own.true c.as_container.ensures
 
-pub returns : goal.returns
-returns c = rw c.if-own.false
+pub returns-else-own : goal.returns-else-own
+returns-else-own c = rw c.if-own.false

@@ -1,7 +1,7 @@
 -- `going::source::has_list` meets its contract: a pair of lengths is a URL, and without one the container decides.
 use mathlib.Core.Path.{sym, ap, ◌∙◌}
 use native.Mathlib.Omega.{arith}
-use borrow.Author.Tests.{lt-ltb}
+use borrow.Author.Tests.{le-leb, lt-ltb}
 use lib.Dec.{ltb}
 use lib.ListN.{length, length-map}
 use Rattle.boxes.specs.Kinds.{surl, those}
@@ -11,7 +11,7 @@ use Rattle.going.proofs.source.has_list.Goals as goal
 
 pub returns-then-lengths-ge2 : goal.returns-then-lengths-ge2
 returns-then-lengths-ge2 c =
-    λ texts bs stands. sym (lt-ltb 0 _ (any_urls _ _ _ (omega (arith, c.if-lengths-ge2.true))))
+    λ texts bs stands. le-leb 2 _ c.if-lengths-ge2.true ∙ sym (lt-ltb 0 _ (any_urls _ _ _ (omega (arith, c.if-lengths-ge2.true))))
 
 pub returns-else-lengths-ge2 : goal.returns-else-lengths-ge2
 unfolding urls_in

@@ -4,7 +4,7 @@ use Rattle.heading.proofs.BrandLaws.{mixed-right, unmixed_right}
 use Rattle.heading.proofs.ftyp.brand_right.Goals as goal
 
 pub returns-then-mixed : goal.returns-then-mixed
-returns-then-mixed c bs same told = sym (mixed-right _ bs (sym told ∙ c.if-mixed.true))
+returns-then-mixed c bs same told = c.if-mixed.true ∙ sym (mixed-right _ bs (sym told ∙ c.if-mixed.true))
 
-pub returns : goal.returns
-returns c bs same told = c.has_brand.ensures bs same ∙ sym (unmixed_right _ bs (sym told ∙ c.if-mixed.false))
+pub returns-else-mixed : goal.returns-else-mixed
+returns-else-mixed c bs same told = c.has_brand.ensures bs same ∙ sym (unmixed_right _ bs (sym told ∙ c.if-mixed.false))

@@ -6,10 +6,10 @@ use Rattle.partial.specs.Index.{front_by}
 use Rattle.indexing.proofs.fields.front_of.Goals as goal
 
 pub overflow_add-result : goal.overflow_add-result
-overflow_add-result c = omega (arith, user_most c.args.kind, c.user_size.ensures)
+overflow_add-result c = omega (arith, user_most c.args.kind.code, c.user_size.ensures)
 
 pub overflow_add-result-else-short-eq1 : goal.overflow_add-result-else-short-eq1
-overflow_add-result-else-short-eq1 c = omega (arith, user_most c.args.kind, c.user_size-else-short-eq1.ensures)
+overflow_add-result-else-short-eq1 c = omega (arith, user_most c.args.kind.code, c.user_size-else-short-eq1.ensures)
 
 pub returns-then-short-eq1 : goal.returns-then-short-eq1
 unfolding front_by

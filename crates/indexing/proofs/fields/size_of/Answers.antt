@@ -1,10 +1,16 @@
--- `indexing::fields::size_of` meets its contract: the one test is the definition's.
-use mathlib.Core.Path.{sym, ◌∙◌}
-use Rattle.indexing.proofs.FieldsLaws.{size_large, size_short}
+-- `indexing::fields::size_of` meets its contract: each test is one of the definition's.
+use borrow.Author.Tests.{ne_eqb}
+use Rattle.partial.specs.Index.{size_by}
 use Rattle.indexing.proofs.fields.size_of.Goals as goal
 
-pub returns-then-short-eq1 : goal.returns-then-short-eq1
-returns-then-short-eq1 c = c.unsigned.ensures ∙ sym (size_large _ c.if-short-eq1.true)
+pub returns-then-short-eq0 : goal.returns-then-short-eq0
+unfolding size_by
+returns-then-short-eq0 c = rw c.if-short-eq0.true
 
-pub returns-else-short-eq1 : goal.returns-else-short-eq1
-returns-else-short-eq1 c = sym (size_short _ c.if-short-eq1.false)
+pub returns-then-short-eq1 : goal.returns-then-short-eq1
+unfolding size_by
+returns-then-short-eq1 c = rw (c.if-short-eq1.true, c.unsigned.ensures)
+
+pub returns : goal.returns
+unfolding size_by
+returns c = rw (size_by, ne_eqb _ 0 c.if-short-eq0.false, ne_eqb _ 1 c.if-short-eq1.false)

@@ -1,56 +1,46 @@
 -- `indexing::index::index_in` meets its contract: the count rule, then none, or the list of the first.
-use Prim.Native.Nat.{◌<◌}
 use mathlib.Core.Path.{refl, sym, ap, subst, ◌∙◌}
 use native.Mathlib.Omega.{arith}
-use lib.ListN.{length}
-use Rattle.boxes.specs.Kinds.{fidx, those}
-use Rattle.tallying.specs.Rules.{tally_of}
-use Rattle.tallying.proofs.RuleLaws.{rule_kept, tally_given}
+use Rattle.boxes.specs.Kinds.{fidx}
+use Rattle.tallying.specs.Found.{found_of}
+use Rattle.tallying.proofs.RuleLaws.{rule_kept}
 use Rattle.indexing.specs.Index.{Indexes, CountedIn}
 use Rattle.indexing.specs.Lists.{Counted, Listed}
-use Rattle.indexing.proofs.IndexLaws.{index_second, indexes_none, indexes_wrong, indexes-told, first_bounded}
+use Rattle.indexing.proofs.IndexLaws.{known_tally, a_found, no_found, index_second, indexes_none, indexes_wrong, indexes-told, first_bounded, handed_index}
 use Rattle.indexing.proofs.index.index_in.Goals as goal
 
 pub returns-then-not-keeps : goal.returns-then-not-keeps
 unfolding Indexes CountedIn
-returns-then-not-keeps c =
-    λ bs contained.
-    let tallied = c.tally-counts.ensures ∙ ap tally_of contained.framed in
-    let rule = rule_kept bs tallied _ fidx refl c.of-many.ensures c.keeps.ensures in
+returns-then-not-keeps c bs contained =
+    let counts = known_tally c.tally.ensures c.in_ok-counts.was contained.framed in
+    let rule = rule_kept bs counts _ fidx refl c.of.ensures c.keeps.ensures in
     (index_second _ _ bs _ _ (sym rule ∙ c.if-not-keeps.true), tt)
 
-pub returns-then-many-eq0 : goal.returns-then-many-eq0
+pub returns-in_default : goal.returns-in_default
 unfolding CountedIn
-returns-then-many-eq0 c =
-    λ bs contained.
-    let tallied = c.tally-counts.ensures ∙ ap tally_of contained.framed in
-    let rule = rule_kept bs tallied _ fidx refl c.of-many.ensures c.keeps.ensures in
-    let many = c.of-many.ensures ∙ (tally_given tallied refl).of fidx refl in
-    (indexes_none _ _ bs _ _ (sym rule ∙ c.if-not-keeps.false) _ _ (sym many ∙ c.if-many-eq0.true), omega (arith, contained.rows, contained.ordered))
+returns-in_default c bs contained =
+    let counts = known_tally c.tally.ensures c.in_ok-counts.was contained.framed in
+    let rule = rule_kept bs counts _ fidx refl c.of.ensures c.keeps.ensures in
+    let none-there = no_found bs (ap found_of (sym c.in_default.is) ∙ c.first_of.ensures bs contained.framed) in
+    (indexes_none _ _ bs _ _ (sym rule ∙ c.if-not-keeps.false) _ _ none-there, omega (arith, contained.rows, contained.ordered))
 
-pub returns-in-Refused : goal.returns-in-Refused
-unfolding Indexes CountedIn Listed
-returns-in-Refused c =
-    λ bs contained.
-    let tallied = c.tally-counts.ensures ∙ ap tally_of contained.framed in
-    let rule = rule_kept bs tallied _ fidx refl c.of-many.ensures c.keeps.ensures in
-    let many = c.of-many.ensures ∙ (tally_given tallied refl).of fidx refl in
-    let there : 0 < length (those fidx bs) = omega (arith, many, c.if-many-eq0.false) in
-    let first = c.first_of-list.ensures bs contained.framed in
+pub returns-in_err-marks : goal.returns-in_err-marks
+unfolding Listed
+returns-in_err-marks c bs contained =
+    let counts = known_tally c.tally.ensures c.in_ok-counts.was contained.framed in
+    let rule = rule_kept bs counts _ fidx refl c.of.ensures c.keeps.ensures in
+    let (there, first) = a_found bs (ap found_of (sym c.in-Some.is) ∙ c.first_of.ensures bs contained.framed) in
     let (within, inside) = first_bounded _ contained there first in
-    let fault = subst (Listed _ _ _ _) c.in-Refused.is (c.list_of.ensures.1 within) in
-    (indexes_wrong _ _ bs _ _ (sym rule ∙ c.if-not-keeps.false) there first fault, tt)
+    let fault = subst (Listed _ _ _ _) c.in_err-marks.was (c.list_of.ensures.1 within) in
+    handed_index _ _ bs _ _ _ _ _ _ _ _ c.from_residual-in_err-marks.ensures.1 (indexes_wrong _ _ bs _ _ (sym rule ∙ c.if-not-keeps.false) there first fault)
 
-pub returns-in-Given : goal.returns-in-Given
+pub returns : goal.returns
 unfolding CountedIn Counted Listed
-returns-in-Given c =
-    λ bs contained.
-    let tallied = c.tally-counts.ensures ∙ ap tally_of contained.framed in
-    let rule = rule_kept bs tallied _ fidx refl c.of-many.ensures c.keeps.ensures in
-    let many = c.of-many.ensures ∙ (tally_given tallied refl).of fidx refl in
-    let there : 0 < length (those fidx bs) = omega (arith, many, c.if-many-eq0.false) in
-    let first = c.first_of-list.ensures bs contained.framed in
+returns c bs contained =
+    let counts = known_tally c.tally.ensures c.in_ok-counts.was contained.framed in
+    let rule = rule_kept bs counts _ fidx refl c.of.ensures c.keeps.ensures in
+    let (there, first) = a_found bs (ap found_of (sym c.in-Some.is) ∙ c.first_of.ensures bs contained.framed) in
     let (within, inside) = first_bounded _ contained there first in
-    let (told, read, ends, marked) = subst (Listed _ _ _ _) c.in-Given.is (c.list_of.ensures.1 within) in
-    let rows = subst (Counted _) c.in-Given.is c.list_of.ensures.0 in
+    let (told, read, ends, marked) = subst (Listed _ _ _ _) c.in_ok-marks.was (c.list_of.ensures.1 within) in
+    let rows = subst (Counted _) c.in_ok-marks.was c.list_of.ensures.0 in
     (indexes-told _ _ bs _ _ (sym rule ∙ c.if-not-keeps.false) there first read marked, omega arith)

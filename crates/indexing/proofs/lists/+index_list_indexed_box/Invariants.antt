@@ -7,14 +7,14 @@ use Rattle.indexing.proofs.ListLaws.{Midway}
 use Rattle.indexing.proofs.lists.+index_list_indexed_box.Given as goal
 
 abbrev pub decreases-index_list : goal.decreases-index_list
-decreases-index_list l = 2 * (9 - l.level)
+decreases-index_list l = 2 * (9 - l.spot.level)
 
 abbrev pub decreases-indexed_box : goal.decreases-indexed_box
-decreases-indexed_box l = 2 * (9 - l.level) - 1
+decreases-indexed_box l = 2 * (9 - l.spot.level) - 1
 
 abbrev pub invariant-index_list-loop-b : goal.invariant-index_list-loop-b
 invariant-index_list-loop-b l =
-    Midway l.file l.level (end_of l.enclosing) l.initial.table l.initial.walk l.initial.marks l.initial.place.0 l.table l.walk l.marks l.place.0 l.filled l.left
+    Midway l.file l.spot.level (end_of l.spot.enclosing) l.initial.table l.initial.walk l.initial.marks l.initial.place.0 l.table l.walk l.marks l.place.0 l.filled l.left
 
 abbrev pub decreases-index_list-loop-b : goal.decreases-index_list-loop-b
 decreases-index_list-loop-b l = l.walk.left

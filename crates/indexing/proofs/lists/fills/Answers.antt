@@ -1,19 +1,15 @@
--- `indexing::lists::fills` meets its contract: each test is one of the definition's.
-use borrow.Author.Tests.{not-true, not-false}
+-- `indexing::lists::fills` meets its contract: each case is one of the definition's.
 use Rattle.partial.specs.Index.{wherever}
-use Rattle.indexing.proofs.EndLaws.{end_known, end_unknown}
 use Rattle.indexing.proofs.lists.fills.Goals as goal
 
-pub returns-then-not-last : goal.returns-then-not-last
+pub returns-in-Some-Some : goal.returns-in-Some-Some
 unfolding wherever
-returns-then-not-last c = rw (end_unknown c.args.last (not-true c.args.last.known c.if-not-last.true), wherever)
+returns-in-Some-Some c = rw (c.in-Some-Some.is-0, c.in-Some-Some.is-1)
 
-pub returns-then-not-end : goal.returns-then-not-end
+pub returns-in_default : goal.returns-in_default
 unfolding wherever
-returns-then-not-end c =
-    rw (end_known c.args.last (not-false c.args.last.known c.if-not-last.false), wherever, end_unknown c.args.end (not-true c.args.end.known c.if-not-end.true), wherever)
+returns-in_default c = rw (c.in_default.is-0, c.in_default.is-1)
 
-pub returns : goal.returns
+pub returns-in_default-2 : goal.returns-in_default-2
 unfolding wherever
-returns c =
-    rw (end_known c.args.last (not-false c.args.last.known c.if-not-last.false), wherever, end_known c.args.end (not-false c.args.end.known c.if-not-end.false), wherever)
+returns-in_default-2 c = rw c.in_default.is-0

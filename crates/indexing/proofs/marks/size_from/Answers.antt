@@ -1,12 +1,11 @@
--- `indexing::marks::size_from` meets its contract: the one test is the definition's.
+-- `indexing::marks::size_from` meets its contract: each case is one of the definition's.
 use Rattle.partial.specs.Index.{indexed_size}
-use Rattle.indexing.proofs.EndLaws.{end_known, end_unknown}
 use Rattle.indexing.proofs.marks.size_from.Goals as goal
 
-pub returns-then-end : goal.returns-then-end
+pub returns-in-Some : goal.returns-in-Some
 unfolding indexed_size
-returns-then-end c level kind = rw (c.between.ensures, indexed_size, end_known c.args.end c.if-end.true)
+returns-in-Some c level kind = rw c.in-Some.is c.saturating_sub.ensures
 
-pub returns-else-end : goal.returns-else-end
+pub returns-in-None : goal.returns-in-None
 unfolding indexed_size
-returns-else-end c level kind = rw (indexed_size, end_unknown c.args.end c.if-end.false)
+returns-in-None c level kind = rw c.in-None.is

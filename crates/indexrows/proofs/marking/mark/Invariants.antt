@@ -1,5 +1,5 @@
 -- `indexrows::marking::mark` meets its contract. The loop's invariant: the rows so far are marked.
-use Prim.Native.Nat.{ℕ, ◌-◌, ◌≤◌}
+use Prim.Native.Nat.{ℕ}
 use mathlib.Core.List.{List}
 use mathlib.Core.Path.{◌≡◌}
 use lib.ListN.{length, drop}
@@ -12,10 +12,6 @@ use Rattle.indexrows.proofs.MarkingLaws.{Midway}
 use Rattle.indexrows.proofs.marking.mark.Given as goal
 
 abbrev pub invariant-loop-i : goal.invariant-loop-i
-invariant-loop-i l = (l.i ≤ l.count)
-    × (length l.table ≡ length l.initial.table)
-    × ((mine : List Segment) (is : List SourceBox) (say : SourceBox → ℕ) → HadIn mine l.had l.many → l.count ≡ length is → l.initial.table ≡ filled (rows_with say is) l.initial.table
+invariant-loop-i l = (length l.table ≡ length l.initial.table)
+    × ((mine : List Segment) (is : List SourceBox) (say : SourceBox → ℕ) → HadIn mine l.had → l.count ≡ length is → l.initial.table ≡ filled (rows_with say is) l.initial.table
     → Midway l.source mine say is (drop (length (rows_with say is)) l.initial.table) l.table l.i)
-
-abbrev pub decreases-loop-i : goal.decreases-loop-i
-decreases-loop-i l = l.count - l.i

@@ -1,5 +1,4 @@
 -- `indexrows::marking::mark_all` meets its contract. The loop's invariant: the sources so far are marked.
-use Prim.Native.Nat.{◌-◌, ◌≤◌}
 use mathlib.Core.List.{List}
 use mathlib.Core.Path.{◌≡◌}
 use lib.ListN.{length}
@@ -10,11 +9,7 @@ use Rattle.indexrows.specs.Marking.{AcceptedIn, rows_with, marked_below}
 use Rattle.indexrows.proofs.marking.mark_all.Given as goal
 
 abbrev pub invariant-loop-source : goal.invariant-loop-source
-invariant-loop-source l = (l.source ≤ l.below)
-    × (length l.table ≡ length l.initial.table)
-    × ((ss : List Segment) (is : List SourceBox) → AcceptedIn l.segments l.many l.sources l.numbers l.sizes ss → l.count ≡ length is
+invariant-loop-source l = (length l.table ≡ length l.initial.table)
+    × ((ss : List Segment) (is : List SourceBox) → AcceptedIn l.kept l.sizes ss → l.count ≡ length is
     → l.initial.table ≡ filled (rows_with (marked_below ss 0) is) l.initial.table
     → l.table ≡ filled (rows_with (marked_below ss l.source) is) l.initial.table)
-
-abbrev pub decreases-loop-source : goal.decreases-loop-source
-decreases-loop-source l = l.below - l.source

@@ -1,26 +1,11 @@
--- `indexrows::serving::ended_by` meets its contract. The loop's invariant: the range before the lower bound ends by the
--- place, and that at the upper one does not.
-use mathlib.Core.Path.{◌≡◌, sym, ◌∙◌}
-use native.Mathlib.Nat.{add-sub_cancel}
-use native.Mathlib.Omega.{arith}
-use borrow.Author.Tests.{leb-true, leb-false}
+-- `indexrows::serving::ended_by` meets its contract: the ranges had lie in the order of their ends.
+use borrow.Author.Rules.{rules}
+use lib.Dec.{leb}
+use Rattle.std.proofs.lemmas.List.Sorted.{IsPartitionPoint-from_clause, IsPartitionedBy-leb}
+use Rattle.indexrows.proofs.ServingLaws.{row_by, ends_ascend, parted}
 use Rattle.indexrows.proofs.serving.ended_by.Goals as goal
-
-pub loop-low-init : goal.loop-low-init
-loop-low-init c = (omega arith, omega arith, λ some. absurd (omega arith), λ some. absurd (omega arith))
-
-pub loop-low-preserved-then-ends_by : goal.loop-low-preserved-then-ends_by
-loop-low-preserved-then-ends_by c =
-    let inv = c.loop-low.invariant in
-    (omega arith, omega arith, λ some. rw add-sub_cancel (leb-true _ _ (sym c.ends_by.ensures ∙ c.if-ends_by.true)), inv.3)
-
-pub loop-low-preserved : goal.loop-low-preserved
-loop-low-preserved c =
-    let inv = c.loop-low.invariant in
-    (omega arith, omega arith, inv.2, λ some. leb-false _ _ (sym c.ends_by.ensures ∙ c.if-ends_by.false))
 
 pub returns : goal.returns
 returns c =
-    let inv = c.loop-low.invariant in
-    let same : c.loop-low.high ≡ c.loop-low.low = omega arith in
-    record { most = omega arith; before = inv.2; behind = rw same at inv.3 }
+    let at = c.partition_point.ensures in
+    (at.bound, λ ss h. parted h _ _ (IsPartitionPoint-from_clause (λ r. leb (row_by r) c.args.place.0) _ _ at.partitioned (IsPartitionedBy-leb row_by _ _ (ends_ascend h)) (λ a r f' called. search rules)))

@@ -6,26 +6,24 @@ use Rattle.indexrows.proofs.ServingLaws.{all_of_none, none_behind, none_served, 
 use Rattle.indexrows.proofs.serving.served_of.Goals as goal
 
 pub returns-then-size-eq0 : goal.returns-then-size-eq0
-returns-then-size-eq0 c = λ ss h. sym (all_of_none ss _ _ c.if-size-eq0.true)
+returns-then-size-eq0 c ss h = sym (all_of_none ss _ _ c.if-size-eq0.true)
 
-pub returns-then-k-many : goal.returns-then-k-many
-returns-then-k-many c = λ ss h. sym (none_behind h c.ended_by-k.ensures _ (omega arith) (omega arith))
+pub returns-then-k-had : goal.returns-then-k-had
+returns-then-k-had c ss h =
+    sym (none_behind h (c.ended_by-k.ensures.1 ss h) _ (omega arith) (omega arith))
 
 pub returns-then-ends_by : goal.returns-then-ends_by
-returns-then-ends_by c =
-    λ ss h. sym (none_served h c.ended_by-k.ensures _ (omega arith) (sym c.ends_by.ensures ∙ c.if-ends_by.true))
+returns-then-ends_by c ss h =
+    sym (none_served h (c.ended_by-k.ensures.1 ss h) _ (omega arith) (sym c.ends_by.ensures ∙ c.if-ends_by.true))
 
 pub returns-then-place-first : goal.returns-then-place-first
-returns-then-place-first c =
-    let over = sym c.ends_by.ensures ∙ c.if-ends_by.false in
-    λ ss h. sym (front-served h c.ended_by-k.ensures _ (omega arith) (omega arith) over)
+returns-then-place-first c ss h =
+    sym (front-served h (c.ended_by-k.ensures.1 ss h) _ (omega arith) (omega arith) (sym c.ends_by.ensures ∙ c.if-ends_by.false))
 
 pub returns-then-ends_by-2 : goal.returns-then-ends_by-2
-returns-then-ends_by-2 c =
-    let to = sym c.ends_by-2.ensures ∙ c.if-ends_by-2.true in
-    λ ss h. sym (all_served h c.ended_by-k.ensures _ (omega arith) (omega arith) to)
+returns-then-ends_by-2 c ss h =
+    sym (all_served h (c.ended_by-k.ensures.1 ss h) _ (omega arith) (omega arith) (sym c.ends_by-2.ensures ∙ c.if-ends_by-2.true))
 
 pub returns-else-ends_by-2 : goal.returns-else-ends_by-2
-returns-else-ends_by-2 c =
-    let over = sym c.ends_by-2.ensures ∙ c.if-ends_by-2.false in
-    λ ss h. sym (back-served h c.ended_by-k.ensures _ (omega arith) (omega arith) over)
+returns-else-ends_by-2 c ss h =
+    sym (back-served h (c.ended_by-k.ensures.1 ss h) _ (omega arith) (omega arith) (sym c.ends_by-2.ensures ∙ c.if-ends_by-2.false))

@@ -1,5 +1,5 @@
 -- `mapping::call::write_map` meets its contract: 27, then the judgement, then the maps by what is kept of the file.
-use mathlib.Core.Path.{sym}
+use mathlib.Core.Path.{refl, sym}
 use native.Mathlib.Omega.{arith}
 use Rattle.partial.specs.Limits.{source_limit}
 use Rattle.partial.proofs.Reading.PrintedLaws.{printed}
@@ -15,17 +15,17 @@ returns-then-most-file c =
 pub write_all-requires : goal.write_all-requires
 write_all-requires c =
     let (judged, kept, sized, sourced) = c.judge_into.ensures in
-    let a = accepted _ (judgement_given judged c.in-Given.is) in
-    (a.ss, accepted_told a kept sized sourced (omega arith) (omega arith))
+    let a = accepted _ (judgement_given judged c.in-Ok.is) in
+    (a.ss, accepted_told a _ refl refl refl kept sized sourced (omega arith) (omega arith))
 
-pub returns-in-Refused : goal.returns-in-Refused
-returns-in-Refused c =
-    let refusal = read_refused _ (judgement_refused c.judge_into.ensures.0 c.in-Refused.is) in
-    writes_same (sym ((printed _ source_limit _ _).refusal _ (omega arith) refusal)) c.write_refused-in-Refused.ensures
+pub returns-in-Err : goal.returns-in-Err
+returns-in-Err c =
+    let refusal = read_refused _ (judgement_refused c.judge_into.ensures.0 c.in-Err.is) in
+    writes_same (sym ((printed _ source_limit _ _).refusal _ (omega arith) refusal)) c.write_refused-in-Err.ensures
 
-pub returns-in-Given : goal.returns-in-Given
-returns-in-Given c =
+pub returns-in-Ok : goal.returns-in-Ok
+returns-in-Ok c =
     let (judged, kept, sized, sourced) = c.judge_into.ensures in
-    let a = accepted _ (judgement_given judged c.in-Given.is) in
+    let a = accepted _ (judgement_given judged c.in-Ok.is) in
     writes_same (sym ((printed _ source_limit _ _).lines a.ss (omega arith) (read_given _ a)))
-    (c.write_all.ensures a.ss (accepted_told a kept sized sourced (omega arith) (omega arith)))
+    (c.write_all.ensures a.ss (accepted_told a _ refl refl refl kept sized sourced (omega arith) (omega arith)))

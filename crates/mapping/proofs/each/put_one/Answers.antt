@@ -12,7 +12,7 @@ use Rattle.mapping.proofs.each.put_one.Goals as goal
 pub returns : goal.returns
 returns c =
     let source = c.args.source in
-    let (_, named, outlined) = c.outline_of-o.ensures in
+    let (drawn, named, outlined) = c.outline_of-o.ensures in
     let (puts, low) = c.put_outline.ensures in
     let (ss₀, told₀) = c.requires.1 in (
       λ ss told. puts_same (ap (λ (b : Bool). source_text b (of_source source ss)) named) (puts (of_source source ss) (outlined ss (omega arith) told)),

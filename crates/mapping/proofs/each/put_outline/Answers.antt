@@ -8,7 +8,7 @@ use Rattle.mapping.proofs.each.put_outline.Goals as goal
 pub returns : goal.returns
 returns c =
     let (source, _) = c.put_source-first.ensures in
-    let (ranges, _, few, counts) = c.put_ranges-ranges.ensures in
+    let (ranges, _, few, counts) = c.put_ranges-last.ensures in
     let (total, low) = c.put_total.ensures in (
       λ ss outlined.
           puts_same (text-lines _ ss)

@@ -2,10 +2,7 @@
 -- counted, those from here on are left, and the sweeps are ready. A line has no more bytes than its range has
 -- positions, fifty times.
 use Prim.Native.Nat.{◌+◌, ◌-◌, ◌*◌, ◌≤◌}
-use mathlib.Core.Path.{◌≡◌}
-use lib.ListN.{length}
-use Rattle.sweeping.specs.Naming.{name_by}
-use Rattle.mapping.specs.Outline.{word_of}
+use Rattle.mapping.specs.Outline.{word_of, name_in}
 use Rattle.mapping.specs.Totals.{Bounded, Counts}
 use Rattle.mapping.proofs.RangesLaws.{Midway, Lines, Swept}
 use Rattle.mapping.proofs.ranges.put_ranges.Given as goal
@@ -13,10 +10,9 @@ use Rattle.mapping.proofs.ranges.put_ranges.Given as goal
 abbrev pub invariant-loop-p : goal.invariant-loop-p
 invariant-loop-p l = (l.p ≤ l.o.end.0)
     × (l.next ≤ l.at + 50 * l.p)
-    × (length l.buffer ≡ length l.initial.buffer)
     × Bounded l.totals l.p
-    × Swept l.good l.damaged l.o l.p l.sweeps
-    × Midway (name_by l.good l.o.good l.damaged l.o.damaged) l.o.end.0 (λ rs. Lines (word_of l.o.named) l.initial.buffer l.at l.buffer l.next rs × Counts rs l.totals) l.p
+    × Swept l.o l.p l.sweeps
+    × Midway (name_in l.o) l.o.end.0 (λ rs. Lines (word_of l.o.named) l.initial.buffer l.at l.buffer l.next rs × Counts rs l.totals) l.p
 
 abbrev pub decreases-loop-p : goal.decreases-loop-p
 decreases-loop-p l = l.o.end.0 - l.p

@@ -1,6 +1,5 @@
 -- `numerals::numbers::by_bytes` meets its contract. The loop's invariant: the number of the bytes passed, which is
 -- below that power of 256.
-use mathlib.Core.Path.{◌≡◌}
 use borrow.Author.Rules.{rules}
 use native.Mathlib.Omega.{arith}
 use mir.Syntax.{w8}
@@ -14,19 +13,15 @@ unfolding number
 loop-i-init c = search rules
 
 pub overflow_mul-n : goal.overflow_mul-n
-overflow_mul-n c = omega (arith, room _ 0 _ c.loop-i.invariant.2 (omega arith) (omega arith))
+overflow_mul-n c = omega (arith, room _ 0 _ c.loop-i.invariant.1 (omega arith) (omega arith))
 
 pub overflow_add-n : goal.overflow_add-n
 overflow_add-n c =
     let byte : Fits w8 c.byte_after.result = search rules in
-    record { fits = room _ _ _ c.loop-i.invariant.2 byte.fits (omega arith) }
+    record { fits = omega (arith, room _ _ _ c.loop-i.invariant.1 byte.fits (omega arith)) }
 
 pub loop-i-preserved : goal.loop-i-preserved
 loop-i-preserved c =
     let byte : Fits w8 c.byte_after.result = search rules in
-    (search rules, rw (number_more, ← c.byte_after.ensures, ← c.loop-i.invariant.1), more_below _ _ _ c.loop-i.invariant.2 byte.fits)
-
-pub returns : goal.returns
-returns c =
-    let all : c.loop-i.i ≡ c.args.w = omega arith in
-    rw (← all) c.loop-i.invariant.1
+    let same = c.from.ensures in
+    (rw (number_more, ← c.byte_after.ensures, ← c.loop-i.invariant.0, same), rw same (more_below _ _ _ c.loop-i.invariant.1 byte.fits))

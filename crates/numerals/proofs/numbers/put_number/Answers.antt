@@ -13,9 +13,6 @@ returns-then-largest-n c =
 pub returns-then-buf-from : goal.returns-then-buf-from
 returns-then-buf-from c = stores_crowded _ _ _ _ (rw length-bytes_of (omega arith))
 
-pub returns-then-buf-from-2 : goal.returns-then-buf-from-2
-returns-then-buf-from-2 c = stores_crowded _ _ _ _ (rw length-bytes_of (omega arith))
-
 pub returns : goal.returns
 returns c =
     let held = holds_up_to _ _ _ c.largest.ensures c.if-largest-n.false in

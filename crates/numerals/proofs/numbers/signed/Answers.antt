@@ -2,6 +2,7 @@
 -- below it.
 use Prim.Native.Nat.{ℕ, ◌^◌, ◌/◌, ◌≤◌, min}
 use mathlib.Core.Path.{◌≡◌}
+use borrow.Author.Rules.{rules}
 use native.Mathlib.Omega.{arith}
 use Rattle.numerals.proofs.NumberLaws.{number_below}
 use Rattle.numerals.proofs.OffsetLaws.{signed-ahead, signed_back}
@@ -14,7 +15,7 @@ below c =
     omega (
       arith,
       number_below c.args.s.now c.args.at.0 w
-          (λ k. omega (arith, c.shared_slice_known-1.given k)),
+          (search rules),
     )
 
 pub overflow_sub-result : goal.overflow_sub-result

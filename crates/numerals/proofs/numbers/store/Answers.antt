@@ -1,22 +1,19 @@
--- `numerals::numbers::store` meets its contract. The loop's invariant: with the bytes that are left to write, the
--- buffer is as it will be.
-use mathlib.Core.Path.{◌∙◌}
+-- `numerals::numbers::store` meets its contract: the last bytes that std writes are those of that width.
+use Prim.Native.Nat.{◌-◌}
+use mathlib.Core.Path.{◌≡◌, ◌∙◌}
 use native.Mathlib.Omega.{arith}
-use borrow.Author.Rules.{rules}
-use Rattle.numerals.proofs.StoredLaws.{stored-number_more, stored-number_none}
+use Rattle.std.proofs.lemmas.Slice.{between_to_end}
+use Rattle.numerals.specs.Numbers.{bytes_of}
+use Rattle.numerals.proofs.NumberLaws.{length-bytes_of, bytes_of-last}
+use Rattle.numerals.proofs.StoredLaws.{part_stored}
 use Rattle.numerals.proofs.numbers.store.Goals as goal
-
-pub loop-i-preserved : goal.loop-i-preserved
-loop-i-preserved c = (
-  search rules,
-  search rules,
-  stored-number_more c.loop-i.buf c.args.from c.loop-i.i c.loop-i.rest
-      (omega arith) (omega arith)
-      ∙ c.loop-i.invariant.2,
-)
 
 pub returns : goal.returns
 returns c =
-    stored-number_none c.loop-i.buf c.args.from c.loop-i.i c.loop-i.rest
-    (omega arith) (omega arith)
-    ∙ c.loop-i.invariant.2
+    let a = c.args in
+    let written : c.copy_from_slice.new.self ≡ bytes_of a.w a.n =
+    c.copy_from_slice.ensures.after
+    ∙ between_to_end _ (8 - a.w) _ (omega arith)
+    ∙ rw c.to_be_bytes-bytes.ensures (bytes_of-last a.w a.n (omega arith)) in
+    rw written
+    (part_stored _ _ _ _ (rw length-bytes_of (omega arith)) (rw length-bytes_of (omega arith)))

@@ -3,7 +3,6 @@
 use Prim.Native.Nat.{◌*◌, ◌/◌, ◌<◌}
 use mathlib.Core.Path.{sym, ◌∙◌}
 use native.Mathlib.Omega.{arith}
-use borrow.Author.Rules.{rules}
 use lib.ListN.{length, get_or}
 use Rattle.puts.proofs.CopyLaws.{copied_start, copied_more, copied_past, copied_end}
 use Rattle.puts.proofs.PieceLaws.{piece_put}
@@ -11,27 +10,19 @@ use Rattle.puts.proofs.pdat.put_chosen.Goals as goal
 use Rattle.puts.proofs.pdat.put_chosen.Goals.{then-is_chosen, else-is_chosen}
 
 pub loop-i-init : goal.loop-i-init
-loop-i-init c = (search rules, copied_start _ _ _ _ _)
-
-pub slice_bounds-put_bytes-count : goal.slice_bounds-put_bytes-count
-slice_bounds-put_bytes-count c = omega (arith, c.end_of-end.ensures, c.loop-i.invariant.1.inside)
+loop-i-init c = copied_start _ _ _ _ _
 
 pub loop-i-preserved : goal.loop-i-preserved
 loop-i-preserved c =
-    let m = c.loop-i.invariant.1 in
+    let m = c.loop-i.invariant in
     let ends = c.end_of-end.ensures in
     let list = c.args.list.now in
     let less : c.loop-i.i < length list / 2 = omega arith in
-    let told = c.is_chosen.ensures (get_or list (2 * c.loop-i.i) 0) in (
-      omega arith,
-      elim c.if-is_chosen.branch [
-        | then-is_chosen w ↦ rw (w.buffer-is, w.next-is) (copied_more _ _ _ _ _ m less ends (sym told ∙ w.if-is_chosen.true) (piece_put w.put_bytes-next.ensures))
-        | else-is_chosen w ↦ rw (w.buffer-is, w.next-is) (copied_past _ _ _ _ _ m less ends (sym told ∙ w.if-is_chosen.false))
-      ],
-    )
-
-pub shape_of-buffer : goal.shape_of-buffer
-shape_of-buffer c = c.loop-i.invariant.1.copied.puts.long
+    let told = c.is_chosen.ensures (get_or list (2 * c.loop-i.i) 0) in
+    elim c.if-is_chosen.branch [
+      | then-is_chosen w ↦ rw (w.buffer-is, w.next-is) (copied_more _ _ _ _ _ m less ends (sym told ∙ w.if-is_chosen.true) (piece_put w.put_bytes-next.ensures))
+      | else-is_chosen w ↦ rw (w.buffer-is, w.next-is) (copied_past _ _ _ _ _ m less ends (sym told ∙ w.if-is_chosen.false))
+    ]
 
 pub returns : goal.returns
-returns c = copied_end _ _ _ _ _ c.loop-i.invariant.1 (omega arith)
+returns c = copied_end _ _ _ _ _ c.loop-i.invariant (omega arith)

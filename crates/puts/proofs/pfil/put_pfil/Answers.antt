@@ -12,4 +12,4 @@ returns c small =
     let mime = args.mime.now in
     let long = pfil_long url mime in
     let surl = c.put_surl.ensures (omega (arith, surl_long url mime)) in
-    pieces_box pfil.code small c.put_front-body.ensures (omega (arith, c.sum_of-n.ensures, inner_long url mime)) (pieces_more c.put_pfhd-surl.ensures surl)
+    pieces_box pfil.code small c.put_front-body.ensures (omega (arith, c.saturating_add-n.ensures, inner_long url mime)) (pieces_more c.put_pfhd-surl.ensures surl)

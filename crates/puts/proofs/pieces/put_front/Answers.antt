@@ -6,4 +6,4 @@ use Rattle.puts.proofs.pieces.put_front.Goals as goal
 pub returns : goal.returns
 returns c =
     let front = c.put_header.ensures in
-    record { left = front.left; end = c.sum_of.ensures ∙ rw (length_front, front-size) }
+    record { left = front.left; end = c.saturating_add.ensures ∙ rw (length_front, front-size) }

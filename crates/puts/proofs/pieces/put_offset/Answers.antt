@@ -6,4 +6,4 @@ use Rattle.puts.proofs.pieces.put_offset.Goals as goal
 pub returns : goal.returns
 returns c =
     let number = c.put_offset.ensures in
-    record { left = number.left; end = c.sum_of.ensures ∙ rw (c.within.ensures, length-bytes_of) }
+    record { left = number.left; end = c.saturating_add.ensures ∙ rw (c.within.ensures, length-bytes_of) }

@@ -1,22 +1,20 @@
 -- `puts::ploc::flags_of` meets its contract.
-use mathlib.Core.Path.{sym}
 use Rattle.additions.specs.Append.{flag_byte}
 use Rattle.partial.specs.Segments.{present, corrupted}
-use Rattle.puts.proofs.BoxLaws.{no_flags}
 use Rattle.puts.proofs.ploc.flags_of.Goals as goal
 
-pub returns-then-state-eq-GOOD : goal.returns-then-state-eq-GOOD
+pub returns-in-Good : goal.returns-in-Good
 unfolding flag_byte present corrupted
-returns-then-state-eq-GOOD c = sym (rw c.if-state-eq-GOOD.true)
+returns-in-Good c = rw c.in-Good.is
 
-pub returns-then-state-eq-DAMAGED : goal.returns-then-state-eq-DAMAGED
+pub returns-in-Damaged : goal.returns-in-Damaged
 unfolding flag_byte present corrupted
-returns-then-state-eq-DAMAGED c = sym (rw c.if-state-eq-DAMAGED.true)
+returns-in-Damaged c = rw c.in-Damaged.is
 
-pub returns-then-state-eq-LOST : goal.returns-then-state-eq-LOST
+pub returns-in-Lost : goal.returns-in-Lost
 unfolding flag_byte present corrupted
-returns-then-state-eq-LOST c = sym (rw c.if-state-eq-LOST.true)
+returns-in-Lost c = rw c.in-Lost.is
 
-pub returns-else-state-eq-LOST : goal.returns-else-state-eq-LOST
-returns-else-state-eq-LOST c =
-    sym (no_flags _ c.if-state-eq-GOOD.false c.if-state-eq-DAMAGED.false c.if-state-eq-LOST.false)
+pub returns-in-Elsewhere : goal.returns-in-Elsewhere
+unfolding flag_byte present corrupted
+returns-in-Elsewhere c = rw c.in-Elsewhere.is

@@ -9,11 +9,11 @@ use Rattle.puts.proofs.pseg.put_pseg.Goals as goal
 pub returns : goal.returns
 unfolding asks
 returns c whole laid fits outer small =
-    let header = c.args.header in
-    let list = c.args.list.now in
-    let outside = c.args.outside in
-    let texts = c.args.texts.now in
-    let lengths = c.args.lengths.now in
+    let header = c.args.addition.header in
+    let list = c.args.addition.list.now in
+    let outside = c.args.addition.outside in
+    let texts = c.args.addition.texts.now in
+    let lengths = c.args.addition.lengths.now in
     let long = pseg-box_long header outside list texts lengths in
     let size = pseg_size_of header outside list texts lengths laid.body small in
     let ploc = c.put_ploc-surls.ensures whole laid.ploc fits outer (omega arith) in

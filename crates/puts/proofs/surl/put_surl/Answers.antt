@@ -13,5 +13,5 @@ returns c small =
     let url = args.url.now in
     let mime = args.mime.now in
     let flags = number_put 4 0 (omega arith) (below_holds 4 0 (omega arith)) c.put_field-first.ensures in
-    pieces_box surl.code small c.put_front-body.ensures (omega (arith, c.sum_of-n.ensures, source_long url mime, surl_long url mime))
+    pieces_box surl.code small c.put_front-body.ensures (omega (arith, c.saturating_add-n.ensures, source_long url mime, surl_long url mime))
     (pieces_more flags (pieces_same (texts_closed url mime) (pieces_more c.put_closed-second.ensures c.put_closed.ensures)))

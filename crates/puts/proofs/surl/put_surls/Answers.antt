@@ -10,7 +10,7 @@ use Rattle.puts.proofs.SurlLaws.{box, boxes_from, boxes_step, boxes_done, left_s
 use Rattle.puts.proofs.surl.put_surls.Goals as goal
 
 pub loop-i-init : goal.loop-i-init
-loop-i-init c = (search rules, search rules, search rules, λ small. partly_start _ _ _)
+loop-i-init c = (search rules, λ small. partly_start _ _ _)
 
 pub loop-i-preserved : goal.loop-i-preserved
 loop-i-preserved c =
@@ -21,11 +21,9 @@ loop-i-preserved c =
     let i = c.loop-i.i in
     let from = c.loop-i.from in
     let less : i < length lengths / 2 = omega arith in (
-      omega arith,
-      search rules,
       omega (arith, second),
       λ small.
-          let m = c.loop-i.invariant.3 small in
+          let m = c.loop-i.invariant.1 small in
           let step = boxes_step texts lengths i from less first second in
           let rest = boxes_from texts lengths c.end_by-end.result (i + 1) in
           let long = ap length step ∙ length-append (box texts lengths i from less first second) rest in
@@ -34,4 +32,4 @@ loop-i-preserved c =
 
 pub returns : goal.returns
 returns c small =
-    partly_end _ _ _ (partly_same _ _ _ (boxes_done _ _ c.loop-i.i c.loop-i.from (omega arith)) (c.loop-i.invariant.3 small))
+    partly_end _ _ _ (partly_same _ _ _ (boxes_done _ _ c.loop-i.i c.loop-i.from (omega arith)) (c.loop-i.invariant.1 small))

@@ -3,14 +3,8 @@ use native.Mathlib.Omega.{arith}
 use Rattle.texts.proofs.WritesLaws.{writes_short, writes_given}
 use Rattle.salvaging.proofs.calls.salvage_lines.Goals as goal
 
-pub put_told-size-requires : goal.put_told-size-requires
-put_told-size-requires c = (_, c.tell-told.ensures)
-
 pub returns-then-buffer-size : goal.returns-then-buffer-size
 returns-then-buffer-size c = writes_short _ _ (omega (arith, (c.put_told-size.ensures _ c.tell-told.ensures).end))
-
-pub put_told-requires : goal.put_told-requires
-put_told-requires c = (_, c.tell-told.ensures)
 
 pub returns : goal.returns
 returns c =

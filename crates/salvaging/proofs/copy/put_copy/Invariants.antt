@@ -12,8 +12,8 @@ abbrev pub invariant-loop-b : goal.invariant-loop-b
 invariant-loop-b l = (length l.buffer ≡ length l.initial.buffer)
     × (l.k + l.walk.left ≤ 512)
     × (l.walk.end.0 ≤ length l.file)
-    × ((h : Heading) → (moving : Moving l.file h l.tops l.places) → FatesHeld l.file h l.fates
-    → Counting l.file h.boxes l.walk l.k × Copying l.file h moving.sound l.initial.buffer l.k l.buffer l.next.0)
+    × ((h : Heading) → (moving : Moving l.file h l.moves) → FatesHeld l.file h l.fates
+    → Counting l.file h.boxes l.walk l.k × Copying l.file h moving.sound l.initial.buffer l.k l.buffer l.end.0)
 
 abbrev pub decreases-loop-b : goal.decreases-loop-b
 decreases-loop-b l = l.walk.left

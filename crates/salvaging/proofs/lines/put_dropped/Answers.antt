@@ -2,13 +2,14 @@
 use mathlib.Core.Path.{refl, sym, ap, ◌∙◌}
 use native.Mathlib.Omega.{arith}
 use Rattle.boxes.specs.Framing.{box_of}
-use Rattle.boxes.proofs.WalkLaws.{next_box, no_more, a_fault, fewer, over_left}
+use Rattle.boxes.proofs.WalkLaws.{next_box, fewer, over_left}
 use Rattle.filling.proofs.PutsLaws.{puts_same, puts_more}
 use Rattle.partial.specs.BoxList.{each}
 use Rattle.rescue.specs.Lines.{dropped_line}
 use Rattle.rescue.proofs.TableLaws.{no_fated}
 use Rattle.salvaging.specs.Tables.{fates_in, fate_at}
-use Rattle.salvaging.proofs.CountingLaws.{counting_none, counting_more, counting_end, counting_sound}
+use Rattle.surls.proofs.WithinLaws.{was_next}
+use Rattle.salvaging.proofs.CountingLaws.{counting_none, counting_more, counting_last}
 use Rattle.salvaging.proofs.LinesLaws.{each_more, each_none, take_all}
 use Rattle.salvaging.proofs.SoundLaws.{code_held, box-held, fates_long}
 use Rattle.salvaging.proofs.lines.put_dropped.Goals as goal
@@ -22,25 +23,14 @@ loop-b-init c =
       λ h sound held. (counting_none _ sound.boxes new refl, each_none dropped_line (fates_in c.args.file.now h) _),
     )
 
-pub offset_bounds-fates-k : goal.offset_bounds-fates-k
-offset_bounds-fates-k c =
-    let inv = c.loop-b.invariant in
-    let step = next_box c.step.ensures c.in-Next.is in
-    omega (arith, inv.1, fewer _ _ step)
-
 pub bounds-fates-k : goal.bounds-fates-k
 bounds-fates-k c =
     let inv = c.loop-b.invariant in
-    let step = next_box c.step.ensures c.in-Next.is in
+    let step = next_box c.step.ensures (was_next c.unwrap_or.ensures c.in-Some.is) in
     omega (arith, inv.1, fewer _ _ step)
 
-pub overflow_add-k : goal.overflow_add-k
-overflow_add-k c =
-    let inv = c.loop-b.invariant in
-    omega (arith, inv.1)
-
 pub loop-b-smaller : goal.loop-b-smaller
-loop-b-smaller c = fewer _ _ (next_box c.step.ensures c.in-Next.is)
+loop-b-smaller c = fewer _ _ (next_box c.step.ensures (was_next c.unwrap_or.ensures c.in-Some.is))
 
 pub loop-b-preserved : goal.loop-b-preserved
 unfolding box_of
@@ -48,9 +38,9 @@ loop-b-preserved c =
     let f = c.args.file.now in
     let k = c.loop-b.k in
     let inv = c.loop-b.invariant in
-    let step = next_box c.step.ensures c.in-Next.is in
-    let (line, few) = c.put_line-next.ensures in (
-      c.put_line-next.auto.buffer ∙ inv.0,
+    let step = next_box c.step.ensures (was_next c.unwrap_or.ensures c.in-Some.is) in
+    let (line, few) = c.put_line-at.ensures in (
+      c.put_line-at.auto.buffer ∙ inv.0,
       omega (arith, inv.1, fewer _ _ step),
       omega (arith, inv.2, few),
       λ h sound held.
@@ -62,25 +52,12 @@ loop-b-preserved c =
           ),
     )
 
-pub shape_of-buffer-in-End : goal.shape_of-buffer-in-End
-shape_of-buffer-in-End c = c.loop-b.invariant.0
-
-pub returns-in-End : goal.returns-in-End
-returns-in-End c =
+pub returns : goal.returns
+returns c =
     let inv = c.loop-b.invariant in (
       λ h sound held.
           let (counting, puts) = inv.3 h sound held in
-          let all = counting_end counting (no_more c.step.ensures c.in-End.is) in
+          let all = counting_last counting _ c.step.ensures c.unwrap_or.ensures c.in_default.is in
           puts_same (ap (each dropped_line) (take_all (fates_in _ h) _ (fates_long _ h sound ∙ sym all))) puts,
-      omega (arith, inv.1, inv.2),
-    )
-
-pub shape_of-buffer-in-Refused : goal.shape_of-buffer-in-Refused
-shape_of-buffer-in-Refused c = c.loop-b.invariant.0
-
-pub returns-in-Refused : goal.returns-in-Refused
-returns-in-Refused c =
-    let inv = c.loop-b.invariant in (
-      λ h sound held. absurd (counting_sound (inv.3 h sound held).0 (a_fault c.step.ensures c.in-Refused.is)),
       omega (arith, inv.1, inv.2),
     )

@@ -13,9 +13,9 @@ use Rattle.salvaging.proofs.lines.put_dropped.Given as goal
 abbrev pub invariant-loop-b : goal.invariant-loop-b
 invariant-loop-b l = (length l.buffer ≡ length l.initial.buffer)
     × (l.k + l.walk.left ≤ 512)
-    × (l.next ≤ 42 * l.k)
+    × (l.at ≤ 42 * l.k)
     × ((h : Heading) → Sound l.file h → FatesHeld l.file h l.fates
-    → Counting l.file h.boxes l.walk l.k × Puts l.initial.buffer 0 (each dropped_line (take l.k (fates_in l.file h))) l.buffer l.next)
+    → Counting l.file h.boxes l.walk l.k × Puts l.initial.buffer 0 (each dropped_line (take l.k (fates_in l.file h))) l.buffer l.at)
 
 abbrev pub decreases-loop-b : goal.decreases-loop-b
 decreases-loop-b l = l.walk.left

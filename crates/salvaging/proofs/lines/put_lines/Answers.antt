@@ -6,13 +6,13 @@ use Rattle.salvaging.specs.Tables.{fates_in}
 use Rattle.salvaging.proofs.LinesLaws.{fault_none, fault_one}
 use Rattle.salvaging.proofs.lines.put_lines.Goals as goal
 
-pub returns-then-fault-eq0 : goal.returns-then-fault-eq0
-returns-then-fault-eq0 c =
-    λ h sound held. puts_same (fault_none (fates_in _ h) _ _ c.if-fault-eq0.true) (c.put_dropped-next.ensures.0 h sound held)
+pub returns-in-None : goal.returns-in-None
+returns-in-None c =
+    λ h sound held. puts_same (fault_none (fates_in _ h) _ c.in-None.is) (c.put_dropped-next.ensures.0 h sound held)
 
-pub returns : goal.returns
-returns c =
+pub returns-in-Some : goal.returns-in-Some
+returns-in-Some c =
     λ h sound held.
-    let (piece, few) = c.put_fault.ensures in
+    let (piece, few) = rw c.number.ensures at c.put_fault.ensures in
     let (dropped, low) = c.put_dropped-next.ensures in
-    puts_same (fault_one (fates_in _ h) _ _ c.if-fault-eq0.false) (puts_more (dropped h sound held) (piece_puts (omega (arith, few, low)) piece))
+    puts_same (fault_one (fates_in _ h) _ c.in-Some.is) (puts_more (dropped h sound held) (piece_puts (omega (arith, few, low)) piece))

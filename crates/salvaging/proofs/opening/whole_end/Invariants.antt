@@ -2,8 +2,8 @@
 use Rattle.salvaging.proofs.OpensLaws.{Along}
 use Rattle.salvaging.proofs.opening.whole_end.Given as goal
 
-abbrev pub invariant-loop-onward : goal.invariant-loop-onward
-invariant-loop-onward l = Along l.file l.walk
+abbrev pub invariant-loop-next : goal.invariant-loop-next
+invariant-loop-next l = Along l.file l.walk
 
-abbrev pub decreases-loop-onward : goal.decreases-loop-onward
-decreases-loop-onward l = l.walk.left
+abbrev pub decreases-loop-next : goal.decreases-loop-next
+decreases-loop-next l = l.walk.left

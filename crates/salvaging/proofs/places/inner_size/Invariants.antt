@@ -3,8 +3,8 @@
 use Rattle.salvaging.proofs.TableLaws.{Summed}
 use Rattle.salvaging.proofs.places.inner_size.Given as goal
 
-abbrev pub invariant-loop-inner : goal.invariant-loop-inner
-invariant-loop-inner l = Summed l.file l.initial.walk l.walk l.size
+abbrev pub invariant-loop-b : goal.invariant-loop-b
+invariant-loop-b l = Summed l.file l.initial.walk l.walk l.size
 
-abbrev pub decreases-loop-inner : goal.decreases-loop-inner
-decreases-loop-inner l = l.walk.left
+abbrev pub decreases-loop-b : goal.decreases-loop-b
+decreases-loop-b l = l.walk.left

@@ -6,7 +6,8 @@ use native.Mathlib.Omega.{arith}
 use lib.ListN.{get_or}
 use Rattle.boxes.specs.Framing.{box_of}
 use Rattle.boxes.proofs.AnswerLaws.{not_both}
-use Rattle.fields.proofs.LocationLaws.{location_refused}
+use Rattle.boxes.proofs.ToldLaws.{told-err}
+use Rattle.fields.specs.Location.{head_of}
 use Rattle.partial.specs.Heading.{bytes_in}
 use Rattle.puts.proofs.PieceLaws.{piece_put, pieces_same, pieces_more}
 use Rattle.salvaging.specs.Tables.{new_in}
@@ -15,30 +16,30 @@ use Rattle.salvaging.proofs.ploc.put_ploc.Goals as goal
 
 pub returns-in_default : goal.returns-in_default
 returns-in_default c h copy s l moving known read lie same =
-    absurd (not_both (sym (location_refused _ _ c.location_of.ensures c.in_default.is) ∙ known))
+    absurd (not_both (sym (told-err head_of c.location_of.ensures c.in_default.is) ∙ known))
 
 pub slice_bounds-put_bytes-count : goal.slice_bounds-put_bytes-count
 unfolding box_of
-slice_bounds-put_bytes-count c = first_after _ _ c.location_of.ensures c.in-Given.is c.requires.0
+slice_bounds-put_bytes-count c = first_after _ _ c.location_of.ensures c.in-Ok.is c.requires.0
 
 pub slice_bounds-put_bytes-start : goal.slice_bounds-put_bytes-start
 unfolding box_of
-slice_bounds-put_bytes-start c = first_after _ _ c.location_of.ensures c.in-Given.is c.requires.0
+slice_bounds-put_bytes-start c = first_after _ _ c.location_of.ensures c.in-Ok.is c.requires.0
 
 pub slice_bounds-put_bytes-end : goal.slice_bounds-put_bytes-end
 unfolding box_of
-slice_bounds-put_bytes-end c = first_inside _ _ c.location_of.ensures c.in-Given.is c.requires.1
+slice_bounds-put_bytes-end c = first_inside _ _ c.location_of.ensures c.in-Ok.is c.requires.1
 
 pub returns : goal.returns
 unfolding bytes_in box_of
 returns c h copy s l moving known read lie same =
     let args = c.args in
     let answer = c.location_of.ensures in
-    let is = c.in-Given.is in
+    let is = c.in-Ok.is in
     let f = args.file.now in
     let b = box_of args.b in
     let new = new_in f h in
-    let byte : (k : ℕ) → get_or f k 0 < 256 = λ k. omega (arith, c.shared_slice_known-1.given k) in
+    let byte : (k : ℕ) → get_or f k 0 < 256 = λ k. omega (arith, c.type_inv.file k) in
     let (typed, inside) = c.requires in
     pieces_same (read_bytes f b answer is h copy s new typed inside byte known read)
     (pieces_more (piece_put c.put_bytes-entries.ensures)

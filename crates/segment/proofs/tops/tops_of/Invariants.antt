@@ -8,8 +8,5 @@ use Rattle.boxes.proofs.WalkLaws.{Passed}
 use Rattle.segment.specs.Tops.{Tops}
 use Rattle.segment.proofs.tops.tops_of.Given as goal
 
-abbrev pub invariant-loop-b : goal.invariant-loop-b
-invariant-loop-b l = (bs : List Box) × Passed l.s l.initial.walk bs l.walk × (length bs ≡ l.i) × (length l.s < 2 ^ 32 → Tops [] l.initial.tops → Tops bs l.tops)
-
-abbrev pub decreases-loop-b : goal.decreases-loop-b
-decreases-loop-b l = l.walk.left
+abbrev pub invariant-loop-top : goal.invariant-loop-top
+invariant-loop-top l = (bs : List Box) × Passed l.s l.initial.walk bs l.walk × (length bs ≡ l.top-index) × (length l.s < 2 ^ 32 → Tops [] l.initial.tops → Tops bs l.tops)

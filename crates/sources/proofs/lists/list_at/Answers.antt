@@ -8,4 +8,4 @@ pub returns-then-source : goal.returns-then-source
 returns-then-source c = sym (list_past _ _ c.if-source.true)
 
 pub returns : goal.returns
-returns c = list_by _ _ (omega arith) c.container_of-container.ensures
+returns c = list_by _ _ (omega arith) c.container_of.ensures

@@ -3,11 +3,11 @@ use native.Mathlib.Omega.{arith}
 use Rattle.sources.proofs.ListLaws.{container_low, list_put_past, list_put_there}
 use Rattle.sources.proofs.lists.put_list.Goals as goal
 
+pub overflow_add-lists-then-source : goal.overflow_add-lists-then-source
+overflow_add-lists-then-source c = omega (arith, c.number_of.ensures, container_low c.args.list.container)
+
 pub returns-then-source : goal.returns-then-source
-returns-then-source c = list_put_past _ _ _ c.if-source.true
+returns-then-source c = list_put_there _ _ _ c.number_of.ensures c.min-start.ensures c.min-end.ensures c.if-source.true
 
-pub overflow_add-lists-2 : goal.overflow_add-lists-2
-overflow_add-lists-2 c = omega (arith, c.number_of.ensures, container_low c.args.list.container)
-
-pub returns : goal.returns
-returns c = list_put_there _ _ _ c.number_of.ensures c.smaller-start.ensures c.smaller-end.ensures (omega arith)
+pub returns-else-source : goal.returns-else-source
+returns-else-source c = list_put_past _ _ _ c.if-source.false

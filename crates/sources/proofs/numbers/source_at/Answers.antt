@@ -1,11 +1,13 @@
 -- `sources::numbers::source_at` meets its contract: by whether the table has the entry.
-use mathlib.Core.Path.{sym}
+use mathlib.Core.Path.{ap, ◌∙◌}
 use native.Mathlib.Omega.{arith}
-use Rattle.sources.proofs.NumberLaws.{source_past, source_there}
+use Rattle.std.specs.Option.{unwrap_or}
+use Rattle.sources.proofs.NumberLaws.{source_read}
 use Rattle.sources.proofs.numbers.source_at.Goals as goal
 
-pub returns-then-segment : goal.returns-then-segment
-returns-then-segment c = sym (source_past _ _ c.if-segment.true)
-
 pub returns : goal.returns
-returns c = sym (source_there _ _ (omega arith))
+returns c =
+    c.unwrap_or.ensures
+    ∙ ap (λ found. unwrap_or found 0) c.copied.ensures
+    ∙ c.get.ensures.lookup.4 (omega arith) 0
+    ∙ source_read _ _ c.told-sources

@@ -11,21 +11,20 @@ use Rattle.partial.specs.Sources.{of_source}
 use Rattle.gathering.proofs.KeptLaws.{next_segment}
 use Rattle.spans.proofs.ChunkLaws.{spans_none, spans_same, spans_segment, spans_other}
 use Rattle.spans.proofs.SpanLaws.{no_spans}
-use borrow.Author.Rules.{rules}
 use Rattle.spans.proofs.chunks.spans_of.Goals as goal
-use Rattle.spans.proofs.chunks.spans_of.Goals.{then-sources-k, else-sources-k}
+use Rattle.spans.proofs.chunks.spans_of.Goals.{then-kept-k, else-kept-k}
 
-pub returns-then-many-gt-SEGMENT_LIMIT : goal.returns-then-many-gt-SEGMENT_LIMIT
-returns-then-many-gt-SEGMENT_LIMIT c = (no_spans _ _, λ ss kept. absurd (omega (arith, kept.count, kept.few)))
+pub returns-then-kept-gt-SEGMENT_LIMIT : goal.returns-then-kept-gt-SEGMENT_LIMIT
+returns-then-kept-gt-SEGMENT_LIMIT c = (no_spans _ _, λ ss kept. absurd (omega (arith, kept.count, kept.few)))
 
 pub loop-k-init : goal.loop-k-init
 unfolding chunks_of of_source
 loop-k-init c =
-    (omega arith, omega arith, refl, no_spans _ _, λ ss kept room. (refl, kept.segments, spans_none _ _ _))
+    (omega arith, no_spans _ _, λ ss kept room. (refl, kept.segments, spans_none _ _ _))
 
 pub returns-then-at-count : goal.returns-then-at-count
 returns-then-at-count c =
-    let (low, under, long, spans, so_far) = c.loop-k.invariant in (
+    let (under, spans, so_far) = c.loop-k.invariant in (
       spans,
       λ ss kept room.
           let (here, ahead, _) = so_far ss kept room in
@@ -35,35 +34,31 @@ returns-then-at-count c =
 
 pub loop-k-preserved : goal.loop-k-preserved
 loop-k-preserved c =
-    let (low, under, long, spans, so_far) = c.loop-k.invariant in
+    let (under, spans, so_far) = c.loop-k.invariant in
     let k = c.loop-k.k in
-    elim c.if-sources-k.branch [
-      | then-sources-k w ↦
+    elim c.if-kept-k.branch [
+      | then-kept-k w ↦
           let (still, more) = w.take_segment-n.ensures in
           rw (w.table-is, w.n-is) (
             omega arith,
-            omega arith,
-            search rules,
             still spans,
             λ ss kept room.
                 let (here, ahead, made) = so_far ss kept room in
                 let n = next_segment _ _ _ ss k _ (omega (arith, kept.count)) kept.chunks here ahead in
-                (n.behind, n.ahead, spans_segment _ _ _ ss k n w.if-sources-k.true (omega (arith, room, long)) made (more _ n.s.chunks n.count n.kept)),
+                (n.behind, n.ahead, spans_segment _ _ _ ss k n w.if-kept-k.true (omega (arith, room, c.loop-k.auto.table)) made (more _ n.s.chunks n.count n.kept)),
           )
-      | else-sources-k w ↦
+      | else-kept-k w ↦
           rw (w.table-is, w.n-is) (
             omega arith,
-            omega arith,
-            long,
             spans,
             λ ss kept room.
                 let (here, ahead, made) = so_far ss kept room in
                 let n = next_segment _ _ _ ss k _ (omega (arith, kept.count)) kept.chunks here ahead in
-                (n.behind, n.ahead, spans_other _ _ _ ss k n w.if-sources-k.false made),
+                (n.behind, n.ahead, spans_other _ _ _ ss k n w.if-kept-k.false made),
           )
     ]
 
 pub returns : goal.returns
 returns c =
-    let (low, under, long, spans, so_far) = c.loop-k.invariant in
+    let (under, spans, so_far) = c.loop-k.invariant in
     (spans, λ ss kept room. spans_same (ap (λ (x : List Segment). chunks_of (of_source c.args.source x)) (take_all c.loop-k.k ss (omega (arith, kept.count)))) (so_far ss kept room).2)

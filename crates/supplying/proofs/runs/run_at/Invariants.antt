@@ -1,11 +1,7 @@
 -- `supplying::runs::run_at` meets its contract. The loop's invariant: no chunk of the source before supplies the
 -- position, and those that are left decide.
-use Prim.Native.Nat.{◌-◌, ◌≤◌}
 use Rattle.supplying.proofs.RunsLaws.{PassedTo}
 use Rattle.supplying.proofs.runs.run_at.Given as goal
 
 abbrev pub invariant-loop-k : goal.invariant-loop-k
-invariant-loop-k l = (l.k ≤ l.count) × PassedTo l.sources l.source l.table l.count l.p.0 l.initial.stop l.k l.stop
-
-abbrev pub decreases-loop-k : goal.decreases-loop-k
-decreases-loop-k l = l.count - l.k
+invariant-loop-k l = PassedTo l.sources l.source l.table l.count l.p.0 l.initial.stop l.k l.stop

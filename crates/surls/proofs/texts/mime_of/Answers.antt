@@ -13,6 +13,6 @@ returns c within =
     let u = c.url_of-url.result in
     let same = c.url_of-url.ensures within in
     let ended = url_ends f b within.whole in
-    let from : c.sum_of.result ≡ u.place.0 + u.size + 1 =
+    let from : c.saturating_add.result ≡ u.place.0 + u.size + 1 =
     omega (arith, ap (λ p. p.place) same, ap (λ p. p.size) same) in
     c.text_at.ensures ∙ ap (λ (n : ℕ). text f n b.end.0) from ∙ sym (mime-text f b ∙ rw (← same))

@@ -8,5 +8,5 @@ use Rattle.surls.proofs.texts.url_of.Goals as goal
 
 pub returns : goal.returns
 returns c within =
-    let from : c.sum_of.result ≡ c.args.b.body.0 + 4 = omega arith in
+    let from : c.saturating_add.result ≡ c.args.b.body.0 + 4 = omega arith in
     c.text_at.ensures ∙ ap (λ (n : ℕ). text c.args.file.now n c.args.b.end.0) from ∙ sym (url-text _ _)

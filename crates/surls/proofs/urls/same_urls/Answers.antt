@@ -8,17 +8,14 @@ use Rattle.surls.proofs.urls.same_urls.Goals as goal
 pub returns-then-size-one : goal.returns-then-size-one
 returns-then-size-one c bs cs known known' inside inside' = absurd (omega arith)
 
-pub returns-then-size-other : goal.returns-then-size-other
-returns-then-size-other c bs cs known known' inside inside' = absurd (omega arith)
-
 pub loop-a-init : goal.loop-a-init
 loop-a-init c = step_none _ _ _
 
 pub both_next-requires : goal.both_next-requires
 both_next-requires c =
     let inv = c.loop-a.invariant in (
-      omega (arith, ap (λ p. p.0) inv.one, ap (λ w. w.end.0) c.over-left.ensures),
-      omega (arith, ap (λ p. p.0) inv.other, ap (λ w. w.end.0) c.over-right.ensures),
+      omega (arith, ap (λ p. p.0) inv.one, ap (λ w. w.end.0) c.new-left.ensures),
+      omega (arith, ap (λ p. p.0) inv.other, ap (λ w. w.end.0) c.new-right.ensures),
     )
 
 pub loop-a-smaller : goal.loop-a-smaller
@@ -30,9 +27,9 @@ loop-a-preserved c = step_more c.loop-a.invariant (both_followed _ _ _ _ c.both_
 pub returns-in-Ended : goal.returns-in-Ended
 returns-in-Ended c bs cs known known' inside inside' =
     let decided = both_ended _ _ _ _ c.both_next.ensures c.in-Ended.is in
-    sym (step_decided c.loop-a.invariant c.over-left.ensures c.over-right.ensures decided bs cs known known')
+    sym (step_decided c.loop-a.invariant c.new-left.ensures c.new-right.ensures decided bs cs known known')
 
 pub returns-in-Differ : goal.returns-in-Differ
 returns-in-Differ c bs cs known known' inside inside' =
     let decided = both_differ _ _ _ _ c.both_next.ensures c.in-Differ.is in
-    sym (step_decided c.loop-a.invariant c.over-left.ensures c.over-right.ensures decided bs cs known known')
+    sym (step_decided c.loop-a.invariant c.new-left.ensures c.new-right.ensures decided bs cs known known')

@@ -1,8 +1,10 @@
 -- `vrazhupa::reading_calls::vrazhupa_source_url` meets its contract.
+use Rattle.surls.specs.Parts.{part_of}
+use Rattle.vrazhupa.specs.Says.{part_numbers}
 use Rattle.surls.specs.First.{text_in}
-use Rattle.vrazhupa.proofs.SayLaws.{says_same}
+use Rattle.vrazhupa.proofs.SayLaws.{says_as}
 use Rattle.vrazhupa.proofs.reading_calls.vrazhupa_source_url.Goals as goal
 
 pub returns : goal.returns
 unfolding text_in
-returns c = record { said = says_same _ c.source_text_at.ensures c.say_part.ensures }
+returns c = record { said = says_as part_of part_numbers _ c.source_text_at.ensures c.say.ensures }

@@ -6,8 +6,9 @@ use lib.Seq.{length-take-le}
 use Rattle.additions.specs.Addition.{asks}
 use Rattle.partial.specs.Limits.{source_limit}
 use Rattle.additions.proofs.ReasonLaws.{length_over, file-refused}
-use Rattle.reading.proofs.JudgedLaws.{judgement_refused, judgement_given}
-use Rattle.writing.proofs.AppendLaws.{appends_refused, earlier_refused, earlier, going_of}
+use Rattle.boxes.proofs.ToldLaws.{told-ok, told-err}
+use Rattle.reading.specs.Judged.{judged_by}
+use Rattle.writing.proofs.AppendLaws.{appends_refused, appends_handed, earlier_refused, earlier, going_of}
 use Rattle.writing.proofs.append.append.Goals as goal
 
 pub returns-then-buffer-length : goal.returns-then-buffer-length
@@ -20,10 +21,10 @@ pub append_to-requires : goal.append_to-requires
 unfolding asks
 append_to-requires c =
     let (answer, sized, sourced) = c.earlier_of.ensures in
-    let told = judgement_given answer c.in-Given.is in
+    let told = told-ok judged_by answer c.in_ok-judged.was in
     record { enough = c.if-buffer-length.false; told = told; going = going_of _ _ _ (earlier _ _ told) sized sourced c.target_of-target.ensures }
 
-pub returns-in-Refused : goal.returns-in-Refused
-returns-in-Refused c =
-    appends_refused _ _ _
-    (file-refused source_limit _ _ _ (omega arith) (earlier_refused _ (judgement_refused c.earlier_of.ensures.0 c.in-Refused.is)))
+pub returns-in_err-judged : goal.returns-in_err-judged
+returns-in_err-judged c =
+    appends_handed _ _ _ _ _ c.from_residual.ensures.1
+    (file-refused source_limit _ _ _ (omega arith) (earlier_refused _ (told-err judged_by c.earlier_of.ensures.0 c.in_err-judged.was)))

@@ -1,18 +1,18 @@
 -- `ends::sizes::Sizes::agree` meets its contract: by whether the size is known, and then by the largest end.
-use mathlib.Core.Path.{sym, ap, ◌∙◌}
+use Prim.Native.Nat.{◌<◌}
+use borrow.Author.Tests.{le-leb, lt-leb}
 use native.Mathlib.Omega.{arith}
-use Rattle.ends.proofs.SizeLaws.{agree_unknown, agree_over, agree-within}
+use Rattle.ends.proofs.SizeLaws.{agree_unknown, agree_known}
 use Rattle.ends.proofs.sizes.Sizes.agree.Goals as goal
 
-pub returns-then-self-2 : goal.returns-then-self-2
-returns-then-self-2 c =
-    λ ss e. agree_over ss (sym (ap (λ x. x.known) e) ∙ c.if-self.true) (omega (arith, ap (λ x. x.size.0) e, ap (λ x. x.largest.0) e))
+pub returns-then-self-size : goal.returns-then-self-size
+returns-then-self-size c = λ ss e. rw (le-leb _ _ c.if-self-size.true) at (agree_known _ ss e c.in-Some.is)
 
-pub returns-else-self-2 : goal.returns-else-self-2
-returns-else-self-2 c =
+pub returns-else-self-size : goal.returns-else-self-size
+returns-else-self-size c =
     λ ss e.
-    ap (λ x. x.same) e
-    ∙ agree-within ss (sym (ap (λ x. x.known) e) ∙ c.if-self.true) (omega (arith, ap (λ x. x.size.0) e, ap (λ x. x.largest.0) e))
+    let over : c.in-Some.size.0 < c.args.self.largest.0 = omega arith in
+    rw (lt-leb _ _ over) (rw (lt-leb _ _ over) at (agree_known _ ss e c.in-Some.is))
 
-pub returns-else-self : goal.returns-else-self
-returns-else-self c = λ ss e. agree_unknown ss (sym (ap (λ x. x.known) e) ∙ c.if-self.false)
+pub returns-in-None : goal.returns-in-None
+returns-in-None c = λ ss e. agree_unknown _ ss e c.in-None.is

@@ -16,5 +16,5 @@ returns c = (
   refl,
   refl,
   λ ss s e count source low flag.
-      gathered_more ss e s count (omega (arith, c.larger.ensures, c.sum_of.ensures, gathered-segments ss e)) flag,
+      gathered_more ss e s count (omega (arith, c.max.ensures, c.saturating_add.ensures, gathered-segments ss e)) flag,
 )

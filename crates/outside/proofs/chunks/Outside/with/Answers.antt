@@ -8,15 +8,15 @@ use Rattle.outside.proofs.chunks.Outside.with.Goals as goal
 pub overflow_add-result : goal.overflow_add-result
 overflow_add-result c =
     let bytes = c.args.bytes.now in
-    let (right, many) = boxes_told bytes (sym c.in-Boxes.is ∙ c.whole_of.ensures) in
+    let (right, many) = boxes_told bytes (sym c.in-Some.is ∙ c.whole_of.ensures) in
     omega (arith, many, many_most bytes right, c.requires)
 
-pub returns-in-Boxes : goal.returns-in-Boxes
-returns-in-Boxes c =
+pub returns-in-Some : goal.returns-in-Some
+returns-in-Some c =
     let a = c.args in
-    with-boxes a.self a.bytes.now (sym c.in-Boxes.is ∙ c.whole_of.ensures)
+    with-boxes a.self a.bytes.now (sym c.in-Some.is ∙ c.whole_of.ensures)
 
-pub returns-in-Not : goal.returns-in-Not
-returns-in-Not c =
+pub returns-in-None : goal.returns-in-None
+returns-in-None c =
     let a = c.args in
-    with_other a.self a.bytes.now (sym c.in-Not.is ∙ c.whole_of.ensures)
+    with_other a.self a.bytes.now (sym c.in-None.is ∙ c.whole_of.ensures)

@@ -1,8 +1,8 @@
 -- `tallying::tally::Tally::of` meets its contract. The loop's invariant: the rows passed are of other kinds, so those
 -- left decide.
 use mathlib.Core.Path.{◌≡◌, refl, sym, ◌∙◌}
-use borrow.Author.Rules.{rules as goal_rules}
 use native.Mathlib.Omega.{arith}
+use borrow.Author.Tests.{eqb-true, eqb-false}
 use lib.ListN.{length}
 use Rattle.boxes.specs.Kinds.{rules}
 use Rattle.tallying.specs.Rules.{count_in, tally_for}
@@ -11,18 +11,18 @@ use Rattle.tallying.proofs.tally.Tally.of.Goals as goal
 
 pub loop-i-init : goal.loop-i-init
 unfolding tally_for
-loop-i-init c = (search goal_rules, refl)
+loop-i-init c = refl
 
-pub returns-then-row-kind : goal.returns-then-row-kind
-returns-then-row-kind c =
-    sym (c.loop-i.invariant.1 ∙ count_found rules _ _ c.loop-i.i c.row_at-row.ensures (omega arith) c.if-row-kind.true)
+pub returns-then-eq : goal.returns-then-eq
+returns-then-eq c =
+    sym (c.loop-i.invariant ∙ count_found rules _ _ c.loop-i.i c.row_at-row.ensures (omega arith) (eqb-true _ _ (sym c.eq.ensures ∙ c.if-eq.true)))
 
 pub loop-i-preserved : goal.loop-i-preserved
 loop-i-preserved c =
-    (search goal_rules, c.loop-i.invariant.1 ∙ count_passed rules _ _ c.loop-i.i c.row_at-row.ensures (omega arith) c.if-row-kind.false)
+    (c.loop-i.invariant ∙ count_passed rules _ _ c.loop-i.i c.row_at-row.ensures (omega arith) (eqb-false _ _ (sym c.eq.ensures ∙ c.if-eq.false)))
 
 pub returns : goal.returns
 unfolding count_in
 returns c =
     let all : c.loop-i.i ≡ length rules = omega arith in
-    sym (rw all at c.loop-i.invariant.1)
+    sym (rw all at c.loop-i.invariant)
