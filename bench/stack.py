@@ -1,9 +1,11 @@
 """The largest stack of each exported call, read from the machine code of the archive: python3 bench/stack.py ARCHIVE
 
 A function's frame is what it pushes and takes off the stack pointer, and the return address; a call's stack is the
-largest sum along the calls that its function makes. An index list and its boxes call each other, eight levels deep; the
-archive has no other recursion and no call through a pointer, or this ends with an error. The C library's memcpy, memmove
-and memset count as a return address alone.
+largest sum along the calls that its function makes. An index list and its boxes call each other, eight levels deep.
+std's sort of up to 1,024 spans calls itself for the part before a pivot, no deeper than twice the logarithm of their
+number, and for a pivot the median of medians of an eighth, four levels deep. The archive has no other recursion and no
+call through a pointer, or this ends with an error. The C library's memcpy, memmove and memset count as a return address
+alone.
 """
 
 import re
@@ -20,8 +22,8 @@ TARGET = re.compile(r"R_X86_64_(?:PLT32|PC32)\t(?:\.text\.)?(.+?)-0x4")
 EXPORTED = "vrazhupa_"
 WORD = 8
 FROM_C = {"memcpy", "memmove", "memset"}
-LEVELS = 8
-ON_A_LEVEL = re.compile("index_list|indexed_box")
+# What calls itself, with how many levels there are.
+LEVELS = [(re.compile("index_list|indexed_box"), 8), (re.compile("quicksort"), 21), (re.compile("median_of_medians"), 4)]
 
 
 def taken_by(line):
@@ -57,12 +59,17 @@ def functions(archive):
     return frames, calls
 
 
+def levels(name):
+    """How often a function may stand above itself."""
+    return next((many for pattern, many in LEVELS if pattern.search(name)), 1)
+
+
 def deepest(name, frames, calls, above=()):
     if name in FROM_C:
         return WORD
-    if name in above and not ON_A_LEVEL.search(name):
+    if name in above and levels(name) == 1:
         sys.exit(f"{name} calls itself")
-    if above.count(name) == LEVELS:
+    if above.count(name) == levels(name):
         return 0
     return frames[name] + max((deepest(called, frames, calls, (*above, name)) for called in calls[name]), default=0)
 
