@@ -1,5 +1,4 @@
 -- Each public call's contract determines its answer: two that it allows of the same arguments are equal.
-use Rattle.std.specs.Prelude.{ℕ, ◌+◌, ◌-◌, ◌^◌, min, max}
 use mathlib.Core.Path.{◌≡◌, sym, ◌∙◌}
 use Rattle.numerals.proofs.numbers.put_number.Reads as put-number
 use Rattle.numerals.proofs.numbers.put_offset.Reads as put-offset
@@ -8,7 +7,11 @@ use Rattle.numerals.proofs.numbers.unsigned.Reads as unsigned
 use Rattle.numerals.proofs.numbers.width_of.Reads as width_of_lem
 use Rattle.numerals.proofs.numbers.width_of_offset.Reads as width-of-offset
 use Rattle.numerals.proofs.numbers.within.Reads as within
+use Rattle.numerals.proofs.order.between.Reads as between
 use Rattle.numerals.proofs.order.ends_by.Reads as ends_by
+use Rattle.numerals.proofs.order.larger.Reads as larger
+use Rattle.numerals.proofs.order.smaller.Reads as smaller
+use Rattle.numerals.proofs.order.sum_of.Reads as sum_of
 
 module _ {L : Type 0} {A R E : L → Type 0} (post : (κs : L) → A κs → R κs → E κs → Type 0) where
   -- a contract allows one result
@@ -65,18 +68,17 @@ width_of-result κs args x y after after' p q = p ∙ sym q
 width_of_offset_result : OneResult width-of-offset.Post
 width_of_offset_result κs args x y after after' p q = p ∙ sym q
 
--- of std's `min`, `max`, `saturating_add` and `saturating_sub`, whose contracts are these equations
-smaller_result : (a b x y : ℕ) → x ≡ min a b → y ≡ min a b → x ≡ y
-smaller_result a b x y p q = p ∙ sym q
+smaller_result : OneResult smaller.Post
+smaller_result κs args x y after after' p q = p ∙ sym q
 
-larger_result : (a b x y : ℕ) → x ≡ max a b → y ≡ max a b → x ≡ y
-larger_result a b x y p q = p ∙ sym q
+larger_result : OneResult larger.Post
+larger_result κs args x y after after' p q = p ∙ sym q
 
-sum-of-result : (a b x y : ℕ) → x ≡ min (a + b) (2 ^ 64 - 1) → y ≡ min (a + b) (2 ^ 64 - 1) → x ≡ y
-sum-of-result a b x y p q = p ∙ sym q
+sum-of-result : OneResult sum_of.Post
+sum-of-result κs args x y after after' p q = p ∙ sym q
 
-between_result : (a b x y : ℕ) → x ≡ b - a → y ≡ b - a → x ≡ y
-between_result a b x y p q = p ∙ sym q
+between_result : OneResult between.Post
+between_result κs args x y after after' p q = p ∙ sym q
 
 ends_by_result : OneResult ends_by.Post
 ends_by_result κs args x y after after' p q = p ∙ sym q
