@@ -3,6 +3,7 @@ use mathlib.Core.Path.{sym, ◌∙◌}
 use Rattle.numerals.proofs.Determined.{OneResult, OneLeft}
 use Rattle.boxes.proofs.ToldLaws.{box-told, result-told, step_told}
 use Rattle.refusals.proofs.Refusal.number.Reads as refusal-number
+use Rattle.boxes.proofs.framing.Framed.as_container.Reads as as_container
 use Rattle.boxes.proofs.framing.header_at.Reads as header_at
 use Rattle.boxes.proofs.framing.put_header.Reads as put-header
 use Rattle.boxes.proofs.framing.user_size.Reads as user-size
@@ -15,6 +16,9 @@ refusal_number_result κs args x y after after' p q = p ∙ sym q
 
 user_size_result : OneResult user-size.Post
 user_size_result κs args x y after after' p q = p ∙ sym q
+
+as_container_result : OneResult as_container.Post
+as_container_result κs args x y after after' p q = p ∙ sym q
 
 header_at_result : OneResult header_at.Post
 header_at_result κs args x y after after' p q = result-told box-told x y (p ∙ sym q)
