@@ -11,6 +11,7 @@ use Rattle.fields.proofs.location.location_of.Reads as location-of
 use Rattle.fields.proofs.state.State.is_present.Reads as is-present
 use Rattle.fields.proofs.state.State.is_good.Reads as is-good
 use Rattle.fields.proofs.state.State.number.Reads as number
+use Rattle.fields.proofs.state.present.Reads as present
 use Rattle.fields.proofs.state.state_of.Reads as state-of
 
 fields_of-result : OneResult fields-of.Post
@@ -24,6 +25,9 @@ state-of-result κs args x y after after' p q = result-told state_told x y (p �
 
 number-result : OneResult number.Post
 number-result κs args x y after after' p q = p ∙ sym q
+
+present-result : OneResult present.Post
+present-result κs args x y after after' p q = p ∙ sym q
 
 is_good_result : OneResult is-good.Post
 is_good_result κs args x y after after' p q = p ∙ sym q

@@ -1,6 +1,11 @@
--- Laws of the numbers of states: no two states have the same.
-use Rattle.std.proofs.Common.{◌≡◌, ◌<◌, arith, ℕ, [], ◌∷◌, refl, sym, ap, ◌∙◌}
-use Rattle.std.specs.Prelude.{slice_index_or}
+-- Laws of the numbers of states: no two states have the same, and a number of none is that of no present chunk.
+use mathlib.Core.Bool.{false≢true}
+use native.Mathlib.Decide.{dec_le}
+use borrow.Author.Tests.{ne_eqb}
+use Rattle.std.proofs.Common.{◌≡◌, ◌≤◌, ◌<◌, arith, ℕ, [], ◌∷◌, refl, sym, ap, ◌∙◌}
+use Rattle.std.specs.Prelude.{slice_index_or, false, Result, Err, IsOk}
+use Rattle.partial.specs.Segments.{present}
+use Rattle.refusals.specs.declared.Refusal.{Refusal}
 use Rattle.fields.specs.State.{state_no}
 use Rattle.fields.specs.declared.state.State.{State}
 use Rattle.fields.specs.declared.state.State.TheVariants.{Lost, Damaged, Good, Elsewhere}
@@ -24,3 +29,12 @@ state-low Lost = omega arith
 state-low Damaged = omega arith
 state-low Good = omega arith
 state-low Elsewhere = omega arith
+
+-- a number that was read as no state is that of no present chunk
+pub no_state : {r : Result State Refusal} {e : Refusal} {n : ℕ} → r ≡ Err e → (n ≤ 3 → IsOk r) → present n ≡ false
+unfolding present
+no_state {n = n} was known =
+    elim (dec_le n 3) [
+      | yes low ↦ absurd (false≢true (rw was at known low))
+      | no over ↦ rw (ne_eqb n 1 (λ e. omega arith), ne_eqb n 2 (λ e. omega arith))
+    ]

@@ -64,6 +64,16 @@ impl TryFrom<u64> for State {
     }
 }
 
+// Whether a number is that of a state in which a chunk is present.
+pub fn present(state: u64) -> bool
+    ensures { result ≡ present state }
+{
+    match State::try_from(state) {
+        Ok(known) => known.is_present(),
+        Err(_) => false,
+    }
+}
+
 // The state of a chunk by its bit corrupted, its bit present and the six reserved bits.
 pub fn state_of(flags: u8) -> Result<State, Refusal>
     ensures { told_as state_no result ≡ state_of flags }

@@ -1,16 +1,12 @@
 -- Laws of the items of a chunk list one by one, and of their data, each behind that of those before it.
 use Prim.Native.Nat.{ℕ, suc, ◌+◌, ◌-◌, ◌*◌, ◌/◌, ◌≤◌, ◌<◌, min}
-use mathlib.Core.Bool.{Bool, true, false, ◌&&◌, false≢true}
+use mathlib.Core.Bool.{Bool, true, false, ◌&&◌}
 use mathlib.Core.List.{List, [], ◌∷◌, ◌++◌}
 use mathlib.Core.Logic.{inl, inr}
-use Rattle.std.specs.Prelude.{Result, Err, IsOk}
 use mathlib.Core.Path.{◌≡◌, refl, sym, ap, ◌∙◌}
 use native.Mathlib.Decide.{dec_le}
 use native.Mathlib.Nat.{add-zero, zero-add}
 use native.Mathlib.Omega.{arith}
-use borrow.Author.Tests.{ne_eqb}
-use Rattle.fields.specs.declared.state.State.{State}
-use Rattle.refusals.specs.declared.Refusal.{Refusal}
 use lib.ListN.{length, take, drop, get_or, length-drop, drop_of_length-le}
 use lib.Seq.{drop-cons, drop-drop, take_all}
 use Rattle.additions.specs.Addition.{Item, items, data_size, goes_out, goes_in, data_for, boxes_for}
@@ -20,15 +16,6 @@ use Rattle.partial.specs.Sequences.{some_of, sum}
 use Rattle.partial.proofs.Meaning.SequenceLaws.{which}
 use Rattle.additions.proofs.DataLaws.{outside, inside, nowhere, goes}
 use Rattle.outside.specs.Chunks.{many}
-
--- a number that was read as no state is that of no present chunk
-pub no_state : {r : Result State Refusal} {e : Refusal} {n : ℕ} → r ≡ Err e → (n ≤ 3 → IsOk r) → present n ≡ false
-unfolding present
-no_state {n = n} was known =
-    elim (dec_le n 3) [
-      | yes low ↦ absurd (false≢true (rw was at known low))
-      | no over ↦ rw (ne_eqb n 1 (λ e. omega arith), ne_eqb n 2 (λ e. omega arith))
-    ]
 
 -- the data of one item, by whether it is present
 module _ (size state : ℕ) where

@@ -2,25 +2,14 @@
 // `pdat`. An item has the number of its state as the caller lent it; a number above 3 is of no state, and has no data.
 ghost use Rattle.std.specs.Prelude.{ℕ, ◌+◌, min, [], ◌∷◌, ◌≡◌};
 ghost use Rattle.additions.specs.Addition.{data_size, goes_out};
-ghost use Rattle.partial.specs.Segments.{present};
 
-use fields::state::State;
-
-// Whether a chunk of the state of that number is present.
-fn is_present(number: u64) -> bool
-    ensures { result ≡ present number }
-{
-    match State::try_from(number) {
-        Ok(state) => state.is_present(),
-        Err(_) => false,
-    }
-}
+use fields::state::{State, present};
 
 // How many bytes of data an item has.
 pub fn data_of(size: u64, state: u64) -> u64
     ensures { result ≡ data_size (record { size = size; state = state } ∷ []) }
 {
-    if is_present(state) { size } else { 0 }
+    if present(state) { size } else { 0 }
 }
 
 // Where the data of an item ends that begins at a place, and no farther than all the data.

@@ -13,7 +13,7 @@ use Rattle.std.specs.Prelude.{Result, Err, IsOk}
 use Rattle.std.specs.Result.{is_ok}
 use Rattle.refusals.specs.declared.Refusal.{Refusal}
 use Rattle.fields.specs.declared.state.State.{State}
-use Rattle.outside.proofs.ItemLaws.{no_state}
+use Rattle.fields.proofs.StateLaws.{no_state}
 use Rattle.boxes.specs.Framing.{boxed}
 use Rattle.boxes.specs.Kinds.{pseg, pshd, ploc, pdat}
 use Rattle.boxes.proofs.BoxedLaws.{front-size, length-boxed}

@@ -1,25 +1,14 @@
 // The data of an addition, as it is written: the `pdat` with what goes there, and the chunks outside.
 ghost use Rattle.std.specs.Prelude.{ℕ, ◌<◌, ◌^◌, ◌≡◌, length};
 ghost use Rattle.additions.specs.Addition.{items, data_for, goes_in};
-ghost use Rattle.partial.specs.Segments.{present};
 ghost use Rattle.puts.specs.Boxes.{chosen, data_part};
 ghost use Rattle.puts.specs.Pieces.{PutsPieces};
 
 use crate::pieces::{put_bytes, put_front};
 use boxes::kinds::PDAT;
-use fields::state::State;
+use fields::state::present;
 use numerals::place::Place;
 use outside::items::{end_of, goes_out};
-
-// Whether a number is that of a state in which a chunk is present.
-fn is_present(state: u64) -> bool
-    ensures { result ≡ present state }
-{
-    match State::try_from(state) {
-        Ok(known) => known.is_present(),
-        Err(_) => false,
-    }
-}
 
 // Whether an item's data is among what goes outside, or else among what goes into `pdat`.
 fn is_chosen(outside: bool, out: bool, state: u64) -> bool
@@ -28,7 +17,7 @@ fn is_chosen(outside: bool, out: bool, state: u64) -> bool
     if goes_out(outside, state) {
         return out;
     }
-    !out && is_present(state)
+    !out && present(state)
 }
 
 // Copies what goes outside, or else what goes into `pdat`, out of the data of all in chunk order: each chunk in one

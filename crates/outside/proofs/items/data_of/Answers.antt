@@ -3,8 +3,8 @@ use mathlib.Core.Path.{sym, ◌∙◌}
 use Rattle.outside.proofs.ItemLaws.{data_present, data_absent}
 use Rattle.outside.proofs.items.data_of.Goals as goal
 
-pub returns-then-is_present : goal.returns-then-is_present
-returns-then-is_present c = data_present _ _ (sym c.is_present.ensures ∙ c.if-is_present.true)
+pub returns-then-present : goal.returns-then-present
+returns-then-present c = data_present _ _ (sym c.present.ensures ∙ c.if-present.true)
 
-pub returns-else-is_present : goal.returns-else-is_present
-returns-else-is_present c = data_absent _ _ (sym c.is_present.ensures ∙ c.if-is_present.false)
+pub returns-else-present : goal.returns-else-present
+returns-else-present c = data_absent _ _ (sym c.present.ensures ∙ c.if-present.false)

@@ -8,7 +8,7 @@ returns-then-goes_out c size = chosen_out _ _ _ (sym (c.goes_out.ensures size) �
 
 pub returns-then-not-out : goal.returns-then-not-out
 returns-then-not-out c size =
-    c.is_present.ensures ∙ chosen_in _ _ (sym (c.goes_out.ensures size) ∙ c.if-goes_out.false) _ c.if-not-out.true
+    c.present.ensures ∙ chosen_in _ _ (sym (c.goes_out.ensures size) ∙ c.if-goes_out.false) _ c.if-not-out.true
 
 pub returns-else-not-out : goal.returns-else-not-out
 returns-else-not-out c size =
