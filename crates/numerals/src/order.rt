@@ -5,7 +5,5 @@ ghost use Rattle.std.specs.Prelude.{◌+◌, ◌≡◌, leb};
 pub fn ends_by(first: u64, size: u64, end: u64) -> bool
     ensures { result ≡ leb (first + size) end }
 {
-    first
-        .checked_add(size)
-        .is_some_and(|past_last| past_last <= end)
+    first <= end && size <= end - first
 }
