@@ -102,7 +102,7 @@ module _ (f : List ℕ) (h : Heading) (kept : List Segment) {before : Gathered} 
       pub listed : basis.listed ≡ ltb 0 (length h.urls)
       listed = any_told f h based
 
-      module _ (b : Framed) {u : List ℕ} {last : Option Framed} {p : Parts} {c : Cursor} (r : PsegOf f h b basis.listed before last true u₀ u p c) (fits : before.chunks + p.location.count ≤ chunk_limit) (ends : b.end.0 ≤ length f) where
+      module _ (b : Framed) {u : List ℕ} {last : Framed} {p : Parts} {c : Cursor} (r : PsegOf f h b basis.listed before last true u₀ u p c) (fits : before.chunks + p.location.count ≤ chunk_limit) (ends : b.end.0 ≤ length f) where
         -- the segment that was read
         abbrev pub its : Segment
         its = built f h kept b.at.0 (inside f h kept b listed p r.parts).0 (parts_of p) r.chunks

@@ -80,7 +80,7 @@ module _ (f : List ℕ) (h : Heading) where
     codes-behind x y (suc (suc j)) kind = ap (λ (kept : List Segment). get_or (codes_from kept bs) j (Some 0)) (sym two_none)
 
   -- the boxes passed have their fates in the table, and those ahead decide
-  pub record Midway (t : List Fate) (u : List ℕ) (n : SourceTables) (w : Walk) (g : Gathered) (last : Option Framed) (k : ℕ) : Type 0 where
+  pub record Midway (t : List Fate) (u : List ℕ) (n : SourceTables) (w : Walk) (g : Gathered) (last : Framed) (k : ℕ) : Type 0 where
     pub kept : List Segment
     pub rest : List Box
     pub left : ahead f w ≡ given rest
@@ -91,7 +91,7 @@ module _ (f : List ℕ) (h : Heading) where
     pub so : SoFar f h g u n kept
     pub known : Searched f last h.boxes
 
-  pub midway_none : {t : List Fate} {u : List ℕ} {n : SourceTables} {w : Walk} {g : Gathered} {last : Option Framed} {mixed : Bool} {list : Body} → Boxed f mixed list h → ahead f w ≡ given h.boxes → SoFar f h g u n []
+  pub midway_none : {t : List Fate} {u : List ℕ} {n : SourceTables} {w : Walk} {g : Gathered} {last : Framed} {mixed : Bool} {list : Body} → Boxed f mixed list h → ahead f w ≡ given h.boxes → SoFar f h g u n []
       → Searched f last h.boxes
       → Midway t u n w g last 0
   unfolding kept_of fates fates_from code_of box_at
@@ -118,7 +118,7 @@ module _ (f : List ℕ) (h : Heading) where
             known = known;
           }
 
-  module _ {t : List Fate} {u : List ℕ} {n : SourceTables} {w : Walk} {g : Gathered} {last : Option Framed} {k : ℕ} (m : Midway t u n w g last k) where
+  module _ {t : List Fate} {u : List ℕ} {n : SourceTables} {w : Walk} {g : Gathered} {last : Framed} {k : ℕ} (m : Midway t u n w g last k) where
     module _ {b : Box} {w' : Walk} (step : stepped f w ≡ given (Some (b, w'))) where
       more : (rest : List Box) × (ahead f w' ≡ given rest) × (m.rest ≡ b ∷ rest)
       more = known_next f w m.left step
@@ -128,7 +128,7 @@ module _ (f : List ℕ) (h : Heading) where
       here = ap (λ (i : ℕ). get_or h.boxes i no_box) (sym (add-zero k)) ∙ sym (get_or-drop k h.boxes 0 no_box) ∙ ap (λ (bs : List Box). get_or bs 0 no_box) (m.behind ∙ more.2)
 
       -- with the box the segments kept are these, and where it is a `pseg` the table has its fate
-      on : {t' : List Fate} {u' : List ℕ} {n' : SourceTables} {g' : Gathered} {last' : Option Framed} (kept' : List Segment) → kept_with source_limit f h m.kept b ≡ kept'
+      on : {t' : List Fate} {u' : List ℕ} {n' : SourceTables} {g' : Gathered} {last' : Framed} (kept' : List Segment) → kept_with source_limit f h m.kept b ≡ kept'
           → ((j : ℕ) → j < k → told_at t' j ≡ told_at t j)
           → (is pseg b ≡ true → told_at t' k ≡ code_of (fate_of source_limit f h m.kept b))
           → SoFar f h g' u' n' kept'
@@ -176,7 +176,7 @@ module _ (f : List ℕ) (h : Heading) where
             let (same, fate) = with_refused m.kept b kind cut in
             on m.kept same (stays (Dropped (Some e))) (λ _. put (Dropped (Some e)) ∙ sym fate) so m.known
 
-        pub midway_kept : {u' : List ℕ} {n' : SourceTables} {g' : Gathered} {last' : Option Framed} → Tried f h m.kept b g u' n' (Ok (g', last')) → Midway (set t k Stays) u' n' w' g' last' (k + 1)
+        pub midway_kept : {u' : List ℕ} {n' : SourceTables} {g' : Gathered} {last' : Framed} → Tried f h m.kept b g u' n' (Ok (g', last')) → Midway (set t k Stays) u' n' w' g' last' (k + 1)
         unfolding Tried
         midway_kept (s, passed, so, known) =
             let (with, fate) = with_kept m.kept b kind passed in

@@ -1,6 +1,6 @@
 -- Laws of the pass over a file's segments: those that were read, and the boxes that are left, which decide.
 use Prim.Native.Nat.{ℕ, ◌+◌, ◌*◌, ◌≤◌}
-use mathlib.Core.Bool.{Bool, true, false}
+use mathlib.Core.Bool.{Bool, true, false, false≢true}
 use mathlib.Core.List.{List, [], ◌∷◌, ◌++◌}
 use Rattle.std.specs.Prelude.{Option, None, Some, Result, Ok, Err}
 use Rattle.refusals.specs.declared.Refusal.{Refusal}
@@ -8,15 +8,17 @@ use Rattle.boxes.specs.declared.framing.Framed.{Framed}
 use mathlib.Core.Path.{◌≡◌, refl, sym, ap, subst, ◌∙◌}
 use native.Mathlib.Nat.{zero-add}
 use native.Mathlib.Omega.{arith}
+use lib.Dec.{eqb}
 use lib.ListN.{length, length-append}
 use Rattle.boxes.specs.Answer.{refused, given}
-use Rattle.boxes.specs.Framing.{Box, boxes_in}
-use Rattle.boxes.specs.Kinds.{pseg, is, those}
+use Rattle.boxes.specs.Framing.{Box, boxes_in, box_of}
+use Rattle.boxes.specs.Kinds.{pseg, pdat, is, those}
 use Rattle.boxes.specs.Walk.{stepped}
 use Rattle.boxes.specs.declared.kinds.Container.TheVariants.{File}
 use Rattle.boxes.specs.declared.walk.Walk.{Walk}
 use Rattle.boxes.proofs.AnswerLaws.{not_both, given_same}
-use Rattle.boxes.proofs.KindLaws.{those-nil, those_one, those_other}
+use Rattle.boxes.proofs.KindLaws.{is-eqb, those-nil, those_one, those_other}
+use Rattle.boxes.proofs.ToldLaws.{box_fields}
 use Rattle.boxes.proofs.WalkLaws.{ahead, known_next, known_end, known_sound}
 use Rattle.partial.specs.Heading.{Heading}
 use Rattle.partial.specs.Limits.{segment_limit, source_limit}
@@ -39,14 +41,14 @@ use Rattle.partial.proofs.Reading.NumberedLaws.{segment_beside}
 use Rattle.partial.proofs.Reading.RowLaws.{segment_rows_long, segment_rows_last}
 use Rattle.gathering.proofs.FormLaws.{all_puts_none, all_puts_long, all_puts_last}
 
--- no box need be looked at first
-pub searched_none : {f : List ℕ} {bs : List Box} → boxes_in File f 0 (length f) ≡ given bs → Searched f None bs
-searched_none known =
+-- a box of no kind may be looked at first
+pub searched_none : {f : List ℕ} {bs : List Box} (b : Framed) → b.kind.code ≡ 0 → boxes_in File f 0 (length f) ≡ given bs → Searched f b bs
+searched_none b kindless known =
     record {
       boxes = known;
-      known = λ e.
-          let z : ◌≡◌ {A = ℕ} 0 1 = cc in
-          absurd (omega arith);
+      known = λ is-data.
+          let kind : false ≡ is pdat (box_of b) = sym (is-eqb pdat (box_of b) ∙ ap (λ (x : Box). eqb x.kind pdat.code) (box_fields b) ∙ rw kindless refl) in
+          absurd (false≢true (kind ∙ is-data));
     }
 
 -- the rows of segments with one more
@@ -63,7 +65,7 @@ module _ (ss : List Segment) (s : Segment) where
       put_same refl (sym (all_puts_last numbered ss s)) (put_more 0 (all_puts numbered ss) _ p (put_same here refl q))
 
 -- the segments before were read, and the boxes that are left decide
-pub record Midway (f : List ℕ) (h : Heading) (numbered : Bool) (t₀ u₀ t u : List ℕ) (n : SourceTables) (w : Walk) (g : Gathered) (last : Option Framed) : Type 0 where
+pub record Midway (f : List ℕ) (h : Heading) (numbered : Bool) (t₀ u₀ t u : List ℕ) (n : SourceTables) (w : Walk) (g : Gathered) (last : Framed) : Type 0 where
   pub before : List Segment
   pub rest : List Box
   pub left : ahead f w ≡ given rest
@@ -77,7 +79,7 @@ pub record Midway (f : List ℕ) (h : Heading) (numbered : Bool) (t₀ u₀ t u 
   pub noted : Noted f h n before
 
 module _ (f : List ℕ) (h : Heading) (numbered : Bool) (t₀ u₀ : List ℕ) where
-  pub midway_none : {n : SourceTables} {w : Walk} {g : Gathered} {last : Option Framed} → ahead f w ≡ given h.boxes → length (those pseg h.boxes) ≤ segment_limit → g ≡ gathered_of []
+  pub midway_none : {n : SourceTables} {w : Walk} {g : Gathered} {last : Framed} → ahead f w ≡ given h.boxes → length (those pseg h.boxes) ≤ segment_limit → g ≡ gathered_of []
       → Searched f last h.boxes
       → Noted f h n []
       → Midway f h numbered t₀ u₀ t₀ u₀ n w g last
@@ -97,7 +99,7 @@ module _ (f : List ℕ) (h : Heading) (numbered : Bool) (t₀ u₀ : List ℕ) w
         noted = clear;
       }
 
-  module _ {t u : List ℕ} {n : SourceTables} {w : Walk} {g : Gathered} {last : Option Framed} (m : Midway f h numbered t₀ u₀ t u n w g last) where
+  module _ {t u : List ℕ} {n : SourceTables} {w : Walk} {g : Gathered} {last : Framed} (m : Midway f h numbered t₀ u₀ t u n w g last) where
     module _ {b : Box} {w' : Walk} (step : stepped f w ≡ given (Some (b, w'))) where
       pub midway_other : is pseg b ≡ false → Midway f h numbered t₀ u₀ t u n w' g last
       midway_other other =
@@ -134,7 +136,7 @@ module _ (f : List ℕ) (h : Heading) (numbered : Bool) (t₀ u₀ : List ℕ) w
         unfolding segments_from
         midway_refused fault = decided ∙ rw fault
 
-        pub midway_more : {t' u' : List ℕ} {n' : SourceTables} {g' : Gathered} {last' : Option Framed} → Segmented f h m.before b numbered t t' u u' n' (Ok (g', last'))
+        pub midway_more : {t' u' : List ℕ} {n' : SourceTables} {g' : Gathered} {last' : Framed} → Segmented f h m.before b numbered t t' u u' n' (Ok (g', last'))
             → Midway f h numbered t₀ u₀ t' u' n' w' g' last'
         unfolding Segmented segments_from
         midway_more told =

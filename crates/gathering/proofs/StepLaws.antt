@@ -210,7 +210,7 @@ module _ (f : List ℕ) (h : Heading) (ss : List Segment) (b : Framed) {in_pfil 
       pub segment_far : source_limit < p.fields.offset.0 → segment source_limit f h ss (box_of b) ≡ refused 23
       segment_far far = by_parts ∙ rw (le-leb (length (chunks_of ss) + p.location.count) chunk_limit few, lt-leb p.fields.offset.0 source_limit far)
 
-      module _ (near : p.fields.offset.0 ≤ source_limit) (last : Option Framed) where
+      module _ (near : p.fields.offset.0 ≤ source_limit) (last : Framed) where
         -- the cursor at the first entry
         abbrev first : Cursor
         first = first_entry p last

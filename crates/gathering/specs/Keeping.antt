@@ -50,7 +50,7 @@ pub record SoFar (f : List ℕ) (h : Heading) (g : Gathered) (u : List ℕ) (n :
 
 -- what an answer about a `pseg` beside them says: its refusal, and then they are those kept so far; or that it was kept
 -- with them
-unfoldable pub Tried : List ℕ → Heading → List Segment → Box → Gathered → List ℕ → SourceTables → Result (Gathered × Option Framed) Refusal → Type 0
+unfoldable pub Tried : List ℕ → Heading → List Segment → Box → Gathered → List ℕ → SourceTables → Result (Gathered × Framed) Refusal → Type 0
 Tried f h kept b before u n (Err m) = (beside source_limit f h kept b ≡ refused (refusal_no m)) × SoFar f h before u n kept
 Tried f h kept b before u n (Ok (g, last)) =
     (s : Segment) × (beside source_limit f h kept b ≡ given s) × SoFar f h g u n (kept ++ (s ∷ [])) × Searched f last h.boxes

@@ -37,11 +37,11 @@ Fitting before (Err n) = Unit {0}
 Fitting before (Ok (p, c)) = (before.chunks + p.location.count ≤ chunk_limit) × (p.header.body.0 ≤ p.header.end.0)
 
 -- the cursor at the first entry of a `ploc`
-abbrev pub first_entry : Parts → Option Framed → Cursor
+abbrev pub first_entry : Parts → Framed → Cursor
 first_entry p last = record { at = p.location.first; start = p.fields.offset; last = last }
 
 -- the box of a segment was read: its parts, and its chunks, put behind those of the segments before
-pub record PsegOf (f : List ℕ) (h : Heading) (b : Framed) (in_pfil : Bool) (before : Gathered) (last : Option Framed) (numbered : Bool) (u₀ u : List ℕ) (p : Parts) (c : Cursor) : Type 0 where
+pub record PsegOf (f : List ℕ) (h : Heading) (b : Framed) (in_pfil : Bool) (before : Gathered) (last : Framed) (numbered : Bool) (u₀ u : List ℕ) (p : Parts) (c : Cursor) : Type 0 where
   pub parts : parts_in f in_pfil (box_of b) ≡ given (parts_of p)
   pub near : p.fields.offset.0 ≤ source_limit
   pub chunks : List Chunk
@@ -50,13 +50,13 @@ pub record PsegOf (f : List ℕ) (h : Heading) (b : Framed) (in_pfil : Bool) (be
   pub ran : Ran f h.boxes (first_entry p last) before numbered u₀ chunks c u
 
 -- what an answer about it says: the refusal of its segment, which leaves the chunks of those before, or that it was read
-unfoldable pub PsegTold : List ℕ → Heading → List Segment → Framed → Bool → Gathered → Option Framed → Bool → List ℕ → List ℕ → Result (Parts × Cursor) Refusal → Type 0
+unfoldable pub PsegTold : List ℕ → Heading → List Segment → Framed → Bool → Gathered → Framed → Bool → List ℕ → List ℕ → Result (Parts × Cursor) Refusal → Type 0
 PsegTold f h ss b in_pfil before last numbered u₀ u (Err n) =
     (segment source_limit f h ss (box_of b) ≡ refused (refusal_no n)) × Behind numbered before.chunks u₀ u
 PsegTold f h ss b in_pfil before last numbered u₀ u (Ok (p, c)) = PsegOf f h b in_pfil before last numbered u₀ u p c
 
 -- with one segment more the numbers stay within the limits
-unfoldable pub Counted : Gathered → Result (Gathered × Option Framed) Refusal → Type 0
+unfoldable pub Counted : Gathered → Result (Gathered × Framed) Refusal → Type 0
 Counted before (Err n) = Unit {0}
 Counted before (Ok (g, last)) = (g.segments ≡ before.segments + 1) × (g.chunks ≤ chunk_limit)
 
@@ -87,7 +87,7 @@ pub record Entered (f : List ℕ) (list : Body) (before : Gathered) (place : ℕ
 
 -- what an answer about a segment says: its refusal, or that it was read, with its row and its chunks behind
 -- those of the segments before it, and noted with them
-unfoldable pub Segmented : List ℕ → Heading → List Segment → Box → Bool → List ℕ → List ℕ → List ℕ → List ℕ → SourceTables → Result (Gathered × Option Framed) Refusal → Type 0
+unfoldable pub Segmented : List ℕ → Heading → List Segment → Box → Bool → List ℕ → List ℕ → List ℕ → List ℕ → SourceTables → Result (Gathered × Framed) Refusal → Type 0
 Segmented f h ss b numbered t₀ t u₀ u n (Err m) = segment source_limit f h ss b ≡ refused (refusal_no m)
 Segmented f h ss b numbered t₀ t u₀ u n (Ok (g, last)) =
     (s : Segment)

@@ -26,6 +26,7 @@ use partial::position::Position;
 use partial::rows::ALL_NUMBERS;
 use refusals::Refusal;
 use rescue::table::{ALL_FATES, Fate};
+use segment::data::NO_BOX;
 use segment::tops::{NO_TOP, TOPS, tops_of};
 use sources::find::source_of;
 
@@ -51,17 +52,17 @@ fn check_late(
 }
 
 // The segment of a `pseg` box, beside those kept before it: it is put to them only where nothing refuses it. What is
-// gathered with it, and the data box that held the last chunk, if one did.
+// gathered with it, and the data box that held the last chunk.
 fn keep_segment(
     file: &[u8],
     tops: &[u32; TOPS],
     basis: Basis,
     b: Framed,
     before: Gathered,
-    last: Option<Framed>,
+    last: Framed,
     numbers: &mut [u64; ALL_NUMBERS],
     tables: &mut SourceTables,
-) -> Result<(Gathered, Option<Framed>), Refusal>
+) -> Result<(Gathered, Framed), Refusal>
     requires { (before.segments ≤ box_limit) × (before.chunks ≤ chunk_limit) × (b.end.0 ≤ length file.now) }
     ensures { Counted before result × ((h : Heading) (kept : List Segment) → Based file.now h basis
         → Ready file.now tops.now basis.mixed last h
@@ -109,7 +110,7 @@ pub fn keep_pass(
     });
     let mut gathered = Gathered::none();
     // No box held a chunk before the first.
-    let mut last = None;
+    let mut last = NO_BOX;
     for at in 0..ALL_FATES {
         let Some((b, next)) = walk.step(file).unwrap_or(None) else {
             return gathered;

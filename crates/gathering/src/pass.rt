@@ -11,6 +11,7 @@ use boxes::kinds::{Container, PSEG};
 use boxes::walk::Walk;
 use numerals::place::Place;
 use refusals::Refusal;
+use segment::data::NO_BOX;
 use segment::tops::{NO_TOP, TOPS, tops_of};
 
 // Judges the segments of a file, which is mixed or not and whose `pfil` has its list of URLs, if any, in that container,
@@ -40,7 +41,7 @@ pub fn pass(
     });
     let mut gathered = Gathered::none();
     // No box held a chunk before the first.
-    let mut last = None;
+    let mut last = NO_BOX;
     while let Some((b, next)) = walk.step(file)? {
         walk = next;
         if b.kind == PSEG {

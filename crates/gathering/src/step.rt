@@ -78,7 +78,7 @@ pub(crate) fn pseg_of(
     basis: Basis,
     b: Framed,
     before: Gathered,
-    last: Option<Framed>,
+    last: Framed,
     numbered: bool,
     chunks: &mut [u64],
 ) -> Result<(Parts, Cursor), Refusal>
@@ -117,19 +117,19 @@ pub(crate) fn pseg_of(
 }
 
 // The segment of a `pseg` box, beside what was gathered before it, by the table of the file's boxes: what is gathered
-// with it, and the data box that held the last chunk, if one did.
+// with it, and the data box that held the last chunk.
 pub(crate) fn segment_of(
     file: &[u8],
     tops: &[u32; TOPS],
     basis: Basis,
     b: Framed,
     before: Gathered,
-    last: Option<Framed>,
+    last: Framed,
     numbered: bool,
     segments: &mut [u64],
     chunks: &mut [u64],
     tables: &mut SourceTables,
-) -> Result<(Gathered, Option<Framed>), Refusal>
+) -> Result<(Gathered, Framed), Refusal>
     requires { (before.segments ≤ box_limit) × (before.chunks ≤ chunk_limit) × (b.end.0 ≤ length file.now) }
     ensures { Counted before result × ((h : Heading) (ss : List Segment) → Based file.now h basis
         → Ready file.now tops.now basis.mixed last h → Beside file.now h before tables.old ss

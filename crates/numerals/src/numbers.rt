@@ -44,7 +44,10 @@ fn by_bytes(s: &[u8], from: usize, w: usize) -> u64
 fn eight(s: &[u8], from: usize) -> Option<u64>
     ensures { MatchOption result (length s.now < from + 8) (λ n. n ≡ number s.now from 8) }
 {
-    let bytes = s.get(from..)?.first_chunk()?;
+    if s.len() < 8 || s.len() - 8 < from {
+        return None;
+    }
+    let bytes = s[from..from + 8].first_chunk()?;
     Some(u64::from_be_bytes(*bytes))
 }
 

@@ -33,7 +33,5 @@ pub fn between(from: u64, to: u64) -> u64
 pub fn ends_by(first: u64, size: u64, end: u64) -> bool
     ensures { result ≡ leb (first + size) end }
 {
-    first
-        .checked_add(size)
-        .is_some_and(|past_last| past_last <= end)
+    first <= end && size <= end - first
 }

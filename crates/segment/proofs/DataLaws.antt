@@ -107,7 +107,7 @@ module _ (f : List ℕ) {bs : List Box} (known : boxes_in File f 0 (length f) �
       ]
 
 -- what a search has found
-module _ {f tops : List ℕ} {last : Option Framed} {place size : ℕ} where
+module _ {f tops : List ℕ} {last : Framed} {place size : ℕ} where
   pub finds_box : (b : Framed) → holds_chunk place size (box_of b) ≡ true → ((bs : List Box) → Searched f last bs → Tops bs tops → Among bs (box_of b)) → Finds f tops last place size (Some b)
   unfolding found
   finds_box b holds among =
@@ -118,10 +118,10 @@ module _ {f tops : List ℕ} {last : Option Framed} {place size : ℕ} where
         holds = λ {b = b'} e.
             let same : b ≡ b' = cc in
             subst (λ (b : Framed). holds_chunk place size (box_of b) ≡ true) same holds;
-        onward = λ bs p t.
+        onward = λ bs p t {b = b'} e.
             record {
               boxes = p.boxes;
-              known = λ {b = b'} e.
+              known = λ _.
                   let same : b ≡ b' = cc in
                   subst (λ b. Among bs (box_of b)) same (among bs p t);
             };
@@ -133,33 +133,29 @@ module _ {f tops : List ℕ} {last : Option Framed} {place size : ℕ} where
       record {
         answer = λ bs p t. sym (data_some bs place size ∙ none bs p t);
         holds = λ e. cc;
-        onward = λ bs p t.
-            record {
-              boxes = p.boxes;
-              known = λ e.
-                  let z : ◌≡◌ {A = ℕ} 0 1 = cc in
-                  absurd (omega arith);
-            };
+        onward = λ bs p t e.
+            let z : ◌≡◌ {A = ℕ} 0 1 = cc in
+            absurd (omega arith);
       }
 
   -- two searches find the same box
   pub one_found : (bs : List Box) → Searched f last bs → Tops bs tops → (x y : Option Framed) → Finds f tops last place size x → Finds f tops last place size y → x ≡ y
   unfolding found
   one_found bs known t (Some a) (Some b) p q =
-      let among = (p.onward bs known t).known refl in
-      let among' = (q.onward bs known t).known refl in
+      let among = (p.onward bs known t refl).known (holds_kind place size (box_of a) (p.holds refl)) in
+      let among' = (q.onward bs known t refl).known (holds_kind place size (box_of b) (q.holds refl)) in
       ap Some (box-told a b (one_holds f known.boxes place size among among' (p.holds refl) (q.holds refl)))
   one_found bs known t (Some a) None p q = absurd (false≢true (sym (p.answer bs known t ∙ sym (q.answer bs known t))))
   one_found bs known t None (Some b) p q = absurd (false≢true (p.answer bs known t ∙ sym (q.answer bs known t)))
   one_found bs known t None None p q = refl
 
 -- after the same chunk the same box is to be looked at first
-pub one_onward : {f : List ℕ} {last : Option Framed} {bs : List Box} {placed : Bool} {place size : ℕ} (a b : Option Framed) → Onward f last bs placed place size a → Onward f last bs placed place size b → a ≡ b
+pub one_onward : {f : List ℕ} {last : Framed} {bs : List Box} {placed : Bool} {place size : ℕ} (a b : Framed) → Onward f last bs placed place size a → Onward f last bs placed place size b → a ≡ b
 one_onward {f} {bs = bs} {placed} {place} {size} a b x y =
     elim (which (placed && in_data bs place size)) [
       | inl e ↦
-          let (c, of, holds) = x.holds e in
-          let (d, of', holds') = y.holds e in
-          of ∙ ap Some (box-told c d (one_holds f x.known.boxes place size (x.known.known of) (y.known.known of') holds holds')) ∙ sym of'
+          let holds = x.holds e in
+          let holds' = y.holds e in
+          box-told a b (one_holds f x.known.boxes place size (x.known.known (holds_kind place size (box_of a) holds)) (y.known.known (holds_kind place size (box_of b) holds')) holds holds')
       | inr e ↦ x.kept e ∙ sym (y.kept e)
     ]

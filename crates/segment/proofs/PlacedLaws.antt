@@ -118,7 +118,7 @@ module _ (mixed : Bool) (bs : List Box) (state place size : ℕ) where
     whole_good same = rw (mix, same)
 
 -- what a search that found no data box leaves
-module _ (h : Heading) {f tops : List ℕ} {last : Option Framed} {place size : ℕ} {r : Option Framed} (finds : Finds f tops last place size r) (nowhere : r ≡ None) (p : Searched f last h.boxes) (t : Tops h.boxes tops) where
+module _ (h : Heading) {f tops : List ℕ} {last : Framed} {place size : ℕ} {r : Option Framed} (finds : Finds f tops last place size r) (nowhere : r ≡ None) (p : Searched f last h.boxes) (t : Tops h.boxes tops) where
   outside : in_data h.boxes place size ≡ false
   unfolding found
   outside = sym (finds.answer h.boxes p t) ∙ ap found nowhere
@@ -129,8 +129,8 @@ module _ (h : Heading) {f tops : List ℕ} {last : Option Framed} {place size : 
       ∙ rw outside (sym (whole h.boxes p.boxes t ∙ ap (λ (m : Bool). lies_whole m h.boxes state place size) mix))
 
 -- the place of an entry's chunk
-module _ {f tops : List ℕ} {mixed : Bool} {last : Option Framed} {pseg : ℕ} {e : Entry} where
-  places_refused : {r : Result (Place × Option Framed) Refusal} {n : ℕ} → place_answer r ≡ refused n
+module _ {f tops : List ℕ} {mixed : Bool} {last : Framed} {pseg : ℕ} {e : Entry} where
+  places_refused : {r : Result (Place × Framed) Refusal} {n : ℕ} → place_answer r ≡ refused n
       → ((h : Heading) → Ready f tops mixed last h → place_of h pseg e ≡ refused n)
       → Places f tops mixed last pseg e r
   places_refused told fault =
@@ -139,14 +139,14 @@ module _ {f tops : List ℕ} {mixed : Bool} {last : Option Framed} {pseg : ℕ} 
         onward = λ h ready e. absurd (not_both (sym told ∙ ap place_answer e));
       }
 
-  places-box : {place : Place} {next : Option Framed} → ((h : Heading) → Ready f tops mixed last h → place_of h pseg e ≡ given place.0)
+  places-box : {place : Place} {next : Framed} → ((h : Heading) → Ready f tops mixed last h → place_of h pseg e ≡ given place.0)
       → ((h : Heading) → Ready f tops mixed last h → Onward f last h.boxes (has_place e.state e.size) place.0 e.size next)
       → Places f tops mixed last pseg e (Ok (place, next))
   places-box {place} {next} at onward =
       record {
         answer = λ h ready. sym (at h ready);
         onward = λ h ready {place = place'} {next = next'} s.
-            let both : ◌≡◌ {A = Place × Option Framed} (place, next) (place', next') = cc in
+            let both : ◌≡◌ {A = Place × Framed} (place, next) (place', next') = cc in
             let there : place ≡ place' = ap (λ p. p.0) both in
             let same : next ≡ next' = ap (λ p. p.1) both in
             subst (λ (q : Place). Onward f last h.boxes (has_place e.state e.size) q.0 e.size next') there
@@ -178,7 +178,7 @@ module _ {f tops : List ℕ} {mixed : Bool} {last : Option Framed} {pseg : ℕ} 
 
     -- a chunk at a place that was searched
     module _ {n : ℕ} (at : offset_place pseg e.offset ≡ Some n) {r : Option Framed} (finds : Finds f tops last n e.size r) where
-      pub places-in : {place : Place} {b : Framed} → n ≡ place.0 → r ≡ Some b → Places f tops mixed last pseg e (Ok (place, Some b))
+      pub places-in : {place : Place} {b : Framed} → n ≡ place.0 → r ≡ Some b → Places f tops mixed last pseg e (Ok (place, b))
       unfolding place_of found
       places-in same held =
           places-box
@@ -190,8 +190,8 @@ module _ {f tops : List ℕ} {mixed : Bool} {last : Option Framed} {pseg : ℕ} 
           (λ h ready.
           let inside : in_data h.boxes n e.size ≡ true = sym (finds.answer h.boxes ready.known ready.listed) ∙ ap found held in
           record {
-            known = subst (λ (r : Option Framed). Searched f r h.boxes) held (finds.onward h.boxes ready.known ready.listed);
-            holds = λ _. (_, refl, rw (← same) (finds.holds held));
+            known = finds.onward h.boxes ready.known ready.listed held;
+            holds = λ _. rw (← same) (finds.holds held);
             kept = λ out. absurd (false≢true (sym out ∙ rw (has, ← same, inside)));
           })
 

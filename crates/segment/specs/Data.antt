@@ -18,10 +18,11 @@ pub record Among (bs : List Box) (b : Box) : Type 0 where
   pub there : number < length bs
   pub same : box_at number bs ≡ b
 
--- what a search of a file goes by: the file's boxes, and that the box to be looked at first, if any, is one of them
-pub record Searched (f : List ℕ) (last : Option Framed) (bs : List Box) : Type 0 where
+-- what a search of a file goes by: the file's boxes, and that the box to be looked at first is one of them, unless it
+-- is no `pdat`
+pub record Searched (f : List ℕ) (last : Framed) (bs : List Box) : Type 0 where
   pub boxes : boxes_in File f 0 (length f) ≡ given bs
-  pub known : {b : Framed} → last ≡ Some b → Among bs (box_of b)
+  pub known : is pdat (box_of last) ≡ true → Among bs (box_of last)
 
 -- whether a box was found
 unfoldable pub found : Option Framed → Bool
@@ -30,14 +31,14 @@ found None = false
 
 -- what a search by the table of the file's boxes finds: a box exactly where one holds the chunk, and then the data box
 -- of the file that does
-pub record Finds (f tops : List ℕ) (last : Option Framed) (place size : ℕ) (r : Option Framed) : Type 0 where
+pub record Finds (f tops : List ℕ) (last : Framed) (place size : ℕ) (r : Option Framed) : Type 0 where
   pub answer : (bs : List Box) → Searched f last bs → Tops bs tops → found r ≡ in_data bs place size
   pub holds : {b : Framed} → r ≡ Some b → holds_chunk place size (box_of b) ≡ true
-  pub onward : (bs : List Box) → Searched f last bs → Tops bs tops → Searched f r bs
+  pub onward : (bs : List Box) → Searched f last bs → Tops bs tops → {b : Framed} → r ≡ Some b → Searched f b bs
 
 -- the box to be looked at first after a chunk: the one that holds it; where the chunk has no place, or lies outside,
 -- the one before
-pub record Onward (f : List ℕ) (last : Option Framed) (bs : List Box) (placed : Bool) (place size : ℕ) (next : Option Framed) : Type 0 where
+pub record Onward (f : List ℕ) (last : Framed) (bs : List Box) (placed : Bool) (place size : ℕ) (next : Framed) : Type 0 where
   pub known : Searched f next bs
-  pub holds : (placed && in_data bs place size) ≡ true → (b : Framed) × (next ≡ Some b) × (holds_chunk place size (box_of b) ≡ true)
+  pub holds : (placed && in_data bs place size) ≡ true → holds_chunk place size (box_of next) ≡ true
   pub kept : (placed && in_data bs place size) ≡ false → next ≡ last

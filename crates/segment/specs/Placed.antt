@@ -16,9 +16,9 @@ use Rattle.partial.specs.Segments.{good, has_place}
 use Rattle.segment.specs.Data.{Searched, Onward}
 use Rattle.segment.specs.Tops.{Tops}
 
--- a file with a heading is ready to be searched: it is mixed as that says, the box to be looked at first, if any, is one
--- of its own, and the table is that of its boxes
-pub record Ready (f tops : List ℕ) (mixed : Bool) (last : Option Framed) (h : Heading) : Type 0 where
+-- a file with a heading is ready to be searched: it is mixed as that says, the box to be looked at first is one of its
+-- own, unless it is no `pdat`, and the table is that of its boxes
+pub record Ready (f tops : List ℕ) (mixed : Bool) (last : Framed) (h : Heading) : Type 0 where
   pub mix : mixed ≡ h.mixed
   pub known : Searched f last h.boxes
   pub listed : Tops h.boxes tops
@@ -37,11 +37,11 @@ abbrev pub ToldWhole : List ℕ → List ℕ → Bool → ℕ → ℕ → ℕ �
 ToldWhole f tops mixed state place size r = (bs : List Box) → boxes_in File f 0 (length f) ≡ given bs → Tops bs tops → r ≡ lies_whole mixed bs state place size
 
 -- what an answer about a place says
-abbrev pub place_answer : Result (Place × Option Framed) Refusal → Answer ℕ
+abbrev pub place_answer : Result (Place × Framed) Refusal → Answer ℕ
 place_answer = told_as (λ p. p.0.0)
 
 -- the place of an entry's chunk in a file that is mixed or not, and the box to be looked at first after it
-pub record Places (f tops : List ℕ) (mixed : Bool) (last : Option Framed) (pseg : ℕ) (e : Entry) (r : Result (Place × Option Framed) Refusal) : Type 0 where
+pub record Places (f tops : List ℕ) (mixed : Bool) (last : Framed) (pseg : ℕ) (e : Entry) (r : Result (Place × Framed) Refusal) : Type 0 where
   pub answer : (h : Heading) → Ready f tops mixed last h → place_answer r ≡ place_of h pseg e
-  pub onward : (h : Heading) → Ready f tops mixed last h → {place : Place} {next : Option Framed} → r ≡ Ok (place, next)
+  pub onward : (h : Heading) → Ready f tops mixed last h → {place : Place} {next : Framed} → r ≡ Ok (place, next)
       → Onward f last h.boxes (has_place e.state e.size) place.0 e.size next

@@ -16,12 +16,12 @@ use partial::position::Position;
 use refusals::Refusal;
 
 // A cursor over entries: the place of the next one, where its chunk starts in the source, and the data box that held
-// the last chunk, if one did.
+// the last chunk.
 #[derive(Clone, Copy)]
 pub struct Cursor {
     pub at: Place,
     pub start: Position,
-    pub last: Option<Framed>,
+    pub last: Framed,
 }
 
 // Where a chunk starts in the source, its size, its state, and its place in the file: 0 if it is not present or empty.

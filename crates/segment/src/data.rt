@@ -5,9 +5,19 @@ ghost use Rattle.segment.specs.Data.{holds_chunk, Finds};
 
 use crate::tops::{TOPS, top_at, top_before};
 use boxes::framing::{Framed, header_at};
-use boxes::kinds::{Container, PDAT};
+use boxes::kinds::{Container, Kind, PDAT};
 use numerals::order::ends_by;
 use numerals::place::Place;
+
+// No box, to be looked at first where none held a chunk yet: it is no `pdat`, and so holds none. An option in its place
+// is copied through memory for each chunk.
+pub const NO_BOX: Framed = Framed {
+    kind: Kind { code: 0 },
+    at: Place(0),
+    user: Place(0),
+    body: Place(0),
+    end: Place(0),
+};
 
 // Whether a box is a `pdat` whose body holds so many bytes at a place.
 fn holds(b: Framed, place: Place, size: u64) -> bool
@@ -30,16 +40,14 @@ fn holds(b: Framed, place: Place, size: u64) -> bool
 pub fn held_at(
     s: &[u8],
     tops: &[u32; TOPS],
-    last: Option<Framed>,
+    last: Framed,
     place: Place,
     size: u64,
 ) -> Option<Framed>
     ensures { Finds s.now tops.now last place.0 size result }
 {
-    if let Some(b) = last {
-        if holds(b, place, size) {
-            return Some(b);
-        }
+    if holds(last, place, size) {
+        return Some(last);
     }
     let number = top_before(tops, place);
     let top = top_at(tops, number);

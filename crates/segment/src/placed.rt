@@ -56,10 +56,10 @@ pub(crate) fn placed_at(
     s: &[u8],
     tops: &[u32; TOPS],
     mixed: bool,
-    last: Option<Framed>,
+    last: Framed,
     pseg: Place,
     e: Entry,
-) -> Result<(Place, Option<Framed>), Refusal>
+) -> Result<(Place, Framed), Refusal>
     ensures { Places s.now tops.now mixed last pseg.0 (entry_of e) result }
 {
     let state = e.state;
@@ -74,7 +74,7 @@ pub(crate) fn placed_at(
         return Err(Refusal::OutsideData);
     };
     if let Some(b) = held_at(s, tops, last, place, size) {
-        return Ok((place, Some(b)));
+        return Ok((place, b));
     }
     if lies_whole(s, tops, mixed, state, place, size) {
         Ok((place, last))

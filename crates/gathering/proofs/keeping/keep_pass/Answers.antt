@@ -1,6 +1,6 @@
 -- `gathering::keeping::keep_pass` meets its contract. The loop's invariant: the segments so far are kept or left out, the
 -- table has the fates of the boxes passed, and the boxes that are left decide.
-use mathlib.Core.Path.{sym, ap, subst, ◌∙◌}
+use mathlib.Core.Path.{refl, sym, ap, subst, ◌∙◌}
 use native.Mathlib.Omega.{arith}
 use lib.ListN.{length-set, length-replicate}
 use mathlib.Core.Logic.{inl, inr}
@@ -33,7 +33,7 @@ loop-at-init c =
       omega (arith, gathered_chunks _ none),
       length-replicate {A = Fate} 512 Stays,
       λ h boxed.
-          midway_none _ h boxed (sym (walk_boxes _ new) ∙ boxed.boxes) (so_far_none _ h none (c.new-tables.ensures _ h)) (searched_none boxed.boxes),
+          midway_none _ h boxed (sym (walk_boxes _ new) ∙ boxed.boxes) (so_far_none _ h none (c.new-tables.ensures _ h)) (searched_none _ refl boxed.boxes),
       ap (λ w. w.end.0) new,
     )
 

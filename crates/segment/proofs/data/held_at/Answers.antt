@@ -5,18 +5,18 @@ use Rattle.boxes.proofs.AnswerLaws.{not_both, given_same}
 use Rattle.boxes.specs.Framing.{box_of}
 use Rattle.boxes.proofs.ToldLaws.{told-ok, told-err}
 use Rattle.segment.specs.Data.{holds_chunk}
-use Rattle.segment.proofs.DataLaws.{finds_box, finds_none}
+use Rattle.segment.proofs.DataLaws.{holds_kind, finds_box, finds_none}
 use Rattle.segment.proofs.TopsLaws.{last_among, last_other}
 use Rattle.segment.proofs.data.held_at.Goals as goal
 
 pub returns-then-holds : goal.returns-then-holds
 returns-then-holds c =
     let holds = sym c.holds.ensures ∙ c.if-holds.true in
-    finds_box _ holds (λ bs p t. p.known c.in-Some.is)
+    finds_box _ holds (λ bs p t. p.known (holds_kind _ _ _ holds))
 
-pub returns-in_default-header_at : goal.returns-in_default-header_at
-returns-in_default-header_at c =
-    let fault = told-err box_of c.header_at.ensures c.in_default-header_at.is in
+pub returns-in_default : goal.returns-in_default
+returns-in_default c =
+    let fault = told-err box_of c.header_at.ensures c.in_default.is in
     finds_none (λ bs p t. last_other _ p.boxes t c.top_before-number.ensures c.top_at-top.ensures _
     (λ j there here holds. not_both (sym fault ∙ here)))
 
