@@ -1,19 +1,18 @@
 -- Laws of what is counted of a chunk list: the items of its front, and the counts of none and with one more.
-use Prim.Native.Nat.{ℕ, suc, ◌+◌, ◌-◌, ◌*◌, ◌/◌, ◌%◌, ◌^◌, ◌≤◌, ◌<◌, min, max}
-use mathlib.Core.Bool.{Bool, true, false, ◌&&◌, and-true, and-false, false≢true}
+use Prim.Native.Nat.{ℕ, suc, ◌+◌, ◌-◌, ◌*◌, ◌%◌, ◌^◌, ◌≤◌, ◌<◌, min, max}
+use mathlib.Core.Bool.{Bool, true, false, not, ◌&&◌, and-true, and-false, false≢true}
 use mathlib.Core.List.{List, [], ◌∷◌, ◌++◌, map, append_assoc, append-nil}
 use mathlib.Core.Path.{◌≡◌, refl, sym, ap, ◌∙◌}
 use native.Mathlib.Decide.{dec_le}
 use native.Mathlib.Omega.{arith}
-use borrow.Author.Tests.{le-leb, lt-leb, eq-eqb, ne_eqb}
+use borrow.Author.Tests.{le-leb, lt-leb}
+use lib.Dec.{eqb}
 use lib.ListN.{length, take, drop, get_or, length-append, length-take, length-drop, take-append-drop}
 use lib.Seq.{take-suc}
 use Rattle.std.specs.Prelude.{Result, Ok, Err, IsOk}
 use Rattle.boxes.specs.Answer.{refused, given}
 use Rattle.std.specs.Result.{is_ok}
-use Rattle.refusals.specs.Refusals.{refusal_no}
 use Rattle.refusals.specs.declared.Refusal.{Refusal}
-use Rattle.refusals.specs.declared.Refusal.TheVariants.{ChunkListWrong}
 use Rattle.fields.specs.declared.state.State.{State}
 use Rattle.additions.specs.Addition.{Item, items, data_size, is_state}
 use Rattle.partial.specs.Segments.{present}
@@ -52,10 +51,6 @@ even_front list i h = omega (arith, length-take (2 * i) list)
 pub items_none : [] ≡ items []
 unfolding items
 items_none = refl
-
-pub none_right : all_of right_item (items []) ≡ true
-unfolding items all_of
-none_right = refl
 
 -- a pair more is an item more
 pub items_more : (list : List ℕ) (i : ℕ) → 2 * i + 1 < length list
@@ -100,12 +95,16 @@ pub present-many : (is : List Item) → present_of is ≡ many (λ i. present i.
 unfolding present_of many
 present-many is = refl
 
-pub counts_none : record { items = 0; present = 0; largest = 0; bytes = 0; sum = 0 } ≡ counts_of []
+pub counts_none : record { right = true; items = 0; present = 0; largest = 0; bytes = 0; sum = 0 } ≡ counts_of []
 unfolding counts_of present_of data_size all_of largest sum
 counts_none = refl
 
 -- what was counted of items
 module _ {c : Counts} (is : List Item) (e : c ≡ counts_of is) where
+  pub counted_right : c.right ≡ all_of right_item is
+  unfolding counts_of
+  counted_right = ap (λ c. c.right) e
+
   pub counted_items : c.items ≡ length is
   unfolding counts_of
   counted_items = ap (λ c. c.items) e
@@ -134,70 +133,42 @@ module _ {c : Counts} (list : List ℕ) (i : ℕ) (e : c ≡ counts_of (items (t
   pub front-present : c.present ≤ c.items
   front-present = omega (arith, counted_items (items (take (2 * i) list)) e, counted_present (items (take (2 * i) list)) e, present_most (items (take (2 * i) list)))
 
--- a number that is tried as a state
-pub no_state : {n : ℕ} {r : Result State Refusal} {e : Refusal} → r ≡ Err e → (n ≤ 3 → IsOk r) → is_state n ≡ false
-unfolding is_state
-no_state {n} was known =
-    elim (dec_le n 3) [
-      | yes small ↦ absurd (false≢true (sym (ap is_ok was) ∙ known small))
-      | no over ↦ lt-leb n 3 (omega arith)
-    ]
+-- whether items are right with one more, whose number was tried as a state
+module _ (right : Bool) (size : ℕ) {n : ℕ} {r : Result State Refusal} where
+  pub right_other : {e : Refusal} → r ≡ Err e → (n ≤ 3 → IsOk r) → false ≡ (right && (not (eqb size 0) && is_state n))
+  unfolding is_state
+  right_other was known =
+      elim (dec_le n 3) [
+        | yes small ↦ absurd (false≢true (sym (ap is_ok was) ∙ known small))
+        | no over ↦ sym (rw (lt-leb n 3 (omega arith), and-false (not (eqb size 0))) (and-false right))
+      ]
 
-pub some_state : {n : ℕ} {r : Result State Refusal} {x : State} → r ≡ Ok x → (IsOk r → n ≤ 3) → is_state n ≡ true
-unfolding is_state
-some_state {n} was known = le-leb n 3 (known (ap is_ok was))
+  pub right_known : {x : State} → r ≡ Ok x → (IsOk r → n ≤ 3) → {b : Bool} → b ≡ (right && not (eqb size 0)) → b ≡ (right && (not (eqb size 0) && is_state n))
+  unfolding is_state
+  right_known was known e = e ∙ sym (rw (le-leb n 3 (known (ap is_ok was)), and-true (not (eqb size 0))))
 
--- it is refused by 31
-pub wrong_number : {n : ℕ} {r : Result State Refusal} {e : Refusal} → r ≡ Err e → (n ≤ 3 → IsOk r) → (3 < n → r ≡ Err ChunkListWrong) → refusal_no e ≡ 31
-wrong_number {n} {r} {e} was known by =
-    elim (dec_le n 3) [
-      | yes small ↦ absurd (false≢true (sym (ap is_ok was) ∙ known small))
-      | no over ↦
-          let both : ◌≡◌ {A = Result State Refusal} (Err e) (Err ChunkListWrong) = sym was ∙ by (omega arith) in
-          let same : e ≡ ChunkListWrong = cc in
-          ap refusal_no same
-    ]
-
--- whether the items of a list are right, by those of its front
-module _ (list : List ℕ) (i : ℕ) (h : 2 * i + 1 < length list) where
-  abbrev item : Item
-  item = record { size = get_or list (2 * i) 0; state = get_or list (2 * i + 1) 0 }
-
-  front : all_of right_item (items (take (2 * (i + 1)) list)) ≡ (all_of right_item (items (take (2 * i) list)) && right_item item)
-  unfolding all_of
-  front = ap (all_of right_item) (items_more list i h) ∙ all_append right_item (items (take (2 * i) list)) (item ∷ []) ∙ simp and-true
-
-  pub right_more : all_of right_item (items (take (2 * i) list)) ≡ true → (get_or list (2 * i) 0 ≡ 0 → ⊥) → is_state (get_or list (2 * i + 1) 0) ≡ true
-      → all_of right_item (items (take (2 * (i + 1)) list)) ≡ true
-  right_more before some state = front ∙ rw (before, ne_eqb (get_or list (2 * i) 0) 0 some, state)
-
-  wrong_item : right_item item ≡ false → counted (items list) ≡ refused 31
+-- by what was counted of them: they are right, or refused
+module _ {c : Counts} (is : List Item) (e : c ≡ counts_of is) where
+  pub counted_wrong : c.right ≡ false → refused 31 ≡ counted is
   unfolding counted
-  wrong_item wrong =
-      let all : all_of right_item (items list) ≡ false =
-      ap (all_of right_item) (sym (ap items (take-append-drop (2 * (i + 1)) list)) ∙ items-append (take (2 * (i + 1)) list) (drop (2 * (i + 1)) list) (even_front list (i + 1) (omega arith)))
-      ∙ all_append right_item (items (take (2 * (i + 1)) list)) (items (drop (2 * (i + 1)) list))
-      ∙ rw (front, wrong, and-false) in
-      rw (counted, all)
+  counted_wrong wrong =
+      let all : all_of right_item is ≡ false = sym (counted_right is e) ∙ wrong in
+      let told : counted is ≡ refused 31 = rw (counted, all) in
+      sym told
 
-  pub wrong_size : get_or list (2 * i) 0 ≡ 0 → counted (items list) ≡ refused 31
-  wrong_size none = wrong_item (rw (eq-eqb (get_or list (2 * i) 0) 0 none))
-
-  pub wrong_state : is_state (get_or list (2 * i + 1) 0) ≡ false → counted (items list) ≡ refused 31
-  wrong_state wrong = wrong_item (rw (wrong, and-false))
-
--- where all are they are counted
-pub counted_all : {c : Counts} (list : List ℕ) (i : ℕ) → length list / 2 ≤ i → i ≤ length list / 2 → c ≡ counts_of (items (take (2 * i) list)) → all_of right_item (items (take (2 * i) list)) ≡ true
-    → given c ≡ counted (items list)
-unfolding counted
-counted_all {c} list i past within counts right =
-    let same = items_whole list i (omega arith) (omega arith) in
-    let all = sym (ap (all_of right_item) same) ∙ right in
-    let told : counted (items list) ≡ given (counts_of (items list)) = rw (counted, all) in
-    ap given (counts ∙ ap counts_of same) ∙ sym told
+  pub counted_all : c.right ≡ true → given c ≡ counted is
+  unfolding counted
+  counted_all right =
+      let all : all_of right_item is ≡ true = sym (counted_right is e) ∙ right in
+      let told : counted is ≡ given (counts_of is) = rw (counted, all) in
+      ap given e ∙ sym told
 
 -- with one more
 module _ (is : List Item) (i : Item) where
+  right_last : all_of right_item (is ++ (i ∷ [])) ≡ (all_of right_item is && right_item i)
+  unfolding all_of
+  right_last = all_append right_item is (i ∷ []) ∙ simp and-true
+
   largest_last : largest (map (λ i. i.size) (is ++ (i ∷ []))) ≡ max (largest (map (λ i. i.size) is)) i.size
   unfolding largest
   largest_last = largest_both (λ i. i.size) is (i ∷ []) ∙ omega arith
@@ -218,7 +189,10 @@ module _ (is : List Item) (i : Item) where
   unfolding data_size
   data_same h = sum_last (λ i. elim (present i.state) [ true ↦ i.size | false ↦ 0 ]) is i ∙ rw h (omega arith)
 
-  module _ {c : Counts} (e : c ≡ counts_of is) {most total : ℕ} (mosts : most ≡ max c.largest i.size) (totals : total ≡ min (c.sum + i.size) (2 ^ 64 - 1)) where
+  module _ {c : Counts} (e : c ≡ counts_of is) {right : Bool} {most total : ℕ} (rights : right ≡ (c.right && right_item i)) (mosts : most ≡ max c.largest i.size) (totals : total ≡ min (c.sum + i.size) (2 ^ 64 - 1)) where
+    all_right : right ≡ all_of right_item (is ++ (i ∷ []))
+    all_right = rights ∙ ap (λ (b : Bool). b && right_item i) (counted_right is e) ∙ sym right_last
+
     most_with : most ≡ largest (map (λ i. i.size) (is ++ (i ∷ [])))
     most_with = omega (arith, counted_largest is e, largest_last)
 
@@ -229,17 +203,17 @@ module _ (is : List Item) (i : Item) where
     total_with = omega (arith, counted_sum is e, sum_last (λ i. i.size) is i)
 
     pub with_present : present i.state ≡ true → {bytes : ℕ} → bytes ≡ min (c.bytes + i.size) (2 ^ 64 - 1)
-        → record { items = c.items + 1; present = c.present + 1; largest = most; bytes = bytes; sum = total } ≡ counts_of (is ++ (i ∷ []))
+        → record { right = right; items = c.items + 1; present = c.present + 1; largest = most; bytes = bytes; sum = total } ≡ counts_of (is ++ (i ∷ []))
     unfolding counts_of
     with_present here {bytes} more =
         let present-with : c.present + 1 ≡ present_of (is ++ (i ∷ [])) = omega (arith, counted_present is e, present_more here) in
         let bytes-with : bytes ≡ min (data_size (is ++ (i ∷ []))) (2 ^ 64 - 1) = omega (arith, counted_bytes is e, data_more here) in
-        λ k. record { items = items_with k; present = present-with k; largest = most_with k; bytes = bytes-with k; sum = total_with k }
+        λ k. record { right = all_right k; items = items_with k; present = present-with k; largest = most_with k; bytes = bytes-with k; sum = total_with k }
 
     pub with_lost : present i.state ≡ false
-        → record { items = c.items + 1; present = c.present; largest = most; bytes = c.bytes; sum = total } ≡ counts_of (is ++ (i ∷ []))
+        → record { right = right; items = c.items + 1; present = c.present; largest = most; bytes = c.bytes; sum = total } ≡ counts_of (is ++ (i ∷ []))
     unfolding counts_of
     with_lost lost =
         let present-with : c.present ≡ present_of (is ++ (i ∷ [])) = omega (arith, counted_present is e, present_same lost) in
         let bytes-with : c.bytes ≡ min (data_size (is ++ (i ∷ []))) (2 ^ 64 - 1) = omega (arith, counted_bytes is e, data_same lost) in
-        λ k. record { items = items_with k; present = present-with k; largest = most_with k; bytes = bytes-with k; sum = total_with k }
+        λ k. record { right = all_right k; items = items_with k; present = present-with k; largest = most_with k; bytes = bytes-with k; sum = total_with k }

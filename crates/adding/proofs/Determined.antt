@@ -18,13 +18,17 @@ use Rattle.adding.specs.Texts.{Texted}
 use Rattle.adding.specs.declared.layout.Layout.{Layout}
 use Rattle.adding.proofs.admission.admission.Reads as admission
 use Rattle.adding.proofs.admission.outside_right.Reads as outside-right
+use Rattle.adding.proofs.counts.counted.Reads as counted
 use Rattle.adding.proofs.counts.counts_of.Reads as Counts-of
 use Rattle.adding.proofs.layout.layout_of.Reads as layout_of
 use Rattle.adding.proofs.texts.is_text.Reads as is-text
 use Rattle.adding.proofs.texts.texts_of.Reads as texts-of
 
 counts_of-result : OneResult Counts-of.Post
-counts_of-result κs args x y after after' p q = result-told (λ c d e. e) x y (p ∙ sym q)
+counts_of-result κs args x y after after' p q = p ∙ sym q
+
+counted_result : OneResult counted.Post
+counted_result κs args x y after after' p q = result-told (λ c d e. e) x y (p ∙ sym q)
 
 -- an addition has one layout
 one_layout : (a : Addition) (x y : Layout) → Laid a x → Laid a y → x ≡ y

@@ -16,20 +16,22 @@ capped n = min n (2 ^ 64 - 1)
 unfoldable pub present_of : List Item → ℕ
 present_of is = sum (map (λ i. elim (present i.state) [ true ↦ 1 | false ↦ 0 ]) is)
 
--- how many items there are and how many are present, the largest size, the bytes of those that are present and of all
+-- whether the size is not 0, and the state is one
+abbrev pub right_item : Item → Bool
+right_item i = not (eqb i.size 0) && is_state i.state
+
+-- whether no size is 0 and every state is one, how many items there are and how many are present, the largest size, the
+-- bytes of those that are present and of all
 unfoldable pub counts_of : List Item → Counts
 counts_of is =
     record {
+      right = all_of right_item is;
       items = length is;
       present = present_of is;
       largest = largest (map (λ i. i.size) is);
       bytes = capped (data_size is);
       sum = capped (sum (map (λ i. i.size) is));
     }
-
--- whether the size is not 0, and the state is one
-abbrev pub right_item : Item → Bool
-right_item i = not (eqb i.size 0) && is_state i.state
 
 -- the counts of items that are right, else 31
 unfoldable pub counted : List Item → Answer Counts

@@ -2,7 +2,7 @@
 use Prim.Native.Nat.{ℕ, ◌≤◌, ◌<◌}
 use mathlib.Core.Bool.{true, false}
 use mathlib.Core.List.{List, [], ◌∷◌}
-use Rattle.std.specs.Prelude.{Option, None, Some, Result, Ok, IsErrAnd}
+use Rattle.std.specs.Prelude.{Option, None, Some, Result, Ok, Err, IsErrAnd}
 use Rattle.std.proofs.lemmas.Option.{none-some, same_Some}
 use Rattle.std.proofs.lemmas.Result.{err_from_is_err_and}
 use Rattle.refusals.specs.Refusals.{refusal_no}
@@ -10,7 +10,7 @@ use Rattle.refusals.specs.declared.Refusal.{Refusal}
 use Rattle.tallying.specs.Found.{first_in}
 use Rattle.tallying.specs.Rules.{tallied, tally_of}
 use Rattle.tallying.specs.declared.tally.Tally.{Tally}
-use Rattle.tallying.proofs.RuleLaws.{tally_sound}
+use Rattle.tallying.proofs.RuleLaws.{tally_sound, tally_fault}
 use mathlib.Core.Path.{◌≡◌, refl, sym, ap, subst, ◌∙◌}
 use native.Mathlib.Omega.{arith}
 use borrow.Author.Tests.{lt-ltb}
@@ -23,7 +23,7 @@ use Rattle.boxes.specs.declared.body.Body.{Body}
 use Rattle.boxes.specs.declared.framing.Framed.{Framed}
 use Rattle.boxes.specs.declared.kinds.Container.{Container}
 use Rattle.boxes.specs.declared.kinds.Container.TheVariants.{Fidx}
-use Rattle.boxes.proofs.AnswerLaws.{then-then, given_same}
+use Rattle.boxes.proofs.AnswerLaws.{then-then, given_same, not_both}
 use Rattle.boxes.proofs.ContainerLaws.{Standing, boxes_standing}
 use Rattle.boxes.proofs.KindLaws.{first_of-those, those_nth}
 use Rattle.partial.specs.Index.{Indexed, Told, list_framed, index_in, has_index}
@@ -111,6 +111,10 @@ pub known_tally : {r : Result Tally Refusal} {x : Answer (List Box)} {t : Tally}
 known_tally {x = x} {t} {bs} answer ok known =
     let (cs, same, is) = tally_sound answer ok in
     is ∙ ap tally_of (given_same (sym same ∙ known))
+
+-- and they were counted
+pub known_sound : {r : Result Tally Refusal} {x : Answer (List Box)} {e : Refusal} {bs : List Box} → told_as (λ t. t) r ≡ tallied x → r ≡ Err e → x ≡ given bs → ⊥
+known_sound answer err known = not_both (sym (tally_fault answer err) ∙ known)
 
 -- a `fidx` that was found is the first
 pub a_found : (bs : List Box) {b : Box} → Some b ≡ first_in (those fidx bs) → (0 < length (those fidx bs)) × (b ≡ first_of fidx bs)

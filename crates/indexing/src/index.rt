@@ -54,7 +54,7 @@ fn list_of(
 }
 
 // What is marked with the index in a container, if it has one, of a source that ends there: its `fidx`, whose boxes
-// start at a place of the source.
+// start at a place of the source. A container with a fault has no known boxes, and no index here.
 pub fn index_in(
     file: &[u8],
     body: Body,
@@ -67,9 +67,15 @@ pub fn index_in(
         → Indexes file.now body.container bs (end_of size) from.0 before table.old table.new result
         × CountedIn body.end.0 before result }
 {
-    let counts = tally(file, body)?;
+    let Ok(counts) = tally(file, body) else {
+        return Ok(None);
+    };
     if !keeps(body.container, FIDX, counts.of(FIDX)) {
         return Err(Refusal::IndexWrong);
+    }
+    // Most containers have none: it is not walked again for that.
+    if counts.of(FIDX) == 0 {
+        return Ok(None);
     }
     let Some(list) = first_of(file, body, FIDX) else {
         return Ok(None);

@@ -14,7 +14,6 @@ use Rattle.additions.specs.Begin.{surl_box}
 use Rattle.adding.specs.Counts.{Whole}
 use Rattle.adding.specs.Layout.{PsegLaid}
 use Rattle.partial.specs.Limits.{file_limit}
-use Rattle.fields.specs.State.{state_no}
 use Rattle.puts.specs.Boxes.{ftyp_box, pfhd_box, pfil_box, chosen, data_part, pseg_box}
 use Rattle.puts.specs.Entries.{entry_of, Entry, Fits}
 use Rattle.puts.specs.Pieces.{PutsPieces}
@@ -124,10 +123,10 @@ put_pdat-result κs args _ (a, b, room) x y after after' p q = one_end (p a b) (
 put_pdat_bytes : OneLeftKnown put-pdat.Post (λ κs args (_ : Unit {0}). (args.1.1.1.1.0 ≡ length (data_for (goes_in args.1.1.0) (items args.1.1.1.1.1.0.now) args.1.1.1.1.1.1.0.now)) × (length (data_part args.1.1.0 args.1.1.1.0 args.1.1.1.1.1.0.now args.1.1.1.1.1.1.0.now) < 2 ^ 32) × Room args.0.now args.1.0.0 (data_part args.1.1.0 args.1.1.1.0 args.1.1.1.1.1.0.now args.1.1.1.1.1.1.0.now)) (λ κs after. after.0.now)
 put_pdat_bytes κs args _ (a, b, room) x y after after' p q = one_left (p a b) (q a b) room
 
-put_entry-result : OneKnown put-entry.Post (λ κs args (_ : Unit {0}). Entry args.1.1.0.size args.1.1.0.offset args.1.1.1.0 (state_no args.1.1.1.1.0) args.1.1.1.1.1.0 × Room args.0.now args.1.0.0 (entry_of args.1.1.0.size args.1.1.0.offset args.1.1.1.0 (state_no args.1.1.1.1.0) args.1.1.1.1.1.0))
+put_entry-result : OneKnown put-entry.Post (λ κs args (_ : Unit {0}). Entry args.1.1.0.size args.1.1.0.offset args.1.1.1.0 args.1.1.1.1.0 args.1.1.1.1.1.0 × Room args.0.now args.1.0.0 (entry_of args.1.1.0.size args.1.1.0.offset args.1.1.1.0 args.1.1.1.1.0 args.1.1.1.1.1.0))
 put_entry-result κs args _ (a, room) x y after after' p q = one_end (p a) (q a) room
 
-put_entry_bytes : OneLeftKnown put-entry.Post (λ κs args (_ : Unit {0}). Entry args.1.1.0.size args.1.1.0.offset args.1.1.1.0 (state_no args.1.1.1.1.0) args.1.1.1.1.1.0 × Room args.0.now args.1.0.0 (entry_of args.1.1.0.size args.1.1.0.offset args.1.1.1.0 (state_no args.1.1.1.1.0) args.1.1.1.1.1.0)) (λ κs after. after.0.now)
+put_entry_bytes : OneLeftKnown put-entry.Post (λ κs args (_ : Unit {0}). Entry args.1.1.0.size args.1.1.0.offset args.1.1.1.0 args.1.1.1.1.0 args.1.1.1.1.1.0 × Room args.0.now args.1.0.0 (entry_of args.1.1.0.size args.1.1.0.offset args.1.1.1.0 args.1.1.1.1.0 args.1.1.1.1.1.0)) (λ κs after. after.0.now)
 put_entry_bytes κs args _ (a, room) x y after after' p q = one_left (p a) (q a) room
 
 put_pseg-result : OneKnown put-pseg.Post (λ κs args (_ : Unit {0}). Whole (items args.1.1.0.list.now) args.1.1.1.0 × PsegLaid (asks args.1.1.0.header args.1.1.0.outside args.1.1.0.list.now [] args.1.1.0.texts.now args.1.1.0.lengths.now) args.1.1.1.1.0 × Fits (items args.1.1.0.list.now) × (args.1.1.1.1.1.0 ≡ size_of (goes_out args.1.1.0.outside) (items args.1.1.0.list.now)) × (length (pseg_box args.1.1.0.header args.1.1.0.outside args.1.1.0.list.now args.1.1.0.texts.now args.1.1.0.lengths.now) ≤ file_limit) × Room args.0.now args.1.0.0 (pseg_box args.1.1.0.header args.1.1.0.outside args.1.1.0.list.now args.1.1.0.texts.now args.1.1.0.lengths.now))

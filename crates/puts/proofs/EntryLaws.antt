@@ -150,14 +150,6 @@ all_distances o is all outs = record { inside = all ∙ sizes_split o is; outsid
 abbrev entries_of : Bool → List ℕ → ℕ → ℕ → List Item → List ℕ
 entries_of o list l w is = entry_bytes l w (placed_with o (size_of (goes_out o) (items list)) is)
 
--- an entry of a state with the flags of a number, present where that is
-module _ (l w size state n : ℕ) (z : Offset) (same : (flag_byte state ≡ flag_byte n) × (present state ≡ present n)) where
-  pub tried_entry : Entry l w size n z → Entry l w size state z
-  tried_entry held = record { narrow = held.narrow; sized = held.sized; offset = λ there. held.offset (sym same.1 ∙ there) }
-
-  pub entry_tried : entry_of l w size state z ≡ entry_of l w size n z
-  entry_tried = rw (same.0, same.1)
-
 -- before an item: those before it are written, and how far the data from it on lies is known
 pub record Midway (o : Bool) (list : List ℕ) (l w : ℕ) (buffer₀ : List ℕ) (at : ℕ) (buffer : List ℕ) (next : ℕ) (left : Backs) (i : ℕ) : Type 0 where
   pub bytes : Partly (entry_bytes l w (placed o (items list))) buffer₀ at buffer next (entries_of o list l w (items_from list i))

@@ -55,15 +55,16 @@ pub fn put_entry(
     at: Place,
     widths: Widths,
     size: u64,
-    state: State,
+    state: u64,
     offset: Offset,
 ) -> Place
-    ensures { Entry widths.size widths.offset size (state_no state) offset
-        → PutsPieces buffer.old at.0 (entry_of widths.size widths.offset size (state_no state) offset) buffer.new result.0 }
+    ensures { Entry widths.size widths.offset size state offset
+        → PutsPieces buffer.old at.0 (entry_of widths.size widths.offset size state offset) buffer.new result.0 }
 {
-    let sized = put_field(buffer, at, 1, flags_of(state));
+    let known = state_for(state);
+    let sized = put_field(buffer, at, 1, flags_of(known));
     let next = put_field(buffer, sized, widths.size, size);
-    if !state.is_present() {
+    if !known.is_present() {
         return next;
     }
     put_offset(buffer, next, widths.offset, offset)
@@ -127,11 +128,10 @@ fn put_entries(
     let mut left = backs;
     for i in 0..list.len() / 2 {
         let size = list[2 * i];
-        let number = list[2 * i + 1];
-        let state = state_for(number);
-        let back = left.of(outside, number);
+        let state = list[2 * i + 1];
+        let back = left.of(outside, state);
         next = put_entry(buffer, next, widths, size, state, Offset::Back(back));
-        left = left.past(outside, size, number);
+        left = left.past(outside, size, state);
     }
     next
 }

@@ -3,6 +3,9 @@
 -- leaves in a table is determined where the file is accepted and all of that fits, what the ends of segments say, their
 -- sources and the boxes where the lists of these stand where it is accepted, and the stages of an index where the file's heading and segments are known and whether they have one.
 use Prim.Native.Nat.{ℕ, ◌<◌, ◌≤◌}
+use denote.RattleType.{RattleType}
+use denote.Param.Laws.{Laws}
+use mir.Syntax.{Dict}
 use mathlib.Core.List.{List}
 use mathlib.Core.Path.{◌≡◌, sym, ap, ◌∙◌}
 use lib.ListN.{length, take}
@@ -160,8 +163,9 @@ read_segments κs args x y after after' p q = p.tables.segment_table ∙ sym q.t
 read_chunks : OneLeft read.Post (λ κs after. after.1.1.1.0.now)
 read_chunks κs args x y after after' p q = p.tables.chunk_table ∙ sym q.tables.chunk_table
 
-part_of_part : OneOf part_of.Post {X = (ℕ × ℕ) × List ℕ} (λ κs r. (r.ref_ptr, r.now))
-part_of_part κs args x y after after' p q = one_part p q
+-- whatever tells a refusal
+part_of_part : (E : RattleType) (laws : Laws E) (bound : Dict) → OneOf (part_of.Post E laws bound) {X = (ℕ × ℕ) × List ℕ} (λ κs r. (r.ref_ptr, r.now))
+part_of_part E laws bound κs args x y after after' p q = one_part p q
 
 text_at_result : OneResult text_at.Post
 text_at_result κs args x y after after' p q = located_told x y (p ∙ sym q)

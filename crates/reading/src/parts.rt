@@ -1,13 +1,12 @@
 // Parts of a file: where one lies, and the bytes there.
-ghost use Rattle.reading.specs.Parts.{HandedBack, located_answer, handed};
+ghost use Rattle.reading.specs.Parts.{HandedBack, handed_by};
 
 use numerals::order::ends_by;
-use refusals::Refusal;
 use surls::part::Part;
 
-// The part of the file itself; empty after a refusal, and where it would not lie in the file.
-pub fn part_of(file: &[u8], located: Result<Part, Refusal>) -> &[u8]
-    ensures { HandedBack file.now file.entry.ref_ptr (handed file.now (located_answer located)) result.ref_ptr result.now }
+// The part of the file itself; empty after a refusal, whatever tells that, and where it would not lie in the file.
+pub fn part_of<E: Drop>(file: &[u8], located: Result<Part, E>) -> &[u8]
+    ensures { HandedBack file.now file.entry.ref_ptr (handed_by file.now located) result.ref_ptr result.now }
 {
     let Ok(part) = located else {
         return &file[0..0];

@@ -227,9 +227,9 @@ module _ (f : List ℕ) (h : Heading) (pseg : ℕ) (l : Location) (new : ℕ →
               held_here : Entries l.length_size l.offset_size (one ∷ anew met.rest)
               held_here = subst (λ (cs : List Chunk). Entries l.length_size l.offset_size (anew cs)) lefts m.held
 
-              pub midway_held : Held l.length_size l.offset_size e.size (state_no e.state) z
+              pub midway_held : {n : ℕ} → n ≡ state_no e.state → Held l.length_size l.offset_size e.size n z
               unfolding placed_anew
-              midway_held = rw far (entry-held _ _ one (anew met.rest) held_here)
+              midway_held number = rw (number, far) (entry-held _ _ one (anew met.rest) held_here)
 
               bytes_here : put m.left ≡ entry_of l.length_size l.offset_size e.size (state_no e.state) z ++ put met.rest
               unfolding placed_anew
@@ -238,14 +238,14 @@ module _ (f : List ℕ) (h : Heading) (pseg : ℕ) (l : Location) (new : ℕ →
                   ∙ entry_more l.length_size l.offset_size one (anew met.rest)
                   ∙ ap (λ (k : Offset). entry_of l.length_size l.offset_size e.size (state_no e.state) k ++ put met.rest) (sym far)
 
-              pub midway_more : {buffer' : List ℕ} {to' : ℕ} → PutsPieces buffer to (entry_of l.length_size l.offset_size e.size (state_no e.state) z) buffer' to'
+              pub midway_more : {buffer' : List ℕ} {to' n : ℕ} → n ≡ state_no e.state → PutsPieces buffer to (entry_of l.length_size l.offset_size e.size n z) buffer' to'
                   → Midway cs buffer₀ at buffer' to' e.next.0 (i + 1)
-              midway_more puts =
+              midway_more {buffer'} {to'} number puts =
                   record {
                     start = m.start + e.size;
                     left = met.rest;
                     read = ap (λ (x : Entry). from (l.count - (i + 1)) x.next (m.start + x.size)) (sym same_entry) ∙ met.onward;
-                    bytes = partly_more _ _ _ _ _ (partly_same _ _ _ bytes_here m.bytes) puts;
+                    bytes = partly_more _ _ _ _ _ (partly_same _ _ _ bytes_here m.bytes) (subst (λ (n : ℕ). PutsPieces buffer to (entry_of l.length_size l.offset_size e.size n z) buffer' to') number puts);
                     held = entries_rest _ _ one (anew met.rest) held_here;
                   }
 

@@ -93,7 +93,7 @@ fn put_entries(
             return next;
         };
         let offset = offset_anew(e, pseg, moves);
-        next = put_entry(buffer, next, widths, e.size, e.state, offset);
+        next = put_entry(buffer, next, widths, e.size, e.state.number(), offset);
         entry = e.next;
     }
     next

@@ -40,11 +40,14 @@ pub fn surls_formed(file: &[u8], body: Body) -> bool
         return false;
     }
     let mut walk = Walk::new(body);
-    while let Some((b, next)) = walk.step(file).unwrap_or(None) {
+    while let Ok(step) = walk.step(file) {
+        let Some((b, next)) = step else {
+            return true;
+        };
         if b.kind == SURL && !surl_formed(file, b) {
             return false;
         }
         walk = next;
     }
-    true
+    false
 }

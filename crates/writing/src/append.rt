@@ -19,7 +19,7 @@ ghost use Rattle.writing.specs.Append.{Ready, Appends};
 
 use adding::addition::Addition;
 use adding::admission::{Asked, Onto, Target, admission, outside_right};
-use adding::counts::{Counts, counts_of};
+use adding::counts::{Counts, counted};
 use adding::layout::layout_of;
 use adding::texts::{Texts, texts_of};
 use additions::header::SegmentHeader;
@@ -118,7 +118,7 @@ fn append_to(buffer: &mut [u8], onto: Onto, addition: Addition) -> Result<u64, R
     if list.len() % 2 != 0 {
         return Err(Refusal::ChunkListWrong);
     }
-    let counts = counts_of(list)?;
+    let counts = counted(list)?;
     let said = texts_of(addition.texts, addition.lengths);
     if !said.even {
         return Err(Refusal::ChunkListWrong);

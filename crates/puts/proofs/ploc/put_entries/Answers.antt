@@ -3,8 +3,7 @@
 use Prim.Native.Nat.{◌/◌, ◌<◌}
 use native.Mathlib.Omega.{arith}
 use lib.ListN.{length}
-use Rattle.puts.proofs.EntryLaws.{midway_start, midway_distances, midway_entry, midway_more, midway_end, tried_entry, entry_tried}
-use Rattle.puts.proofs.PieceLaws.{pieces_same}
+use Rattle.puts.proofs.EntryLaws.{midway_start, midway_distances, midway_entry, midway_more, midway_end}
 use Rattle.puts.proofs.ploc.put_entries.Goals as goal
 
 pub loop-i-init : goal.loop-i-init
@@ -14,12 +13,10 @@ pub loop-i-preserved : goal.loop-i-preserved
 loop-i-preserved c =
     λ held far.
     let less : c.loop-i.i < length c.args.list.now / 2 = omega arith in
-    let same = c.state_for-state.ensures in
     let m = c.loop-i.invariant held far in
     let here = midway_distances _ _ _ _ _ _ m less in
     let back = c.of-back.ensures _ _ _ here in
-    let entry = c.put_entry-next.ensures (tried_entry _ _ _ _ _ _ same (midway_entry _ _ _ _ _ _ m less back)) in
-    midway_more _ _ _ _ _ _ m less back (pieces_same (entry_tried _ _ _ _ _ _ same) entry) (c.past-left.ensures _ _ here)
+    midway_more _ _ _ _ _ _ m less back (c.put_entry-next.ensures (midway_entry _ _ _ _ _ _ m less back)) (c.past-left.ensures _ _ here)
 
 pub returns : goal.returns
 returns c held far = midway_end _ _ _ _ _ _ (c.loop-i.invariant held far) (omega arith)

@@ -3,10 +3,10 @@ use mathlib.Core.Path.{ap, ◌∙◌}
 use Rattle.reading.specs.Parts.{handed}
 use Rattle.surls.specs.First.{text_in}
 use Rattle.surls.specs.declared.first.Text.TheVariants.{Url}
-use Rattle.reading.proofs.PartLaws.{handed_same}
+use Rattle.reading.proofs.PartLaws.{handed_told, handed_same}
 use Rattle.reading.proofs.TextLaws.{text-handed}
 use Rattle.reading.proofs.texts.url.Goals as goal
 
 pub returns : goal.returns
 unfolding text_in
-returns c = handed_same (ap (handed _) c.text_at.ensures ∙ text-handed Url _) c.part_of.ensures
+returns c = handed_same (handed_told _ _ ∙ ap (handed _) c.text_at.ensures ∙ text-handed Url _) c.part_of.ensures

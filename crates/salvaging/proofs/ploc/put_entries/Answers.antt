@@ -23,7 +23,8 @@ loop-i-preserved c =
           let is = c.in-Ok.is in
           let there = midway_place _ _ _ _ _ _ _ _ m (omega arith) answer is in
           let far = c.offset_anew-offset.ensures _ h m.start _ moving same there in
-          midway_more _ _ _ _ _ _ _ _ m (omega arith) answer is far (c.put_entry-next.ensures (midway_held _ _ _ _ _ _ _ _ m (omega arith) answer is far)),
+          let number = c.number.ensures in
+          midway_more _ _ _ _ _ _ _ _ m (omega arith) answer is far number (c.put_entry-next.ensures (midway_held _ _ _ _ _ _ _ _ m (omega arith) answer is far number)),
     )
 
 pub returns : goal.returns

@@ -5,8 +5,8 @@ use Rattle.surls.proofs.FormLaws.{all_formed}
 use Rattle.tallying.proofs.FoundLaws.{Asked}
 use Rattle.surls.proofs.formed.surls_formed.Given as goal
 
-abbrev pub invariant-loop-b : goal.invariant-loop-b
-invariant-loop-b l = Asked l.file (all_formed l.file) l.initial.walk (all_formed l.file) l.walk × (l.walk.end ≡ l.initial.walk.end)
+abbrev pub invariant-loop-step : goal.invariant-loop-step
+invariant-loop-step l = Asked l.file (all_formed l.file) l.initial.walk (all_formed l.file) l.walk × (l.walk.end ≡ l.initial.walk.end)
 
-abbrev pub decreases-loop-b : goal.decreases-loop-b
-decreases-loop-b l = l.walk.left
+abbrev pub decreases-loop-step : goal.decreases-loop-step
+decreases-loop-step l = l.walk.left

@@ -21,7 +21,7 @@ pub returns-in_err-counts : goal.returns-in_err-counts
 unfolding asks
 returns-in_err-counts c =
     let ready = c.requires in
-    let wrong = list_unright _ (told-err (λ k. k) c.counts_of.ensures c.in_err-counts.was) in
+    let wrong = list_unright _ (told-err (λ k. k) c.counted.ensures c.in_err-counts.was) in
     appends_handed _ _ _ _ _ c.from_residual.ensures.1
     (wrong_lists _ _ _ ready.enough _ (earlier _ _ ready.told) (list_first _ wrong.0) ∙ ap refused (sym wrong.1))
 
@@ -38,8 +38,8 @@ unfolding asks
 returns-then-bytes-counts c =
     let a = c.args.addition in
     let ready = c.requires in
-    let differ = data_differs a.header a.outside a.list.now a.bytes.now a.texts.now a.lengths.now (list_given _ (told-ok (λ k. k) c.counts_of.ensures c.in_ok-counts.was)).1 (omega (arith, c.well_formed)) c.if-bytes-counts.true in
-    appends_refused _ _ _ (wrong_bytes _ _ _ ready.enough _ (earlier _ _ ready.told) (lists_both _ (list_right_lem _ c.if-list-ne0.false (told-ok (λ k. k) c.counts_of.ensures c.in_ok-counts.was)) (sym (even_told _ _ c.texts_of-said.ensures) ∙ not-false _ c.if-not-said.false)) (data_first _ differ))
+    let differ = data_differs a.header a.outside a.list.now a.bytes.now a.texts.now a.lengths.now (list_given _ (told-ok (λ k. k) c.counted.ensures c.in_ok-counts.was)).1 (omega (arith, c.well_formed)) c.if-bytes-counts.true in
+    appends_refused _ _ _ (wrong_bytes _ _ _ ready.enough _ (earlier _ _ ready.told) (lists_both _ (list_right_lem _ c.if-list-ne0.false (told-ok (λ k. k) c.counted.ensures c.in_ok-counts.was)) (sym (even_told _ _ c.texts_of-said.ensures) ∙ not-false _ c.if-not-said.false)) (data_first _ differ))
 
 pub returns-then-not-said-2 : goal.returns-then-not-said-2
 unfolding asks
@@ -47,7 +47,7 @@ returns-then-not-said-2 c =
     let a = c.args.addition in
     let ready = c.requires in
     let differ = sym (whole_told _ _ c.texts_of-said.ensures a.header a.outside a.list.now a.bytes.now) ∙ not-true _ c.if-not-said-2.true in
-    appends_refused _ _ _ (wrong_bytes _ _ _ ready.enough _ (earlier _ _ ready.told) (lists_both _ (list_right_lem _ c.if-list-ne0.false (told-ok (λ k. k) c.counts_of.ensures c.in_ok-counts.was)) (sym (even_told _ _ c.texts_of-said.ensures) ∙ not-false _ c.if-not-said.false)) (texts_second _ differ))
+    appends_refused _ _ _ (wrong_bytes _ _ _ ready.enough _ (earlier _ _ ready.told) (lists_both _ (list_right_lem _ c.if-list-ne0.false (told-ok (λ k. k) c.counted.ensures c.in_ok-counts.was)) (sym (even_told _ _ c.texts_of-said.ensures) ∙ not-false _ c.if-not-said.false)) (texts_second _ differ))
 
 pub append_counted-requires : goal.append_counted-requires
 unfolding asks
@@ -56,8 +56,8 @@ append_counted-requires c =
     let ready = c.requires in
     let texts = c.texts_of-said.ensures in (
       ready,
-      list_right_lem _ c.if-list-ne0.false (told-ok (λ k. k) c.counts_of.ensures c.in_ok-counts.was),
-      counted_of a.header a.outside a.list.now a.bytes.now a.texts.now a.lengths.now (list_given _ (told-ok (λ k. k) c.counts_of.ensures c.in_ok-counts.was)).1 (omega (arith, c.well_formed)) c.if-bytes-counts.false,
+      list_right_lem _ c.if-list-ne0.false (told-ok (λ k. k) c.counted.ensures c.in_ok-counts.was),
+      counted_of a.header a.outside a.list.now a.bytes.now a.texts.now a.lengths.now (list_given _ (told-ok (λ k. k) c.counted.ensures c.in_ok-counts.was)).1 (omega (arith, c.well_formed)) c.if-bytes-counts.false,
       record {
         counts = texts;
         lengths = sym (even_told _ _ texts) ∙ not-false _ c.if-not-said.false;
