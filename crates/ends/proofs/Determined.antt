@@ -1,16 +1,17 @@
 -- Each public call's contract determines its answer: two that it allows of the same arguments are equal. A call on what
 -- was gathered is determined where the segments are known of which it was, and a call on one segment, where that is
 -- known. A table is determined by its entries, and what is put into one where it is as long as the table is.
+use Prim.Native.Nat.{ℕ, ◌*◌}
 use mathlib.Core.List.{List}
 use mathlib.Core.Path.{◌≡◌, sym, ◌∙◌}
-use lib.ListN.{length}
+use lib.ListN.{length, get_or}
 use Rattle.numerals.proofs.Determined.{OneResult, OneKnown, OneLeft, OneLeftKnown}
 use Rattle.partial.specs.Meaning.{gives_size}
 use Rattle.partial.specs.Segments.{Segment, end_of}
 use Rattle.partial.specs.Sources.{source_count}
 use Rattle.ends.specs.Sizes.{sizes_of}
-use Rattle.ends.specs.Table.{all_sizes, sizes_in, Holds}
-use Rattle.ends.proofs.TableLaws.{put_one}
+use Rattle.ends.specs.Table.{entry_length, all_sizes, sizes_in, Holds}
+use Rattle.ends.proofs.TableLaws.{put_one, put_one_first}
 use Rattle.ends.proofs.sizes.Sizes.agree.Reads as agree
 use Rattle.ends.proofs.sizes.Sizes.described.Reads as described
 use Rattle.ends.proofs.sizes.Sizes.none.Reads as none
@@ -43,6 +44,12 @@ sizes_at_result κs args x y after after' p q = p ∙ sym q
 
 put_sizes_entries : OneLeftKnown put-sizes.Post (λ κs args (_ : Unit {0}). length args.0.now ≡ all_sizes) (λ κs after. sizes_in after.0.now)
 put_sizes_entries κs args known long x y after after' p q = λ i k. put_one long p q k i
+
+put_sizes_first : OneLeftKnown put-sizes.Post {Y = ℕ → ℕ} (λ κs args (_ : Unit {0}). length args.0.now ≡ all_sizes) (λ κs after (k : ℕ). get_or after.0.now (entry_length * k) 0)
+put_sizes_first κs args known long x y after after' p q = λ i k. put_one_first long p q k i
+
+clear_sizes_numbers : OneLeft clear-sizes.Post {X = ℕ → ℕ} (λ κs after (i : ℕ). get_or after.0.now i 0)
+clear_sizes_numbers κs args x y after after' p q = λ i n. (p.zeros n ∙ sym (q.zeros n)) i
 
 clear_sizes_entries : OneLeft clear-sizes.Post (λ κs after. sizes_in after.0.now)
 clear_sizes_entries κs args x y after after' p q = λ i k. (p.none k ∙ sym (q.none k)) i

@@ -13,6 +13,7 @@ use borrow.Author.Tests.{le-ltb, lt-ltb, eq-eqb, ne_eqb}
 use lib.Dec.{eqb, ltb}
 use lib.ListN.{length, get_or, set, replicate, length-set, length-replicate, get_or-replicate}
 use lib.Seq.{get_or-set_same, get_or-set_other}
+use Rattle.std.proofs.lemmas.List.{get_or_past}
 use Rattle.std.specs.Bool.{then_some}
 use Rattle.std.specs.Prelude.{Option, None, Some, option_map}
 use Rattle.partial.specs.declared.position.Position.{Position}
@@ -66,6 +67,14 @@ entry_same t t' source same = go (ltb source sources)
     go true = entry_by t (entry_length * source) first (same 1 (omega arith))
     go false = refl
 
+-- each number of a table of zeros
+zero_at : (i : ℕ) → ◌≡◌ {A = ℕ} (get_or (replicate all_sizes 0) i 0) 0
+zero_at i =
+    elim (dec_le all_sizes i) [
+      | yes past ↦ get_or_past (replicate all_sizes 0) i 0 (omega (arith, length-replicate {A = ℕ} all_sizes 0))
+      | no there ↦ get_or-replicate all_sizes i 0 0 (omega arith)
+    ]
+
 -- a table of zeros
 pub zeros_cleared : Cleared (replicate all_sizes 0)
 zeros_cleared =
@@ -75,11 +84,11 @@ zeros_cleared =
           elim (dec_le sources source) [
             | yes past ↦ sizes_past (replicate all_sizes 0) source past
             | no there ↦
-                let zero : (i : ℕ) → i < all_sizes → ◌≡◌ {A = ℕ} (get_or (replicate all_sizes 0) i 0) 0 = λ i. get_or-replicate all_sizes i 0 0 in
                 sizes_there (replicate all_sizes 0) source (omega arith)
-                ∙ entry_by (replicate all_sizes 0) (entry_length * source) (zero (entry_length * source) (omega arith)) (zero (entry_length * source + 1) (omega arith))
+                ∙ entry_by (replicate all_sizes 0) (entry_length * source) (zero_at (entry_length * source)) (zero_at (entry_length * source + 1))
                 ∙ sizes_none
           ];
+      zeros = zero_at;
     }
 
 -- the second number of an entry: a position, and a flag kept as 1 or 0
@@ -149,6 +158,9 @@ put-entry t source x {n = size} there number =
           ∙ entry_by put at (at_first t at size largest room) (at_second t at size largest room)
           ∙ (λ i. record { size = size_same i; largest = record { 0 = position_back x.largest.0 (not x.same) i }; same = same i });
       others = λ k other. entry_same put t k (λ j less. at_other t at size largest (entry_length * k + j) (λ above. omega arith));
+      first = λ _ long. at_first t at size largest (omega arith) ∙ number;
+      ahead = λ i low. at_other t at size largest i (λ above. omega arith);
+      behind = λ i high. at_other t at size largest i (λ above. omega arith);
     }
 
 -- two tables after the same was put have the same entries
@@ -161,6 +173,23 @@ put_one {t} {t'} {t''} {source} long p q k =
             | no there ↦ rw same (p.here (omega arith) long ∙ sym (q.here (omega arith) long))
           ]
       | no other ↦ p.others k other ∙ sym (q.others k other)
+    ]
+
+-- and the same first numbers of them
+pub put_one_first : {t t' t'' : List ℕ} {source : ℕ} {x : Sizes} → length t ≡ all_sizes → SizesPut t source x t' → SizesPut t source x t'' → (k : ℕ)
+    → get_or t' (entry_length * k) 0 ≡ get_or t'' (entry_length * k) 0
+put_one_first {t} {t'} {t''} {source} long p q k =
+    elim (ℕ_discrete k source) [
+      | yes same ↦
+          elim (dec_le sources k) [
+            | yes past ↦ get_or_past t' (entry_length * k) 0 (omega (arith, p.long)) ∙ sym (get_or_past t'' (entry_length * k) 0 (omega (arith, q.long)))
+            | no there ↦ rw same (p.first (omega arith) long ∙ sym (q.first (omega arith) long))
+          ]
+      | no other ↦
+          elim (dec_le k source) [
+            | yes low ↦ p.ahead _ (omega arith) ∙ sym (q.ahead _ (omega arith))
+            | no high ↦ p.behind _ (omega arith) ∙ sym (q.behind _ (omega arith))
+          ]
     ]
 
 -- of no segment

@@ -1,5 +1,5 @@
 -- What the ends of segments say, in a table that has an entry for each source.
-use Rattle.std.specs.Prelude.{ℕ, ◌+◌, ◌*◌, ◌/◌, ◌%◌, ◌^◌, ◌<◌, true, false, not, Option, None, Some, option_map, List, [], ◌≡◌, eqb, ltb, length, get_or}
+use Rattle.std.specs.Prelude.{ℕ, ◌+◌, ◌*◌, ◌/◌, ◌%◌, ◌^◌, ◌<◌, ◌≤◌, true, false, not, Option, None, Some, option_map, List, [], ◌≡◌, eqb, ltb, length, get_or}
 use Rattle.std.specs.Bool.{then_some}
 use Rattle.partial.specs.declared.position.Position.{Position}
 use Rattle.partial.specs.Segments.{Segment}
@@ -46,16 +46,21 @@ kept_sizes x = record { size = option_map (λ p. record { 0 = p.0 % flag }) x.si
 unfoldable pub sizes_in : List ℕ → ℕ → Sizes
 sizes_in t source = elim (ltb source sources) [ true ↦ entry_in t (entry_length * source) | false ↦ sizes_of [] ]
 
--- a table after the entry of a source was put, where it has one: every other stays
+-- a table after the entry of a source was put, where it has one: every other stays, number by number, and the first
+-- number of the entry holds nothing but the size
 pub record SizesPut (before : List ℕ) (source : ℕ) (x : Sizes) (table : List ℕ) : Type 0 where
   pub long : length table ≡ length before
   pub here : source < sources → length before ≡ all_sizes → sizes_in table source ≡ kept_sizes x
   pub others : (k : ℕ) → (k ≡ source → ⊥) → sizes_in table k ≡ sizes_in before k
+  pub first : source < sources → length before ≡ all_sizes → get_or table (entry_length * source) 0 ≡ size_number x.size
+  pub ahead : (i : ℕ) → i < entry_length * source → get_or table i 0 ≡ get_or before i 0
+  pub behind : (i : ℕ) → entry_length * source + entry_length ≤ i → get_or table i 0 ≡ get_or before i 0
 
--- a table of which each entry is that of no segment
+-- a table of which each entry is that of no segment, and each number is 0
 pub record Cleared (table : List ℕ) : Type 0 where
   pub long : length table ≡ all_sizes
   pub none : (source : ℕ) → sizes_in table source ≡ sizes_of []
+  pub zeros : (i : ℕ) → get_or table i 0 ≡ 0
 
 -- a table that holds of each source what the ends of its segments say
 pub record Holds (table : List ℕ) (ss : List Segment) : Type 0 where

@@ -53,7 +53,7 @@ fn mark_by(source: u64, kept: Kept<'_>, sizes: &[u64; ALL_SIZES], count: u64, ta
 {
     let end = sizes_at(sizes, source).described();
     let mut spans = [NO_SPAN; ALL_SPANS];
-    let n = file_spans(kept, State::Good, source, end, &mut spans);
+    let n = file_spans(kept, State::Good.number(), source, end, &mut spans);
     let mut had = [0; ALL_RANGES];
     let lists = put_lists(&spans[..n], end, &mut had, &mut []);
     let (ranges, _) = had.as_chunks();

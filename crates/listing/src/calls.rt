@@ -75,7 +75,7 @@ fn list_kept(
         chunks.old chunks.new had.old had.new missing.old missing.new result }
 {
     let mut table = [NO_SPAN; ALL_SPANS];
-    let n = file_spans(kept, State::Good, source, end, &mut table);
+    let n = file_spans(kept, State::Good.number(), source, end, &mut table);
     let spans = &table[..n];
     // Ranges had and missing take turns, and there are no more than one, and one for each segment and chunk.
     let most = (2 + kept.many + count) / 2;

@@ -29,5 +29,5 @@ pub(crate) fn file_damage(
     if !named {
         return 0;
     }
-    file_spans(kept, State::Damaged, source, end, table)
+    file_spans(kept, State::Damaged.number(), source, end, table)
 }

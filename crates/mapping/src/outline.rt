@@ -40,7 +40,7 @@ pub(crate) fn outline_of<'a>(
 {
     let said = sizes_at(film.sizes, source);
     let end = said.described();
-    let good = file_spans(film.kept, State::Good, source, end, spans);
+    let good = file_spans(film.kept, State::Good.number(), source, end, spans);
     let (front, behind) = spans.split_at_mut(good);
     let damaged = file_damage(film.kept, source, end, named, behind);
     Outline {

@@ -4,7 +4,6 @@ use Prim.Native.Nat.{ℕ, ◌<◌, ◌≤◌}
 use mathlib.Core.List.{List}
 use mathlib.Core.Path.{◌≡◌, sym, ◌∙◌}
 use lib.ListN.{length}
-use Rattle.fields.specs.State.{state_no}
 use Rattle.partial.specs.Segments.{Segment, chunks_of}
 use Rattle.partial.specs.Sources.{of_source}
 use Rattle.spans.specs.KeptOf.{KeptOf}
@@ -33,7 +32,7 @@ Known kept state source end table (ss, q) =
     KeptOf kept ss × (many_of state (chunks_of (of_source source ss)) ≤ length table) × (q < end)
 
 spans_of_covered : OneMade spans-of.Post
-    (λ κs args. Known args.0 (state_no args.1.0) args.1.1.0 args.1.1.1.0.0 args.1.1.1.1.0.now)
+    (λ κs args. Known args.0 args.1.0 args.1.1.0 args.1.1.1.0.0 args.1.1.1.1.0.now)
     (λ κs args r after (ss, q). covered_by after.1.1.1.1.0.now r q)
 spans_of_covered κs args (ss, q) (kept, room, below) x y after after' a b = (a.1 ss kept room).covers q below ∙ sym ((b.1 ss kept room).covers q below)
 
@@ -41,6 +40,6 @@ order_covered : OneMade order.Post (λ κs args (q : ℕ). args.1.0 ≤ length a
 order_covered κs args q room x y after after' a b = same_covered (a room).0 q ∙ sym (same_covered (b room).0 q)
 
 file_spans_covered : OneMade file-spans.Post
-    (λ κs args. Known args.0 (state_no args.1.0) args.1.1.0 args.1.1.1.0.0 args.1.1.1.1.0.now)
+    (λ κs args. Known args.0 args.1.0 args.1.1.0 args.1.1.1.0.0 args.1.1.1.1.0.now)
     (λ κs args n after (ss, q). covered_by after.1.1.1.1.0.now n q)
 file_spans_covered κs args (ss, q) (kept, room, below) x y after after' a b = (a.1 ss kept room).covers q below ∙ sym ((b.1 ss kept room).covers q below)

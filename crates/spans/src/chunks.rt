@@ -1,6 +1,5 @@
 // The spans of the chunks of one state of a source, made of what is kept of a file.
 ghost use Rattle.std.specs.Prelude.{◌+◌, ◌≤◌, ◌<◌, List, ◌≡◌, length, MatchOption};
-ghost use Rattle.fields.specs.State.{state_no};
 ghost use Rattle.partial.specs.Limits.{chunk_limit};
 ghost use Rattle.partial.specs.Segments.{Segment, chunks_of};
 ghost use Rattle.partial.specs.Sources.{of_source};
@@ -12,7 +11,6 @@ ghost use Rattle.spans.specs.Spans.{Spans};
 use crate::kept::Kept;
 use crate::put::join_span;
 use crate::span::Span;
-use fields::state::State;
 use gathering::numbers::chunk_by;
 use partial::limits::{CHUNK_LIMIT, SEGMENT_LIMIT};
 use partial::position::Position;
@@ -24,10 +22,10 @@ use sources::numbers::ALL_SOURCES;
 pub const ALL_SPANS: usize = 1_024;
 
 // The span of what a chunk of a state covers below an end, if it covers anything there.
-fn span_of(c: Chunk, state: State, end: Position) -> Option<Span>
-    ensures { MatchOption result (SpanEnd (state_no state) (chunk_of c) end.0 c.start.0) (λ s. (s.first.0 ≡ c.start.0) × (c.start.0 < s.end.0) × SpanEnd (state_no state) (chunk_of c) end.0 s.end.0) }
+fn span_of(c: Chunk, state: u64, end: Position) -> Option<Span>
+    ensures { MatchOption result (SpanEnd state (chunk_of c) end.0 c.start.0) (λ s. (s.first.0 ≡ c.start.0) × (c.start.0 < s.end.0) × SpanEnd state (chunk_of c) end.0 s.end.0) }
 {
-    if c.state != state {
+    if c.state.number() != state {
         return None;
     }
     let first = c.start;
@@ -44,8 +42,8 @@ fn span_of(c: Chunk, state: State, end: Position) -> Option<Span>
 // Takes a chunk into a table of so many spans, and answers how many there are then: no more where it is of another
 // state, or covers nothing below an end, or has no room. The table is fixed memory, so that how many spans it has stands
 // beside it.
-fn take_chunk(table: &mut [Span], n: usize, c: Chunk, state: State, end: Position) -> usize
-    ensures { Taken (state_no state) end.0 (chunk_of c) table.old n table.new result }
+fn take_chunk(table: &mut [Span], n: usize, c: Chunk, state: u64, end: Position) -> usize
+    ensures { Taken state end.0 (chunk_of c) table.old n table.new result }
 {
     let Some(span) = span_of(c, state, end) else {
         return n;
@@ -63,14 +61,14 @@ fn take_segment(
     at: u64,
     count: u64,
     first: Position,
-    state: State,
+    state: u64,
     end: Position,
     table: &mut [Span],
     before: usize,
 ) -> usize
     requires { at + count ≤ chunk_limit }
     ensures { (Spans table.old before end.0 → Spans table.new result end.0)
-        × Extends (state_no state) numbers.now at count first.0 end.0 table.old before table.new result }
+        × Extends state numbers.now at count first.0 end.0 table.old before table.new result }
 {
     let mut n = before;
     let mut start = first;
@@ -85,17 +83,11 @@ fn take_segment(
 // Puts the spans of what the chunks of a state of a source cover below an end into a table, and answers how many they
 // are, by what is kept of so many segments, whatever their sources; of all of them where the table has room for a span
 // of each.
-pub fn spans_of(
-    kept: Kept<'_>,
-    state: State,
-    source: u64,
-    end: Position,
-    table: &mut [Span],
-) -> usize
+pub fn spans_of(kept: Kept<'_>, state: u64, source: u64, end: Position, table: &mut [Span]) -> usize
     ensures { Spans table.new result end.0
         × ((ss : List Segment) → KeptOf kept.entry ss
-        → many_of (state_no state) (chunks_of (of_source source ss)) ≤ length table.old
-        → SpansOf (state_no state) (chunks_of (of_source source ss)) end.0 table.new result) }
+        → many_of state (chunks_of (of_source source ss)) ≤ length table.old
+        → SpansOf state (chunks_of (of_source source ss)) end.0 table.new result) }
 {
     if SEGMENT_LIMIT < kept.many {
         return 0;

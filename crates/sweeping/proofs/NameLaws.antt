@@ -121,7 +121,7 @@ module _ (good : List Span) (n : ℕ) (damaged : List Span) (m : ℕ) where
 -- ---- what is found
 
 module _ (good damaged : List Span) (p end : ℕ) {g : Sweep} (of_good : Ready good end p g) (some : p < g.to.0) where
-  pub names_had : {waiting : Sweep} → class_no g.class ≡ had → Ready damaged end p waiting
+  pub names_had : {waiting : Sweep} → g.class ≡ had → Ready damaged end p waiting
       → Names good damaged p end (record { range = record { class = Had; length = g.to.0 - p }; sweeps = record { good = g; damaged = waiting } })
   names_had is waits =
       record {
@@ -129,7 +129,7 @@ module _ (good damaged : List Span) (p end : ℕ) {g : Sweep} (of_good : Ready g
         ready = record { of_good = ready_on of_good (omega arith); of_damaged = ready_on waits (omega arith) };
       }
 
-  module _ {d : Sweep} (of_damaged : Ready damaged end p d) (some' : p < d.to.0) (not-had : class_no g.class ≡ had → ⊥) where
+  module _ {d : Sweep} (of_damaged : Ready damaged end p d) (some' : p < d.to.0) (not-had : g.class ≡ had → ⊥) where
     missed : {value : Bool} {r : Range} → Stays (covered_by damaged (length damaged)) p end value d.to.0 → class_no r.class ≡ missed_by value
         → r.length ≡ min g.to.0 d.to.0 - p
         → Names good damaged p end (record { range = r; sweeps = record { good = g; damaged = d } })
@@ -144,10 +144,10 @@ module _ (good damaged : List Span) (p end : ℕ) {g : Sweep} (of_good : Ready g
           ready = record { of_good = ready_on of_good (omega arith); of_damaged = ready_on of_damaged (omega arith) };
         }
 
-    pub names_held : {r : Range} → class_no d.class ≡ had → class_no r.class ≡ held → r.length ≡ min g.to.0 d.to.0 - p
+    pub names_held : {r : Range} → d.class ≡ had → class_no r.class ≡ held → r.length ≡ min g.to.0 d.to.0 - p
         → Names good damaged p end (record { range = r; sweeps = record { good = g; damaged = d } })
     names_held kept = missed (stays_had damaged (length damaged) (of_damaged.stands some') kept)
 
-    pub names_lost : {r : Range} → (class_no d.class ≡ had → ⊥) → class_no r.class ≡ lost → r.length ≡ min g.to.0 d.to.0 - p
+    pub names_lost : {r : Range} → (d.class ≡ had → ⊥) → class_no r.class ≡ lost → r.length ≡ min g.to.0 d.to.0 - p
         → Names good damaged p end (record { range = r; sweeps = record { good = g; damaged = d } })
     names_lost none = missed (stays_missing damaged (length damaged) (of_damaged.stands some') some' none)

@@ -5,6 +5,7 @@ use mathlib.Core.List.{List}
 use native.Mathlib.Omega.{arith}
 use lib.ListN.{length}
 use Rattle.spans.specs.declared.span.Span.{Span}
+use Rattle.sweeping.specs.Classes.{class_no}
 use Rattle.sweeping.specs.Ranges.{Passed, Finds}
 use Rattle.spans.specs.Spans.{class_by}
 use Rattle.sweeping.specs.Sweeps.{at_start, Ready}
@@ -34,5 +35,5 @@ module _ {t : List Span} {end p : ℕ} {s : Sweep} (r : Ready t end p s) where
   ready_passed behind = record { most = r.passed.most; ended = λ j less. omega (arith, r.passed.ended j less) }
 
 pub ready_moved : (t : List Span) (p end : ℕ) → p < end → {f : Found} → Finds t (length t) p end f
-    → Ready t end p (record { class = f.range.class; to = record { 0 = p + f.range.length }; passed = f.passed })
+    → Ready t end p (record { class = class_no f.range.class; to = record { 0 = p + f.range.length }; passed = f.passed })
 ready_moved t p end below {f} finds = record { passed = finds.passed; stands = λ less. found_one (class_by t (length t)) p end below finds.range }

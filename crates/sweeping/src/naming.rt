@@ -53,7 +53,7 @@ pub fn named_at(
         → Names good.now damaged.now p.0 end.0 result) }
 {
     let had = sweeps.good.at(good, p, end);
-    if had.class == Class::Had {
+    if had.class == Class::Had.number() {
         return Named {
             range: Range {
                 class: Class::Had,
@@ -66,7 +66,7 @@ pub fn named_at(
         };
     }
     let held = sweeps.damaged.at(damaged, p, end);
-    let class = if held.class == Class::Had {
+    let class = if held.class == Class::Had.number() {
         Class::Held
     } else {
         Class::Missing

@@ -3,6 +3,7 @@
 ghost use Rattle.std.specs.Prelude.{◌<◌, ◌≡◌, length};
 ghost use Rattle.partial.specs.Ranges.{had};
 ghost use Rattle.spans.specs.Spans.{Ordered};
+ghost use Rattle.sweeping.specs.Classes.{class_no};
 ghost use Rattle.sweeping.specs.Ranges.{nothing, Passed, Reaches, GoesOn, Finds};
 
 use partial::position::Position;
@@ -15,6 +16,15 @@ pub enum Class {
     Missing = 0,
     Had = 1,
     Held = 2,
+}
+
+impl Class {
+    // Its number.
+    pub fn number(self) -> u64
+        ensures { result ≡ class_no self }
+    {
+        self as u64
+    }
 }
 
 // A range of positions from one on: their class, and how many they are.

@@ -7,10 +7,11 @@ use crate::ranges::{Class, range_at};
 use partial::position::Position;
 use spans::span::Span;
 
-// The class of the range that it stands in, where that ends, and how many spans are passed there.
+// The number of the class of the range that it stands in, where that ends, and how many spans are passed there. Any
+// number may be given: one that no class has is not that of what is had.
 #[derive(Clone, Copy)]
 pub struct Sweep {
-    pub class: Class,
+    pub class: u64,
     pub to: Position,
     pub passed: usize,
 }
@@ -21,7 +22,7 @@ impl Sweep {
         ensures { result ≡ at_start }
     {
         Sweep {
-            class: Class::Missing,
+            class: Class::Missing.number(),
             to: Position(0),
             passed: 0,
         }
@@ -39,7 +40,7 @@ impl Sweep {
         let found = range_at(spans, self.passed, p, end);
         let r = found.range;
         Sweep {
-            class: r.class,
+            class: r.class.number(),
             to: Position(p.0 + r.length),
             passed: found.passed,
         }

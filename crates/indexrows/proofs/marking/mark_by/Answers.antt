@@ -11,7 +11,7 @@ pub slice_bounds-mark-end : goal.slice_bounds-mark-end
 slice_bounds-mark-end c =
     let source = c.args.source in
     let (ss, a) = c.requires.2 in
-    let (ordered, spans) = c.file_spans-n.ensures in
+    let (ordered, spans) = rw c.number.ensures at c.file_spans-n.ensures in
     let end = c.described-end.ensures (of_source source ss) (c.sizes_at.ensures ∙ a.ends.said source) in
     let few = had-room a source end (spans ss a.kept (omega (arith, good_few a source))) (c.put_lists-lists.ensures (front_alone ordered)) in
     sym (length-take-le _ _ (omega (arith, few, c.as_chunks.ensures.front_len)))
@@ -19,7 +19,7 @@ slice_bounds-mark-end c =
 pub returns : goal.returns
 returns c ss is say a long starts =
     let source = c.args.source in
-    let (ordered, spans) = c.file_spans-n.ensures in
+    let (ordered, spans) = rw c.number.ensures at c.file_spans-n.ensures in
     let end = c.described-end.ensures (of_source source ss) (c.sizes_at.ensures ∙ a.ends.said source) in
     let listed = c.put_lists-lists.ensures (front_alone ordered) in
     let known = had-many a source end (spans ss a.kept (omega (arith, good_few a source))) listed (omega arith) c.as_chunks.ensures.front (omega arith) in

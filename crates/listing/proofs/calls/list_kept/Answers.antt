@@ -16,7 +16,7 @@ returns-then-not-have_room c =
     λ ss told room space.
     let source = c.args.source in
     let mine = of_source source ss in
-    let (order, all) = c.file_spans-n.ensures in
+    let (order, all) = rw c.number.ensures at c.file_spans-n.ensures in
     let ordered = front_alone order in
     let spanned = spanned_front order.spans.room (spanned_by told.long (all ss told.kept (omega (arith, many_few good (chunks_of mine), source-few source ss, told.kept.chunks)))) in
     let rows = c.have_room.ensures ordered mine spanned (omega (arith, told.had_few, told.kept.count, told.chunks)) (omega (arith, told.missing_few, told.kept.count, told.chunks)) in
@@ -30,7 +30,7 @@ returns c =
     λ ss told room space.
     let source = c.args.source in
     let mine = of_source source ss in
-    let (order, all) = c.file_spans-n.ensures in
+    let (order, all) = rw c.number.ensures at c.file_spans-n.ensures in
     let ordered = front_alone order in
     let spanned = spanned_front order.spans.room (spanned_by told.long (all ss told.kept (omega (arith, many_few good (chunks_of mine), source-few source ss, told.kept.chunks)))) in
     let rows = c.have_room.ensures ordered mine spanned (omega (arith, told.had_few, told.kept.count, told.chunks)) (omega (arith, told.missing_few, told.kept.count, told.chunks)) in

@@ -10,5 +10,5 @@ returns-then-not-named c =
 
 pub returns : goal.returns
 returns c =
-    let (ordered, all) = c.file_spans.ensures in
+    let (ordered, all) = rw c.number.ensures at c.file_spans.ensures in
     (ordered, λ ss kept room. damaged_by (all ss kept room) (search rules))

@@ -15,7 +15,7 @@ use Rattle.mapping.proofs.outline.outline_of.Goals as goal
 
 pub returns : goal.returns
 returns c =
-    let (ordered, all) = c.file_spans-good.ensures in
+    let (ordered, all) = rw c.number.ensures at c.file_spans-good.ensures in
     let (others, damage) = c.file_damage-damaged.ensures in
     let source = c.args.source in
     let said = c.sizes_at-said.ensures in

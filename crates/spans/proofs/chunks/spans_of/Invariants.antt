@@ -5,7 +5,6 @@ use mathlib.Core.List.{List}
 use mathlib.Core.Path.{◌≡◌}
 use lib.ListN.{length, take, drop}
 use Rattle.partial.specs.Limits.{chunk_limit}
-use Rattle.fields.specs.State.{state_no}
 use Rattle.partial.specs.Segments.{Segment, chunks_of}
 use Rattle.partial.specs.Sources.{of_source}
 use Rattle.gathering.specs.Kept.{SegmentsKept}
@@ -17,7 +16,7 @@ use Rattle.spans.proofs.chunks.spans_of.Given as goal
 abbrev pub invariant-loop-k : goal.invariant-loop-k
 invariant-loop-k l = (l.at ≤ chunk_limit)
     × Spans l.table l.n l.end.0
-    × ((ss : List Segment) → KeptOf l.kept ss → many_of (state_no l.state) (chunks_of (of_source l.source ss)) ≤ length l.initial.table
+    × ((ss : List Segment) → KeptOf l.kept ss → many_of l.state (chunks_of (of_source l.source ss)) ≤ length l.initial.table
     → (l.at ≡ length (chunks_of (take l.k ss)))
     × SegmentsKept l.kept.segments.now l.kept.sources.now l.kept.numbers.now l.k l.at (drop l.k ss)
-    × SpansOf (state_no l.state) (chunks_of (of_source l.source (take l.k ss))) l.end.0 l.table l.n)
+    × SpansOf l.state (chunks_of (of_source l.source (take l.k ss))) l.end.0 l.table l.n)

@@ -14,5 +14,5 @@ pub returns : goal.returns
 returns c =
     let finds = c.range_at-found.ensures in (
       record { on = omega arith; some = λ below. omega (arith, finds.0.some below) },
-      λ o ready below. ready_moved _ _ _ below (finds.1 o (ready_passed ready (omega arith)) below),
+      λ o ready below. rw c.number.ensures (ready_moved _ _ _ below (finds.1 o (ready_passed ready (omega arith)) below)),
     )
