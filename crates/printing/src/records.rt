@@ -29,9 +29,17 @@ pub fn numbers<R: Read, const N: usize>(input: &mut R) -> io::Result<Option<[usi
     Ok(Some(numbers))
 }
 
-// Takes a number of eight bytes, 0 where the input has ended.
+// The number in two bytes.
+pub fn pair(high: u8, low: u8) -> usize {
+    usize::from(u16::from_be_bytes([high, low]))
+}
+
+// Takes a number of eight bytes. Where the input ends before them, those that it has stand in front, and the others are
+// 0.
 pub fn eight<R: Read>(input: &mut R) -> io::Result<u64> {
-    Ok(number(input, 8)?.unwrap_or(0))
+    let mut bytes = [0; 8];
+    fill(input, &mut bytes)?;
+    Ok(u64::from_be_bytes(bytes))
 }
 
 // Takes a name of so many bytes, and prints it.

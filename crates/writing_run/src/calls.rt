@@ -9,7 +9,7 @@ use additions::header::SegmentHeader;
 use partial::brand::Brand;
 use partial::position::Position;
 use printing::input::fill;
-use printing::records::{eight, numbers};
+use printing::records::{eight, pair};
 use std::io;
 use std::io::Read;
 use writing::append::append;
@@ -37,7 +37,8 @@ pub fn all<R: Read>(
     Ok(length)
 }
 
-// Makes the next call, and prints its answer. The length of the file after it.
+// Makes the next call, and prints its answer. The length of the file after it. Where the input ends before the front of
+// the call, the bytes that are missing are 0.
 fn call<R: Read>(
     rt: &impl Print,
     input: &mut R,
@@ -46,24 +47,16 @@ fn call<R: Read>(
     bytes: &mut [u8],
     length: u64,
 ) -> io::Result<u64> {
-    let front: Option<[usize; 4]> = numbers(input)?;
-    let Some(front) = front else {
-        return Ok(length);
-    };
-    let [kind, choice, first, second] = front;
-    if kind == 0 {
-        begins(rt, input, buffer, bytes, choice != 0, first, second, length)
+    let mut front = [0; 8];
+    fill(input, &mut front)?;
+    let chosen = pair(front[2], front[3]) != 0;
+    let first = pair(front[4], front[5]);
+    let second = pair(front[6], front[7]);
+    if pair(front[0], front[1]) == 0 {
+        begins(rt, input, buffer, bytes, chosen, first, second, length)
     } else {
         appends(
-            rt,
-            input,
-            buffer,
-            list,
-            bytes,
-            choice != 0,
-            first,
-            second,
-            length,
+            rt, input, buffer, list, bytes, chosen, first, second, length,
         )
     }
 }
