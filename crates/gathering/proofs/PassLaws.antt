@@ -44,7 +44,7 @@ pub searched_none : {f : List ℕ} {bs : List Box} → boxes_in File f 0 (length
 searched_none known =
     record {
       boxes = known;
-      known = λ e.
+      known = λ e of_data.
           let z : ◌≡◌ {A = ℕ} 0 1 = cc in
           absurd (omega arith);
     }

@@ -121,7 +121,7 @@ module _ {f tops : List ℕ} {last : Option Framed} {place size : ℕ} where
         onward = λ bs p t.
             record {
               boxes = p.boxes;
-              known = λ {b = b'} e.
+              known = λ {b = b'} e of_data.
                   let same : b ≡ b' = cc in
                   subst (λ b. Among bs (box_of b)) same (among bs p t);
             };
@@ -136,7 +136,7 @@ module _ {f tops : List ℕ} {last : Option Framed} {place size : ℕ} where
         onward = λ bs p t.
             record {
               boxes = p.boxes;
-              known = λ e.
+              known = λ e of_data.
                   let z : ◌≡◌ {A = ℕ} 0 1 = cc in
                   absurd (omega arith);
             };
@@ -146,9 +146,11 @@ module _ {f tops : List ℕ} {last : Option Framed} {place size : ℕ} where
   pub one_found : (bs : List Box) → Searched f last bs → Tops bs tops → (x y : Option Framed) → Finds f tops last place size x → Finds f tops last place size y → x ≡ y
   unfolding found
   one_found bs known t (Some a) (Some b) p q =
-      let among = (p.onward bs known t).known refl in
-      let among' = (q.onward bs known t).known refl in
-      ap Some (box-told a b (one_holds f known.boxes place size among among' (p.holds refl) (q.holds refl)))
+      let first = p.holds refl in
+      let second = q.holds refl in
+      let among = (p.onward bs known t).known refl (holds_kind place size (box_of a) first) in
+      let among' = (q.onward bs known t).known refl (holds_kind place size (box_of b) second) in
+      ap Some (box-told a b (one_holds f known.boxes place size among among' first second))
   one_found bs known t (Some a) None p q = absurd (false≢true (sym (p.answer bs known t ∙ sym (q.answer bs known t))))
   one_found bs known t None (Some b) p q = absurd (false≢true (p.answer bs known t ∙ sym (q.answer bs known t)))
   one_found bs known t None None p q = refl
@@ -160,6 +162,8 @@ one_onward {f} {bs = bs} {placed} {place} {size} a b x y =
       | inl e ↦
           let (c, of, holds) = x.holds e in
           let (d, of', holds') = y.holds e in
-          of ∙ ap Some (box-told c d (one_holds f x.known.boxes place size (x.known.known of) (y.known.known of') holds holds')) ∙ sym of'
+          let among = x.known.known of (holds_kind place size (box_of c) holds) in
+          let among' = y.known.known of' (holds_kind place size (box_of d) holds') in
+          of ∙ ap Some (box-told c d (one_holds f x.known.boxes place size among among' holds holds')) ∙ sym of'
       | inr e ↦ x.kept e ∙ sym (y.kept e)
     ]

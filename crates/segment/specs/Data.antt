@@ -18,10 +18,11 @@ pub record Among (bs : List Box) (b : Box) : Type 0 where
   pub there : number < length bs
   pub same : box_at number bs ≡ b
 
--- what a search of a file goes by: the file's boxes, and that the box to be looked at first, if any, is one of them
+-- what a search of a file goes by: the file's boxes, and that the box to be looked at first, if any, is one of them,
+-- unless it is no `pdat`
 pub record Searched (f : List ℕ) (last : Option Framed) (bs : List Box) : Type 0 where
   pub boxes : boxes_in File f 0 (length f) ≡ given bs
-  pub known : {b : Framed} → last ≡ Some b → Among bs (box_of b)
+  pub known : {b : Framed} → last ≡ Some b → is pdat (box_of b) ≡ true → Among bs (box_of b)
 
 -- whether a box was found
 unfoldable pub found : Option Framed → Bool

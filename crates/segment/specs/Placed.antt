@@ -17,7 +17,7 @@ use Rattle.segment.specs.Data.{Searched, Onward}
 use Rattle.segment.specs.Tops.{Tops}
 
 -- a file with a heading is ready to be searched: it is mixed as that says, the box to be looked at first, if any, is one
--- of its own, and the table is that of its boxes
+-- of its own, unless it is no `pdat`, and the table is that of its boxes
 pub record Ready (f tops : List ℕ) (mixed : Bool) (last : Option Framed) (h : Heading) : Type 0 where
   pub mix : mixed ≡ h.mixed
   pub known : Searched f last h.boxes

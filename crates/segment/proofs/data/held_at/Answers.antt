@@ -5,14 +5,14 @@ use Rattle.boxes.proofs.AnswerLaws.{not_both, given_same}
 use Rattle.boxes.specs.Framing.{box_of}
 use Rattle.boxes.proofs.ToldLaws.{told-ok, told-err}
 use Rattle.segment.specs.Data.{holds_chunk}
-use Rattle.segment.proofs.DataLaws.{finds_box, finds_none}
+use Rattle.segment.proofs.DataLaws.{holds_kind, finds_box, finds_none}
 use Rattle.segment.proofs.TopsLaws.{last_among, last_other}
 use Rattle.segment.proofs.data.held_at.Goals as goal
 
 pub returns-then-holds : goal.returns-then-holds
 returns-then-holds c =
     let holds = sym c.holds.ensures ∙ c.if-holds.true in
-    finds_box _ holds (λ bs p t. p.known c.in-Some.is)
+    finds_box _ holds (λ bs p t. p.known c.in-Some.is (holds_kind _ _ _ holds))
 
 pub returns-in_default-header_at : goal.returns-in_default-header_at
 returns-in_default-header_at c =
