@@ -1,4 +1,4 @@
-// The numbers of a file as they stand in its bytes, of any width, signed and unsigned; and a sum held against an end.
+// The numbers of a file as they stand in its bytes, of any width, signed and unsigned; and two held against each other.
 #![tactic(auto)]
 
 pub mod numbers;

@@ -40,12 +40,19 @@ pub fn tops_of(s: &[u8], tops: &mut [u32; TOPS])
     }
 }
 
+// A place of the table as a number of a file's places.
+pub fn wide(top: u32) -> u64
+    ensures { result ≡ top }
+{
+    u64::from(top)
+}
+
 // What stands in a table.
 pub(crate) fn top_at(tops: &[u32; TOPS], number: usize) -> u64
     requires { number < 512 }
     ensures { result ≡ get_or tops.now number 0 }
 {
-    u64::from(tops[number])
+    wide(tops[number])
 }
 
 // The number of the last box that starts before a place, by halves; 0 if none does. It promises the same of a table that

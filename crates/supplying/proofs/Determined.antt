@@ -8,6 +8,7 @@ use Rattle.segment.proofs.ChunkLaws.{chunk_told}
 use Rattle.segment.specs.declared.chunk.Chunk.{Chunk}
 use Rattle.supplying.specs.Rows.{told_of}
 use Rattle.supplying.specs.Runs.{run_chunk}
+use Rattle.supplying.proofs.rows.Told.place_of.Reads as place_of
 use Rattle.supplying.proofs.rows.chunk_at.Reads as chunk-at
 use Rattle.supplying.proofs.rows.of_source.Reads as of-source
 use Rattle.supplying.proofs.runs.run_at.Reads as run_at
@@ -27,6 +28,11 @@ one_chunk None None any same = refl
 one_chunk None (Some d) any same = absurd (false≢true any)
 one_chunk (Some c) None any same = absurd (false≢true (sym any))
 one_chunk (Some c) (Some d) any same = ap Some (chunk_told c d same)
+
+place_of_result : OneResult place_of.Post
+place_of_result κs args x y after after' p q =
+    let same = p ∙ sym q in
+    λ i. record { 0 = same i }
 
 chunk_at_result : OneResult chunk-at.Post
 chunk_at_result κs args x y after after' p q = option-told told-same x y (one_told _ _ _ _ p q)

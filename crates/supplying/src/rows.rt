@@ -1,5 +1,5 @@
 // The chunks of a table that reading filled, row by row, and which of them are a source's.
-ghost use Rattle.std.specs.Prelude.{true, ◌≡◌, ◌<◌, ◌/◌, SomeIff, eqb, length, option_map};
+ghost use Rattle.std.specs.Prelude.{true, ◌+◌, ◌-◌, ◌^◌, min, ◌≡◌, ◌<◌, ◌/◌, SomeIff, eqb, length, option_map};
 ghost use Rattle.partial.specs.Segments.{good};
 ghost use Rattle.partial.specs.Tables.{chunk_row_length};
 ghost use Rattle.segment.specs.Chunk.{chunk_of};
@@ -27,6 +27,19 @@ impl Told {
         ensures { result ≡ eqb self.state good }
     {
         self.state == State::Good.number()
+    }
+
+    // The place of a position's byte, as of a chunk there in any state.
+    pub fn place_of(self, p: Position) -> Place
+        ensures { result.0 ≡ min (self.place.0 + (p.0 - self.start.0)) (2 ^ 64 - 1) }
+    {
+        let chunk = Chunk {
+            start: self.start,
+            size: self.size,
+            state: State::Lost,
+            place: self.place,
+        };
+        chunk.place_of(p)
     }
 
     // The chunk, which is good.
