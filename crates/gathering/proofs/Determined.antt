@@ -13,7 +13,7 @@ use Rattle.boxes.specs.Answer.{Answer, given}
 use Rattle.boxes.specs.Framing.{Box, boxes_in}
 use Rattle.boxes.specs.Kinds.{pseg, is, box_at}
 use Rattle.boxes.proofs.AnswerLaws.{not_both, refused_same, given_same}
-use Rattle.numerals.proofs.Determined.{OneResult, OneKnown, OneLeftKnown}
+use Rattle.numerals.proofs.Determined.{OneResult, OneKnown, OneLeft, OneLeftKnown}
 use Rattle.partial.specs.Heading.{Heading}
 use Rattle.partial.specs.Limits.{source_limit}
 use Rattle.partial.specs.Segments.{Segment, chunks_of}
@@ -32,6 +32,7 @@ use Rattle.gathering.specs.Forms.{all_puts}
 use Rattle.gathering.specs.Gathered.{gathered_of}
 use Rattle.gathering.specs.Keeping.{Boxed}
 use Rattle.gathering.specs.Kept.{Kept}
+use Rattle.gathering.specs.Noted.{Blank}
 use Rattle.gathering.specs.Pass.{segments_by, Opened, Gathers}
 use Rattle.std.specs.Prelude.{Result, Ok, Err}
 use Rattle.refusals.specs.declared.Refusal.{Refusal}
@@ -43,6 +44,8 @@ use Rattle.gathering.proofs.keeping.keep_pass.Reads as keep-pass
 use Rattle.gathering.proofs.kept.fill_rows.Reads as fill-rows
 use Rattle.gathering.proofs.numbers.chunk_by.Reads as chunk-by
 use Rattle.gathering.proofs.pass.pass.Reads as pass
+use Rattle.gathering.proofs.tables.SourceTables.clear.Reads as clear
+use Rattle.gathering.proofs.tables.SourceTables.new.Reads as new
 
 -- where something is known, a contract allows one value of what is read by it of that which the call leaves behind
 module _ {L : Type 0} {A R E : L → Type 0} (post : (κs : L) → A κs → R κs → E κs → Type 0) where
@@ -52,6 +55,37 @@ module _ {L : Type 0} {A R E : L → Type 0} (post : (κs : L) → A κs → R �
       → post κs args x after
       → post κs args y after'
       → of κs args after what ≡ of κs args after' what
+
+-- a contract allows one value of what is read in the result
+module _ {L : Type 0} {A R E : L → Type 0} (post : (κs : L) → A κs → R κs → E κs → Type 0) where
+  abbrev OneOf : {X : Type 0} → ((κs : L) → R κs → X) → Type 0
+  OneOf of =
+      (κs : L) (args : A κs) (x y : R κs) (after after' : E κs) → post κs args x after → post κs args y after' → of κs x ≡ of κs y
+
+-- the tables of no segment are those that say nothing
+one_sizes : {t u : SourceTables} → Blank t → Blank u → sizes_in t.sizes ≡ sizes_in u.sizes
+one_sizes p q = λ i k. (p.sizes.none k ∙ sym (q.sizes.none k)) i
+
+one_lists : {t u : SourceTables} → Blank t → Blank u → list_in t.lists ≡ list_in u.lists
+one_lists p q = λ i k. (p.lists.none k ∙ sym (q.lists.none k)) i
+
+new_sizes : OneOf new.Post (λ κs r. sizes_in r.sizes)
+new_sizes κs args x y after after' p q = one_sizes p.0 q.0
+
+new_sources : OneOf new.Post (λ κs r. r.sources)
+new_sources κs args x y after after' p q = p.0.sources ∙ sym q.0.sources
+
+new_lists : OneOf new.Post (λ κs r. list_in r.lists)
+new_lists κs args x y after after' p q = one_lists p.0 q.0
+
+clear_sizes : OneLeft clear.Post (λ κs after. sizes_in after.0.now.sizes)
+clear_sizes κs args x y after after' p q = one_sizes p.0 q.0
+
+clear_sources : OneLeft clear.Post (λ κs after. after.0.now.sources)
+clear_sources κs args x y after after' p q = p.0.sources ∙ sym q.0.sources
+
+clear_lists : OneLeft clear.Post (λ κs after. list_in after.0.now.lists)
+clear_lists κs args x y after after' p q = one_lists p.0 q.0
 
 -- of the segments of a file with that heading these are the rows, for which a table has room
 abbrev Fits : (List Segment → List ℕ) → List ℕ → Bool → Body → List ℕ → Heading × List Segment → Type 0

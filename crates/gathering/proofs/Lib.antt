@@ -1,3 +1,4 @@
+pub mod TableLaws
 pub mod PartsLaws
 pub mod RowLaws
 pub mod NumberLaws

@@ -1,7 +1,7 @@
 // The tables of a pass that are the caller's own.
 ghost use Rattle.std.specs.Prelude.{ℕ, List, []};
 ghost use Rattle.partial.specs.Heading.{Heading};
-ghost use Rattle.gathering.specs.Noted.{Noted};
+ghost use Rattle.gathering.specs.Noted.{Blank, Noted};
 
 use ends::table::{ALL_SIZES, clear_sizes};
 use sources::lists::{ALL_LISTS, clear_lists};
@@ -19,20 +19,18 @@ pub struct SourceTables {
 impl SourceTables {
     // Of no segment.
     pub fn new() -> Self
-        ensures { (f : List ℕ) (h : Heading) → Noted f h result [] }
+        ensures { Blank result × ((f : List ℕ) (h : Heading) → Noted f h result []) }
     {
-        let mut tables = SourceTables {
+        SourceTables {
             sizes: [0; ALL_SIZES],
             sources: [0; ALL_SOURCES],
             lists: [0; ALL_LISTS],
-        };
-        tables.clear();
-        tables
+        }
     }
 
     // Makes them those of no segment.
     pub fn clear(&mut self)
-        ensures { (f : List ℕ) (h : Heading) → Noted f h self.new [] }
+        ensures { Blank self.new × ((f : List ℕ) (h : Heading) → Noted f h self.new []) }
     {
         clear_sizes(&mut self.sizes);
         clear_sources(&mut self.sources);

@@ -33,7 +33,7 @@ loop-at-init c =
       omega (arith, gathered_chunks _ none),
       length-replicate {A = Fate} 512 Stays,
       λ h boxed.
-          midway_none _ h boxed (sym (walk_boxes _ new) ∙ boxed.boxes) (so_far_none _ h none (c.new-tables.ensures _ h)) (searched_none _ refl boxed.boxes),
+          midway_none _ h boxed (sym (walk_boxes _ new) ∙ boxed.boxes) (so_far_none _ h none (c.new-tables.ensures.1 _ h)) (searched_none _ refl boxed.boxes),
       ap (λ w. w.end.0) new,
     )
 

@@ -27,7 +27,7 @@ loop-b-init c =
       refl,
       refl,
       λ h opened.
-          midway_none _ h _ _ _ (sym (walk_boxes _ new) ∙ opened.boxes) opened.few none (searched_none _ refl opened.boxes) (c.clear.ensures _ h),
+          midway_none _ h _ _ _ (sym (walk_boxes _ new) ∙ opened.boxes) opened.few none (searched_none _ refl opened.boxes) (c.clear.ensures.1 _ h),
       ap (λ w. w.end.0) new,
     )
 
