@@ -26,7 +26,7 @@ pub fn listed(
             rows(rt, "missing", missing, l.missing, 2)
         }
         Err(e) => {
-            refused(rt, e)?;
+            refused(rt, e.number())?;
             rest(rt, had, 0)?;
             rest(rt, missing, 0)
         }

@@ -40,7 +40,7 @@ fn written(rt: &impl Print, answer: Result<u64, Refusal>, buffer: &[u8]) -> io::
             rest(rt, buffer, n as usize)
         }
         Err(e) => {
-            refused(rt, e)?;
+            refused(rt, e.number())?;
             rest(rt, buffer, 0)
         }
     }

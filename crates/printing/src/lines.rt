@@ -2,7 +2,6 @@
 ghost use Rattle.std.specs.Prelude.{◌*◌, ◌<◌, ◌≤◌, length, IfOk};
 
 use crate::marks::{Marked, kept};
-use refusals::Refusal;
 use std::io;
 
 // The line of a name.
@@ -12,9 +11,8 @@ pub fn title(rt: &impl Print, name: &[u8]) -> io::Result<()> {
     println!(rt)
 }
 
-// The line of a refusal.
-pub fn refused(rt: &impl Print, e: Refusal) -> io::Result<()> {
-    let n = e.number();
+// The line of a refusal, by its number.
+pub fn refused(rt: &impl Print, n: u64) -> io::Result<()> {
     println!(rt; "refused {n}")
 }
 

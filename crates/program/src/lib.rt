@@ -6,15 +6,15 @@ ghost use Rattle.std.specs.Prelude.{◌≡◌};
 ghost use Rattle.partial.specs.Limits.{program_limit};
 
 use partial::limits::PROGRAM_LIMIT;
-use printing::input::read_full;
+pub use printing::input::read_full;
 use refusals::Refusal;
 use std::io;
 
 // One byte more than a program takes, so that a longer input is seen.
-const INPUT: usize = 65_537;
+pub const INPUT: usize = 65_537;
 
 // How many bytes the buffer has that a program lends for its text.
-const TEXT: usize = 65_536;
+pub const TEXT: usize = 65_536;
 
 // How many bytes a program takes.
 pub fn limit() -> u64
@@ -34,15 +34,16 @@ where
     let mut text = [0; TEXT];
     let n = read_full(rt, &mut input)?;
     let answer = call(&input[..n], limit(), &mut text);
-    print(rt, answer, &text)
+    print(rt, answer.map_err(Refusal::number), &text)
 }
 
-// Prints the text that a call wrote, or the line of its refusal. No map is longer than the buffer (`NeverShort`, proved
-// in crates/partial/proofs/Demands.antt), and no list of boxes of so short a file; if one were, it would be said.
-fn print(rt: &impl Print, answer: Result<u64, Refusal>, text: &[u8]) -> io::Result<()> {
+// Prints the text that a call wrote, or the line of its refusal, of that number. No map is longer than the buffer
+// (`NeverShort`, proved in crates/partial/proofs/Demands.antt), and no list of boxes of so short a file; if one were, it
+// would be said.
+pub fn print(rt: &impl Print, answer: Result<u64, u64>, text: &[u8]) -> io::Result<()> {
     match answer {
         Ok(n) => print_first(rt, text, n),
-        Err(e) => refuse(rt, e),
+        Err(n) => refuse(rt, n),
     }
 }
 
@@ -58,7 +59,6 @@ fn print_first(rt: &impl Print, text: &[u8], n: u64) -> io::Result<()> {
     rt.write_all(&text[..size])
 }
 
-fn refuse(rt: &impl Print, e: Refusal) -> io::Result<()> {
-    let n = e.number();
+fn refuse(rt: &impl Print, n: u64) -> io::Result<()> {
     println!(rt; "refused\t{n}")
 }

@@ -25,7 +25,7 @@ pub fn answer(
             rows(rt, "chunk", chunks, t.chunks, 6)
         }
         Err(e) => {
-            refused(rt, e)?;
+            refused(rt, e.number())?;
             rest(rt, segments, 0)?;
             rest(rt, chunks, 0)
         }
@@ -51,7 +51,7 @@ pub fn texts(
             rest(rt, lengths, last)
         }
         Err(e) => {
-            refused(rt, e)?;
+            refused(rt, e.number())?;
             rest(rt, bytes, 0)?;
             rest(rt, lengths, 0)
         }

@@ -49,6 +49,6 @@ pub fn read(rt: &impl Print, answer: Result<Tables, Refusal>) -> io::Result<()> 
                 t.segments, t.chunks, t.sources, t.described.0
             )
         }
-        Err(e) => refused(rt, e),
+        Err(e) => refused(rt, e.number()),
     }
 }
