@@ -1,5 +1,13 @@
 -- Each public call's contract determines its answer: two that it allows of the same arguments are equal.
 use mathlib.Core.Path.{◌≡◌, sym, ◌∙◌}
+use Rattle.core.proofs.int.u64.max.Reads as std_max
+use Rattle.core.proofs.int.u64.min.Reads as std_min
+use Rattle.core.proofs.int.u64.saturating_add.Reads as std_sum
+use Rattle.core.proofs.int.u64.saturating_sub.Reads as std_between
+use Rattle.core.proofs.int.usize.max.Reads as std_max_usize
+use Rattle.core.proofs.int.usize.min.Reads as std_min_usize
+use Rattle.core.proofs.int.usize.saturating_add.Reads as std_sum_usize
+use Rattle.core.proofs.int.usize.saturating_sub.Reads as std_between_usize
 use Rattle.numerals.proofs.numbers.put_number.Reads as put-number
 use Rattle.numerals.proofs.numbers.put_offset.Reads as put-offset
 use Rattle.numerals.proofs.numbers.signed.Reads as signed
@@ -79,6 +87,31 @@ sum-of-result κs args x y after after' p q = p ∙ sym q
 
 between_result : OneResult between.Post
 between_result κs args x y after after' p q = p ∙ sym q
+
+-- of std's own functions, which the code calls straight
+std_min_result : OneResult std_min.Post
+std_min_result κs args x y after after' p q = p ∙ sym q
+
+std_min_usize_result : OneResult std_min_usize.Post
+std_min_usize_result κs args x y after after' p q = p ∙ sym q
+
+std_max_result : OneResult std_max.Post
+std_max_result κs args x y after after' p q = p ∙ sym q
+
+std_max_usize_result : OneResult std_max_usize.Post
+std_max_usize_result κs args x y after after' p q = p ∙ sym q
+
+std_sum_result : OneResult std_sum.Post
+std_sum_result κs args x y after after' p q = p ∙ sym q
+
+std_sum_usize_result : OneResult std_sum_usize.Post
+std_sum_usize_result κs args x y after after' p q = p ∙ sym q
+
+std_between_result : OneResult std_between.Post
+std_between_result κs args x y after after' p q = p ∙ sym q
+
+std_between_usize_result : OneResult std_between_usize.Post
+std_between_usize_result κs args x y after after' p q = p ∙ sym q
 
 ends_by_result : OneResult ends_by.Post
 ends_by_result κs args x y after after' p q = p ∙ sym q
