@@ -8,7 +8,7 @@ use mathlib.Core.Bool.{Bool, true}
 use mathlib.Core.List.{List}
 use mathlib.Core.Path.{◌≡◌, sym, ap, ◌∙◌}
 use native.Mathlib.Omega.{arith}
-use lib.ListN.{length, take}
+use lib.ListN.{length, take, get_or}
 use Rattle.boxes.specs.Answer.{Answer, given}
 use Rattle.boxes.specs.Framing.{Box, boxes_in}
 use Rattle.boxes.specs.Kinds.{pseg, is, box_at}
@@ -20,7 +20,8 @@ use Rattle.partial.specs.Segments.{Segment, chunks_of}
 use Rattle.partial.specs.Sources.{source_count}
 use Rattle.partial.specs.Tables.{segment_rows, chunk_rows}
 use Rattle.rescue.specs.Kept.{kept_of}
-use Rattle.rescue.specs.Table.{told_at}
+use Rattle.rescue.specs.declared.table.Fate.TheVariants.{Stays}
+use Rattle.rescue.proofs.TableLaws.{fate_told}
 use Rattle.boxes.specs.declared.body.Body.{Body}
 use Rattle.partial.specs.Texts.{list_boxes}
 use Rattle.sources.specs.Held.{ListHeld}
@@ -157,5 +158,5 @@ keep_pass_numbers κs args h boxed x y after after' p q = (p h boxed).numbers �
 
 keep_pass_fates : OneRead keep-pass.Post
     (λ κs args ((h, k) : Heading × ℕ). Boxed args.0.now args.1.0 args.1.1.0 h × (k < length h.boxes) × (is pseg (box_at k h.boxes) ≡ true))
-    (λ κs args after (h, k). told_at after.1.1.1.0.now k)
-keep_pass_fates κs args (h, k) (boxed, there, kind) x y after after' p q = (p h boxed).psegs k there kind ∙ sym ((q h boxed).psegs k there kind)
+    (λ κs args after (h, k). get_or after.1.1.1.0.now k Stays)
+keep_pass_fates κs args (h, k) (boxed, there, kind) x y after after' p q = fate_told _ _ ((p h boxed).psegs k there kind ∙ sym ((q h boxed).psegs k there kind))

@@ -1,4 +1,5 @@
--- Laws of the numbers of refusals: no two refusals have the same.
+-- Laws of the numbers of refusals: no two refusals have the same, and none has 0.
+use native.Mathlib.Omega.{arith}
 use Rattle.std.proofs.Common.{◌≡◌, ℕ, refl, sym, ap, ◌∙◌, List, [], ◌∷◌}
 use Rattle.std.specs.Prelude.{slice_index_or}
 use Rattle.refusals.specs.Refusals.{refusal_no}
@@ -56,3 +57,10 @@ back NoUrl = refl
 
 pub refusal_told : (n m : Refusal) → refusal_no n ≡ refusal_no m → n ≡ m
 refusal_told n m e = sym (back n) ∙ ap of_number e ∙ back m
+
+pub refusal_some : (n : Refusal) → 0 ≡ refusal_no n → ⊥
+unfolding by_number
+refusal_some n e =
+    let first : FileTooLong ≡ n = ap of_number e ∙ back n in
+    let one : 1 ≡ refusal_no n = ap refusal_no first in
+    omega (arith, e, one)

@@ -12,7 +12,12 @@ use Rattle.boxes.specs.Kinds.{no_box, box_at}
 use Rattle.partial.specs.Heading.{Heading}
 use Rattle.partial.specs.Limits.{source_limit}
 use Rattle.rescue.specs.Kept.{Fate, dropped, whole, of_pfil, of_pseg, Fated, fates}
-use Rattle.rescue.specs.Table.{code_of, code_for}
+use Rattle.rescue.specs.Table.{code_of, code_for, number_of, code_told}
+use Rattle.rescue.specs.declared.table.Fate.{Fate as Told}
+use Rattle.rescue.specs.declared.table.Fate.TheVariants.{Stays, Dropped}
+use Rattle.refusals.specs.Refusals.{refusal_no}
+use Rattle.refusals.specs.declared.Refusal.{Refusal}
+use Rattle.refusals.proofs.NumberLaws.{refusal_told, refusal_some}
 use Rattle.rescue.proofs.CopyLaws.{staying}
 use Rattle.rescue.proofs.FateLaws.{fates_boxes}
 
@@ -31,6 +36,21 @@ coded (dropped n) = record { stays = λ e. cc; goes = λ e. cc }
 coded whole = record { stays = λ _. refl; goes = λ e. cc }
 coded (of_pfil inner) = record { stays = λ _. refl; goes = λ e. cc }
 coded (of_pseg s) = record { stays = λ _. refl; goes = λ e. cc }
+
+-- what a fate in a table says determines it
+number_told : (n m : Option Refusal) → number_of n ≡ number_of m → n ≡ m
+number_told None None e = refl
+number_told None (Some m) e = absurd (refusal_some m e)
+number_told (Some n) None e = absurd (refusal_some n (sym e))
+number_told (Some n) (Some m) e = ap Some (refusal_told n m e)
+
+pub fate_told : (x y : Told) → code_told x ≡ code_told y → x ≡ y
+fate_told Stays Stays e = refl
+fate_told Stays (Dropped m) e = cc
+fate_told (Dropped n) Stays e = cc
+fate_told (Dropped n) (Dropped m) e =
+    let same : number_of n ≡ number_of m = cc in
+    ap Dropped (number_told n m same)
 
 module _ (f : List ℕ) (h : Heading) where
   -- each fate is that of a box
