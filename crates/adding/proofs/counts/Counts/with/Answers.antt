@@ -3,7 +3,7 @@ use mathlib.Core.Path.{◌≡◌, sym, ap, ◌∙◌}
 use Rattle.std.proofs.lemmas.Result.{IfOk-at_ok}
 use Rattle.fields.specs.State.{state_no}
 use Rattle.partial.specs.Segments.{present}
-use Rattle.outside.proofs.ItemLaws.{no_state}
+use Rattle.fields.proofs.StateLaws.{no_state}
 use Rattle.adding.proofs.CountLaws.{right_other, right_known, with_present, with_lost}
 use Rattle.adding.proofs.counts.Counts.with.Goals as goal
 
