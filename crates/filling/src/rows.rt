@@ -10,5 +10,8 @@ pub fn put_row(table: &mut [u64], at: usize, row: &[u64])
     if table.len() < row.len() || table.len() - row.len() < at {
         return;
     }
-    table[at..at + row.len()].copy_from_slice(row);
+    // Number by number: a copy looks first whether the two lie apart, for which a row of one or two numbers is too short.
+    for i in 0..row.len() {
+        table[at + i] = row[i];
+    }
 }
