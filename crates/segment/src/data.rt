@@ -34,9 +34,21 @@ fn holds(b: Framed, place: Place, size: u64) -> bool
     ends_by(place.0, size, end.0)
 }
 
+// The data box of a file that holds so many bytes at a place, by the table of the file's boxes: the last one that starts
+// before it, if any. A function of its own, so that what it makes ready is not made ready for each chunk.
+fn found_at(s: &[u8], tops: &[u32; TOPS], place: Place, size: u64) -> Option<Framed>
+    ensures { (last : Framed) → Finds s.now tops.now last place.0 size result }
+{
+    let number = top_before(tops, place);
+    let top = top_at(tops, number);
+    let Ok(b) = header_at(s, Container::File, Place(top), Place(s.len() as u64)) else {
+        return None;
+    };
+    if holds(b, place, size) { Some(b) } else { None }
+}
+
 // The data box of a file that holds so many bytes at a place, by the table of the file's boxes. Chunks often follow
-// each other in one box, so the box that held the last one is looked at first. Any other that holds the chunk is the
-// last one that starts before it.
+// each other in one box, so the box that held the last one is looked at first.
 pub fn held_at(
     s: &[u8],
     tops: &[u32; TOPS],
@@ -49,10 +61,5 @@ pub fn held_at(
     if holds(last, place, size) {
         return Some(last);
     }
-    let number = top_before(tops, place);
-    let top = top_at(tops, number);
-    let Ok(b) = header_at(s, Container::File, Place(top), Place(s.len() as u64)) else {
-        return None;
-    };
-    if holds(b, place, size) { Some(b) } else { None }
+    found_at(s, tops, place, size)
 }
