@@ -17,7 +17,7 @@ use Rattle.additions.specs.declared.header.SegmentHeader.{SegmentHeader}
 use Rattle.ends.specs.Sizes.{sizes_of}
 use Rattle.gathering.specs.Gathered.{gathered_of}
 use Rattle.reading.specs.declared.judging.Judged.{Judged}
-use Rattle.adding.specs.Counts.{capped, Sorted}
+use Rattle.adding.specs.Counts.{capped, saying, Sorted}
 use Rattle.adding.specs.Layout.{Laid}
 use Rattle.adding.specs.Texts.{Texted}
 use Rattle.adding.specs.declared.admission.Asked.{Asked}
@@ -77,6 +77,10 @@ pub record AskedBy (a : Addition) (x : Asked) : Type 0 where
   pub whole : x.outside.right ≡ true
   pub texted : Texted a x.texts
   pub laid : Laid a x.layout
+
+-- what is asked, its counts saying this of whether the items are right
+abbrev pub asked_saying : Bool → Asked → Asked
+asked_saying right x = record { header = x.header; counts = saying right x.counts; outside = x.outside; texts = x.texts; layout = x.layout }
 
 -- the length of a file of n bytes with the addition, or its refusal
 unfoldable pub admitted_length : List ℕ → Heading → List Segment → ℕ → Addition → Answer ℕ

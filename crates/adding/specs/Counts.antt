@@ -37,6 +37,10 @@ counts_of is =
 unfoldable pub counted : List Item → Answer Counts
 counted is = elim (all_of right_item is) [ true ↦ given (counts_of is) | false ↦ refused 31 ]
 
+-- the same counts, saying this of whether the items are right
+abbrev pub saying : Bool → Counts → Counts
+saying right c = record { right = right; items = c.items; present = c.present; largest = c.largest; bytes = c.bytes; sum = c.sum }
+
 -- counts of items whose data is no more than 64 bits hold
 pub record Whole (is : List Item) (c : Counts) : Type 0 where
   pub counts : c ≡ counts_of is

@@ -1,5 +1,5 @@
 // Whether a file takes an addition: 35, and then 1, 6, 13, 41, 22, 23, 25, 40, 36, 37 or 39 if the result would have it.
-ghost use Rattle.std.specs.Prelude.{◌≤◌, true, List, [], ◌∷◌, ◌≡◌, length};
+ghost use Rattle.std.specs.Prelude.{◌≤◌, Bool, true, List, [], ◌∷◌, ◌≡◌, length};
 ghost use Rattle.partial.specs.declared.position.Position.{Position};
 ghost use Rattle.boxes.specs.Kinds.{fidx, those};
 ghost use Rattle.additions.specs.Addition.{Addition, items, outside_right};
@@ -13,9 +13,9 @@ ghost use Rattle.partial.specs.Segments.{Segment, end_of as segmentEnd};
 ghost use Rattle.partial.specs.Sources.{same_urls, source_beside};
 ghost use Rattle.gathering.specs.Gathered.{gathered_of};
 ghost use Rattle.indexing.specs.Ends.{end_of};
-ghost use Rattle.adding.specs.Admission.{Tells, Known, indexed_beside, admitted_beside, admitted_answer, Beside, Goes, AskedBy, admitted_length};
+ghost use Rattle.adding.specs.Admission.{Tells, Known, indexed_beside, admitted_beside, admitted_answer, Beside, Goes, asked_saying, AskedBy, admitted_length};
 ghost use Rattle.outside.specs.Chunks.{outside_of};
-ghost use Rattle.adding.specs.Counts.{capped, Sorted};
+ghost use Rattle.adding.specs.Counts.{capped, saying, Sorted};
 
 use crate::counts::Counts;
 use crate::layout::Layout;
@@ -49,7 +49,7 @@ pub fn outside_right(mixed: bool, outside: Outside) -> bool
 
 // How many boxes append adds to the file: the `pseg`, those outside, and the `pdat` if any chunk goes there.
 fn added_boxes(counts: Counts, outside: Outside) -> u64
-    ensures { (a : Addition) → Sorted a counts outside → outside.right ≡ true → result ≡ capped (added_boxes a) }
+    ensures { (right : Bool) (a : Addition) → Sorted a (saying right counts) outside → outside.right ≡ true → result ≡ capped (added_boxes a) }
 {
     if counts.present == outside.chunks {
         return outside.boxes.saturating_add(1);
@@ -137,9 +137,9 @@ fn admitted(
     header: SegmentHeader,
     counts: Counts,
 ) -> Result<(), Refusal>
-    ensures { (h : Heading) (ss : List Segment) (s : Segment) → Known file.now h ss indexed
+    ensures { (right : Bool) (h : Heading) (ss : List Segment) (s : Segment) → Known file.now h ss indexed
         → gathered ≡ gathered_of ss → Goes h ss s.urls target → s.source ≡ source_beside ss s.urls
-        → Tells s header counts → those fidx s.inner ≡ [] → admitted_answer result ≡ admitted_beside file.now h ss s }
+        → Tells s header (saying right counts) → those fidx s.inner ≡ [] → admitted_answer result ≡ admitted_beside file.now h ss s }
 {
     let offset = header.offset;
     if SEGMENT_LIMIT <= gathered.segments {
@@ -168,10 +168,11 @@ fn admitted(
     index_beside(file, indexed, gathered.segments, size)
 }
 
-// The length of the file with the addition, or the number of the first refusal that the result would have.
+// The length of the file with the addition, or the number of the first refusal that the result would have, whatever the
+// counts say of whether the items are right: that is asked when they are counted.
 pub fn admission(file: &[u8], onto: Onto, asked: Asked) -> Result<u64, Refusal>
-    ensures { (h : Heading) (ss : List Segment) (a : Addition) → Beside file.now h ss onto.judged
-        → Goes h ss (new_urls h a) onto.target → AskedBy a asked
+    ensures { (right : Bool) (h : Heading) (ss : List Segment) (a : Addition) → Beside file.now h ss onto.judged
+        → Goes h ss (new_urls h a) onto.target → AskedBy a (asked_saying right asked)
         → number_answer result ≡ admitted_length file.now h ss onto.length a }
 {
     let n = onto.length;

@@ -5,7 +5,7 @@ ghost use Rattle.additions.specs.Addition.{Addition, Item, surls};
 ghost use Rattle.additions.specs.Append.{placed, length_size_of, offset_size_of, ploc_body, version_for, stored, surl_boxes};
 ghost use Rattle.partial.specs.Limits.{file_limit};
 ghost use Rattle.partial.specs.Reading.{offset_width_of};
-ghost use Rattle.adding.specs.Counts.{Whole, Sorted};
+ghost use Rattle.adding.specs.Counts.{saying, Whole, Sorted};
 ghost use Rattle.adding.specs.Layout.{Laid};
 ghost use Rattle.adding.specs.Texts.{Texted};
 
@@ -51,7 +51,7 @@ fn within(size: u64) -> u64
 
 // The least width that holds every size.
 fn length_size(counts: Counts) -> usize
-    ensures { (result ≤ 8) × ((outside : Bool) (is : List Item) → Whole is counts → result ≡ length_size_of (placed outside is)) }
+    ensures { (result ≤ 8) × ((right outside : Bool) (is : List Item) → Whole is (saying right counts) → result ≡ length_size_of (placed outside is)) }
 {
     width_of(counts.largest)
 }
@@ -59,7 +59,7 @@ fn length_size(counts: Counts) -> usize
 // The least width that holds every offset: none lies farther back than the first that goes into `pdat`, or else the
 // first outside, with all data behind it.
 fn offset_size(counts: Counts) -> usize
-    ensures { (result ≤ 8) × ((outside : Bool) (is : List Item) → Whole is counts → result ≡ offset_size_of (placed outside is)) }
+    ensures { (result ≤ 8) × ((right outside : Bool) (is : List Item) → Whole is (saying right counts) → result ≡ offset_size_of (placed outside is)) }
 {
     width_of_offset(Offset::Back(counts.bytes))
 }
@@ -74,7 +74,7 @@ fn offset_width(offset: Position) -> u64
 // The body of `ploc`, by its two widths.
 fn ploc_size(counts: Counts, size: usize, offset: usize) -> u64
     requires { (size ≤ 8) × (offset ≤ 8) }
-    ensures { (result ≤ file_limit + 1) × ((outside : Bool) (is : List Item) → Whole is counts
+    ensures { (result ≤ file_limit + 1) × ((right outside : Bool) (is : List Item) → Whole is (saying right counts)
         → size ≡ length_size_of (placed outside is) → offset ≡ offset_size_of (placed outside is)
         → result ≡ min (length (ploc_body (placed outside is))) (file_limit + 1)) }
 {
@@ -86,7 +86,7 @@ fn ploc_size(counts: Counts, size: usize, offset: usize) -> u64
 
 // The data: that in a `pdat` with its header, if any goes there, and that outside.
 fn data_size(counts: Counts, outside: Outside) -> u64
-    ensures { (result ≤ file_limit + 1) × ((a : Addition) → Sorted a counts outside → result ≡ min (length (stored a)) (file_limit + 1)) }
+    ensures { (result ≤ file_limit + 1) × ((right : Bool) (a : Addition) → Sorted a (saying right counts) outside → result ≡ min (length (stored a)) (file_limit + 1)) }
 {
     let bytes = within(counts.bytes);
     if counts.present == outside.chunks {
@@ -102,9 +102,10 @@ fn surls_size(texts: Texts) -> u64
     within(within(texts.surls) * SURL_REST + within(texts.bytes))
 }
 
-// The layout of what append adds: the data and the `pseg`, which holds `pshd`, `ploc` and the `surl` boxes.
+// The layout of what append adds: the data and the `pseg`, which holds `pshd`, `ploc` and the `surl` boxes. It is the same
+// whatever the counts say of whether the items are right.
 pub fn layout_of(counts: Counts, outside: Outside, texts: Texts, offset: Position) -> Layout
-    ensures { (a : Addition) → Sorted a counts outside → Texted a texts → offset.0 ≡ a.source_offset → Laid a result }
+    ensures { (right : Bool) (a : Addition) → Sorted a (saying right counts) outside → Texted a texts → offset.0 ≡ a.source_offset → Laid a result }
 {
     let sizes = length_size(counts);
     let offsets = offset_size(counts);

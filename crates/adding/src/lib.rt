@@ -5,4 +5,6 @@ pub mod addition;
 pub mod admission;
 pub mod counts;
 pub mod layout;
+#[cfg(test)]
+mod tests;
 pub mod texts;

@@ -6,7 +6,7 @@ use Rattle.adding.proofs.admission.added_boxes.Goals as goal
 
 pub returns-then-counts-outside : goal.returns-then-counts-outside
 returns-then-counts-outside c =
-    λ a sorted whole. c.saturating_add.ensures ∙ ap capped (boxes_none sorted whole c.if-counts-outside.true)
+    λ right a sorted whole. c.saturating_add.ensures ∙ ap capped (boxes_none sorted whole c.if-counts-outside.true)
 
 pub returns : goal.returns
-returns c = λ a sorted whole. c.saturating_add-2.ensures ∙ ap capped (boxes_some sorted whole c.if-counts-outside.false)
+returns c = λ right a sorted whole. c.saturating_add-2.ensures ∙ ap capped (boxes_some sorted whole c.if-counts-outside.false)

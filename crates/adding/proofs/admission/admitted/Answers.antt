@@ -15,29 +15,29 @@ use Rattle.adding.proofs.admission.admitted.Goals as goal
 
 pub returns-then-gathered-ge-SEGMENT_LIMIT : goal.returns-then-gathered-ge-SEGMENT_LIMIT
 returns-then-gathered-ge-SEGMENT_LIMIT c =
-    λ h ss s file known goes next tells lacks. admitted_13 _ h ss s (segments_full ss known tells c.if-gathered-ge-SEGMENT_LIMIT.true)
+    λ right h ss s file known goes next tells lacks. admitted_13 _ h ss s (segments_full ss known tells c.if-gathered-ge-SEGMENT_LIMIT.true)
 
 pub returns-then-not-target : goal.returns-then-not-target
 returns-then-not-target c =
-    λ h ss s file known goes next tells lacks.
+    λ right h ss s file known goes next tells lacks.
     admitted_41 _ h ss s (segments_few ss known tells c.if-gathered-ge-SEGMENT_LIMIT.false) (sym (not-true _ c.if-not-target.true) ∙ goes.listed)
 
 pub returns-then-not-ends_by : goal.returns-then-not-ends_by
 returns-then-not-ends_by c =
-    λ h ss s file known goes next tells lacks.
+    λ right h ss s file known goes next tells lacks.
     let few = segments_few ss known tells c.if-gathered-ge-SEGMENT_LIMIT.false in
     admitted_22 _ h ss s few (sym (not-false _ c.if-not-target.false) ∙ goes.listed) (chunk_test ss known tells (sym c.if-not-ends_by.true ∙ c.ends_by.ensures))
 
 pub returns-then-not-ends_by-2 : goal.returns-then-not-ends_by-2
 returns-then-not-ends_by-2 c =
-    λ h ss s file known goes next tells lacks.
+    λ right h ss s file known goes next tells lacks.
     let few = segments_few ss known tells c.if-gathered-ge-SEGMENT_LIMIT.false in
     let chunks = chunk_test ss known tells (sym c.if-not-ends_by.false ∙ c.ends_by.ensures) in
     admitted_23 _ h ss s few (sym (not-false _ c.if-not-target.false) ∙ goes.listed) chunks (source_test ss known tells (sym c.if-not-ends_by-2.true ∙ c.ends_by-2.ensures))
 
 pub returns-then-not-agree : goal.returns-then-not-agree
 returns-then-not-agree c =
-    λ h ss s file known goes next tells lacks.
+    λ right h ss s file known goes next tells lacks.
     let low = sym c.if-not-ends_by-2.false ∙ c.ends_by-2.ensures in
     let near = passes_23 ss known tells c.if-gathered-ge-SEGMENT_LIMIT.false (sym (not-false _ c.if-not-target.false) ∙ goes.listed) (sym c.if-not-ends_by.false ∙ c.ends_by.ensures) low in
     let gives = c.gives_size-gives.ensures s tells.flags tells.items in
@@ -48,7 +48,7 @@ returns-then-not-agree c =
 
 pub returns-then-target-ge-LAYER_LIMIT : goal.returns-then-target-ge-LAYER_LIMIT
 returns-then-target-ge-LAYER_LIMIT c =
-    λ h ss s file known goes next tells lacks.
+    λ right h ss s file known goes next tells lacks.
     let low = sym c.if-not-ends_by-2.false ∙ c.ends_by-2.ensures in
     let near = passes_23 ss known tells c.if-gathered-ge-SEGMENT_LIMIT.false (sym (not-false _ c.if-not-target.false) ∙ goes.listed) (sym c.if-not-ends_by.false ∙ c.ends_by.ensures) low in
     let gives = c.gives_size-gives.ensures s tells.flags tells.items in
@@ -60,7 +60,7 @@ returns-then-target-ge-LAYER_LIMIT c =
 
 pub returns : goal.returns
 returns c =
-    λ h ss s file known goes next tells lacks.
+    λ right h ss s file known goes next tells lacks.
     let low = sym c.if-not-ends_by-2.false ∙ c.ends_by-2.ensures in
     let near = passes_23 ss known tells c.if-gathered-ge-SEGMENT_LIMIT.false (sym (not-false _ c.if-not-target.false) ∙ goes.listed) (sym c.if-not-ends_by.false ∙ c.ends_by.ensures) low in
     let gives = c.gives_size-gives.ensures s tells.flags tells.items in

@@ -6,11 +6,11 @@ use Rattle.adding.proofs.layout.data_size.Goals as goal
 pub returns-then-counts-outside : goal.returns-then-counts-outside
 returns-then-counts-outside c = (
   omega arith,
-  λ a sorted. omega (arith, sorted.counted.bytes, stored_none a (data_counted sorted.counted) (inside_none sorted c.if-counts-outside.true)),
+  λ right a sorted. omega (arith, sorted.counted.bytes, stored_none a (data_counted sorted.counted) (inside_none sorted c.if-counts-outside.true)),
 )
 
 pub returns : goal.returns
 returns c = (
   omega arith,
-  λ a sorted. omega (arith, sorted.counted.bytes, stored_some a (data_counted sorted.counted) (inside_some sorted c.if-counts-outside.false)),
+  λ right a sorted. omega (arith, sorted.counted.bytes, stored_some a (data_counted sorted.counted) (inside_some sorted c.if-counts-outside.false)),
 )

@@ -13,12 +13,12 @@ use Rattle.adding.proofs.layout.layout_of.Goals as goal
 
 pub returns : goal.returns
 returns c =
-    λ a sorted texted at.
+    λ right a sorted texted at.
     let counted = sorted.counted in
-    let offsets = c.offset_size-offsets.ensures.1 a.outside _ counted.items in
-    let sizes = c.length_size-sizes.ensures.1 a.outside _ counted.items in
+    let offsets = c.offset_size-offsets.ensures.1 right a.outside _ counted.items in
+    let sizes = c.length_size-sizes.ensures.1 right a.outside _ counted.items in
     let at_width = ap (λ n. offset_width_of (version_for n)) at in
-    let located = c.ploc_size-ploc.ensures.1 a.outside _ counted.items sizes offsets in
+    let located = c.ploc_size-ploc.ensures.1 right a.outside _ counted.items sizes offsets in
     let held : c.within-pseg.result ≡ min (length (pseg_body a)) (file_limit + 1) = omega (arith, located, c.surls_size.ensures.1 a texted, c.offset_width-width.ensures.1, at_width, pseg_long a) in
     record {
       pseg = record {
@@ -26,5 +26,5 @@ returns c =
         ploc = record { sizes = sizes; offsets = offsets; body = located };
         body = held;
       };
-      all = omega (arith, c.data_size.ensures.1 a sorted, held, length-added a, front-size);
+      all = omega (arith, c.data_size.ensures.1 right a sorted, held, length-added a, front-size);
     }

@@ -6,4 +6,4 @@ use Rattle.adding.proofs.layout.length_size.Goals as goal
 
 pub returns : goal.returns
 returns c =
-    (rw c.width_of.ensures (least_width-within _), λ outside is whole. c.width_of.ensures ∙ length_wide outside is _ whole)
+    (rw c.width_of.ensures (least_width-within _), λ right outside is whole. c.width_of.ensures ∙ length_wide outside is _ whole)

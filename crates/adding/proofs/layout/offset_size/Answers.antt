@@ -6,4 +6,4 @@ use Rattle.adding.proofs.layout.offset_size.Goals as goal
 
 pub returns : goal.returns
 returns c =
-    (rw c.width_of_offset.ensures (least_width-within _), λ outside is whole. c.width_of_offset.ensures ∙ offset_wide outside is _ whole)
+    (rw c.width_of_offset.ensures (least_width-within _), λ right outside is whole. c.width_of_offset.ensures ∙ offset_wide outside is _ whole)

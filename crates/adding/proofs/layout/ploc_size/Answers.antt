@@ -8,5 +8,5 @@ use Rattle.adding.proofs.layout.ploc_size.Goals as goal
 pub returns : goal.returns
 returns c = (
   omega arith,
-  λ outside is whole wide far. c.within.ensures ∙ ploc_counted outside is _ whole _ _ _ _ c.within-items.ensures c.within-present.ensures wide far,
+  λ right outside is whole wide far. c.within.ensures ∙ ploc_counted outside is _ whole _ _ _ _ c.within-items.ensures c.within-present.ensures wide far,
 )

@@ -41,7 +41,7 @@ append_right-requires c =
         sorted = record { counted = counted; outside = stored };
         whole = right_whole file.h _ stored (right file.h file.head);
         texted = texted;
-        laid = c.layout_of-layout.ensures _ (record { counted = counted; outside = stored }) texted refl;
+        laid = c.layout_of-layout.ensures c.args.counts.right _ (record { counted = counted; outside = stored }) texted refl;
       },
       sym (plain_told _ _ texted.counts) ∙ not-false _ c.if-not-said.false,
       right,

@@ -20,7 +20,7 @@ returns-then-buffer-size c =
     let (ready, right, asked, plain, outer) = c.requires in
     let file = earlier _ _ ready.told in
     appends_refused _ _ _
-    (too_short _ _ _ ready.enough _ file right (outer _ file.head) plain asked ready.going _ c.admission.ensures c.in_ok-size.was (omega arith))
+    (too_short _ _ _ ready.enough _ file right (outer _ file.head) plain asked ready.going _ (c.admission.ensures c.args.asked.counts.right) c.in_ok-size.was (omega arith))
 
 pub put_added-end-requires : goal.put_added-end-requires
 unfolding asks
@@ -28,7 +28,7 @@ put_added-end-requires c =
     let (ready, right, asked, plain, outer) = c.requires in
     let file = earlier _ _ ready.told in
     let held = outer _ file.head in
-    let answer = c.admission.ensures in
+    let answer = c.admission.ensures c.args.asked.counts.right in
     let size = c.in_ok-size.was in (
       asked.sorted,
       asked.laid,
@@ -42,7 +42,7 @@ returns-in_err-size c =
     let (ready, right, asked, plain, outer) = c.requires in
     let file = earlier _ _ ready.told in
     appends_handed _ _ _ _ _ c.from_residual.ensures.1
-    (not_admitted _ _ _ ready.enough _ file right (outer _ file.head) plain asked ready.going _ c.admission.ensures c.in_err-size.was)
+    (not_admitted _ _ _ ready.enough _ file right (outer _ file.head) plain asked ready.going _ (c.admission.ensures c.args.asked.counts.right) c.in_err-size.was)
 
 pub returns : goal.returns
 unfolding asks
@@ -51,7 +51,7 @@ returns c =
     let (ready, right, asked, plain, outer) = c.requires in
     let file = earlier _ _ ready.told in
     let held = outer _ file.head in
-    let answer = c.admission.ensures in
+    let answer = c.admission.ensures c.args.asked.counts.right in
     let size = c.in_ok-size.was in
     let long = new_length _ _ _ ready.enough _ file right held plain asked ready.going _ answer size in
     let left = c.if-buffer-size.false in
